@@ -1,0 +1,3 @@
+-- The definitions that every layer shares.
+pub mod Pick
+pub mod Bytes

@@ -1,0 +1,103 @@
+-- Taking an id out of a list, place by place. Assumes nothing.
+use mathlib.Core.Path.{_≡_, refl, sym, ap, _∙_}
+use mathlib.Core.Bool.{Bool, true, false}
+use mathlib.Core.List.{List, [], _∷_, _++_, append-nil}
+use Prim.Native.Nat.{ℕ, suc, _+_, _≤_, _<_}
+use native.Mathlib.Omega.{arith}
+use native.Mathlib.Numerals.{add-one}
+use borrow.Author.Tests.{eq-eqb, ne-eqb}
+use lib.Dec.{eqb}
+use lib.ListN.{length, getD, set, take, length-take, length-append}
+use lib.Seq.{take-suc}
+use Rattle.base.specs.Pick.{pick}
+use Rattle.journal.specs.Ids.{without}
+use Rattle.connection.specs.declared.peer.Peer.{Peer}
+use Rattle.connection.specs.declared.peer.ConnectionId.{ConnectionId}
+use Rattle.connection.specs.declared.peer.ConnectionId.the-variants.{Id}
+use Rattle.connection.specs.Peer.{peerWith, idsOf, clearedPeer, leftPeer, disconnectedBy}
+use Rattle.connection.specs.Send.{front}
+use Rattle.connection.proofs.Front.{front-length, front-behind, front-set}
+
+pub without-shorter : (x : ℕ) (l : List ℕ) → length (without x l) ≤ length l
+unfolding without
+without-shorter x [] = omega arith
+without-shorter x (y ∷ l) = go (eqb x y) (without-shorter x l)
+  where
+    go : (t : Bool) → length (without x l) ≤ length l → length (pick t (without x l) (y ∷ without x l)) ≤ suc (length l)
+    go true h = omega arith
+    go false h = omega arith
+
+without-last : (x : ℕ) (l : List ℕ) (y : ℕ) → without x (l ++ (y ∷ [])) ≡ without x l ++ without x (y ∷ [])
+unfolding without
+without-last x [] y = refl
+without-last x (z ∷ l) y = go (eqb x z) (without-last x l y)
+  where
+    go : (t : Bool) → without x (l ++ (y ∷ [])) ≡ without x l ++ without x (y ∷ [])
+        → pick t (without x (l ++ (y ∷ []))) (z ∷ without x (l ++ (y ∷ []))) ≡ pick t (without x l) (z ∷ without x l) ++ without x (y ∷ [])
+    go true e = e
+    go false e = ap (λ (k : List ℕ). z ∷ k) e
+
+-- the first i numbers are gone through: those kept stand in front
+pub record Closed (ids₀ : List ℕ) (x i : ℕ) (ids : List ℕ) (kept : ℕ) : Type 0 where
+  pub count : kept ≡ length (without x (take i ids₀))
+  pub store : ids ≡ front (without x (take i ids₀)) ids₀
+
+pub closed-none : (ids : List ℕ) (x : ℕ) → Closed ids x 0 ids 0
+unfolding without
+closed-none ids x = record { count = refl; store = refl }
+
+pub closed-bounds : (ids₀ : List ℕ) (x i : ℕ) (ids : List ℕ) (kept : ℕ) → i ≤ length ids₀ → Closed ids₀ x i ids kept
+    → (kept ≤ i) × (length ids ≡ length ids₀)
+closed-bounds ids₀ x i ids kept h c =
+    let few : length (without x (take i ids₀)) ≤ i = omega (arith, without-shorter x (take i ids₀), length-take i ids₀) in
+    (omega (arith, c .count), ap length (c .store) ∙ front-length (without x (take i ids₀)) ids₀ (omega arith))
+
+module _ (ids₀ : List ℕ) (x i : ℕ) (ids : List ℕ) (kept : ℕ) (h : i < length ids₀) (c : Closed ids₀ x i ids kept) where
+  few : length (without x (take i ids₀)) ≤ i
+  few = omega (arith, c .count, closed-bounds ids₀ x i ids kept (omega arith) c .0)
+
+  same : getD ids i 0 ≡ getD ids₀ i 0
+  same = ap (λ (l : List ℕ). getD l i 0) (c .store) ∙ front-behind (without x (take i ids₀)) ids₀ i few
+
+  step : without x (take (i + 1) ids₀) ≡ without x (take i ids₀) ++ without x (getD ids₀ i 0 ∷ [])
+  step = ap (without x) (ap (λ (n : ℕ). take n ids₀) (add-one i) ∙ take-suc ids₀ i 0 h) ∙ without-last x (take i ids₀) (getD ids₀ i 0)
+
+  keeps : (getD ids i 0 ≡ x → ⊥) → without x (take (i + 1) ids₀) ≡ without x (take i ids₀) ++ (getD ids₀ i 0 ∷ [])
+  unfolding without
+  keeps ne = step ∙ rw (ne-eqb x (getD ids₀ i 0) (λ e. ne (same ∙ sym e)))
+
+  skips : getD ids i 0 ≡ x → without x (take (i + 1) ids₀) ≡ without x (take i ids₀)
+  unfolding without
+  skips e = step ∙ rw (eq-eqb x (getD ids₀ i 0) (sym e ∙ same)) (append-nil (without x (take i ids₀)))
+
+  pub closed-keeps : (getD ids i 0 ≡ x → ⊥) → Closed ids₀ x (i + 1) (set ids kept (getD ids i 0)) (kept + 1)
+  closed-keeps ne =
+      record {
+        count = rw (keeps ne, length-append, ← c .count) refl;
+        store = rw (c .count, same, keeps ne, c .store) (front-set (without x (take i ids₀)) ids₀ (getD ids₀ i 0) (omega (arith, few)));
+      }
+
+  pub closed-skips : getD ids i 0 ≡ x → Closed ids₀ x (i + 1) ids kept
+  closed-skips e = record { count = rw (skips e) (c .count); store = rw (skips e) (c .store) }
+
+-- ---- what Disconnect leaves, by how many are left
+
+abbrev withIds : Peer → List ℕ → ℕ → Peer
+withIds p ids n =
+    peerWith ids n (p .«next_connection_id») (p .«remote_max_packet_length») (p .«srm_enabled») (p .authenticated) (p .challenge)
+
+module _ (p : Peer) where
+  left-none : (l : List ℕ) → length l ≡ 0 → clearedPeer p ≡ leftPeer p l
+  left-none [] e = refl
+  left-none (i ∷ l) e = absurd (omega arith)
+
+  left-some : (l : List ℕ) → (length l ≡ 0 → ⊥) → withIds p (front l (p .connections)) (length l) ≡ leftPeer p l
+  left-some [] ne = absurd (ne refl)
+  left-some (i ∷ l) ne = refl
+
+  pub none-left : (g : ConnectionId) (i n : ℕ) → g ≡ Id i → n ≡ length (without i (idsOf p)) → n ≡ 0 → clearedPeer p ≡ disconnectedBy p g
+  none-left g i n e h z = rw e (left-none (without i (idsOf p)) (sym h ∙ z))
+
+  pub some-left : (g : ConnectionId) (i n : ℕ) (ids : List ℕ) → g ≡ Id i → n ≡ length (without i (idsOf p))
+      → ids ≡ front (without i (idsOf p)) (p .connections) → (n ≡ 0 → ⊥) → withIds p ids n ≡ disconnectedBy p g
+  some-left g i n ids e h s ne = rw (e, h, s) (left-some (without i (idsOf p)) (λ z. ne (h ∙ z)))

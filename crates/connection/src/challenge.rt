@@ -1,0 +1,133 @@
+// Authentication in a Connect (the source's verify_client, and what handle_connect reads of the peer's challenges).
+ghost use mathlib.Core.Path.{_≡_};
+ghost use Rattle.packet.specs.Header.{readHeaders};
+ghost use Rattle.packet.specs.AuthWrite.{given};
+ghost use Rattle.connection.specs.Pieces.{headersFrom, firstIn, knownHeader, knownIn, answeredIn, nonceFor, checkOf};
+use crate::peer::Challenge;
+use packet::auth::DigestChallenge;
+use packet::auth::DigestResponse;
+use packet::auth::Named;
+use packet::auth::read_challenge;
+use packet::auth::verify;
+use packet::header::HeaderAt;
+use packet::header::first_header;
+use packet::header::header_at;
+use packet::header::is_readable;
+use packet::tlv::Found;
+
+pub const AUTHENTICATE_CHALLENGE: u8 = 0x4D;
+
+// Where the value of the first header with the id stands; missing where not all headers can be read.
+pub fn first_in(s: &[u8], from: usize, id: u8) -> Found
+    ensures { λ r. ⌜ r ≡ firstIn id (now (s .entry)) from ⌝ }
+{
+    if !is_readable(s, from) {
+        return Found::Missing;
+    }
+    first_header(s, from, id)
+}
+
+// Whether a header is no challenge, or one that can be read.
+fn is_known(id: u8, value: &[u8]) -> bool
+    ensures { λ r. ⌜ r ≡ knownHeader id (now (value .entry)) ⌝ }
+{
+    if id != AUTHENTICATE_CHALLENGE {
+        return true;
+    }
+    let DigestChallenge::Challenge {
+        nonce: _,
+        user_id_required: _,
+        read_only: _,
+        realm: _,
+    } = read_challenge(value)
+    else {
+        return false;
+    };
+    true
+}
+
+// Whether all headers can be read, and all challenges among them.
+fn are_known(packet: &[u8], from: usize) -> bool
+    ensures { λ r. ⌜ r ≡ knownIn (readHeaders (now (packet .entry)) from) ⌝ }
+{
+    let mut at = from;
+    loop {
+        match header_at(packet, at) {
+            HeaderAt::At {
+                id,
+                encoding: _,
+                start,
+                end,
+            } => {
+                if !is_known(id, &packet[start..end]) {
+                    return false;
+                }
+                at = end;
+            }
+            HeaderAt::Unreadable => {
+                return false;
+            }
+            HeaderAt::End => {
+                return true;
+            }
+        }
+    }
+}
+
+// The peer's first challenge, which is the one answered, where all can be read.
+pub fn answered_challenge(packet: &[u8], from: usize) -> DigestChallenge
+    ensures { λ r. ⌜ r ≡ answeredIn (headersFrom (now (packet .entry)) from) ⌝ }
+{
+    if !are_known(packet, from) {
+        return DigestChallenge::Unreadable;
+    }
+    let Found::At { start, end } = first_header(packet, from, AUTHENTICATE_CHALLENGE) else {
+        return DigestChallenge::Unreadable;
+    };
+    read_challenge(&packet[start..end])
+}
+
+// Its nonce, where the host has credentials.
+pub fn nonce_for(packet: &[u8], from: usize, has_credentials: bool) -> Named
+    ensures { λ r. ⌜ r ≡ nonceFor «has_credentials» (headersFrom (now (packet .entry)) from) ⌝ }
+{
+    if !has_credentials {
+        return Named::Missing;
+    }
+    let DigestChallenge::Challenge {
+        nonce,
+        user_id_required: _,
+        read_only: _,
+        realm: _,
+    } = answered_challenge(packet, from)
+    else {
+        return Named::Missing;
+    };
+    Named::Nonce(nonce)
+}
+
+// Whether the password is right for the stored challenge and the client's response.
+pub fn verify_client(
+    stored: Challenge,
+    found: DigestResponse,
+    has_password: bool,
+    password: &[u8],
+) -> bool
+    ensures { λ r. ⌜ r ≡ checkOf stored found (given «has_password» (now (password .entry))) ⌝ }
+{
+    let Challenge::Stored(nonce) = stored else {
+        return false;
+    };
+    let DigestResponse::Response {
+        digest,
+        user: _,
+        nonce: named,
+    } = found
+    else {
+        return false;
+    };
+    if !has_password {
+        return false;
+    }
+    verify(nonce, digest, named, password)
+}

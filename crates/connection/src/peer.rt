@@ -1,0 +1,336 @@
+// Connect and Disconnect's part of the state (the source's engine/server.rs): which ids are open, the search for a new one, and
+// what the peer said of itself.
+ghost use mathlib.Core.Path.{_≡_};
+ghost use mathlib.Core.Bool.{true, false};
+ghost use Prim.Native.Nat.{_+_, _%_, _^_, _≤_, _<_};
+ghost use lib.ListN.{length, take};
+ghost use Rattle.journal.specs.Ids.{member, taken, without, newId};
+ghost use Rattle.connection.specs.Peer.{peerWith, atLeast255, limited as limitedPeer, verifiedPeer, challengedPeer, srmPeer, addedPeer, opened as openedPeer, openingOf, answerBy, clearedPeer, disconnectedBy};
+ghost use Rattle.connection.specs.Send.{front};
+use digest::md5::Octets16;
+
+const MINIMUM_PACKET_LENGTH: u16 = 255;
+
+// 0xFFFFFFFF is reserved as an invalid id.
+const INVALID_ID: u32 = 0xFFFFFFFF;
+
+// The nonce of the challenge that was sent and not yet answered.
+pub enum Challenge {
+    Stored(Octets16),
+    Absent,
+}
+
+// What Connect and Disconnect change.
+pub struct Peer {
+    // The open ids are the first count of these.
+    pub connections: [u32; 64],
+    pub count: usize,
+    pub next_connection_id: u32,
+    pub remote_max_packet_length: u16,
+    pub srm_enabled: bool,
+    pub authenticated: bool,
+    pub challenge: Challenge,
+}
+
+// An id that a header names, or that goes in front of an answer.
+pub enum ConnectionId {
+    Id(u32),
+    Missing,
+}
+
+pub struct NewId {
+    pub id: u32,
+    // The counter, one past the id.
+    pub next: u32,
+}
+
+// What opening an id leads to: a 65th is full, and the peer as it was.
+pub struct Opening {
+    pub full: bool,
+    pub peer: Peer,
+}
+
+// The same for an answer to a Connect, with the id that goes in front of it.
+pub struct Answer {
+    pub opening: Opening,
+    pub front: ConnectionId,
+}
+
+// ---- the open ids
+
+// Whether id is one of the first count numbers.
+pub fn is_open(ids: &[u32], count: usize, id: u32) -> bool
+    requires { ⌜ (count ≤ 64) × (count ≤ length (now ids)) ⌝ }
+    ensures { λ r. ⌜ r ≡ member id (take count (now (ids .entry))) ⌝ }
+{
+    let mut i = 0;
+    while i < count {
+        if ids[i] == id {
+            return true;
+        }
+        i += 1;
+    }
+    false
+}
+
+// Whether a candidate is passed over.
+fn is_taken(ids: &[u32], count: usize, id: u32) -> bool
+    requires { ⌜ (count ≤ 64) × (count ≤ length (now ids)) ⌝ }
+    ensures { λ r. ⌜ r ≡ taken (take count (now (ids .entry))) id ⌝ }
+{
+    if id == INVALID_ID {
+        return true;
+    }
+    is_open(ids, count, id)
+}
+
+// The first number not open, counting up from the counter, and the counter left one past it.
+pub fn allocate_connection_id(ids: &[u32], count: usize, counter: u32) -> NewId
+    requires { ⌜ (count ≤ 64) × (count ≤ length (now ids)) ⌝ }
+    ensures { λ r. ⌜ (r .id ≡ newId (take count (now (ids .entry))) counter) × (r .next ≡ (r .id + 1) % 2 ^ 32) ⌝ }
+    ensures unused { λ r. ⌜ taken (take count (now (ids .entry))) (r .id) ≡ false ⌝ }
+{
+    let mut at = counter;
+    let mut looked: u32 = 0;
+    let id = loop {
+        if !is_taken(ids, count, at) {
+            break at;
+        }
+        at = std::num::wrapping_add_u32(at, 1);
+        looked += 1;
+    };
+    NewId {
+        id,
+        next: std::num::wrapping_add_u32(id, 1),
+    }
+}
+
+// Takes an id out of the first count numbers, keeping the order of the others, and says how many are left.
+fn close_id(ids: &mut [u32], count: usize, id: u32) -> usize
+    requires { ⌜ (count ≤ 64) × (count ≤ length (now ids)) ⌝ }
+    ensures { λ r. ⌜ r ≡ length (without id (take count (now (ids .entry)))) ⌝ }
+    ensures store { λ r. ⌜ now (ids .exit) ≡ front (without id (take count (now (ids .entry)))) (now (ids .entry)) ⌝ }
+{
+    let mut kept = 0;
+    let mut i = 0;
+    while i < count {
+        let x = ids[i];
+        if x != id {
+            ids[kept] = x;
+            kept += 1;
+        }
+        i += 1;
+    }
+    kept
+}
+
+// ---- the peer
+
+// The one place that lists the fields.
+fn peer_with(
+    connections: [u32; 64],
+    count: usize,
+    next_connection_id: u32,
+    remote_max_packet_length: u16,
+    srm_enabled: bool,
+    authenticated: bool,
+    challenge: Challenge,
+) -> Peer
+    ensures { λ r. ⌜ r ≡ peerWith connections count «next_connection_id» «remote_max_packet_length» «srm_enabled» authenticated challenge ⌝ }
+{
+    Peer {
+        connections,
+        count,
+        next_connection_id,
+        remote_max_packet_length,
+        srm_enabled,
+        authenticated,
+        challenge,
+    }
+}
+
+fn at_least_minimum(n: u16) -> u16
+    ensures { λ r. ⌜ r ≡ atLeast255 n ⌝ }
+{
+    if n < MINIMUM_PACKET_LENGTH {
+        return MINIMUM_PACKET_LENGTH;
+    }
+    n
+}
+
+// Connect sets the peer's limit.
+pub fn limited(peer: Peer, max_packet_length: u16) -> Peer
+    ensures { λ r. ⌜ r ≡ limitedPeer peer «max_packet_length» ⌝ }
+{
+    let connections = peer.connections;
+    let challenge = peer.challenge;
+    peer_with(
+        connections,
+        peer.count,
+        peer.next_connection_id,
+        at_least_minimum(max_packet_length),
+        peer.srm_enabled,
+        peer.authenticated,
+        challenge,
+    )
+}
+
+// The password was right.
+pub fn verified(peer: Peer) -> Peer
+    ensures { λ r. ⌜ r ≡ verifiedPeer peer ⌝ }
+{
+    let connections = peer.connections;
+    peer_with(
+        connections,
+        peer.count,
+        peer.next_connection_id,
+        peer.remote_max_packet_length,
+        peer.srm_enabled,
+        true,
+        Challenge::Absent,
+    )
+}
+
+// A challenge with a new nonce is sent.
+pub fn challenged(peer: Peer, nonce: Octets16) -> Peer
+    ensures { λ r. ⌜ r ≡ challengedPeer peer nonce ⌝ }
+{
+    let connections = peer.connections;
+    peer_with(
+        connections,
+        peer.count,
+        peer.next_connection_id,
+        peer.remote_max_packet_length,
+        peer.srm_enabled,
+        false,
+        Challenge::Stored(nonce),
+    )
+}
+
+// SRM as it is from now on; the rest stays.
+fn with_srm(peer: Peer, srm: bool) -> Peer
+    ensures { λ r. ⌜ r ≡ srmPeer peer srm ⌝ }
+{
+    let connections = peer.connections;
+    let challenge = peer.challenge;
+    peer_with(
+        connections,
+        peer.count,
+        peer.next_connection_id,
+        peer.remote_max_packet_length,
+        srm,
+        peer.authenticated,
+        challenge,
+    )
+}
+
+// One id more, with the counter from now on.
+fn with_id(peer: Peer, srm: bool, id: u32, next: u32) -> Peer
+    requires { ⌜ peer .count < 64 ⌝ }
+    ensures { λ r. ⌜ r ≡ addedPeer peer srm id next ⌝ }
+{
+    let mut connections = peer.connections;
+    let challenge = peer.challenge;
+    let count = peer.count;
+    connections[count] = id;
+    peer_with(
+        connections,
+        count + 1,
+        next,
+        peer.remote_max_packet_length,
+        srm,
+        peer.authenticated,
+        challenge,
+    )
+}
+
+// Opens an id, where it is not open yet.
+pub fn opened(peer: Peer, srm: bool, id: u32, next: u32) -> Opening
+    requires { ⌜ peer .count ≤ 64 ⌝ }
+    ensures { λ r. ⌜ r ≡ openingOf peer (openedPeer peer srm id next) ⌝ }
+{
+    let ids = peer.connections;
+    if is_open(&ids, peer.count, id) {
+        return Opening {
+            full: false,
+            peer: with_srm(peer, srm),
+        };
+    }
+    if peer.count >= 64 {
+        return Opening { full: true, peer };
+    }
+    Opening {
+        full: false,
+        peer: with_id(peer, srm, id, next),
+    }
+}
+
+// The host's answer to a Connect is success: its first ConnectionID is opened, else for a Target a new one.
+pub fn opened_for(peer: Peer, srm: bool, given: ConnectionId, target: bool) -> Answer
+    requires { ⌜ peer .count ≤ 64 ⌝ }
+    ensures { λ r. ⌜ r ≡ answerBy peer srm given target ⌝ }
+{
+    if let ConnectionId::Id(id) = given {
+        return Answer {
+            opening: opened(peer, srm, id, peer.next_connection_id),
+            front: ConnectionId::Missing,
+        };
+    }
+    if !target {
+        return Answer {
+            opening: Opening {
+                full: false,
+                peer: with_srm(peer, srm),
+            },
+            front: ConnectionId::Missing,
+        };
+    }
+    let ids = peer.connections;
+    let found = allocate_connection_id(&ids, peer.count, peer.next_connection_id);
+    Answer {
+        opening: opened(peer, srm, found.id, found.next),
+        front: ConnectionId::Id(found.id),
+    }
+}
+
+// No connection is left: the counter and the challenge stay.
+fn cleared(peer: Peer) -> Peer
+    ensures { λ r. ⌜ r ≡ clearedPeer peer ⌝ }
+{
+    let connections = peer.connections;
+    let challenge = peer.challenge;
+    peer_with(
+        connections,
+        0,
+        peer.next_connection_id,
+        MINIMUM_PACKET_LENGTH,
+        false,
+        false,
+        challenge,
+    )
+}
+
+// Disconnect closes the id that it names, or all.
+pub fn disconnected(peer: Peer, named: ConnectionId) -> Peer
+    requires { ⌜ peer .count ≤ 64 ⌝ }
+    ensures { λ r. ⌜ r ≡ disconnectedBy peer named ⌝ }
+{
+    let ConnectionId::Id(id) = named else {
+        return cleared(peer);
+    };
+    let mut ids = peer.connections;
+    let count = close_id(&mut ids, peer.count, id);
+    if count == 0 {
+        return cleared(peer);
+    }
+    let challenge = peer.challenge;
+    peer_with(
+        ids,
+        count,
+        peer.next_connection_id,
+        peer.remote_max_packet_length,
+        peer.srm_enabled,
+        peer.authenticated,
+        challenge,
+    )
+}

@@ -1,0 +1,127 @@
+// Replies (the source's send): over 65,535 bytes a reply is number 7, over the peer's limit it becomes Internal Server Error.
+ghost use mathlib.Core.Path.{_≡_};
+ghost use mathlib.Core.List.{[], _∷_};
+ghost use Prim.Native.Nat.{_+_, _≤_, _<_};
+ghost use lib.ListN.{length};
+ghost use Rattle.base.specs.Bytes.{bytes16};
+ghost use Rattle.packet.specs.Packet.{packetBytes};
+ghost use Rattle.connection.specs.Send.{fieldsOf, startBytes, sendBytes, front, continueBytes, sending, sentInto, fitOf};
+use base::copy_into;
+use packet::response::INTERNAL_SERVER_ERROR;
+use packet::response::to_byte;
+
+// What sending leads to: a reply of so many bytes stands in the store, or number 7.
+pub enum Sent {
+    Reply(usize),
+    TooLarge,
+}
+
+// What becomes of a reply by its length.
+pub enum Fit {
+    Whole,
+    Replaced,
+    TooLarge,
+}
+
+// A reply of some bytes before its headers, and the headers.
+pub fn fits(remote: usize, lead: usize, headers: usize) -> Fit
+    requires { ⌜ lead ≤ 65535 ⌝ }
+    ensures { λ r. ⌜ r ≡ fitOf remote (lead + headers) ⌝ }
+{
+    if headers > 65535 - lead {
+        return Fit::TooLarge;
+    }
+    if lead + headers > remote {
+        return Fit::Replaced;
+    }
+    Fit::Whole
+}
+
+// A packet's first byte, and the length of the whole.
+pub fn put_prefix(reply: &mut [u8], byte: u8, n: usize)
+    requires { ⌜ (n < 65536) × (3 ≤ length (now reply)) ⌝ }
+    ensures { λ r. ⌜ now (reply .exit) ≡ front (byte ∷ bytes16 n) (now (reply .entry)) ⌝ }
+{
+    reply[0] = byte;
+    reply[1] = (n / 256) as u8;
+    reply[2] = (n % 256) as u8;
+}
+
+// The three bytes of a reply without headers.
+pub fn put_reply_code(reply: &mut [u8], byte: u8)
+    requires { ⌜ 3 ≤ length (now reply) ⌝ }
+    ensures { λ r. ⌜ now (reply .exit) ≡ front (packetBytes byte [] []) (now (reply .entry)) ⌝ }
+{
+    put_prefix(reply, byte, 3);
+}
+
+// Continue, with SingleResponseMode where it is granted; says how many bytes that are.
+pub fn put_continue(reply: &mut [u8], grant: bool) -> usize
+    requires { ⌜ 5 ≤ length (now reply) ⌝ }
+    ensures { λ r. ⌜ (r ≡ length (continueBytes grant)) × (now (reply .exit) ≡ front (continueBytes grant) (now (reply .entry))) ⌝ }
+{
+    if !grant {
+        put_prefix(reply, 0x90, 3);
+        return 3;
+    }
+    put_prefix(reply, 0x90, 5);
+    reply[3] = 0x97;
+    reply[4] = 0x01;
+    5
+}
+
+// A reply with headers and without Connect's fields.
+pub fn send(reply: &mut [u8], remote: usize, code: u8, headers: &[u8]) -> Sent
+    requires { ⌜ 65535 ≤ length (now reply) ⌝ }
+    ensures { λ r. ⌜ sending r (now (reply .exit)) ≡ sentInto (sendBytes remote code [] (now (headers .entry))) (now (reply .entry)) ⌝ }
+{
+    let n = headers.len();
+    match fits(remote, 3, n) {
+        Fit::TooLarge => {
+            return Sent::TooLarge;
+        }
+        Fit::Replaced => {
+            put_prefix(reply, to_byte(INTERNAL_SERVER_ERROR), 3);
+            return Sent::Reply(3);
+        }
+        Fit::Whole => {
+            put_prefix(reply, to_byte(code), 3 + n);
+            copy_into(reply, 3, headers);
+            return Sent::Reply(3 + n);
+        }
+    }
+}
+
+// What stands before the headers of a reply to a Connect: also version 1.0, no flags, and the engine's own limit.
+pub fn put_connect_prefix(reply: &mut [u8], byte: u8, n: usize, limit: u16)
+    requires { ⌜ (n < 65536) × (7 ≤ length (now reply)) ⌝ }
+    ensures { λ r. ⌜ now (reply .exit) ≡ front (startBytes byte n limit) (now (reply .entry)) ⌝ }
+{
+    put_prefix(reply, byte, n);
+    reply[3] = 0x10;
+    reply[4] = 0x00;
+    reply[5] = (limit / 256) as u8;
+    reply[6] = (limit % 256) as u8;
+}
+
+// A reply with Connect's fields and headers.
+pub fn send_connect(reply: &mut [u8], remote: usize, code: u8, limit: u16, headers: &[u8]) -> Sent
+    requires { ⌜ 65535 ≤ length (now reply) ⌝ }
+    ensures { λ r. ⌜ sending r (now (reply .exit)) ≡ sentInto (sendBytes remote code (fieldsOf limit) (now (headers .entry))) (now (reply .entry)) ⌝ }
+{
+    let n = headers.len();
+    match fits(remote, 7, n) {
+        Fit::TooLarge => {
+            return Sent::TooLarge;
+        }
+        Fit::Replaced => {
+            put_connect_prefix(reply, to_byte(INTERNAL_SERVER_ERROR), 7, limit);
+            return Sent::Reply(7);
+        }
+        Fit::Whole => {
+            put_connect_prefix(reply, to_byte(code), 7 + n, limit);
+            copy_into(reply, 7, headers);
+            return Sent::Reply(7 + n);
+        }
+    }
+}

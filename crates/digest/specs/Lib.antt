@@ -1,0 +1,7 @@
+-- The definitions that the contracts cite.
+pub mod Md5
+pub mod Turn
+pub mod Vectors
+pub mod Unicode
+pub mod Text
+pub mod Pieces

@@ -1,0 +1,34 @@
+-- What the code's own functions say of each other: one step's numbers, and a part of a message in a block.
+use mathlib.Core.Path.{_≡_}
+use mathlib.Core.List.{List}
+use Prim.Native.Nat.{ℕ, _-_, _/_, _<_, min}
+use lib.ListN.{length, getD, drop}
+use lib.Seq.{paste}
+use Rattle.digest.specs.declared.md5.Regs.{Regs}
+use Rattle.digest.specs.declared.md5.Span.{Span}
+use Rattle.digest.specs.Md5.{table, shifts, wordAt, steps}
+
+-- t is after i steps on the block p from s; step i is of round r and takes the word w, the constant k and the shift n
+pub record Turn (p : List ℕ) (s t : Regs) (r i w k n : ℕ) : Type 0 where
+  pub whole : length p ≡ 64
+  pub before : t ≡ steps p i s
+  pub round : i / 16 ≡ r
+  pub takes : w ≡ wordAt r i
+  pub inside : w < 16
+  pub constant : k ≡ getD table i 0
+  pub shift : n ≡ getD shifts i 0
+  pub some : 0 < n
+  pub short : n < 32
+
+-- the block at at of a longer list, and a part of n elements at from: where those that fall into the block go, the first of them, and how many
+unfoldable pub spanOf : ℕ → ℕ → ℕ → Span
+spanOf at from n =
+    let p = min (from - at) 64 in
+    let s = min (at - from) n in
+    record { place = p; skip = s; count = min (64 - p) (n - s) }
+
+-- the block with that part
+unfoldable pub laid : List ℕ → ℕ → List ℕ → ℕ → List ℕ
+laid b at part from =
+    let s = spanOf at from (length part) in
+    paste b (s .place) (drop (s .skip) part) (s .count)

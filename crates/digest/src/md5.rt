@@ -1,0 +1,576 @@
+// MD5 (RFC 1321), and OBEX's request digest.
+ghost use mathlib.Core.Path.{_≡_};
+ghost use mathlib.Core.List.{_++_};
+ghost use Prim.Native.Nat.{_+_, _-_, _*_, _/_, _%_, _^_, _<_, _≤_, min, max};
+ghost use lib.ListN.{length, take, drop};
+ghost use lib.Seq.{paste};
+ghost use Rattle.digest.specs.Md5.{mixOf, rotl, word, steps, blockOf, le, zeros, padded, blocks, digestOf, beValue, octets16, numbers16, outputOf, requestDigest};
+ghost use Rattle.digest.specs.Turn.{Turn, spanOf, laid};
+
+struct Regs {
+    pub a: u32,
+    pub b: u32,
+    pub c: u32,
+    pub d: u32,
+}
+
+// Sixteen bytes, a nonce or a digest: bytes 0 to 7 are first, the high-order one first, and bytes 8 to 15 second.
+pub struct Octets16 {
+    pub first: u64,
+    pub second: u64,
+}
+
+fn rotate_left(x: u32, n: u32) -> u32
+    requires { ⌜ (0 < n) × (n < 32) ⌝ }
+    ensures { λ r. ⌜ r ≡ rotl x n ⌝ }
+{
+    (x << n) | (x >> (32 - n))
+}
+
+// Four words, added one after the other.
+fn sum4(a: u32, f: u32, k: u32, w: u32) -> u32
+    ensures { λ r. ⌜ r ≡ (a + f + w + k) % 2 ^ 32 ⌝ }
+{
+    std::num::wrapping_add_u32(
+        std::num::wrapping_add_u32(std::num::wrapping_add_u32(a, f), k),
+        w,
+    )
+}
+
+// Word k of a block, the low-order byte first.
+fn word_at(p: &[u8], k: usize) -> u32
+    requires { ⌜ (k < 16) × (length (now p) ≡ 64) ⌝ }
+    ensures { λ r. ⌜ r ≡ word (now (p .entry)) k ⌝ }
+{
+    base::wide32(p[4 * k])
+        + 256 * base::wide32(p[4 * k + 1])
+        + 65536 * base::wide32(p[4 * k + 2])
+        + 16777216 * base::wide32(p[4 * k + 3])
+}
+
+// Step i, of round r, after i steps from s: the word that it takes, its constant, its shift and its mix are the caller's.
+fn step(p: &[u8], s: Regs, t: Regs, r: usize, i: usize, w: usize, k: u32, n: u32, f: u32) -> Regs
+    requires { ⌜ Turn (now p) s t r i w k n × (f ≡ mixOf r (t .b) (t .c) (t .d)) ⌝ }
+    ensures { λ v. ⌜ v ≡ steps (now (p .entry)) (i + 1) s ⌝ }
+{
+    let x = word_at(p, w);
+    let rotated = rotate_left(sum4(t.a, f, k, x), n);
+    Regs {
+        a: t.d,
+        b: std::num::wrapping_add_u32(t.b, rotated),
+        c: t.b,
+        d: t.c,
+    }
+}
+
+// Round 0.
+fn mix0(b: u32, c: u32, d: u32) -> u32
+    ensures { λ r. ⌜ r ≡ mixOf 0 b c d ⌝ }
+{
+    (b & c) | (!b & d)
+}
+
+fn step0(p: &[u8], s: Regs, t: Regs, i: usize, w: usize, k: u32, n: u32) -> Regs
+    requires { ⌜ Turn (now p) s t 0 i w k n ⌝ }
+    ensures { λ r. ⌜ r ≡ steps (now (p .entry)) (i + 1) s ⌝ }
+{
+    step(p, s, t, 0, i, w, k, n, mix0(t.b, t.c, t.d))
+}
+
+fn quad00(p: &[u8], s: Regs, t: Regs) -> Regs
+    requires { ⌜ (length (now p) ≡ 64) × (t ≡ steps (now p) 0 s) ⌝ }
+    ensures { λ r. ⌜ r ≡ steps (now (p .entry)) 4 s ⌝ }
+{
+    let t1 = step0(p, s, t, 0, 0, 0xd76aa478, 7);
+    let t2 = step0(p, s, t1, 1, 1, 0xe8c7b756, 12);
+    let t3 = step0(p, s, t2, 2, 2, 0x242070db, 17);
+    step0(p, s, t3, 3, 3, 0xc1bdceee, 22)
+}
+
+fn quad01(p: &[u8], s: Regs, t: Regs) -> Regs
+    requires { ⌜ (length (now p) ≡ 64) × (t ≡ steps (now p) 4 s) ⌝ }
+    ensures { λ r. ⌜ r ≡ steps (now (p .entry)) 8 s ⌝ }
+{
+    let t1 = step0(p, s, t, 4, 4, 0xf57c0faf, 7);
+    let t2 = step0(p, s, t1, 5, 5, 0x4787c62a, 12);
+    let t3 = step0(p, s, t2, 6, 6, 0xa8304613, 17);
+    step0(p, s, t3, 7, 7, 0xfd469501, 22)
+}
+
+fn quad02(p: &[u8], s: Regs, t: Regs) -> Regs
+    requires { ⌜ (length (now p) ≡ 64) × (t ≡ steps (now p) 8 s) ⌝ }
+    ensures { λ r. ⌜ r ≡ steps (now (p .entry)) 12 s ⌝ }
+{
+    let t1 = step0(p, s, t, 8, 8, 0x698098d8, 7);
+    let t2 = step0(p, s, t1, 9, 9, 0x8b44f7af, 12);
+    let t3 = step0(p, s, t2, 10, 10, 0xffff5bb1, 17);
+    step0(p, s, t3, 11, 11, 0x895cd7be, 22)
+}
+
+fn quad03(p: &[u8], s: Regs, t: Regs) -> Regs
+    requires { ⌜ (length (now p) ≡ 64) × (t ≡ steps (now p) 12 s) ⌝ }
+    ensures { λ r. ⌜ r ≡ steps (now (p .entry)) 16 s ⌝ }
+{
+    let t1 = step0(p, s, t, 12, 12, 0x6b901122, 7);
+    let t2 = step0(p, s, t1, 13, 13, 0xfd987193, 12);
+    let t3 = step0(p, s, t2, 14, 14, 0xa679438e, 17);
+    step0(p, s, t3, 15, 15, 0x49b40821, 22)
+}
+
+fn round0(p: &[u8], s: Regs, t: Regs) -> Regs
+    requires { ⌜ (length (now p) ≡ 64) × (t ≡ steps (now p) 0 s) ⌝ }
+    ensures { λ r. ⌜ r ≡ steps (now (p .entry)) 16 s ⌝ }
+{
+    let a = quad00(p, s, t);
+    let b = quad01(p, s, a);
+    let c = quad02(p, s, b);
+    quad03(p, s, c)
+}
+
+// Round 1.
+fn mix1(b: u32, c: u32, d: u32) -> u32
+    ensures { λ r. ⌜ r ≡ mixOf 1 b c d ⌝ }
+{
+    (b & d) | (c & !d)
+}
+
+fn step1(p: &[u8], s: Regs, t: Regs, i: usize, w: usize, k: u32, n: u32) -> Regs
+    requires { ⌜ Turn (now p) s t 1 i w k n ⌝ }
+    ensures { λ r. ⌜ r ≡ steps (now (p .entry)) (i + 1) s ⌝ }
+{
+    step(p, s, t, 1, i, w, k, n, mix1(t.b, t.c, t.d))
+}
+
+fn quad10(p: &[u8], s: Regs, t: Regs) -> Regs
+    requires { ⌜ (length (now p) ≡ 64) × (t ≡ steps (now p) 16 s) ⌝ }
+    ensures { λ r. ⌜ r ≡ steps (now (p .entry)) 20 s ⌝ }
+{
+    let t1 = step1(p, s, t, 16, 1, 0xf61e2562, 5);
+    let t2 = step1(p, s, t1, 17, 6, 0xc040b340, 9);
+    let t3 = step1(p, s, t2, 18, 11, 0x265e5a51, 14);
+    step1(p, s, t3, 19, 0, 0xe9b6c7aa, 20)
+}
+
+fn quad11(p: &[u8], s: Regs, t: Regs) -> Regs
+    requires { ⌜ (length (now p) ≡ 64) × (t ≡ steps (now p) 20 s) ⌝ }
+    ensures { λ r. ⌜ r ≡ steps (now (p .entry)) 24 s ⌝ }
+{
+    let t1 = step1(p, s, t, 20, 5, 0xd62f105d, 5);
+    let t2 = step1(p, s, t1, 21, 10, 0x02441453, 9);
+    let t3 = step1(p, s, t2, 22, 15, 0xd8a1e681, 14);
+    step1(p, s, t3, 23, 4, 0xe7d3fbc8, 20)
+}
+
+fn quad12(p: &[u8], s: Regs, t: Regs) -> Regs
+    requires { ⌜ (length (now p) ≡ 64) × (t ≡ steps (now p) 24 s) ⌝ }
+    ensures { λ r. ⌜ r ≡ steps (now (p .entry)) 28 s ⌝ }
+{
+    let t1 = step1(p, s, t, 24, 9, 0x21e1cde6, 5);
+    let t2 = step1(p, s, t1, 25, 14, 0xc33707d6, 9);
+    let t3 = step1(p, s, t2, 26, 3, 0xf4d50d87, 14);
+    step1(p, s, t3, 27, 8, 0x455a14ed, 20)
+}
+
+fn quad13(p: &[u8], s: Regs, t: Regs) -> Regs
+    requires { ⌜ (length (now p) ≡ 64) × (t ≡ steps (now p) 28 s) ⌝ }
+    ensures { λ r. ⌜ r ≡ steps (now (p .entry)) 32 s ⌝ }
+{
+    let t1 = step1(p, s, t, 28, 13, 0xa9e3e905, 5);
+    let t2 = step1(p, s, t1, 29, 2, 0xfcefa3f8, 9);
+    let t3 = step1(p, s, t2, 30, 7, 0x676f02d9, 14);
+    step1(p, s, t3, 31, 12, 0x8d2a4c8a, 20)
+}
+
+fn round1(p: &[u8], s: Regs, t: Regs) -> Regs
+    requires { ⌜ (length (now p) ≡ 64) × (t ≡ steps (now p) 16 s) ⌝ }
+    ensures { λ r. ⌜ r ≡ steps (now (p .entry)) 32 s ⌝ }
+{
+    let a = quad10(p, s, t);
+    let b = quad11(p, s, a);
+    let c = quad12(p, s, b);
+    quad13(p, s, c)
+}
+
+// Round 2.
+fn mix2(b: u32, c: u32, d: u32) -> u32
+    ensures { λ r. ⌜ r ≡ mixOf 2 b c d ⌝ }
+{
+    b ^ c ^ d
+}
+
+fn step2(p: &[u8], s: Regs, t: Regs, i: usize, w: usize, k: u32, n: u32) -> Regs
+    requires { ⌜ Turn (now p) s t 2 i w k n ⌝ }
+    ensures { λ r. ⌜ r ≡ steps (now (p .entry)) (i + 1) s ⌝ }
+{
+    step(p, s, t, 2, i, w, k, n, mix2(t.b, t.c, t.d))
+}
+
+fn quad20(p: &[u8], s: Regs, t: Regs) -> Regs
+    requires { ⌜ (length (now p) ≡ 64) × (t ≡ steps (now p) 32 s) ⌝ }
+    ensures { λ r. ⌜ r ≡ steps (now (p .entry)) 36 s ⌝ }
+{
+    let t1 = step2(p, s, t, 32, 5, 0xfffa3942, 4);
+    let t2 = step2(p, s, t1, 33, 8, 0x8771f681, 11);
+    let t3 = step2(p, s, t2, 34, 11, 0x6d9d6122, 16);
+    step2(p, s, t3, 35, 14, 0xfde5380c, 23)
+}
+
+fn quad21(p: &[u8], s: Regs, t: Regs) -> Regs
+    requires { ⌜ (length (now p) ≡ 64) × (t ≡ steps (now p) 36 s) ⌝ }
+    ensures { λ r. ⌜ r ≡ steps (now (p .entry)) 40 s ⌝ }
+{
+    let t1 = step2(p, s, t, 36, 1, 0xa4beea44, 4);
+    let t2 = step2(p, s, t1, 37, 4, 0x4bdecfa9, 11);
+    let t3 = step2(p, s, t2, 38, 7, 0xf6bb4b60, 16);
+    step2(p, s, t3, 39, 10, 0xbebfbc70, 23)
+}
+
+fn quad22(p: &[u8], s: Regs, t: Regs) -> Regs
+    requires { ⌜ (length (now p) ≡ 64) × (t ≡ steps (now p) 40 s) ⌝ }
+    ensures { λ r. ⌜ r ≡ steps (now (p .entry)) 44 s ⌝ }
+{
+    let t1 = step2(p, s, t, 40, 13, 0x289b7ec6, 4);
+    let t2 = step2(p, s, t1, 41, 0, 0xeaa127fa, 11);
+    let t3 = step2(p, s, t2, 42, 3, 0xd4ef3085, 16);
+    step2(p, s, t3, 43, 6, 0x04881d05, 23)
+}
+
+fn quad23(p: &[u8], s: Regs, t: Regs) -> Regs
+    requires { ⌜ (length (now p) ≡ 64) × (t ≡ steps (now p) 44 s) ⌝ }
+    ensures { λ r. ⌜ r ≡ steps (now (p .entry)) 48 s ⌝ }
+{
+    let t1 = step2(p, s, t, 44, 9, 0xd9d4d039, 4);
+    let t2 = step2(p, s, t1, 45, 12, 0xe6db99e5, 11);
+    let t3 = step2(p, s, t2, 46, 15, 0x1fa27cf8, 16);
+    step2(p, s, t3, 47, 2, 0xc4ac5665, 23)
+}
+
+fn round2(p: &[u8], s: Regs, t: Regs) -> Regs
+    requires { ⌜ (length (now p) ≡ 64) × (t ≡ steps (now p) 32 s) ⌝ }
+    ensures { λ r. ⌜ r ≡ steps (now (p .entry)) 48 s ⌝ }
+{
+    let a = quad20(p, s, t);
+    let b = quad21(p, s, a);
+    let c = quad22(p, s, b);
+    quad23(p, s, c)
+}
+
+// Round 3.
+fn mix3(b: u32, c: u32, d: u32) -> u32
+    ensures { λ r. ⌜ r ≡ mixOf 3 b c d ⌝ }
+{
+    c ^ (b | !d)
+}
+
+fn step3(p: &[u8], s: Regs, t: Regs, i: usize, w: usize, k: u32, n: u32) -> Regs
+    requires { ⌜ Turn (now p) s t 3 i w k n ⌝ }
+    ensures { λ r. ⌜ r ≡ steps (now (p .entry)) (i + 1) s ⌝ }
+{
+    step(p, s, t, 3, i, w, k, n, mix3(t.b, t.c, t.d))
+}
+
+fn quad30(p: &[u8], s: Regs, t: Regs) -> Regs
+    requires { ⌜ (length (now p) ≡ 64) × (t ≡ steps (now p) 48 s) ⌝ }
+    ensures { λ r. ⌜ r ≡ steps (now (p .entry)) 52 s ⌝ }
+{
+    let t1 = step3(p, s, t, 48, 0, 0xf4292244, 6);
+    let t2 = step3(p, s, t1, 49, 7, 0x432aff97, 10);
+    let t3 = step3(p, s, t2, 50, 14, 0xab9423a7, 15);
+    step3(p, s, t3, 51, 5, 0xfc93a039, 21)
+}
+
+fn quad31(p: &[u8], s: Regs, t: Regs) -> Regs
+    requires { ⌜ (length (now p) ≡ 64) × (t ≡ steps (now p) 52 s) ⌝ }
+    ensures { λ r. ⌜ r ≡ steps (now (p .entry)) 56 s ⌝ }
+{
+    let t1 = step3(p, s, t, 52, 12, 0x655b59c3, 6);
+    let t2 = step3(p, s, t1, 53, 3, 0x8f0ccc92, 10);
+    let t3 = step3(p, s, t2, 54, 10, 0xffeff47d, 15);
+    step3(p, s, t3, 55, 1, 0x85845dd1, 21)
+}
+
+fn quad32(p: &[u8], s: Regs, t: Regs) -> Regs
+    requires { ⌜ (length (now p) ≡ 64) × (t ≡ steps (now p) 56 s) ⌝ }
+    ensures { λ r. ⌜ r ≡ steps (now (p .entry)) 60 s ⌝ }
+{
+    let t1 = step3(p, s, t, 56, 8, 0x6fa87e4f, 6);
+    let t2 = step3(p, s, t1, 57, 15, 0xfe2ce6e0, 10);
+    let t3 = step3(p, s, t2, 58, 6, 0xa3014314, 15);
+    step3(p, s, t3, 59, 13, 0x4e0811a1, 21)
+}
+
+fn quad33(p: &[u8], s: Regs, t: Regs) -> Regs
+    requires { ⌜ (length (now p) ≡ 64) × (t ≡ steps (now p) 60 s) ⌝ }
+    ensures { λ r. ⌜ r ≡ steps (now (p .entry)) 64 s ⌝ }
+{
+    let t1 = step3(p, s, t, 60, 4, 0xf7537e82, 6);
+    let t2 = step3(p, s, t1, 61, 11, 0xbd3af235, 10);
+    let t3 = step3(p, s, t2, 62, 2, 0x2ad7d2bb, 15);
+    step3(p, s, t3, 63, 9, 0xeb86d391, 21)
+}
+
+fn round3(p: &[u8], s: Regs, t: Regs) -> Regs
+    requires { ⌜ (length (now p) ≡ 64) × (t ≡ steps (now p) 48 s) ⌝ }
+    ensures { λ r. ⌜ r ≡ steps (now (p .entry)) 64 s ⌝ }
+{
+    let a = quad30(p, s, t);
+    let b = quad31(p, s, a);
+    let c = quad32(p, s, b);
+    quad33(p, s, c)
+}
+
+// The 64 steps on a block.
+fn all_steps(p: &[u8], s: Regs) -> Regs
+    requires { ⌜ length (now p) ≡ 64 ⌝ }
+    ensures { λ r. ⌜ r ≡ steps (now (p .entry)) 64 s ⌝ }
+{
+    let a = round0(p, s, s);
+    let b = round1(p, s, a);
+    let c = round2(p, s, b);
+    round3(p, s, c)
+}
+
+// One block, added to the registers from before.
+fn block(p: &[u8], s: Regs) -> Regs
+    requires { ⌜ length (now p) ≡ 64 ⌝ }
+    ensures { λ r. ⌜ r ≡ blockOf (now (p .entry)) s ⌝ }
+{
+    let t = all_steps(p, s);
+    Regs {
+        a: std::num::wrapping_add_u32(s.a, t.a),
+        b: std::num::wrapping_add_u32(s.b, t.b),
+        c: std::num::wrapping_add_u32(s.c, t.c),
+        d: std::num::wrapping_add_u32(s.d, t.d),
+    }
+}
+
+// The bytes of a number, the low-order one first.
+fn le_bytes8(x: u64) -> [u8; 8]
+    ensures { λ r. ⌜ r ≡ le 8 x ⌝ }
+{
+    [
+        (x % 256) as u8,
+        (x / 256 % 256) as u8,
+        (x / 65536 % 256) as u8,
+        (x / 16777216 % 256) as u8,
+        (x / 4294967296 % 256) as u8,
+        (x / 1099511627776 % 256) as u8,
+        (x / 281474976710656 % 256) as u8,
+        (x / 72057594037927936 % 256) as u8,
+    ]
+}
+
+// Where the length field of a padded message of n bytes stands.
+fn field_at(n: usize) -> usize
+    requires { ⌜ n < 2 ^ 63 + 64 ⌝ }
+    ensures { λ r. ⌜ r ≡ n + 1 + zeros n ⌝ }
+{
+    n + 1 + (119 - n % 64) % 64
+}
+
+// x - y, or 0.
+fn less(x: usize, y: usize) -> usize
+    ensures { λ r. ⌜ r ≡ x - y ⌝ }
+{
+    if x < y { 0 } else { x - y }
+}
+
+fn least(x: usize, y: usize) -> usize
+    ensures { λ r. ⌜ r ≡ min x y ⌝ }
+{
+    if x < y { x } else { y }
+}
+
+fn most(x: usize, y: usize) -> usize
+    ensures { λ r. ⌜ r ≡ max x y ⌝ }
+{
+    if x < y { y } else { x }
+}
+
+// Where bytes go in a block, which of a part's bytes are the first of them, and how many.
+struct Span {
+    pub place: usize,
+    pub skip: usize,
+    pub count: usize,
+}
+
+// The bytes that a part of n bytes at from has in the block at at.
+fn span_in(at: usize, from: usize, n: usize) -> Span
+    ensures { λ r. ⌜ (r ≡ spanOf at from n) × (r .place + r .count ≤ 64) × (r .skip + r .count ≤ n) ⌝ }
+{
+    let place = least(less(from, at), 64);
+    let skip = least(less(at, from), n);
+    Span {
+        place,
+        skip,
+        count: least(64 - place, n - skip),
+    }
+}
+
+// A part of the padded message stands at from: those of its bytes that fall into the block at at are stored there.
+fn put_part(b: &mut [u8], at: usize, part: &[u8], from: usize)
+    requires { ⌜ length (now b) ≡ 64 ⌝ }
+    ensures { λ r. ⌜ now (b .exit) ≡ laid (now (b .entry)) at (now (part .entry)) from ⌝ }
+{
+    let s = span_in(at, from, part.len());
+    let skip = s.skip;
+    let end = skip + s.count;
+    base::copy_into(b, s.place, &part[skip..end]);
+}
+
+// The 64 bytes of the padded message from at on. The message is prefix and then rest.
+fn fill(prefix: &[u8], rest: &[u8], at: usize) -> [u8; 64]
+    requires { ⌜ (length (now prefix) < 64) × (at + 64 ≤ length (padded (now prefix ++ now rest))) ⌝ }
+    ensures { λ r. ⌜ (64 ≡ length r) × (r ≡ take 64 (drop at (padded (now (prefix .entry) ++ now (rest .entry))))) ⌝ }
+{
+    let n = prefix.len() + rest.len();
+    let bits = le_bytes8(n as u64 % 2305843009213693952 * 8);
+    let mut b = [0u8; 64];
+    put_part(&mut b, at, prefix, 0);
+    put_part(&mut b, at, rest, prefix.len());
+    put_part(&mut b, at, &[128u8], n);
+    put_part(&mut b, at, &bits, field_at(n));
+    b
+}
+
+// The registers after the blocks before to, by blocks that are laid out anew.
+fn filled_blocks(prefix: &[u8], rest: &[u8], from: usize, to: usize, start: Regs) -> Regs
+    requires { ⌜ (length (now prefix) < 64) × (from ≤ to) × (64 * to ≤ length (padded (now prefix ++ now rest))) × (start ≡ blocks (padded (now prefix ++ now rest)) from) ⌝ }
+    ensures { λ r. ⌜ r ≡ blocks (padded (now (prefix .entry) ++ now (rest .entry))) to ⌝ }
+{
+    let mut s = start;
+    let mut k = from;
+    while k < to {
+        let p = fill(prefix, rest, 64 * k);
+        s = block(&p, s);
+        k += 1;
+    }
+    s
+}
+
+// The same by blocks that lie in rest, where they stand.
+fn whole_blocks(prefix: &[u8], rest: &[u8], from: usize, to: usize, start: Regs) -> Regs
+    requires { ⌜ (length (now prefix) ≤ 64 * from) × (64 * to ≤ length (now prefix) + length (now rest)) × (length (now prefix) < 64) × (start ≡ blocks (padded (now prefix ++ now rest)) from) ⌝ }
+    ensures { λ r. ⌜ r ≡ blocks (padded (now (prefix .entry) ++ now (rest .entry))) (max from to) ⌝ }
+{
+    let mut s = start;
+    let mut k = from;
+    while k < to {
+        let at = 64 * k - prefix.len();
+        s = block(&rest[at..at + 64], s);
+        k += 1;
+    }
+    s
+}
+
+// The registers after all blocks of the message prefix and then rest.
+fn all_blocks(prefix: &[u8], rest: &[u8]) -> Regs
+    requires { ⌜ length (now prefix) < 64 ⌝ }
+    ensures { λ r. ⌜ r ≡ blocks (padded (now (prefix .entry) ++ now (rest .entry))) (length (padded (now (prefix .entry) ++ now (rest .entry))) / 64) ⌝ }
+{
+    let n = prefix.len() + rest.len();
+    let head = (prefix.len() + 63) / 64;
+    let whole = n / 64;
+    let start = Regs {
+        a: 0x67452301,
+        b: 0xefcdab89,
+        c: 0x98badcfe,
+        d: 0x10325476,
+    };
+    let s = filled_blocks(prefix, rest, 0, head, start);
+    let t = whole_blocks(prefix, rest, head, whole, s);
+    filled_blocks(prefix, rest, most(head, whole), (field_at(n) + 8) / 64, t)
+}
+
+// The number of a word's bytes in the other order.
+fn swapped(x: u32) -> u64
+    ensures { λ r. ⌜ (r ≡ beValue (le 4 x)) × (r < 2 ^ 32) ⌝ }
+{
+    let y = x as u64;
+    y % 256 * 16777216 + y / 256 % 256 * 65536 + y / 65536 % 256 * 256 + y / 16777216 % 256
+}
+
+// The digest that the registers are in the end.
+fn output(s: Regs) -> Octets16
+    ensures { λ r. ⌜ r ≡ numbers16 (outputOf s) ⌝ }
+{
+    Octets16 {
+        first: swapped(s.a) * 4294967296 + swapped(s.b),
+        second: swapped(s.c) * 4294967296 + swapped(s.d),
+    }
+}
+
+// The 64-bit number at a place, the high-order byte first.
+fn number_at(s: &[u8], at: usize) -> u64
+    requires { ⌜ at + 8 ≤ length (now s) ⌝ }
+    ensures { λ r. ⌜ r ≡ beValue (take 8 (drop at (now (s .entry)))) ⌝ }
+{
+    let mut x = 0;
+    let mut i = 0;
+    while i < 8 {
+        x = x * 256 + base::wide64(s[at + i]);
+        i += 1;
+    }
+    x
+}
+
+// The value of the 16 bytes at a place.
+pub fn octets16_at(s: &[u8], at: usize) -> Octets16
+    requires { ⌜ at + 16 ≤ length (now s) ⌝ }
+    ensures { λ r. ⌜ r ≡ numbers16 (take 16 (drop at (now (s .entry)))) ⌝ }
+{
+    Octets16 {
+        first: number_at(s, at),
+        second: number_at(s, at + 8),
+    }
+}
+
+// The bytes of a value.
+pub fn octets(n: Octets16) -> [u8; 16]
+    ensures { λ r. ⌜ r ≡ octets16 n ⌝ }
+{
+    let a = le_bytes8(n.first);
+    let b = le_bytes8(n.second);
+    [
+        a[7],
+        a[6],
+        a[5],
+        a[4],
+        a[3],
+        a[2],
+        a[1],
+        a[0],
+        b[7],
+        b[6],
+        b[5],
+        b[4],
+        b[3],
+        b[2],
+        b[1],
+        b[0],
+    ]
+}
+
+// The bytes of a value, stored from a place on.
+pub fn put_octets16(d: &mut [u8], at: usize, n: Octets16)
+    requires { ⌜ at + 16 ≤ length (now d) ⌝ }
+    ensures { λ r. ⌜ now (d .exit) ≡ paste (now (d .entry)) at (octets16 n) 16 ⌝ }
+{
+    let bytes = octets(n);
+    base::copy_into(d, at, &bytes);
+}
+
+pub fn digest(message: &[u8]) -> [u8; 16]
+    ensures { λ r. ⌜ r ≡ digestOf (now (message .entry)) ⌝ }
+{
+    octets(output(all_blocks(&message[..0], message)))
+}
+
+// OBEX's request digest, of the nonce, a colon and the password.
+pub fn request_digest(nonce: Octets16, password: &[u8]) -> Octets16
+    ensures { λ r. ⌜ r ≡ numbers16 (requestDigest (octets16 nonce) (now (password .entry))) ⌝ }
+{
+    let mut prefix = [0x3Au8; 17];
+    put_octets16(&mut prefix, 0, nonce);
+    output(all_blocks(&prefix, password))
+}

@@ -1,0 +1,108 @@
+-- The way of a packet by what reading it gives, and a gathered packet as a plan. Assumes nothing.
+use mathlib.Core.Path.{_≡_, refl, sym, ap, _∙_, subst}
+use mathlib.Core.Bool.{Bool, true}
+use mathlib.Core.List.{List}
+use mathlib.Core.Option.{Option, none, some}
+use Prim.Native.Nat.{ℕ}
+use native.Mathlib.Omega.{arith}
+use lib.ListN.{length, getD, take}
+use Rattle.packet.specs.FirstByte.{firstByte}
+use Rattle.packet.specs.Header.{Header, readHeaders}
+use Rattle.packet.specs.Packet.{Request as Packet, requestOf, prefixOf, backup, noCreate}
+use Rattle.packet.specs.PacketRead.{parsedAs, parsePacket}
+use Rattle.packet.specs.declared.opcode.Opcode.{Opcode}
+use Rattle.packet.specs.declared.packet.Parsed.the-variants as parsed
+use Rattle.incoming.specs.Frame.{Frames, frames, framed}
+use Rattle.incoming.specs.Survey.{surveyOf}
+use Rattle.incoming.specs.declared.io.Frame.{Frame}
+use Rattle.incoming.specs.declared.io.Framed.{Framed}
+use Rattle.incoming.specs.Gather.{Gathering, gathering, gatherAll, headersOf}
+use Rattle.incoming.specs.declared.gather.Gathered.{Gathered}
+use Rattle.incoming.specs.declared.gather.Keep.{Keep}
+use Rattle.engine.specs.Model.{Stores, stores, Done, Stepped, stepped, ends, after, lengthOf, packetDone, framedAs, withPacket, offers, bytesStep, limitOf, headersIn, gathers, unknownByte, soundOperation}
+use Rattle.engine.specs.Plan.{planned, endsPlan}
+use Rattle.engine.specs.Carry.{Written, carried, tookBy}
+use Rattle.engine.specs.Route.{unreadableRoute, headingRoute, routeAs, packetRoute, keepOf, fromOf, kindPlan, actsGathered, acts}
+use Rattle.engine.specs.declared.server.Engine.{Engine}
+use Rattle.engine.specs.Turn.{withTaken}
+use Rattle.engine.specs.declared.server.Took.{Took}
+use Rattle.engine.specs.declared.plan.Plan.{Plan}
+use Rattle.engine.specs.declared.route.Kind.{Kind}
+use Rattle.engine.specs.declared.route.Route.{Route}
+use Rattle.engine.proofs.Guards.{Goes}
+use Rattle.engine.proofs.Ready.{parts, Ready, ready}
+use Rattle.engine.proofs.Routes.{packet-acts}
+
+pub unreadable-way : (e : Engine) (q : List ℕ) → parsePacket q ≡ parsed.Unreadable
+    → packetRoute e q ≡ unreadableRoute (e .operation) (unknownByte (firstByte (getD q 0 0)))
+unfolding parsePacket packetRoute
+unreadable-way e q h = go (requestOf q) h
+  where
+    go : (x : Option Packet) → parsedAs x (length q) ≡ parsed.Unreadable
+        → routeAs x e q ≡ unreadableRoute (e .operation) (unknownByte (firstByte (getD q 0 0)))
+    go none w = refl
+    go (some r) w = absurd (let z : _≡_ {A = ℕ} 0 1 = cc in omega arith)
+
+pub heading-way : (e : Engine) (q : List ℕ) (o : Opcode) (final : Bool) (from n : ℕ) → parsePacket q ≡ parsed.Request o final from n
+    → packetRoute e q
+    ≡ headingRoute e (record { survey = surveyOf (readHeaders q from); opcode = o; backup = backup q; «no_create» = noCreate q; «is_final» = final })
+unfolding parsePacket packetRoute
+heading-way e q o final from n h = go (requestOf q) refl h
+  where
+    go : (x : Option Packet) → requestOf q ≡ x → parsedAs x (length q) ≡ parsed.Request o final from n
+        → routeAs x e q
+        ≡ headingRoute e (record { survey = surveyOf (readHeaders q from); opcode = o; backup = backup q; «no_create» = noCreate q; «is_final» = final })
+    go none k w = absurd (let z : _≡_ {A = ℕ} 0 1 = cc in omega arith)
+    go (some r) k w =
+        let a : r .opcode ≡ o = cc in
+        let b : r .final ≡ final = cc in
+        let d : prefixOf (r .opcode) ≡ from = cc in
+        let y = parts q r k in
+        rw (← a, ← b, ← d, y .headers, y .bytes)
+
+-- what `gather` gives, in the words of the model
+pub gathered-way : (e : Engine) (k : Kind) (q : List ℕ) (hs : List Header) (g : Gathered) (s : Stores) (from limit : ℕ) (keep : Keep) (x : Gathering)
+    → x ≡ gatherAll keep limit (headersOf (readHeaders q from)) (gathering g (s .headers) (s .body)) → from ≡ fromOf k → keep ≡ keepOf k
+    → limit ≡ limitOf e → readHeaders q (fromOf k) ≡ some hs → x ≡ gathers e (keepOf k) hs g s
+gathered-way e k q hs g s from limit keep x h a b c r = h ∙ rw (a, b, c, r)
+
+pub gathered-planned : (e : Engine) (k : Kind) (final asked srm confirm : Bool) (got : Gathered) (h b : List ℕ) (s : Stores) (x : Gathering) (p : Plan)
+    → gathering got h b ≡ x → p ≡ kindPlan e k got final asked srm confirm
+    → planned p (stores (s .packet) h b (s .reply)) ≡ actsGathered e k final asked srm confirm x s
+gathered-planned e k final asked srm confirm got h b s x p w z = rw (← w, z)
+
+-- by the way that the code was told
+pub by-route : (e : Engine) (q : List ℕ) (s : Stores) (x : Route) (d : Done) → packetRoute e q ≡ x → d ≡ acts x e q s → d ≡ acts (packetRoute e q) e q s
+by-route e q s x d h k = k ∙ ap (λ (y : Route). acts y e q s) (sym h)
+
+pub ready-at : (e : Engine) (q : List ℕ) (x : Route) → packetRoute e q ≡ x → soundOperation (limitOf e) (e .operation) ≡ true
+    → Ready x e q (headersIn (requestOf q))
+ready-at e q x h s = subst (λ (y : Route). Ready y e q (headersIn (requestOf q))) h (ready e q s)
+
+-- a whole packet, once its plan is carried out
+pub done-call : (e : Engine) (n : ℕ) (s : Stores) (at : Engine) (p : Plan) (h b y : List ℕ) (w : Written) → at ≡ lengthOf e n
+    → planned p (stores (s .packet) h b y) ≡ acts (packetRoute at (take n (s .packet))) at (take n (s .packet)) s → w ≡ carried p y
+    → stepped (w .took) (stores (s .packet) h b (w .reply)) ≡ after 0 (packetDone e n s)
+done-call e n s at p h b y w l k c =
+    ap (λ (x : Written). stepped (x .took) (stores (s .packet) h b (x .reply))) c
+    ∙ ap (λ (d : Done). after 0 d)
+    (k ∙ ap (λ (x : Engine). acts (packetRoute x (take n (s .packet))) x (take n (s .packet)) s) l ∙ packet-acts e n s)
+
+-- ---- bytes
+
+-- a call that goes on, by where the frame stands
+pub framed-call : (e : Engine) (i : List ℕ) (s : Stores) (f : Framed) (q : List ℕ) (x : Frame) (d : Stepped) → Goes 0 0 e s
+    → frames f q ≡ framed (s .packet) (e .begun) 0 i → f .frame ≡ x → d ≡ framedAs x e (f .begun) (f .taken) (withPacket s q) → d ≡ bytesStep e i s
+unfolding bytesStep
+framed-call e i s f q x d g h k w =
+    w ∙ ap (λ (y : Frame). framedAs y e (f .begun) (f .taken) (withPacket s q)) (sym k) ∙ ap (λ (y : Frames). offers e y s) h
+    ∙ sym (g .whole (offers e (framed (s .packet) (e .begun) 0 i) s))
+
+-- so many bytes were taken
+pub taken-after : (r w : Took) (t : ℕ) (s : Stores) (d : Done) → w ≡ withTaken r t → stepped r s ≡ after 0 d → stepped w s ≡ after t d
+taken-after r w t s d h k = ap (λ (x : Took). stepped x s) h ∙ ap (λ (x : Stepped). stepped (withTaken (x .took) t) (x .stores)) k
+
+-- number 3 has no reply to write
+pub short-took : (e : Engine) (r : Took) (p : Plan) (s : Stores) → r ≡ tookBy p → p ≡ endsPlan e (e .peer) 3 → stepped r s ≡ after 0 (ends e (e .peer) 3 s)
+unfolding endsPlan
+short-took e r p s h k = ap (λ (x : Took). stepped x s) (h ∙ ap (λ (x : Plan). tookBy x) k)

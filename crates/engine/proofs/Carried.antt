@@ -1,0 +1,85 @@
+-- How a call that the guard let go on comes to the model's step, by its plan. Plans for what the lower layers sent, carried out, are the model's steps. Assumes nothing.
+use mathlib.Core.Path.{_≡_, refl, sym, ap, _∙_}
+use mathlib.Core.List.{List}
+use mathlib.Core.Bool.{Bool, true, false}
+use mathlib.Core.Option.{Option, none, some}
+use Prim.Native.Nat.{ℕ}
+use Rattle.packet.specs.Codes.{sentCode}
+use Rattle.packet.specs.FirstByte.{topBit}
+use Rattle.packet.specs.Packet.{packetBytes}
+use Rattle.connection.specs.Send.{Sending as Sent, sentInto, front}
+use Rattle.connection.specs.declared.peer.Peer.{Peer}
+use Rattle.outgoing.specs.Outgoing.{Made}
+use Rattle.outgoing.specs.declared.body.Next.{Next}
+use Rattle.outgoing.specs.declared.body.Next.the-variants as next
+use Rattle.engine.specs.declared.server.Took.{Took}
+use Rattle.engine.specs.declared.plan.Plan.{Plan}
+use Rattle.engine.proofs.Guards.{Goes, refusedIn, turned}
+use Rattle.engine.proofs.Plans.{Carries}
+use Rattle.engine.specs.Guard.{refusal}
+use Rattle.engine.specs.Model.{Stepped, stepped, after, guarded, Stores, Done, withReply, sent, sendsMade, sendsPacket, repliesCode}
+use Rattle.engine.specs.declared.plan.Small.{Small}
+use Rattle.engine.specs.declared.plan.Small.the-variants.{Silent}
+use Rattle.engine.specs.Plan.{smallBytes, planned, endsPlan, codePlan, asksPlan}
+use Rattle.engine.specs.Carry.{Written, within, carried, tookBy, sentPlan, madePlan, packetPlan}
+use Rattle.engine.specs.declared.server.Operation.the-variants.{Nothing}
+use Rattle.engine.specs.declared.server.Engine.{Engine}
+use Rattle.engine.specs.declared.server.Await.the-variants as await
+
+-- a reply that was sent, by what sending gave
+pub sent-carried : (e : Engine) (p : Peer) (q : Option (List ℕ)) (z : Sent) (s : Stores) → z ≡ sentInto q (s .reply)
+    → planned (sentPlan e p (z .answer)) (withReply s (z .reply)) ≡ sent e p q s
+unfolding sentPlan endsPlan
+sent-carried e p none z s h = simp h
+sent-carried e p (some q) z s h = simp h
+
+-- a packet of an object
+pub made-carried : (e : Engine) (srm wait : Bool) (n : Next) (m : Made) (s : Stores)
+    → planned (madePlan n e srm wait (m .packet)) (withReply s (m .reply)) ≡ sendsMade e srm wait n m s
+unfolding asksPlan codePlan packetBytes
+made-carried e srm wait (next.Send n true) m s = refl
+made-carried e srm wait (next.Send n false) m s = refl
+made-carried e srm wait next.Read m s = refl
+made-carried e srm wait next.TooLarge m s = refl
+
+pub packet-carried : (e : Engine) (srm wait : Bool) (m : Made) (s : Stores)
+    → planned (packetPlan e srm wait (m .packet)) (withReply s (m .reply)) ≡ sendsPacket e srm wait m s
+unfolding packetPlan
+packet-carried e srm wait m s = made-carried e srm wait (m .packet .next) m s
+
+-- ---- Calls
+
+-- a call that the guard refuses
+pub refused-call : (from to : ℕ) (e : Engine) (s : Stores) (go : Stepped) (n : ℕ) (r : Took) → r ≡ refusal n e → n ≡ refusedIn from to e s
+    → (n ≡ 0 → ⊥) → stepped r s ≡ guarded from to e s go
+refused-call from to e s go n r h k w = ap (λ (x : Took). stepped x s) h ∙ turned from to e s go n k w
+
+-- a call that goes on, and carries a plan out
+pub carried-call : (from to : ℕ) (e : Engine) (s : Stores) (d : Done) (p q : Plan) (w : Written) → Goes from to e s → w ≡ carried p (s .reply)
+    → p ≡ q → Carries q s d → within w s ≡ guarded from to e s (after 0 d)
+carried-call from to e s d p q w g h k is =
+    ap (λ (x : Written). within x s) h ∙ ap (λ (x : Plan). after 0 (planned x s)) k ∙ ap (λ (x : Done). after 0 x) (is .is)
+    ∙ sym (g .whole (after 0 d))
+
+-- a call that goes on, and has no reply to write
+pub silent-call : (from to : ℕ) (e : Engine) (s : Stores) (d : Done) (p q : Plan) (r : Took) → Goes from to e s → r ≡ tookBy p → p ≡ q
+    → q .small ≡ Silent → Carries q s d → stepped r s ≡ guarded from to e s (after 0 d)
+silent-call from to e s d p q r g h k m is =
+    ap (λ (x : Took). stepped x s) (h ∙ ap (λ (x : Plan). tookBy x) k)
+    ∙ ap (λ (x : Small). stepped (tookBy q) (withReply s (front (smallBytes x) (s .reply)))) (sym m)
+    ∙ ap (λ (x : Done). after 0 x) (is .is)
+    ∙ sym (g .whole (after 0 d))
+
+-- what was sent, and nothing more to write
+took-sent : (e : Engine) (p : Peer) (q : Option (List ℕ)) (z : Sent) (s : Stores) → z ≡ sentInto q (s .reply)
+    → stepped (tookBy (sentPlan e p (z .answer))) (withReply s (z .reply)) ≡ after 0 (sent e p q s)
+unfolding sentPlan endsPlan
+took-sent e p none z s h = simp h
+took-sent e p (some q) z s h = simp h
+
+pub sent-call : (from to : ℕ) (e : Engine) (s : Stores) (p : Peer) (q : Option (List ℕ)) (z : Sent) (x : Plan) (r : Took) → Goes from to e s
+    → z ≡ sentInto q (s .reply) → x ≡ sentPlan e p (z .answer) → r ≡ tookBy x
+    → stepped r (withReply s (z .reply)) ≡ guarded from to e s (after 0 (sent e p q s))
+sent-call from to e s p q z x r g h k m =
+    ap (λ (y : Took). stepped y (withReply s (z .reply))) (m ∙ ap (λ (y : Plan). tookBy y) k) ∙ took-sent e p q z s h
+    ∙ sym (g .whole (after 0 (sent e p q s)))

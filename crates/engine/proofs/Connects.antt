@@ -1,0 +1,60 @@
+-- The client's response by its place in a Connect packet. Assumes nothing.
+use mathlib.Core.Path.{_≡_, refl, sym, ap, _∙_}
+use mathlib.Core.List.{List}
+use mathlib.Core.Option.{Option, none, some}
+use Prim.Native.Nat.{ℕ, _+_, _^_, _<_}
+use native.Mathlib.Omega.{arith}
+use lib.ListN.{length}
+use Rattle.digest.specs.declared.md5.Octets16.{Octets16}
+use Rattle.packet.specs.Header.{readHeaders, firstPlace, part}
+use Rattle.packet.specs.Packet.{requestOf}
+use Rattle.packet.specs.Tags.{lastValue, bytesAt}
+use Rattle.packet.specs.Auth.{Response, responseOf}
+use Rattle.packet.specs.AuthRead.{responseRead, readResponse}
+use Rattle.packet.specs.declared.auth.Named.{Named}
+use Rattle.packet.specs.declared.auth.DigestResponse.the-variants as response
+use Rattle.packet.specs.declared.tlv.Found.{Found}
+use Rattle.packet.specs.declared.tlv.Found.the-variants as place
+use Rattle.packet.proofs.HeaderLaws.{first-agrees}
+use Rattle.packet.proofs.AuthLaws.{Within, within}
+use Rattle.engine.specs.Model.{headersIn, responseIn, userIn, placedAt}
+use Rattle.engine.specs.Route.{answeredAs, answeredBy, Below}
+use Rattle.engine.specs.declared.connecting.Answered.the-variants.{Missing, User}
+
+-- what is read, by cases
+unread : (x : Option Response) (u w : Found) → responseRead x u ≡ response.Unreadable → answeredAs x w ≡ Missing
+unread none u w h = refl
+unread (some r) u w h = absurd (let z : _≡_ {A = ℕ} 0 1 = cc in omega arith)
+
+read : (x : Option Response) (u v : Found) (d : Octets16) (n : Named) (a : ℕ) → responseRead x u ≡ response.Response d v n → answeredAs x (placedAt a u) ≡ User (placedAt a v)
+read none u v d n a h = absurd (let z : _≡_ {A = ℕ} 0 1 = cc in omega arith)
+read (some r) u v d n a h = let k : u ≡ v = cc in ap (λ (f : Found). User (placedAt a f)) k
+
+below : (s : List ℕ) (n : ℕ) (f : Found) → Within s f → n + length s < 2 ^ 64 → Below n f
+below s n place.Missing w h = tt
+below s n (place.At a b) w h = (w .0, omega (arith, w .1))
+
+-- the user id's place stays in the packet
+pub user-below : (s : List ℕ) (n : ℕ) (d : Octets16) (u : Found) (m : Named) → readResponse s ≡ response.Response d u m → n + length s < 2 ^ 64 → Below n u
+unfolding readResponse
+user-below s n d u m h = go (responseOf s) h
+  where
+    go : (x : Option Response) → responseRead x (lastValue s 1) ≡ response.Response d u m → n + length s < 2 ^ 64 → Below n u
+    go none w l = absurd (let z : _≡_ {A = ℕ} 0 1 = cc in omega arith)
+    go (some r) w l = let k : lastValue s 1 ≡ u = cc in rw k at (below s n (lastValue s 1) (within s 1) l)
+
+module _ (q : List ℕ) (k : readHeaders q 7 ≡ some (headersIn (requestOf q))) where
+  by-place : (f : Found) → firstPlace 0x4E q 7 ≡ f → answeredBy q ≡ answeredAs (responseIn (bytesAt q f)) (userIn q f)
+  by-place f h = rw (← first-agrees 0x4E q 7 (headersIn (requestOf q)) k, h)
+
+  pub not-answered : firstPlace 0x4E q 7 ≡ place.Missing → Missing ≡ answeredBy q
+  not-answered h = sym (by-place place.Missing h)
+
+  pub answer-unread : (a b : ℕ) → firstPlace 0x4E q 7 ≡ place.At a b → readResponse (part q a b) ≡ response.Unreadable → Missing ≡ answeredBy q
+  unfolding readResponse
+  answer-unread a b h r = sym (by-place (place.At a b) h ∙ unread (responseOf (part q a b)) _ _ r)
+
+  pub answer-read : (a b : ℕ) (d : Octets16) (u : Found) (n : Named) → firstPlace 0x4E q 7 ≡ place.At a b
+      → readResponse (part q a b) ≡ response.Response d u n → User (placedAt a u) ≡ answeredBy q
+  unfolding readResponse
+  answer-read a b d u n h r = sym (by-place (place.At a b) h ∙ read (responseOf (part q a b)) _ u d n a r)

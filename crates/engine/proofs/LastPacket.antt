@@ -1,0 +1,125 @@
+-- The last packet read again: its headers from where they start, and what the password is checked against. Assumes nothing.
+use mathlib.Core.Path.{_≡_, refl, sym, ap, _∙_}
+use mathlib.Core.List.{List, []}
+use mathlib.Core.Bool.{Bool, true, false}
+use mathlib.Core.Option.{Option, none, some}
+use Prim.Native.Nat.{ℕ, _+_, _-_, _≤_, _<_}
+use native.Mathlib.Omega.{arith}
+use lib.ListN.{length, getD, take, drop}
+use lib.Dec.{ltb}
+use lib.Seq.{getD-drop}
+use borrow.Author.Tests.{le-leb}
+use Rattle.base.specs.Pick.{pick}
+use Rattle.packet.specs.FirstByte.{firstByte}
+use Rattle.packet.specs.Header.{Header, readHeaders, headerAt, first, firstPlace, part}
+use Rattle.packet.specs.HeaderList.{readableFrom}
+use Rattle.packet.specs.Packet.{Request as Packet, requestOf, requestBy, requestWith, prefixOf}
+use Rattle.packet.specs.PacketRead.{parsedAs}
+use Rattle.packet.specs.Tags.{bytesAt}
+use Rattle.packet.specs.Auth.{Response, responseOf}
+use Rattle.packet.specs.AuthRead.{readResponse}
+use Rattle.packet.specs.declared.opcode.Opcode.{Opcode}
+use Rattle.packet.specs.declared.opcode.FirstByte.{FirstByte}
+use Rattle.packet.specs.declared.opcode.FirstByte.the-variants.{Known, Unknown}
+use Rattle.packet.specs.declared.packet.Parsed.{Parsed}
+use Rattle.packet.specs.declared.packet.Parsed.the-variants as parsed
+use Rattle.packet.specs.declared.header.HeaderAt.the-variants.{End}
+use Rattle.packet.specs.declared.tlv.Found.{Found}
+use Rattle.packet.specs.declared.tlv.Found.the-variants as place
+use Rattle.packet.proofs.HeaderBytes.{Octets}
+use Rattle.packet.proofs.HeaderLaws.{by-cursor, first-found}
+use Rattle.packet.proofs.TextForms.{octets-take}
+use Rattle.connection.specs.Pieces.{headersFrom, firstIn, checkOf}
+use Rattle.connection.specs.declared.peer.Challenge.{Challenge}
+use Rattle.connection.specs.declared.peer.Challenge.the-variants.{Stored, Absent}
+use Rattle.connection.proofs.Challenges.{first-in-bytes}
+use Rattle.connection.proofs.ByNumbers.{checkBy, check-by}
+use Rattle.engine.specs.Model.{Stores, stepped, after, guarded, passwordAnswer, clientResponse, lastHeaders, lastPacket, headersIn, responseIn, checks}
+use Rattle.engine.specs.Plan.{asksPlan}
+use Rattle.engine.specs.Carry.{tookBy, passwordPlan}
+use Rattle.engine.specs.declared.server.Engine.{Engine}
+use Rattle.engine.specs.declared.server.Took.{Took}
+use Rattle.engine.specs.declared.plan.Plan.{Plan}
+use Rattle.engine.proofs.Guards.{Goes}
+use Rattle.engine.specs.Last.{fromIn, lastFrom}
+
+-- where the headers start, by what the reader of packets gives
+pub from-parsed : (r : Option Packet) (n : ℕ) (o : Opcode) (f : Bool) (h l : ℕ) → parsedAs r n ≡ parsed.Request o f h l → h ≡ fromIn r n
+from-parsed none n o f h l e = let z : _≡_ {A = ℕ} 0 1 = cc in absurd (omega arith)
+from-parsed (some r) n o f h l e = cc
+
+pub from-unreadable : (r : Option Packet) (n : ℕ) → parsedAs r n ≡ parsed.Unreadable → n ≡ fromIn r n
+from-unreadable none n e = refl
+from-unreadable (some r) n e = let z : _≡_ {A = ℕ} 0 1 = cc in absurd (omega arith)
+
+at-end : (q : List ℕ) → readHeaders q (length q) ≡ some []
+unfolding headerAt
+at-end q = let n : length q ≤ length q = omega arith in by-cursor q (length q) End (simp (le-leb _ _ n)) .1
+
+-- its headers
+pub last-headers : (q : List ℕ) → headersFrom q (lastFrom q) ≡ headersIn (requestOf q)
+unfolding lastFrom requestOf
+last-headers q = go (firstByte (getD q 0 0))
+  where
+    by : (o : Opcode) (f t : Bool) (r : Option (List Header)) → readHeaders q (prefixOf o) ≡ r
+        → headersFrom q (fromIn (pick t none (requestWith o f q r)) (length q)) ≡ headersIn (pick t none (requestWith o f q r))
+    by o f true r h = simp (at-end q)
+    by o f false none h = simp (at-end q)
+    by o f false (some hs) h = simp h
+
+    go : (b : FirstByte) → headersFrom q (fromIn (requestBy b q) (length q)) ≡ headersIn (requestBy b q)
+    go Unknown = simp (at-end q)
+    go (Known o f) = by o f (ltb (length q) (prefixOf o)) (readHeaders q (prefixOf o)) refl
+
+-- the place of the first header of an id
+pub first-bounds : (id : ℕ) (q : List ℕ) (from a b : ℕ) → firstIn id q from ≡ place.At a b → (a ≤ b) × (b ≤ length q)
+unfolding firstIn
+first-bounds id q from a b = go (readableFrom q from)
+  where
+    go : (t : Bool) → pick t (firstPlace id q from) place.Missing ≡ place.At a b → (a ≤ b) × (b ≤ length q)
+    go true e = let w = first-found id q from a b e in (w .stands .past, w .stands .fits)
+    go false e = let z : _≡_ {A = ℕ} 0 1 = cc in absurd (omega arith)
+
+pub first-value : (id : ℕ) (q : List ℕ) (f : Found) → firstIn id q (lastFrom q) ≡ f → bytesAt q f ≡ first id (headersIn (requestOf q))
+first-value id q f e =
+    sym (ap (bytesAt q) e) ∙ first-in-bytes id q (lastFrom q) ∙ ap (λ (hs : List Header). first id hs) (last-headers q)
+
+-- ---- the password's check
+
+same-check : (ch : Challenge) (r : Option Response) (p : Option (List ℕ)) → checkBy ch r p ≡ checks ch r p
+same-check Absent r p = refl
+same-check (Stored n) none p = refl
+same-check (Stored n) (some r) none = refl
+same-check (Stored n) (some r) (some p) = refl
+
+octets-drop : (n : ℕ) (l : List ℕ) → Octets l → Octets (drop n l)
+octets-drop n l o k = rw (getD-drop n l k 0) (o (n + k))
+
+pub right-missing : (ch : Challenge) (q : List ℕ) (p : Option (List ℕ)) → firstIn 0x4E q (lastFrom q) ≡ place.Missing
+    → false ≡ checks ch (responseIn (first 0x4E (headersIn (requestOf q)))) p
+right-missing ch q p e = simp (sym (first-value 0x4E q place.Missing e)) (go ch)
+  where
+    go : (ch : Challenge) → false ≡ checks ch none p
+    go Absent = refl
+    go (Stored n) = refl
+
+pub right-at : (ch : Challenge) (q : List ℕ) (p : Option (List ℕ)) (a b : ℕ) → Octets q → firstIn 0x4E q (lastFrom q) ≡ place.At a b
+    → checkOf ch (readResponse (part q a b)) p ≡ checks ch (responseIn (first 0x4E (headersIn (requestOf q)))) p
+right-at ch q p a b o e =
+    check-by ch (part q a b) p (octets-take (drop a q) (b - a) (octets-drop a q o)) ∙ same-check ch (responseOf (part q a b)) p
+    ∙ ap (λ (v : Option (List ℕ)). checks ch (responseIn v) p) (first-value 0x4E q (place.At a b) e)
+
+pub found-last : (id : ℕ) (q : List ℕ) (n : ℕ) (f v : Found) → n ≡ lastFrom q → f ≡ firstIn id q n → f ≡ v → firstIn id q (lastFrom q) ≡ v
+found-last id q n f v h k e = ap (λ (m : ℕ). firstIn id q m) (sym h) ∙ sym k ∙ e
+
+pub password-call : (e : Engine) (s : Stores) (r : Took) (x : Plan) (t : Bool) (p : Option (List ℕ)) → Goes 8 8 e s → r ≡ tookBy x → x ≡ passwordPlan e t
+    → t ≡ checks (e .peer .challenge) (responseIn (first 0x4E (headersIn (requestOf (take (e .length) (s .packet)))))) p
+    → stepped r s ≡ guarded 8 8 e s (after 0 (passwordAnswer e p s))
+unfolding passwordPlan passwordAnswer asksPlan clientResponse lastHeaders lastPacket
+password-call e s r x t p g h k c =
+    ap (λ (y : Took). stepped y s) (h ∙ ap (λ (y : Plan). tookBy y) k) ∙ by t c ∙ sym (g .whole (after 0 (passwordAnswer e p s)))
+  where
+    by : (t : Bool) → t ≡ checks (e .peer .challenge) (responseIn (first 0x4E (headersIn (requestOf (take (e .length) (s .packet)))))) p
+        → stepped (tookBy (passwordPlan e t)) s ≡ after 0 (passwordAnswer e p s)
+    by true c = simp (sym c)
+    by false c = simp (sym c)

@@ -1,0 +1,143 @@
+-- The start, and an object that is sent: how each way of the code is the model's. Assumes nothing.
+use mathlib.Core.Path.{_≡_, refl, sym, ap, _∙_}
+use mathlib.Core.List.{List, [], _∷_}
+use mathlib.Core.Logic.{_⊎_, inl, inr}
+use mathlib.Core.Bool.{Bool, true, false, _||_, not}
+use Prim.Native.Nat.{ℕ, _<_, _≤_}
+use native.Mathlib.Omega.{arith}
+use denote.Enum.Declared.{tagOf}
+use types.Run.{OneOf}
+use borrow.Author.Tests.{lt-ltb, le-ltb, ltb-false}
+use lib.ListN.{length}
+use lib.Dec.{ltb}
+use lib.Seq.{paste}
+use Rattle.connection.proofs.Front.{front-paste}
+use Rattle.base.specs.Pick.{pick}
+use Rattle.packet.specs.Canonical.{canonical}
+use Rattle.connection.specs.Send.{front}
+use Rattle.connection.specs.Peer.{freshPeer}
+use Rattle.incoming.specs.declared.gather.Gathered.{Gathered}
+use Rattle.outgoing.specs.Outgoing.{Made, nextPacket, bodyGiven}
+use Rattle.outgoing.specs.declared.body.Outgoing.{Outgoing}
+use Rattle.outgoing.specs.declared.body.Chunk.{Chunk}
+use Rattle.engine.specs.Model.{Stores, Stepped, Done, stepped, withReply, withHeaders, after, refuse, bodyFor, objectFor, objectOf, badHeaders, sendsPacket, sendsNext, capacityOf, soundOperation, engineWith, started, short, startStep}
+use Rattle.engine.specs.Guard.{shortBy, startNumber, refusal}
+use Rattle.engine.specs.Plan.{planned}
+use Rattle.engine.specs.Carry.{Written, within, carried, tookBy, packetPlan, packetSent, objectWith}
+use Rattle.engine.specs.declared.server.Settings.{Settings}
+use Rattle.engine.specs.declared.server.Operation.{Operation}
+use Rattle.engine.specs.declared.server.Operation.the-variants.{Nothing, Putting, Getting, Sending, Gathering as GatheringOp, Connecting, Draining}
+use Rattle.engine.specs.declared.server.Await.the-variants as await
+use Rattle.engine.specs.declared.server.Engine.{Engine}
+use Rattle.engine.specs.declared.server.Outcome.the-variants as outcome
+use Rattle.engine.specs.declared.server.Took.{Took}
+use Rattle.engine.specs.declared.plan.Plan.{Plan}
+use Rattle.engine.proofs.server.Operation.{the-type}
+use Rattle.engine.proofs.Guards.{Sendable, sendable, or-false}
+use Rattle.engine.proofs.Carried.{packet-carried}
+
+-- ---- a packet of an object
+
+pub packet-sent : (e : Engine) (srm wait : Bool) (w : Written) (p : Plan) (m n : Made) → w ≡ carried p (m .reply) → p ≡ packetPlan e srm wait (m .packet)
+    → m ≡ n → w ≡ packetSent e srm wait n
+packet-sent e srm wait w p m n h k is =
+    h ∙ ap (λ (x : Plan). carried x (m .reply)) k ∙ ap (λ (x : Made). packetSent e srm wait x) is
+
+pub packet-call : (e : Engine) (s : Stores) (srm wait : Bool) (w : Written) (m : Made) → w ≡ packetSent e srm wait m
+    → within w s ≡ after 0 (sendsPacket e srm wait m s)
+packet-call e s srm wait w m h =
+    ap (λ (x : Written). within x s) h ∙ ap (λ (x : Done). after 0 x) (packet-carried e srm wait m s)
+
+-- ---- body bytes
+
+-- nothing is sent
+pub body-other : (o : Operation) (e : Engine) (d : List ℕ) (s : Stores) → OneOf (0 ∷ 1 ∷ 2 ∷ 4 ∷ 5 ∷ 6 ∷ []) (tagOf the-type o) → refuse 9 e s ≡ bodyFor o e d s
+body-other Nothing e d s k = refl
+body-other (Putting g srm) e d s k = refl
+body-other (Getting g srm confirm wait) e d s k = refl
+body-other (GatheringOp o g) e d s k = refl
+body-other (Connecting code f n) e d s k = refl
+body-other (Draining code) e d s k = refl
+body-other (Sending o c srm wait) e d s (inl k) = absurd (omega arith)
+body-other (Sending o c srm wait) e d s (inr (inl k)) = absurd (omega arith)
+body-other (Sending o c srm wait) e d s (inr (inr (inl k))) = absurd (omega arith)
+body-other (Sending o c srm wait) e d s (inr (inr (inr (inl k)))) = absurd (omega arith)
+body-other (Sending o c srm wait) e d s (inr (inr (inr (inr (inl k))))) = absurd (omega arith)
+body-other (Sending o c srm wait) e d s (inr (inr (inr (inr (inr k))))) = absurd (omega arith)
+
+module _ (p : Operation) (o : Outgoing) (c : Chunk) (srm wait : Bool) (is : p ≡ Sending o c srm wait) where
+  pub sending-bounds : (limit : ℕ) → soundOperation limit p ≡ true → Sendable o c
+  sending-bounds limit k = sendable o c (simp is at k)
+
+  -- more than were asked for
+  pub body-much : (e : Engine) (d : List ℕ) (s : Stores) → c .room < length d → refuse 9 e s ≡ bodyFor p e d s
+  body-much e d s w = simp (is, lt-ltb _ _ w)
+
+  pub body-goes : (e : Engine) (d : List ℕ) (s : Stores) → length d ≤ c .room
+      → after 0 (sendsPacket e srm wait (bodyGiven o c d (s .reply)) s) ≡ bodyFor p e d s
+  body-goes e d s w = simp (is, le-ltb _ _ w)
+
+-- ---- an object
+
+-- bytes that are copied to the front of a store
+pub store-front : (hs y : List ℕ) → length hs ≤ length y → paste y 0 hs (length hs) ≡ front hs y
+store-front hs y h = front-paste [] y hs (omega arith)
+
+pub object-other : (o : Operation) (e : Engine) (hs : List ℕ) (has : Bool) (s : Stores) → OneOf (0 ∷ 1 ∷ 3 ∷ 4 ∷ 5 ∷ 6 ∷ []) (tagOf the-type o) → refuse 9 e s ≡ objectFor o e hs has s
+object-other Nothing e hs has s k = refl
+object-other (Putting g srm) e hs has s k = refl
+object-other (Sending o c srm wait) e hs has s k = refl
+object-other (GatheringOp o g) e hs has s k = refl
+object-other (Connecting code f n) e hs has s k = refl
+object-other (Draining code) e hs has s k = refl
+object-other (Getting g srm confirm wait) e hs has s (inl k) = absurd (omega arith)
+object-other (Getting g srm confirm wait) e hs has s (inr (inl k)) = absurd (omega arith)
+object-other (Getting g srm confirm wait) e hs has s (inr (inr (inl k))) = absurd (omega arith)
+object-other (Getting g srm confirm wait) e hs has s (inr (inr (inr (inl k)))) = absurd (omega arith)
+object-other (Getting g srm confirm wait) e hs has s (inr (inr (inr (inr (inl k))))) = absurd (omega arith)
+object-other (Getting g srm confirm wait) e hs has s (inr (inr (inr (inr (inr k))))) = absurd (omega arith)
+
+-- good header bytes are not too long
+pub good-length : (hs : List ℕ) (t : Bool) → t ≡ badHeaders hs → t ≡ false → length hs ≤ 65535
+unfolding badHeaders
+good-length hs t h k = ltb-false _ _ (or-false (ltb 65535 (length hs)) (not (canonical hs)) (sym h ∙ k) .0)
+
+module _ (p : Operation) (g : Gathered) (srm confirm wait : Bool) (is : p ≡ Getting g srm confirm wait) (e : Engine) (hs : List ℕ) (t : Bool) (bad : t ≡ badHeaders hs) (has : Bool) (s : Stores) where
+  pub object-bad : t ≡ true → refuse 8 e s ≡ objectFor p e hs has s
+  object-bad h = simp (is, sym bad ∙ h)
+
+  pub object-goes : t ≡ false → (o : Outgoing) (q : Bool) (h : List ℕ) (w : Written)
+      → w ≡ packetSent e q wait (nextPacket (capacityOf e) o h (s .reply)) → o ≡ objectWith (length hs) confirm has → q ≡ srm || confirm
+      → h ≡ front hs (s .headers) → within w (withHeaders s h) ≡ objectFor p e hs has s
+  unfolding sendsNext
+  object-goes f o q h w sent whole granted stored =
+      packet-call e (withHeaders s h) q wait w (nextPacket (capacityOf e) o h (s .reply)) sent
+      ∙ ap (λ (x : Outgoing). after 0 (sendsNext e x q wait (withHeaders s h))) whole
+      ∙ ap (λ (x : Bool). after 0 (sendsNext e (objectWith (length hs) confirm has) x wait (withHeaders s h))) granted
+      ∙ ap (λ (x : List ℕ). after 0 (sendsNext e (objectWith (length hs) confirm has) (srm || confirm) wait (withHeaders s x))) stored
+      ∙ sym (simp (is, sym bad ∙ f))
+
+-- ---- the start
+
+module _ (st : Settings) (realm : ℕ) (s : Stores) (n : ℕ) (e : Engine) (number : n ≡ startNumber (st .«max_object_size») realm (length (s .packet)) (length (s .headers)) (length (s .body)) (length (s .reply))) where
+  same : (t : Bool) → shortBy (st .«max_object_size») (length (s .packet)) (length (s .headers)) (length (s .body)) (length (s .reply)) ≡ t → short (st .«max_object_size») s ≡ t
+  unfolding short shortBy
+  same t h = h
+
+  pub start-refused : e ≡ engineWith st freshPeer Nothing await.Nothing 0 0 → (n ≡ 0 → ⊥) → (r : Took) → r ≡ refusal n e → stepped r s ≡ startStep st realm s
+  unfolding startStep startNumber
+  start-refused k w r h = go (shortBy (st .«max_object_size») (length (s .packet)) (length (s .headers)) (length (s .body)) (length (s .reply))) (ltb 254 realm) refl refl
+    where
+      go : (t u : Bool) → shortBy (st .«max_object_size») (length (s .packet)) (length (s .headers)) (length (s .body)) (length (s .reply)) ≡ t → ltb 254 realm ≡ u → stepped r s ≡ startStep st realm s
+      go true u a b = let z : n ≡ 10 = simp a at number in simp (h, k, z, same true a)
+      go false true a b = let z : n ≡ 8 = simp (a, b) at number in simp (h, k, z, same false a, b)
+      go false false a b = let z : n ≡ 0 = simp (a, b) at number in absurd (w z)
+
+  pub start-goes : e ≡ engineWith st freshPeer Nothing await.Bytes 0 0 → n ≡ 0 → stepped (record { engine = e; taken = 0; outcome = outcome.WantsBytes }) s ≡ startStep st realm s
+  unfolding startStep startNumber started
+  start-goes k w = go (shortBy (st .«max_object_size») (length (s .packet)) (length (s .headers)) (length (s .body)) (length (s .reply))) (ltb 254 realm) refl refl
+    where
+      go : (t u : Bool) → shortBy (st .«max_object_size») (length (s .packet)) (length (s .headers)) (length (s .body)) (length (s .reply)) ≡ t → ltb 254 realm ≡ u → stepped (record { engine = e; taken = 0; outcome = outcome.WantsBytes }) s ≡ startStep st realm s
+      go true u a b = let z : n ≡ 10 = simp a at number in absurd (omega arith)
+      go false true a b = let z : n ≡ 8 = simp (a, b) at number in absurd (omega arith)
+      go false false a b = simp (k, same false a, b)

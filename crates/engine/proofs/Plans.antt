@@ -1,0 +1,89 @@
+-- Carrying out a plan is the model's step. Assumes nothing.
+use mathlib.Core.Path.{_≡_, refl, ap}
+use mathlib.Core.Bool.{Bool, true, false}
+use mathlib.Core.List.{List, []}
+use Prim.Native.Nat.{ℕ}
+use Rattle.base.specs.Pick.{pick}
+use Rattle.packet.specs.Codes.{sentCode}
+use Rattle.packet.specs.FirstByte.{topBit}
+use Rattle.packet.specs.Packet.{Request as Packet, packetBytes}
+use Rattle.packet.specs.declared.opcode.Opcode.{Opcode}
+use Rattle.connection.specs.declared.peer.Peer.{Peer}
+use Rattle.incoming.specs.Gather.{Gathering}
+use Rattle.incoming.specs.declared.survey.Survey.{Survey}
+use Rattle.engine.specs.Model.{Stores, Done, withGathered, wants, asks, ends, replies, repliesCode, continues, putContinues, putGathered, getContinues, getGathered, headersGathered}
+use Rattle.engine.specs.Plan.{planned, wantsPlan, asksPlan, endsPlan, codePlan, continuePlan, putContinuePlan, putPlan, getContinuePlan, getPlan, headersPlan}
+use Rattle.engine.specs.declared.server.Operation.{Operation}
+use Rattle.engine.specs.declared.server.Operation.the-variants.{Nothing, Putting, Getting, Gathering as GatheringOp}
+use Rattle.engine.specs.declared.server.Await.{Await}
+use Rattle.engine.specs.declared.server.Await.the-variants as await
+use Rattle.engine.specs.declared.server.Engine.{Engine}
+use Rattle.engine.specs.declared.server.Request.{Request}
+use Rattle.engine.specs.declared.plan.Plan.{Plan}
+
+-- the plan, carried out over these stores, is this step
+pub record Carries (p : Plan) (s : Stores) (d : Done) : Type 0 where
+  pub is : planned p s ≡ d
+
+pub wants-planned : (e : Engine) (p : Peer) (o : Operation) (s : Stores) → Carries (wantsPlan e p o) s (wants e p o s)
+unfolding wantsPlan
+wants-planned e p o s = record { is = refl }
+
+pub asks-planned : (e : Engine) (p : Peer) (o : Operation) (a : Await) (r : Request) (s : Stores) → Carries (asksPlan e p o a r) s (asks e p o a r s)
+unfolding asksPlan
+asks-planned e p o a r s = record { is = refl }
+
+pub ends-planned : (e : Engine) (p : Peer) (n : ℕ) (s : Stores) → Carries (endsPlan e p n) s (ends e p n s)
+unfolding endsPlan
+ends-planned e p n s = record { is = refl }
+
+pub code-planned : (e : Engine) (p : Peer) (a : Await) (b : ℕ) (s : Stores) → Carries (codePlan e p a b) s (replies e p Nothing a (packetBytes b [] []) s)
+unfolding codePlan packetBytes
+code-planned e p a b s = record { is = refl }
+
+pub continue-planned : (e : Engine) (o : Operation) (grant : Bool) (s : Stores) → Carries (continuePlan e o grant) s (continues e o grant s)
+unfolding continuePlan packetBytes
+continue-planned e o true s = record { is = refl }
+continue-planned e o false s = record { is = refl }
+
+-- a plan by a test
+pub pick-planned : (t : Bool) {p q : Plan} {s : Stores} {d f : Done} → Carries p s d → Carries q s f → Carries (pick t p q) s (pick t d f)
+pick-planned true a b = a
+pick-planned false a b = b
+
+-- ---- a gathered packet
+
+pub put-planned : (e : Engine) (r : Packet) (v : Survey) (srm confirm : Bool) (g : Gathering) (s : Stores) → Carries (putPlan e (g .got) (r .final) (v .additional) srm confirm) (withGathered s g) (putGathered e r v srm confirm g s)
+unfolding putPlan
+put-planned e r v srm confirm g s =
+    pick-planned (g .got .full) (ends-planned e (e .peer) 6 t)
+    (pick-planned (r .final) (pick-planned (g .got .over) (code-planned e (e .peer) await.Taken 0xCD t) (asks-planned e (e .peer) Nothing await.Reply _ t)) (go srm))
+  where
+    t : Stores
+    t = withGathered s g
+
+    go : (srm : Bool) → Carries (putContinuePlan e (g .got) srm confirm (v .additional)) t (putContinues e (g .got) srm confirm (v .additional) t)
+    go true = pick-planned (v .additional) (continue-planned e (Putting (g .got) true) false t) (wants-planned e (e .peer) (Putting (g .got) true) t)
+    go false = pick-planned (g .got .over) (code-planned e (e .peer) await.Taken 0xCD t) (continue-planned e (Putting (g .got) confirm) confirm t)
+
+pub get-planned : (e : Engine) (r : Packet) (v : Survey) (srm confirm : Bool) (g : Gathering) (s : Stores) → Carries (getPlan e (g .got) (r .final) (v .wait) srm confirm) (withGathered s g) (getGathered e r v srm confirm g s)
+unfolding getPlan
+get-planned e r v srm confirm g s =
+    pick-planned (g .got .full) (ends-planned e (e .peer) 6 t)
+    (pick-planned (r .final) (asks-planned e (e .peer) _ await.Get _ t) (go srm))
+  where
+    t : Stores
+    t = withGathered s g
+
+    go : (srm : Bool) → Carries (getContinuePlan e (g .got) srm confirm (v .wait)) t (getContinues e (g .got) srm confirm (v .wait) t)
+    go true = wants-planned e (e .peer) (Getting (g .got) true confirm (v .wait)) t
+    go false = continue-planned e (Getting (g .got) confirm false (v .wait)) confirm t
+
+pub headers-planned : (e : Engine) (r : Packet) (o : Opcode) (g : Gathering) (s : Stores) → Carries (headersPlan e o (g .got) (r .final)) (withGathered s g) (headersGathered e r o g s)
+unfolding headersPlan
+headers-planned e r o g s =
+    pick-planned (g .got .full) (ends-planned e (e .peer) 6 t)
+    (pick-planned (r .final) (asks-planned e (e .peer) Nothing await.Reply _ t) (continue-planned e (GatheringOp o (g .got)) false t))
+  where
+    t : Stores
+    t = withGathered s g

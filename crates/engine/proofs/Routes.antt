@@ -1,0 +1,168 @@
+-- Acting on the way that a packet goes is the model's step. Assumes nothing.
+use mathlib.Core.Path.{_≡_, refl, ap, _∙_}
+use mathlib.Core.Bool.{Bool, true, false, _&&_, not}
+use mathlib.Core.List.{List, []}
+use mathlib.Core.Option.{Option, none, some}
+use Prim.Native.Nat.{ℕ}
+use lib.ListN.{getD, take}
+use Rattle.base.specs.Pick.{pick}
+use Rattle.packet.specs.Codes.{sentCode}
+use Rattle.packet.specs.FirstByte.{firstByte, sameOpcode}
+use Rattle.packet.specs.Auth.{Response}
+use Rattle.packet.specs.Header.{first}
+use Rattle.packet.specs.Packet.{Request as Packet, requestOf, connectLimit, packetBytes}
+use Rattle.packet.specs.declared.opcode.Opcode.{Opcode}
+use Rattle.packet.specs.declared.opcode.Opcode.the-variants as op
+use Rattle.incoming.specs.Survey.{surveyOf}
+use Rattle.incoming.specs.declared.survey.Survey.{Survey}
+use Rattle.incoming.specs.declared.gather.Gathered.{Gathered}
+use Rattle.incoming.specs.declared.gather.Keep.the-variants as keep
+use Rattle.connection.specs.Peer.{limited}
+use Rattle.connection.specs.declared.peer.Challenge.{Challenge}
+use Rattle.connection.specs.declared.peer.Challenge.the-variants.{Stored, Absent}
+use Rattle.connection.specs.declared.peer.Peer.{Peer}
+use Rattle.engine.specs.Model.{Stores, Done, engineWith, lastPacket, lastHeaders, responseIn, clientResponse, userPlace, verifies, wants, asks, ends, replies, repliesCode, headersIn, nothingGathered, gathers, sendsNext, putPacket, getPacket, headersPacket, connectPacket, Rejection, admits, rejects, rejection, drains, rejected, confirms, dispatches, admittedAs, dispatch, interrupts, inside, unknownByte, busy, unreadable, readAs, lengthOf, packetDone}
+use Rattle.engine.specs.Route.{headingOf, askRoute, codeRoute, admissionOf, rejectedRoute, putRoute, getRoute, headersRoute, dispatchRoute, admittedRoute, openRoute, interruptsRoute, insideRoute, headingRoute, unreadableRoute, routeAs, packetRoute, briefPlan, keepOf, kindPlan, actsGathered, answeredAs, verifiesPlan, limitedPlan, connectPlan, acts}
+use Rattle.engine.specs.declared.server.Operation.{Operation}
+use Rattle.engine.specs.declared.server.Operation.the-variants.{Nothing, Putting, Getting, Sending, Gathering as GatheringOp, Connecting, Draining}
+use Rattle.engine.specs.declared.server.Await.{Await}
+use Rattle.engine.specs.declared.server.Await.the-variants as await
+use Rattle.engine.specs.declared.server.Engine.{Engine}
+use Rattle.engine.specs.declared.server.Request.{Request}
+use Rattle.engine.specs.declared.server.Request.the-variants as request
+use Rattle.engine.specs.declared.route.Brief.the-variants as brief
+use Rattle.engine.specs.declared.route.Kind.{Kind}
+use Rattle.engine.specs.declared.route.Kind.the-variants as kind
+use Rattle.engine.specs.declared.route.Route.{Route}
+use Rattle.engine.specs.declared.route.Route.the-variants.{Plain, Connect, Gather, Send}
+use Rattle.engine.proofs.Plans.{Carries, pick-planned, wants-planned, asks-planned, ends-planned, code-planned, put-planned, get-planned, headers-planned}
+
+-- acting on the way, with the packet, is this step
+pub record Acts (x : Route) (e : Engine) (q : List ℕ) (s : Stores) (d : Done) : Type 0 where
+  pub is : acts x e q s ≡ d
+
+pick-acts : (t : Bool) {x y : Route} {e : Engine} {q : List ℕ} {s : Stores} {d f : Done} → Acts x e q s d → Acts y e q s f
+    → Acts (pick t x y) e q s (pick t d f)
+pick-acts true a b = a
+pick-acts false a b = b
+
+-- ---- steps of few bytes
+
+module _ (e : Engine) (q : List ℕ) (s : Stores) where
+  ask-acts : (a : Await) (r : Request) → Acts (askRoute a r) e q s (asks e (e .peer) Nothing a r s)
+  unfolding briefPlan
+  ask-acts a r = record { is = asks-planned e (e .peer) Nothing a r s .is }
+
+  byte-acts : (a : Await) (b : ℕ) → Acts (Plain (brief.Code a b)) e q s (replies e (e .peer) Nothing a (packetBytes b [] []) s)
+  unfolding briefPlan
+  byte-acts a b = record { is = code-planned e (e .peer) a b s .is }
+
+  drain-acts : (code : ℕ) → Acts (Plain (brief.Drain code)) e q s (wants e (e .peer) (Draining code) s)
+  unfolding briefPlan
+  drain-acts code = record { is = wants-planned e (e .peer) (Draining code) s .is }
+
+  end-acts : (n : ℕ) → Acts (Plain (brief.End n)) e q s (ends e (e .peer) n s)
+  unfolding briefPlan
+  end-acts n = record { is = ends-planned e (e .peer) n s .is }
+
+  code-acts : (code : ℕ) → Acts (codeRoute code) e q s (repliesCode e (e .peer) Nothing code s)
+  code-acts code = byte-acts await.Taken (sentCode code)
+
+  interrupts-acts : Acts interruptsRoute e q s (interrupts e s)
+  interrupts-acts = byte-acts await.Last (sentCode 0x40)
+
+-- ---- a Connect
+
+module _ (e : Engine) (s : Stores) where
+  verifies-planned : (p : Peer) (c : Challenge) (r : Option Response) → Carries (verifiesPlan e p c (answeredAs r (userPlace e s))) s (verifies e p c r s)
+  verifies-planned p Absent r = asks-planned e p Nothing await.Nonce request.Nonce s
+  verifies-planned p (Stored n) none = asks-planned e p Nothing await.Nonce request.Nonce s
+  verifies-planned p (Stored n) (some r) = asks-planned e p Nothing await.Password (request.Password (userPlace e s)) s
+
+  connect-acts : Acts Connect e (lastPacket e s) s (connectPacket e s)
+  unfolding connectPlan limitedPlan connectPacket clientResponse lastHeaders userPlace
+  connect-acts =
+      let p = limited (e .peer) (connectLimit (lastPacket e s)) in
+      record {
+        is =
+            pick-planned (e .settings .authentication)
+            (verifies-planned p (p .challenge) (responseIn (first 0x4E (headersIn (requestOf (lastPacket e s))))))
+            (asks-planned e p Nothing await.Connect (request.Connect (e .length)) s)
+            .is;
+      }
+
+-- ---- a packet that can be read
+
+module _ (e : Engine) (r : Packet) (s : Stores) (known : requestOf (lastPacket e s) ≡ some r) where
+  -- the packet's headers are the request's
+  known-acts : (k : Kind) (g : Gathered) (final asked srm confirm : Bool)
+      → acts (Gather k g final asked srm confirm) e (lastPacket e s) s ≡ actsGathered e k final asked srm confirm (gathers e (keepOf k) (r .headers) g s) s
+  known-acts k g final asked srm confirm =
+      ap (λ (x : Option Packet). actsGathered e k final asked srm confirm (gathers e (keepOf k) (headersIn x) g s) s) known
+
+  put-acts : (g : Gathered) (srm confirm : Bool) → Acts (putRoute (headingOf r) g srm confirm) e (lastPacket e s) s (putPacket e r (surveyOf (some (r .headers))) srm confirm g s)
+  unfolding putPacket kindPlan
+  put-acts g srm confirm =
+      record { is = known-acts kind.Put g _ _ srm confirm ∙ put-planned e r (surveyOf (some (r .headers))) srm confirm (gathers e keep.Put (r .headers) g s) s .is }
+
+  get-acts : (g : Gathered) (srm confirm : Bool) → Acts (getRoute (headingOf r) g srm confirm) e (lastPacket e s) s (getPacket e r (surveyOf (some (r .headers))) srm confirm g s)
+  unfolding getPacket kindPlan
+  get-acts g srm confirm =
+      record { is = known-acts kind.Get g _ _ srm confirm ∙ get-planned e r (surveyOf (some (r .headers))) srm confirm (gathers e keep.Get (r .headers) g s) s .is }
+
+  headers-acts : (o : Opcode) (g : Gathered) → Acts (headersRoute (headingOf r) o g) e (lastPacket e s) s (headersPacket e r o g s)
+  unfolding headersPacket kindPlan
+  headers-acts o g =
+      record { is = known-acts (kind.Headers o) g (r .final) false false false ∙ headers-planned e r o (gathers e keep.All (r .headers) g s) s .is }
+
+  rejected-acts : (code : ℕ) → Acts (rejectedRoute e (headingOf r) code) e (lastPacket e s) s (rejected e r code s)
+  rejected-acts code =
+      pick-acts (e .peer .«srm_enabled» && (drains (r .opcode) && not (r .final))) (drain-acts e (lastPacket e s) s code) (code-acts e (lastPacket e s) s code)
+
+  dispatches-acts : (o : Opcode) → Acts (dispatchRoute o e (headingOf r)) e (lastPacket e s) s (dispatches o e r (surveyOf (some (r .headers))) s)
+  dispatches-acts op.Connect = connect-acts e s
+  dispatches-acts op.Abort = ask-acts e (lastPacket e s) s await.Acknowledgement _
+  dispatches-acts op.Disconnect = ask-acts e (lastPacket e s) s await.Disconnect _
+  dispatches-acts op.SetPath = ask-acts e (lastPacket e s) s await.Reply _
+  dispatches-acts op.Put = put-acts nothingGathered _ _
+  dispatches-acts op.Get = get-acts nothingGathered _ _
+  dispatches-acts op.Action = headers-acts op.Action nothingGathered
+  dispatches-acts op.Session = headers-acts op.Session nothingGathered
+  dispatches-acts (op.UserDefined x) = headers-acts (op.UserDefined x) nothingGathered
+
+  admitted-acts : (x : Rejection) → Acts (admittedRoute (admissionOf x) e (headingOf r)) e (lastPacket e s) s (admittedAs x e r (surveyOf (some (r .headers))) s)
+  admitted-acts admits = dispatches-acts (r .opcode)
+  admitted-acts (rejects code) = rejected-acts code
+
+  open-acts : Acts (openRoute e (headingOf r)) e (lastPacket e s) s (dispatch e r (surveyOf (some (r .headers))) s)
+  unfolding openRoute dispatch
+  open-acts = pick-acts (sameOpcode (r .opcode) op.Connect) (connect-acts e s) (admitted-acts (rejection e (r .opcode) (surveyOf (some (r .headers)))))
+
+  inside-acts : (o : Operation) → Acts (insideRoute o e (headingOf r)) e (lastPacket e s) s (inside o e r (surveyOf (some (r .headers))) s)
+  inside-acts Nothing = open-acts
+  inside-acts (Putting g srm) = pick-acts (sameOpcode (r .opcode) op.Put) (put-acts g srm false) (interrupts-acts e (lastPacket e s) s)
+  inside-acts (Getting g srm confirm wait) = pick-acts (sameOpcode (r .opcode) op.Get) (get-acts g srm confirm) (interrupts-acts e (lastPacket e s) s)
+  inside-acts (Sending o c srm wait) =
+      pick-acts (sameOpcode (r .opcode) op.Get)
+      {x = Send o srm (surveyOf (some (r .headers)) .wait)}
+      (record { is = refl })
+      (interrupts-acts e (lastPacket e s) s)
+  inside-acts (GatheringOp o g) = pick-acts (sameOpcode (r .opcode) o) (headers-acts o g) (interrupts-acts e (lastPacket e s) s)
+  inside-acts (Connecting c f n) = interrupts-acts e (lastPacket e s) s
+  inside-acts (Draining code) = pick-acts (r .final) (code-acts e (lastPacket e s) s code) (drain-acts e (lastPacket e s) s code)
+
+  heading-acts : Acts (headingRoute e (headingOf r)) e (lastPacket e s) s (readAs (some r) e (lastPacket e s) s)
+  unfolding headingRoute
+  heading-acts = pick-acts (sameOpcode (r .opcode) op.Abort) (ask-acts e (lastPacket e s) s await.Acknowledgement _) (inside-acts (e .operation))
+
+-- ---- any packet
+
+read-acts : (e : Engine) (s : Stores) (x : Option Packet) → requestOf (lastPacket e s) ≡ x
+    → Acts (routeAs x e (lastPacket e s)) e (lastPacket e s) s (readAs x e (lastPacket e s) s)
+read-acts e s none h = pick-acts (busy (e .operation)) (end-acts e (lastPacket e s) s 4) (code-acts e (lastPacket e s) s _)
+read-acts e s (some r) h = heading-acts e r s h
+
+pub packet-acts : (e : Engine) (n : ℕ) (s : Stores)
+    → acts (packetRoute (lengthOf e n) (take n (s .packet))) (lengthOf e n) (take n (s .packet)) s ≡ packetDone e n s
+unfolding packetRoute packetDone lastPacket engineWith
+packet-acts e n s = read-acts (lengthOf e n) s (requestOf (take n (s .packet))) refl .is

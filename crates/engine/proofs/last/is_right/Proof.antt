@@ -1,0 +1,59 @@
+-- `engine::last::is_right` meets its contract. The response is the one of the first such header, and the check is the model's by numbers.
+use borrow.Author.Needs.{needs}
+use native.Mathlib.Omega.{arith}
+use mathlib.Core.Path.{sym, ap, _∙_}
+use Rattle.packet.specs.AuthWrite.{given}
+use Rattle.packet.specs.declared.auth.DigestResponse.{DigestResponse}
+use Rattle.connection.specs.Pieces.{checkOf}
+use Rattle.engine.proofs.LastPacket.{first-bounds, found-last, right-missing, right-at}
+use Rattle.engine.proofs.last.is_right.Statement.{statement}
+use Rattle.engine.proofs.last.is_right.Tie as tie
+
+last-from-requires : tie.Need-last-from-requires
+last-from-requires c κs = search needs
+
+first-in-requires : tie.Need-first-in-requires
+first-in-requires c κs = search needs
+
+enum-known-start : tie.Need-enum-known-start
+enum-known-start c = search needs
+
+enum-told : tie.Need-enum-told
+enum-told c = search needs
+
+returns : tie.Need-returns
+returns c = let k = c .before .before .before .before .before .before .args in right-missing (k .stored) (k .q .now) _ (found-last 0x4E _ _ _ _ (c .before .before .before .last-from .ensures) (c .before .before .first-in .ensures) (c .enum-told .given .1))
+
+sub-read-response : tie.Need-sub-read-response
+sub-read-response c = let b = first-bounds 0x4E _ _ _ _ (sym (c .before .before .before .first-in .ensures) ∙ c .before .start .given .1) in omega (arith, b .0, b .1)
+
+part-read-response-start : tie.Need-part-read-response-start
+part-read-response-start c = let b = first-bounds 0x4E _ _ _ _ (sym (c .before .before .before .first-in .ensures) ∙ c .before .start .given .1) in omega (arith, b .0, b .1)
+
+part-read-response-end : tie.Need-part-read-response-end
+part-read-response-end c = let b = first-bounds 0x4E _ _ _ _ (sym (c .before .before .before .first-in .ensures) ∙ c .before .start .given .1) in omega (arith, b .0, b .1)
+
+read-response-requires : tie.Need-read-response-requires
+read-response-requires c κs = search needs
+
+verify-client-requires : tie.Need-verify-client-requires
+verify-client-requires c κs = search needs
+
+returns-2 : tie.Need-returns-2
+returns-2 c = let k = c .before .before .before .before .before .before .before .before .before .before .args in c .verify-client .ensures ∙ ap (λ (x : DigestResponse). checkOf (k .stored) x (given (k .has-password) (k .password .now))) (c .before .read-response .ensures) ∙ right-at (k .stored) (k .q .now) _ _ _ (λ i. omega (arith, c .before .before .before .before .before .before .before .before .before .shared-slice-known .given i)) (found-last 0x4E _ _ _ _ (c .before .before .before .before .before .before .before .last-from .ensures) (c .before .before .before .before .before .before .first-in .ensures) (c .before .before .before .before .start .given .1))
+
+pub is-right-spec : {M : Type 1} → statement M
+is-right-spec =
+    tie.close
+    (tie.spec
+    last-from-requires
+    first-in-requires
+    enum-known-start
+    enum-told
+    returns
+    sub-read-response
+    part-read-response-start
+    part-read-response-end
+    read-response-requires
+    verify-client-requires
+    returns-2)

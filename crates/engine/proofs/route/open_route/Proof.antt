@@ -1,0 +1,50 @@
+-- `engine::route::open_route` meets its contract: the tests of the code are those of the definition. Assumes nothing.
+use mathlib.Core.Path.{_∙_, sym}
+use Rattle.engine.specs.Route.{openRoute}
+use borrow.Author.Needs.{needs}
+use Rattle.engine.proofs.route.open_route.Statement.{statement}
+use Rattle.engine.proofs.route.open_route.Tie as tie
+
+same-requires : tie.Need-same-requires
+same-requires c κs = search needs
+
+returns : tie.Need-returns
+unfolding openRoute
+returns c = simp (sym (c .before .same .ensures) ∙ c .if1 .taken)
+
+rejection-requires : tie.Need-rejection-requires
+rejection-requires c κs = search needs
+
+enum-told : tie.Need-enum-told
+enum-told c = search needs
+
+dispatch-requires : tie.Need-dispatch-requires
+dispatch-requires c κs = search needs
+
+enum-known-code : tie.Need-enum-known-code
+enum-known-code c = search needs
+
+rejected-requires : tie.Need-rejected-requires
+rejected-requires c κs = search needs
+
+returns-2 : tie.Need-returns-2
+unfolding openRoute
+returns-2 c = simp (sym (c .before .before .before .before .before .same .ensures) ∙ c .before .before .before .before .if1 .left, sym (c .before .before .before .rejection .ensures) ∙ c .before .enum-told .given .1, c .dispatch .ensures)
+
+returns-3 : tie.Need-returns-3
+unfolding openRoute
+returns-3 c = simp (sym (c .before .before .before .before .before .before .same .ensures) ∙ c .before .before .before .before .before .if1 .left, sym (c .before .before .before .before .rejection .ensures) ∙ c .before .before .code .given .1, c .rejected .ensures)
+
+pub open-route-spec : {M : Type 1} → statement M
+open-route-spec =
+    tie.close
+    (tie.spec
+    same-requires
+    returns
+    rejection-requires
+    enum-told
+    dispatch-requires
+    enum-known-code
+    rejected-requires
+    returns-2
+    returns-3)

@@ -1,0 +1,14 @@
+-- The last whole packet, read again: where its headers start.
+use Prim.Native.Nat.{ℕ}
+use mathlib.Core.List.{List}
+use mathlib.Core.Option.{Option, none, some}
+use lib.ListN.{length}
+use Rattle.packet.specs.Packet.{Request as Packet, requestOf, prefixOf}
+
+abbrev pub fromIn : Option Packet → ℕ → ℕ
+fromIn none n = n
+fromIn (some r) n = prefixOf (r .opcode)
+
+-- of a packet that cannot be read there are no headers: they start at its end
+unfoldable pub lastFrom : List ℕ → ℕ
+lastFrom q = fromIn (requestOf q) (length q)

@@ -1,0 +1,207 @@
+-- Which way a packet goes, decided without the stores, and what acting on it does. `proofs/Routes.antt` says that this is the model's
+-- `packetDone`.
+use Prim.Native.Nat.{ℕ, _+_, _^_, _≤_, _<_}
+use mathlib.Core.List.{List}
+use mathlib.Core.Bool.{Bool, true, false, _&&_, not}
+use mathlib.Core.Option.{Option, none, some}
+use lib.ListN.{getD}
+use Rattle.base.specs.Pick.{pick}
+use Rattle.packet.specs.FirstByte.{firstByte, sameOpcode}
+use Rattle.packet.specs.Codes.{sentCode}
+use Rattle.packet.specs.Header.{first, firstPlace}
+use Rattle.packet.specs.Auth.{Response}
+use Rattle.packet.specs.Packet.{Request as Packet, requestOf, prefixOf, connectLimit, backup, noCreate}
+use Rattle.packet.specs.declared.tlv.Found.{Found}
+use Rattle.packet.specs.declared.tlv.Found.the-variants as place
+use Rattle.packet.specs.declared.opcode.Opcode.{Opcode}
+use Rattle.packet.specs.declared.opcode.Opcode.the-variants as op
+use Rattle.incoming.specs.Survey.{surveyOf}
+use Rattle.incoming.specs.Gather.{Gathering}
+use Rattle.incoming.specs.declared.gather.Keep.{Keep}
+use Rattle.incoming.specs.declared.gather.Keep.the-variants as keep
+use Rattle.incoming.specs.declared.gather.Gathered.{Gathered}
+use Rattle.connection.specs.Peer.{limited}
+use Rattle.connection.specs.declared.peer.Challenge.{Challenge}
+use Rattle.connection.specs.declared.peer.Challenge.the-variants.{Stored, Absent}
+use Rattle.connection.specs.declared.peer.Peer.{Peer}
+use Rattle.engine.specs.Model.{Stores, Done, withGathered, headersIn, responseIn, userIn, nothingGathered, gathers, sendsNext, Rejection, admits, rejects, rejection, drains, confirms, unknownByte, busy}
+use Rattle.engine.specs.Plan.{planned, wantsPlan, asksPlan, endsPlan, codePlan, putPlan, getPlan, headersPlan}
+use Rattle.engine.specs.declared.server.Operation.{Operation}
+use Rattle.engine.specs.declared.server.Operation.the-variants.{Nothing, Putting, Getting, Sending, Gathering as GatheringOp, Connecting, Draining}
+use Rattle.engine.specs.declared.server.Await.{Await}
+use Rattle.engine.specs.declared.server.Await.the-variants as await
+use Rattle.engine.specs.declared.server.Engine.{Engine}
+use Rattle.engine.specs.declared.server.Request.{Request}
+use Rattle.engine.specs.declared.server.Request.the-variants as request
+use Rattle.engine.specs.declared.plan.Plan.{Plan}
+use Rattle.engine.specs.declared.connecting.Answered.{Answered}
+use Rattle.engine.specs.declared.connecting.Answered.the-variants.{Missing, User}
+use Rattle.engine.specs.declared.route.Heading.{Heading}
+use Rattle.engine.specs.declared.route.Kind.{Kind}
+use Rattle.engine.specs.declared.route.Kind.the-variants as kind
+use Rattle.engine.specs.declared.route.Brief.{Brief}
+use Rattle.engine.specs.declared.route.Brief.the-variants as brief
+use Rattle.engine.specs.declared.route.Route.{Route}
+use Rattle.engine.specs.declared.route.Route.the-variants.{Plain, Connect, Gather, Send}
+use Rattle.engine.specs.declared.route.Admission.{Admission}
+use Rattle.engine.specs.declared.route.Admission.the-variants.{Admits, Rejects}
+
+-- ---- which way
+
+abbrev pub headingOf : Packet → Heading
+headingOf r =
+    record {
+      survey = surveyOf (some (r .headers));
+      opcode = r .opcode;
+      backup = backup (r .bytes);
+      «no_create» = noCreate (r .bytes);
+      «is_final» = r .final;
+    }
+
+abbrev pub askRoute : Await → Request → Route
+askRoute a r = Plain (brief.Ask a r)
+
+-- a reply of a code
+abbrev pub codeRoute : ℕ → Route
+codeRoute code = Plain (brief.Code await.Taken (sentCode code))
+
+abbrev pub unauthorizedFor : Engine → Opcode → Bool
+unauthorizedFor e o = e .settings .authentication && (not (e .peer .authenticated) && not (sameOpcode o op.Disconnect))
+
+abbrev pub admissionOf : Rejection → Admission
+admissionOf admits = Admits
+admissionOf (rejects code) = Rejects code
+
+-- under SRM a Put or Get that is turned away is read to its end before the reply
+abbrev pub drainedBy : Engine → Heading → Bool
+drainedBy e h = e .peer .«srm_enabled» && (drains (h .opcode) && not (h .«is_final»))
+
+abbrev pub rejectedRoute : Engine → Heading → ℕ → Route
+rejectedRoute e h code = pick (drainedBy e h) (Plain (brief.Drain code)) (codeRoute code)
+
+abbrev pub putRoute : Heading → Gathered → Bool → Bool → Route
+putRoute h g srm confirm = Gather kind.Put g (h .«is_final») (h .survey .additional) srm confirm
+
+abbrev pub getRoute : Heading → Gathered → Bool → Bool → Route
+getRoute h g srm confirm = Gather kind.Get g (h .«is_final») (h .survey .wait) srm confirm
+
+abbrev pub headersRoute : Heading → Opcode → Gathered → Route
+headersRoute h o g = Gather (kind.Headers o) g (h .«is_final») false false false
+
+abbrev pub dispatchRoute : Opcode → Engine → Heading → Route
+dispatchRoute op.Connect e h = Connect
+dispatchRoute op.Abort e h = askRoute await.Acknowledgement (request.Abort (e .length))
+dispatchRoute op.Disconnect e h = askRoute await.Disconnect (request.Disconnect (e .length))
+dispatchRoute op.SetPath e h = askRoute await.Reply (request.SetPath (e .length) (h .backup) (h .«no_create»))
+dispatchRoute op.Put e h = putRoute h nothingGathered (e .peer .«srm_enabled») (confirms e (h .survey))
+dispatchRoute op.Get e h = getRoute h nothingGathered (e .peer .«srm_enabled») (confirms e (h .survey))
+dispatchRoute op.Action e h = headersRoute h op.Action nothingGathered
+dispatchRoute op.Session e h = headersRoute h op.Session nothingGathered
+dispatchRoute (op.UserDefined x) e h = headersRoute h (op.UserDefined x) nothingGathered
+
+abbrev pub admittedRoute : Admission → Engine → Heading → Route
+admittedRoute Admits e h = dispatchRoute (h .opcode) e h
+admittedRoute (Rejects code) e h = rejectedRoute e h code
+
+unfoldable pub openRoute : Engine → Heading → Route
+openRoute e h =
+    pick (sameOpcode (h .opcode) op.Connect) Connect (admittedRoute (admissionOf (rejection e (h .opcode) (h .survey))) e h)
+
+-- another opcode inside an operation: 0x40, and number 5 once it is taken
+abbrev pub interruptsRoute : Route
+interruptsRoute = Plain (brief.Code await.Last (sentCode 0x40))
+
+abbrev pub continuedRoute : Heading → Opcode → Route → Route
+continuedRoute h o r = pick (sameOpcode (h .opcode) o) r interruptsRoute
+
+abbrev pub drainingRoute : Heading → ℕ → Route
+drainingRoute h code = pick (h .«is_final») (codeRoute code) (Plain (brief.Drain code))
+
+abbrev pub insideRoute : Operation → Engine → Heading → Route
+insideRoute Nothing e h = openRoute e h
+insideRoute (Putting g srm) e h = continuedRoute h op.Put (putRoute h g srm false)
+insideRoute (Getting g srm confirm wait) e h = continuedRoute h op.Get (getRoute h g srm confirm)
+insideRoute (Sending o c srm wait) e h = continuedRoute h op.Get (Send o srm (h .survey .wait))
+insideRoute (GatheringOp o g) e h = continuedRoute h o (headersRoute h o g)
+insideRoute (Connecting c f n) e h = interruptsRoute
+insideRoute (Draining code) e h = drainingRoute h code
+
+-- Abort goes before all else
+unfoldable pub headingRoute : Engine → Heading → Route
+headingRoute e h =
+    pick (sameOpcode (h .opcode) op.Abort) (askRoute await.Acknowledgement (request.Abort (e .length)))
+    (insideRoute (e .operation) e h)
+
+-- an unreadable packet, by whether its first byte is unknown
+abbrev pub unreadableRoute : Operation → Bool → Route
+unreadableRoute o unknown = pick (busy o) (Plain (brief.End 4)) (codeRoute (pick unknown 0x51 0x40))
+
+abbrev pub routeAs : Option Packet → Engine → List ℕ → Route
+routeAs none e q = unreadableRoute (e .operation) (unknownByte (firstByte (getD q 0 0)))
+routeAs (some r) e q = headingRoute e (headingOf r)
+
+-- a whole packet
+unfoldable pub packetRoute : Engine → List ℕ → Route
+packetRoute e q = routeAs (requestOf q) e q
+
+-- ---- acting on it
+
+unfoldable pub briefPlan : Engine → Brief → Plan
+briefPlan e (brief.Ask a r) = asksPlan e (e .peer) Nothing a r
+briefPlan e (brief.Code a b) = codePlan e (e .peer) a b
+briefPlan e (brief.Drain code) = wantsPlan e (e .peer) (Draining code)
+briefPlan e (brief.End n) = endsPlan e (e .peer) n
+
+abbrev pub keepOf : Kind → Keep
+keepOf kind.Put = keep.Put
+keepOf kind.Get = keep.Get
+keepOf (kind.Headers o) = keep.All
+
+-- where the headers start
+abbrev pub fromOf : Kind → ℕ
+fromOf kind.Put = 3
+fromOf kind.Get = 3
+fromOf (kind.Headers o) = prefixOf o
+
+unfoldable pub kindPlan : Engine → Kind → Gathered → Bool → Bool → Bool → Bool → Plan
+kindPlan e kind.Put g final asked srm confirm = putPlan e g final asked srm confirm
+kindPlan e kind.Get g final asked srm confirm = getPlan e g final asked srm confirm
+kindPlan e (kind.Headers o) g final asked srm confirm = headersPlan e o g final
+
+abbrev pub actsGathered : Engine → Kind → Bool → Bool → Bool → Bool → Gathering → Stores → Done
+actsGathered e k final asked srm confirm g s = planned (kindPlan e k (g .got) final asked srm confirm) (withGathered s g)
+
+-- a Connect: the password is asked where a challenge is stored and a response can be read; else a new challenge is made
+abbrev pub answeredAs : Option Response → Found → Answered
+answeredAs none u = Missing
+answeredAs (some r) u = User u
+
+-- the client's response, by where its user id stands in the packet
+abbrev pub answeredBy : List ℕ → Answered
+answeredBy q = answeredAs (responseIn (first 0x4E (headersIn (requestOf q)))) (userIn q (firstPlace 0x4E q 7))
+
+-- a place that stays below the largest number, moved on
+abbrev pub Below : ℕ → Found → Type 0
+Below n place.Missing = Unit {0}
+Below n (place.At a b) = (a ≤ b) × (n + b < 2 ^ 64)
+
+abbrev pub verifiesPlan : Engine → Peer → Challenge → Answered → Plan
+verifiesPlan e p Absent a = asksPlan e p Nothing await.Nonce request.Nonce
+verifiesPlan e p (Stored n) Missing = asksPlan e p Nothing await.Nonce request.Nonce
+verifiesPlan e p (Stored n) (User u) = asksPlan e p Nothing await.Password (request.Password u)
+
+unfoldable pub limitedPlan : Engine → Peer → Answered → Plan
+limitedPlan e p a =
+    pick (e .settings .authentication) (verifiesPlan e p (p .challenge) a)
+    (asksPlan e p Nothing await.Connect (request.Connect (e .length)))
+
+unfoldable pub connectPlan : Engine → List ℕ → Plan
+connectPlan e q = limitedPlan e (limited (e .peer) (connectLimit q)) (answeredBy q)
+
+-- with the packet
+abbrev pub acts : Route → Engine → List ℕ → Stores → Done
+acts (Plain b) e q s = planned (briefPlan e b) s
+acts Connect e q s = planned (connectPlan e q) s
+acts (Gather k g final asked srm confirm) e q s =
+    actsGathered e k final asked srm confirm (gathers e (keepOf k) (headersIn (requestOf q)) g s) s
+acts (Send o srm wait) e q s = sendsNext e o srm wait s

@@ -1,0 +1,126 @@
+// Carrying out a plan: the small reply is written, and the rest handed back. Plans for what the lower layers sent.
+ghost use mathlib.Core.Path.{_≡_};
+ghost use Prim.Native.Nat.{_≤_};
+ghost use lib.ListN.{length};
+ghost use Rattle.connection.specs.Send.{front};
+ghost use Rattle.engine.specs.Plan.{smallBytes};
+ghost use Rattle.engine.specs.Carry.{tookBy, written, carried, sentPlan, sendingOn, packetPlan};
+use crate::plan::Plan;
+use crate::plan::Small;
+use crate::plan::asks;
+use crate::plan::code;
+use crate::plan::ends;
+use crate::plan::engine_with;
+use crate::server::Await;
+use crate::server::Engine;
+use crate::server::Operation;
+use crate::server::Outcome;
+use crate::server::Request;
+use crate::server::Took;
+use connection::peer::Peer;
+use connection::send::Sent;
+use connection::send::put_continue;
+use connection::send::put_reply_code;
+use outgoing::body::Next;
+use outgoing::body::Packet;
+
+// The bytes of a small reply at the front of the reply store.
+pub fn write_small(small: Small, reply: &mut [u8])
+    requires { ⌜ 5 ≤ length (now reply) ⌝ }
+    ensures { λ r. ⌜ now (reply .exit) ≡ front (smallBytes small) (now (reply .entry)) ⌝ }
+{
+    match small {
+        Small::Silent => {}
+        Small::Byte(byte) => {
+            put_reply_code(reply, byte);
+        }
+        Small::Grant => {
+            put_continue(reply, true);
+        }
+    }
+}
+
+// What a call gives that takes no bytes.
+pub fn took(p: Plan) -> Took
+    ensures { λ r. ⌜ r ≡ tookBy p ⌝ }
+{
+    let engine = p.engine;
+    let outcome = p.outcome;
+    Took {
+        engine,
+        taken: 0,
+        outcome,
+    }
+}
+
+pub fn carry_out(p: Plan, reply: &mut [u8]) -> Took
+    requires { ⌜ 5 ≤ length (now reply) ⌝ }
+    ensures { λ r. ⌜ written r (now (reply .exit)) ≡ carried p (now (reply .entry)) ⌝ }
+{
+    let small = p.small;
+    write_small(small, reply);
+    took(p)
+}
+
+// A reply that was sent, or number 7 where it is too large.
+pub fn sent_plan(e: Engine, peer: Peer, sent: Sent) -> Plan
+    ensures { λ r. ⌜ r ≡ sentPlan e peer sent ⌝ }
+{
+    match sent {
+        Sent::TooLarge => ends(e, peer, 7),
+        Sent::Reply(length) => Plan {
+            engine: engine_with(
+                e.settings,
+                peer,
+                Operation::Nothing,
+                Await::Taken,
+                0,
+                e.length,
+            ),
+            outcome: Outcome::Reply { length },
+            small: Small::Silent,
+        },
+    }
+}
+
+// The operation after a packet of an object.
+fn sending(k: Packet, last: bool, srm: bool, wait: bool) -> Operation
+    ensures { λ r. ⌜ r ≡ sendingOn k last srm wait ⌝ }
+{
+    if last {
+        return Operation::Nothing;
+    }
+    let outgoing = k.outgoing;
+    let chunk = k.chunk;
+    Operation::Sending {
+        outgoing,
+        chunk,
+        srm,
+        wait,
+    }
+}
+
+// A packet of an object, the body read that it needs, or 0x50 where a header is too long for any packet.
+pub fn packet_plan(e: Engine, srm: bool, wait: bool, k: Packet) -> Plan
+    ensures { λ r. ⌜ r ≡ packetPlan e srm wait k ⌝ }
+{
+    let next = k.next;
+    match next {
+        Next::Send { length, last } => {
+            let operation = sending(k, last, srm, wait);
+            Plan {
+                engine: engine_with(e.settings, e.peer, operation, Await::Taken, 0, e.length),
+                outcome: Outcome::Reply { length },
+                small: Small::Silent,
+            }
+        }
+        Next::Read => asks(
+            e,
+            e.peer,
+            sending(k, false, srm, wait),
+            Await::Body,
+            Request::Read { room: k.chunk.room },
+        ),
+        Next::TooLarge => code(e, e.peer, Await::Taken, 0xD0),
+    }
+}

@@ -1,0 +1,322 @@
+// The host's answers to the engine's requests.
+ghost use mathlib.Core.Path.{_≡_};
+ghost use mathlib.Core.Bool.{_||_};
+ghost use Prim.Native.Nat.{_≤_, _<_};
+ghost use lib.ListN.{length};
+ghost use Rattle.digest.specs.Md5.{octets16};
+ghost use Rattle.packet.specs.AuthWrite.{given};
+ghost use Rattle.packet.specs.Header.{bytesOf};
+ghost use Rattle.connection.specs.Send.{fieldsOf, sendBytes, sending, sentInto};
+ghost use Rattle.connection.specs.Connect.{challengeHeader};
+ghost use Rattle.outgoing.specs.Outgoing.{nextPacket};
+ghost use Rattle.engine.specs.Carry.{written, packetSent, objectWith, passwordPlan};
+ghost use Rattle.engine.specs.Model.{stepped, stores, acknowledgeStep, bodyFailedStep, bodyStep, objectStep, nonceStep, passwordStep, optionsOf, realmOf, badHeaders, capacityOf};
+use crate::carry::carry_out;
+use crate::carry::packet_plan;
+use crate::carry::sent_plan;
+use crate::carry::took;
+use crate::guard::refuse;
+use crate::guard::refused;
+use crate::last::is_right;
+use crate::plan::Plan;
+use crate::plan::asks;
+use crate::plan::code;
+use crate::server::Await;
+use crate::server::Engine;
+use crate::server::Operation;
+use crate::server::Request;
+use crate::server::Settings;
+use crate::server::Took;
+use base::copy_into;
+use connection::connect::challenge_reply;
+use connection::peer::challenged;
+use connection::peer::verified;
+use connection::send::Sent;
+use digest::md5::Octets16;
+use outgoing::body::Outgoing;
+use outgoing::body::body_given;
+use outgoing::body::next_packet;
+use packet::header::is_canonical;
+
+// An Abort is acknowledged without a code, and gets 0xA0.
+pub fn acknowledge(
+    e: Engine,
+    packet: &mut [u8],
+    headers: &mut [u8],
+    body: &mut [u8],
+    reply: &mut [u8],
+) -> Took
+    ensures { λ r. ⌜ stepped r (stores (now (packet .exit)) (now (headers .exit)) (now (body .exit)) (now (reply .exit))) ≡ acknowledgeStep e (stores (now (packet .entry)) (now (headers .entry)) (now (body .entry)) (now (reply .entry))) ⌝ }
+{
+    let number = refused(
+        e,
+        packet.len(),
+        headers.len(),
+        body.len(),
+        reply.len(),
+        7,
+        7,
+    );
+    if number != 0 {
+        return refuse(e, number);
+    }
+    carry_out(code(e, e.peer, Await::Taken, 0xA0), reply)
+}
+
+// The object's body cannot be read on: 0x50.
+pub fn body_failed(
+    e: Engine,
+    packet: &mut [u8],
+    headers: &mut [u8],
+    body: &mut [u8],
+    reply: &mut [u8],
+) -> Took
+    ensures { λ r. ⌜ stepped r (stores (now (packet .exit)) (now (headers .exit)) (now (body .exit)) (now (reply .exit))) ≡ bodyFailedStep e (stores (now (packet .entry)) (now (headers .entry)) (now (body .entry)) (now (reply .entry))) ⌝ }
+{
+    let number = refused(
+        e,
+        packet.len(),
+        headers.len(),
+        body.len(),
+        reply.len(),
+        11,
+        11,
+    );
+    if number != 0 {
+        return refuse(e, number);
+    }
+    carry_out(code(e, e.peer, Await::Taken, 0xD0), reply)
+}
+
+fn wide16(n: u16) -> usize
+    ensures { λ r. ⌜ (r ≡ n) × (r < 65536) ⌝ }
+{
+    n as usize
+}
+
+// Header bytes that are too long or not canonical.
+pub fn bad_headers(s: &[u8]) -> bool
+    ensures { λ r. ⌜ r ≡ badHeaders (now (s .entry)) ⌝ }
+{
+    if s.len() > 65535 {
+        return true;
+    }
+    !is_canonical(s)
+}
+
+// The next packet of an object that is sent, or what it needs first.
+pub fn sends_next(
+    e: Engine,
+    o: Outgoing,
+    srm: bool,
+    wait: bool,
+    headers: &[u8],
+    reply: &mut [u8],
+) -> Took
+    requires { ⌜ (255 ≤ e .peer .«remote_max_packet_length») × (o .total ≤ length (now headers)) × (65535 ≤ length (now reply)) ⌝ }
+    ensures { λ r. ⌜ written r (now (reply .exit)) ≡ packetSent e srm wait (nextPacket (capacityOf e) o (now (headers .entry)) (now (reply .entry))) ⌝ }
+{
+    let capacity = wide16(e.peer.remote_max_packet_length) - 3;
+    let k = next_packet(capacity, o, headers, reply);
+    carry_out(packet_plan(e, srm, wait, k), reply)
+}
+
+// SRM that was not granted yet goes in front of the object's headers.
+fn object_of(total: usize, lead: bool, has_body: bool) -> Outgoing
+    ensures { λ r. ⌜ r ≡ objectWith total lead «has_body» ⌝ }
+{
+    Outgoing {
+        total,
+        sent: 0,
+        lead,
+        has_body,
+        has_pending: false,
+        pending: 0,
+    }
+}
+
+fn either(a: bool, b: bool) -> bool
+    ensures { λ r. ⌜ r ≡ a || b ⌝ }
+{
+    if a {
+        return true;
+    }
+    b
+}
+
+// An object for a Get.
+pub fn object(
+    e: Engine,
+    header_bytes: &[u8],
+    has_body: bool,
+    packet: &mut [u8],
+    headers: &mut [u8],
+    body: &mut [u8],
+    reply: &mut [u8],
+) -> Took
+    ensures { λ r. ⌜ stepped r (stores (now (packet .exit)) (now (headers .exit)) (now (body .exit)) (now (reply .exit))) ≡ objectStep e (now («header_bytes» .entry)) «has_body» (stores (now (packet .entry)) (now (headers .entry)) (now (body .entry)) (now (reply .entry))) ⌝ }
+{
+    let number = refused(
+        e,
+        packet.len(),
+        headers.len(),
+        body.len(),
+        reply.len(),
+        5,
+        5,
+    );
+    if number != 0 {
+        return refuse(e, number);
+    }
+    let operation = e.operation;
+    let Operation::Getting {
+        gathered: _,
+        srm,
+        confirm_srm,
+        wait,
+    } = operation
+    else {
+        return refuse(e, 9);
+    };
+    if bad_headers(header_bytes) {
+        return refuse(e, 8);
+    }
+    copy_into(headers, 0, header_bytes);
+    let o = object_of(header_bytes.len(), confirm_srm, has_body);
+    sends_next(e, o, either(srm, confirm_srm), wait, headers, reply)
+}
+
+// Bytes of the object's body; more than were asked for is 9.
+pub fn body(
+    e: Engine,
+    d: &[u8],
+    packet: &mut [u8],
+    headers: &mut [u8],
+    body: &mut [u8],
+    reply: &mut [u8],
+) -> Took
+    ensures { λ r. ⌜ stepped r (stores (now (packet .exit)) (now (headers .exit)) (now (body .exit)) (now (reply .exit))) ≡ bodyStep e (now (d .entry)) (stores (now (packet .entry)) (now (headers .entry)) (now (body .entry)) (now (reply .entry))) ⌝ }
+{
+    let number = refused(
+        e,
+        packet.len(),
+        headers.len(),
+        body.len(),
+        reply.len(),
+        11,
+        11,
+    );
+    if number != 0 {
+        return refuse(e, number);
+    }
+    let operation = e.operation;
+    let Operation::Sending {
+        outgoing,
+        chunk,
+        srm,
+        wait,
+    } = operation
+    else {
+        return refuse(e, 9);
+    };
+    if chunk.room < d.len() {
+        return refuse(e, 9);
+    }
+    let k = body_given(outgoing, chunk, d, reply);
+    carry_out(packet_plan(e, srm, wait, k), reply)
+}
+
+// 0x41 with a challenge, by the settings.
+fn send_challenge(settings: Settings, remote: u16, nonce: Octets16, reply: &mut [u8]) -> Sent
+    requires { ⌜ (settings .«realm_length» ≤ 254) × (65535 ≤ length (now reply)) ⌝ }
+    ensures { λ r. ⌜ sending r (now (reply .exit)) ≡ sentInto (sendBytes remote 0x41 (fieldsOf (settings .«max_packet_length»)) (bytesOf (challengeHeader (octets16 nonce) (optionsOf settings) (realmOf settings)))) (now (reply .entry)) ⌝ }
+{
+    let realm = settings.realm;
+    let n = settings.realm_length;
+    challenge_reply(
+        reply,
+        wide16(remote),
+        settings.max_packet_length,
+        nonce,
+        settings.user_id_required,
+        settings.read_only,
+        settings.has_realm,
+        settings.charset,
+        &realm[..n],
+    )
+}
+
+// A nonce for a new challenge: the password is asked for with 0x41.
+pub fn nonce(
+    e: Engine,
+    n: Octets16,
+    packet: &mut [u8],
+    headers: &mut [u8],
+    body: &mut [u8],
+    reply: &mut [u8],
+) -> Took
+    ensures { λ r. ⌜ stepped r (stores (now (packet .exit)) (now (headers .exit)) (now (body .exit)) (now (reply .exit))) ≡ nonceStep e n (stores (now (packet .entry)) (now (headers .entry)) (now (body .entry)) (now (reply .entry))) ⌝ }
+{
+    let number = refused(
+        e,
+        packet.len(),
+        headers.len(),
+        body.len(),
+        reply.len(),
+        9,
+        9,
+    );
+    if number != 0 {
+        return refuse(e, number);
+    }
+    let peer = challenged(e.peer, n);
+    let sent = send_challenge(e.settings, peer.remote_max_packet_length, n, reply);
+    took(sent_plan(e, peer, sent))
+}
+
+// Right, the host is asked about the Connect; else a new challenge is made.
+fn password_plan(e: Engine, right: bool) -> Plan
+    ensures { λ r. ⌜ r ≡ passwordPlan e right ⌝ }
+{
+    if right {
+        return asks(
+            e,
+            verified(e.peer),
+            Operation::Nothing,
+            Await::Connect,
+            Request::Connect { length: e.length },
+        );
+    }
+    asks(e, e.peer, Operation::Nothing, Await::Nonce, Request::Nonce)
+}
+
+// The password for the user id that was told, or none.
+pub fn password(
+    e: Engine,
+    has_password: bool,
+    password: &[u8],
+    packet: &mut [u8],
+    headers: &mut [u8],
+    body: &mut [u8],
+    reply: &mut [u8],
+) -> Took
+    ensures { λ r. ⌜ stepped r (stores (now (packet .exit)) (now (headers .exit)) (now (body .exit)) (now (reply .exit))) ≡ passwordStep e (given «has_password» (now (password .entry))) (stores (now (packet .entry)) (now (headers .entry)) (now (body .entry)) (now (reply .entry))) ⌝ }
+{
+    let number = refused(
+        e,
+        packet.len(),
+        headers.len(),
+        body.len(),
+        reply.len(),
+        8,
+        8,
+    );
+    if number != 0 {
+        return refuse(e, number);
+    }
+    let length = e.length;
+    let peer = e.peer;
+    let stored = peer.challenge;
+    let right = is_right(stored, &packet[..length], has_password, password);
+    took(password_plan(e, right))
+}

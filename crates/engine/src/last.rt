@@ -1,0 +1,47 @@
+// The last whole packet, read again for an answer that comes later.
+ghost use mathlib.Core.Path.{_≡_};
+ghost use Rattle.packet.specs.Header.{first};
+ghost use Rattle.packet.specs.Packet.{requestOf};
+ghost use Rattle.packet.specs.AuthWrite.{given};
+ghost use Rattle.engine.specs.Model.{checks, responseIn, headersIn};
+ghost use Rattle.engine.specs.Last.{lastFrom};
+use connection::challenge::first_in;
+use connection::challenge::verify_client;
+use connection::peer::Challenge;
+use packet::auth::read_response;
+use packet::packet::Parsed;
+use packet::packet::parse_packet;
+use packet::tlv::Found;
+
+const AUTHENTICATE_RESPONSE: u8 = 0x4E;
+
+// Where its headers start: at its end where it cannot be read.
+pub fn last_from(q: &[u8]) -> usize
+    ensures { λ r. ⌜ r ≡ lastFrom (now (q .entry)) ⌝ }
+{
+    let Parsed::Request {
+        opcode: _,
+        is_final: _,
+        headers,
+        length: _,
+    } = parse_packet(q)
+    else {
+        return q.len();
+    };
+    headers
+}
+
+// Whether the password is right for the stored challenge and the packet's first AuthenticateResponse.
+pub fn is_right(stored: Challenge, q: &[u8], has_password: bool, password: &[u8]) -> bool
+    ensures { λ r. ⌜ r ≡ checks stored (responseIn (first 0x4E (headersIn (requestOf (now (q .entry)))))) (given «has_password» (now (password .entry))) ⌝ }
+{
+    let Found::At { start, end } = first_in(q, last_from(q), AUTHENTICATE_RESPONSE) else {
+        return false;
+    };
+    verify_client(
+        stored,
+        read_response(&q[start..end]),
+        has_password,
+        password,
+    )
+}

@@ -1,0 +1,5 @@
+-- Theorems over the definitions of specs/, and no code: `Laws` (what packets carry, and bytes read in pieces), `Scan` (the Put forms, found
+-- in one pass), `Forms` (the journal's records are theirs).
+pub mod Laws
+pub mod Scan
+pub mod Forms

@@ -1,0 +1,7 @@
+-- What the calls hand over, defined without the engine. In the order in which they build on one another.
+pub mod Carried
+pub mod Ids
+pub mod Calls
+pub mod Journal
+pub mod PutForm
+pub mod Claim

@@ -1,0 +1,104 @@
+-- The Put form (the mission's demand 3): which consecutive packets are one Put, and the record that they stand for. It names packets,
+-- and of the journal only whether anything was open or all had ended before the first, and whether that one is admitted. No engine.
+use Prim.Native.Nat.{ℕ, _+_, _≤_}
+use mathlib.Core.Path.{_≡_}
+use mathlib.Core.List.{List, [], _∷_, map}
+use mathlib.Core.Bool.{Bool, true, false}
+use mathlib.Core.Option.{Option, none, some}
+use mathlib.Core.Logic.{_⊎_}
+use lib.ListN.{length, take, drop}
+use Rattle.packet.specs.FirstByte.{sameOpcode}
+use Rattle.packet.specs.Packet.{Request, requestOf}
+use Rattle.packet.specs.declared.opcode.Opcode.the-variants.{Put}
+use Rattle.journal.specs.Carried.{Carried, bare, joined, sizeOf, carriedBy}
+use Rattle.journal.specs.Journal.{Journal, nothing, admitted, Marked}
+
+-- ---- what a packet is to a Put
+
+abbrev pub isPutRequest : Option Request → Bool
+isPutRequest none = false
+isPutRequest (some r) = sameOpcode (r .opcode) Put
+
+-- a readable Put packet
+unfoldable pub readablePut : List ℕ → Bool
+readablePut p = isPutRequest (requestOf p)
+
+abbrev pub finalRequest : Option Request → Bool
+finalRequest none = false
+finalRequest (some r) = r .final
+
+unfoldable pub isFinal : List ℕ → Bool
+isFinal p = finalRequest (requestOf p)
+
+abbrev pub carriedRequest : Option Request → Carried
+carriedRequest none = bare
+carriedRequest (some r) = carriedBy (r .headers)
+
+-- its kept headers, and its Body and EndOfBody bytes
+unfoldable pub carriedIn : List ℕ → Carried
+carriedIn p = carriedRequest (requestOf p)
+
+abbrev pub admittedRequest : Journal → Option Request → Bool
+admittedRequest j none = false
+admittedRequest j (some r) = admitted (j .settings) (j .standing) r
+
+unfoldable pub admits : Journal → List ℕ → Bool
+admits j p = admittedRequest j (requestOf p)
+
+-- ---- one Put
+
+-- the first is admitted with nothing open and before the end
+abbrev pub Starts : List Marked → Type 0
+Starts [] = ⊥
+Starts (p ∷ ps) = (p .before .opened ≡ nothing) × (p .before .ended ≡ false) × (admits (p .before) (p .bytes) ≡ true)
+
+-- all are readable Put packets, and only the last is final
+abbrev pub Puts : List Marked → Type 0
+Puts [] = ⊥
+Puts (p ∷ []) = (readablePut (p .bytes) ≡ true) × (isFinal (p .bytes) ≡ true)
+Puts (p ∷ q ∷ ps) = (readablePut (p .bytes) ≡ true) × (isFinal (p .bytes) ≡ false) × Puts (q ∷ ps)
+
+-- what they carry, in order
+abbrev pub carried : List Marked → Carried
+carried [] = bare
+carried (p ∷ ps) = joined (carriedIn (p .bytes)) (carried ps)
+
+-- these packets are one Put, and this is its record: their body bytes total no more than the limit
+pub record OnePut (limit : ℕ) (run : List Marked) (r : Carried) : Type 0 where
+  pub starts : Starts run
+  pub puts : Puts run
+  pub within : sizeOf r ≤ limit
+  pub is : r ≡ carried run
+
+-- ---- all Puts among some packets
+
+-- some packets of a list: the place of the first, how many, and a record
+pub record Form : Type 0 where
+  pub first : ℕ
+  pub count : ℕ
+  pub given : Carried
+
+abbrev pub runOf : List Marked → Form → List Marked
+runOf ps f = take (f .count) (drop (f .first) ps)
+
+-- they are in the list, and are one Put with that record
+pub record IsForm (limit : ℕ) (ps : List Marked) (f : Form) : Type 0 where
+  pub there : length (runOf ps f) ≡ f .count
+  pub one : OnePut limit (runOf ps f) (f .given)
+
+abbrev pub In : Form → List Form → Type 0
+In f [] = ⊥
+In f (g ∷ l) = (f ≡ g) ⊎ In f l
+
+-- each begins after the end of the one before
+abbrev pub Apart : ℕ → List Form → Type 0
+Apart n [] = Unit {0}
+Apart n (f ∷ l) = (n ≤ f .first) × Apart (f .first + f .count) l
+
+-- the records are those of all the Put forms among the packets, each once, in order; no packet is in two of them
+pub record Exactly (limit : ℕ) (ps : List Marked) (rs : List Carried) : Type 0 where
+  pub forms : List Form
+  pub records : rs ≡ map (λ (f : Form). f .given) forms
+  pub each : (f : Form) → In f forms → IsForm limit ps f
+  pub all : (f : Form) → IsForm limit ps f → In f forms
+  pub apart : Apart 0 forms

@@ -1,0 +1,199 @@
+-- The writers of digest authentication: what each of their steps leaves in the store, and that what is written reads back.
+-- Assumes nothing.
+use mathlib.Core.Path.{_≡_, refl, sym, ap, ap₂, _∙_}
+use mathlib.Core.Bool.{Bool, true, false}
+use mathlib.Core.List.{List, [], _∷_, _++_, append-nil, append-assoc}
+use mathlib.Core.Option.{Option, none, some}
+use Prim.Native.Nat.{ℕ, suc, _+_, _≤_, _<_, _^_}
+use native.Mathlib.Omega.{arith}
+use lib.ListN.{length, set, length-append}
+use lib.Dec.{ltb}
+use borrow.Author.Tests.{ltb-false, eq-eqb, ne-eqb}
+use native.Mathlib.Numerals.{add-one}
+use Rattle.base.specs.Pick.{pick, both}
+use Rattle.digest.specs.Md5.{octets16, requestDigest}
+use Rattle.digest.specs.declared.md5.Octets16.{Octets16}
+use Rattle.digest.proofs.Octets.{length-octets16, numbers-octets}
+use Rattle.packet.specs.declared.auth.DigestResponse.{DigestResponse}
+use Rattle.packet.specs.declared.auth.DigestResponse.the-variants.{Response, Unreadable}
+use Rattle.packet.specs.declared.tlv.Put.{Put}
+use Rattle.packet.specs.Tags.{writeTag, writeTags, putTag, putting}
+use Rattle.packet.specs.Auth.{realmTag, userTag, challengeTags, responseTags, responseFrom, responseOf, challengeFrom, challengeOf, userIdRequired, readOnly, verified}
+use Rattle.packet.specs.Placed.{laid}
+use Rattle.packet.specs.Flags.{flagBits}
+use Rattle.packet.specs.AuthRead.{readResponse, verifies}
+use Rattle.packet.specs.AuthWrite.{given, overlong, answerTags}
+use Rattle.packet.proofs.SameBytes.{same-self}
+use Rattle.packet.proofs.TagWrites.{write-read}
+use Rattle.packet.proofs.AuthLaws.{octets-request, length-request}
+use Rattle.packet.proofs.Laid.{length-laid, laid-append, laid-nothing, three-laid, put-laid}
+
+-- ---- the realm
+
+pub realm-short : (there : Bool) (v : List ℕ) (charset : ℕ) → there ≡ true → overlong (given there (charset ∷ v)) ≡ false → length v ≤ 254
+realm-short true v charset t e = let h = ltb-false 255 (suc (length v)) e in omega arith
+realm-short false v charset t e = let z : _≡_ {A = ℕ} 0 1 = cc in absurd (omega arith)
+
+pub realm-fits : (there : Bool) (v : List ℕ) (charset at n : ℕ) → there ≡ true → at + length (writeTags (realmTag (given there (charset ∷ v)))) ≤ n → at + 3 + length v ≤ n
+unfolding writeTags
+realm-fits true v charset at n t h = omega (arith, ap length (append-nil v))
+realm-fits false v charset at n t h = let z : _≡_ {A = ℕ} 0 1 = cc in absurd (omega arith)
+
+pub realm-none : (there : Bool) (d l : List ℕ) (at : ℕ) → there ≡ false → d ≡ laid d at (writeTags (realmTag (given there l)))
+unfolding writeTags
+realm-none true d l at t = let z : _≡_ {A = ℕ} 0 1 = cc in absurd (omega arith)
+realm-none false d l at t = sym (laid-nothing d at)
+
+pub realm-laid : (there : Bool) (d v : List ℕ) (charset at : ℕ) → there ≡ true → at + 3 + length v ≤ length d
+    → laid (set (set (set d at 2) (at + 1) (length v + 1)) (at + 2) charset) (at + 3) v ≡ laid d at (writeTags (realmTag (given there (charset ∷ v))))
+unfolding writeTags
+realm-laid false d v charset at t h = let z : _≡_ {A = ℕ} 0 1 = cc in absurd (omega arith)
+realm-laid true d v charset at t h =
+    let n = length v + 1 in
+    let m : suc (length v) ≡ n = omega arith in
+    ap (λ (l : List ℕ). laid l (at + 3) v) (three-laid d at 2 n charset (omega arith))
+    ∙ laid-append d (2 ∷ n ∷ charset ∷ []) v at (at + 3) (omega arith) (omega arith)
+    ∙ ap₂ (λ (k : ℕ) (l : List ℕ). laid d at (2 ∷ k ∷ charset ∷ l)) (sym m) (sym (append-nil v))
+
+-- ---- the user id
+
+pub user-short : (there : Bool) (v : List ℕ) → there ≡ true → overlong (given there v) ≡ false → length v ≤ 255
+user-short true v t e = ltb-false 255 (length v) e
+user-short false v t e = let z : _≡_ {A = ℕ} 0 1 = cc in absurd (omega arith)
+
+pub user-fits : (there : Bool) (v : List ℕ) (at n : ℕ) → there ≡ true → at + length (writeTags (userTag (given there v))) ≤ n → at + 2 + length v ≤ n
+unfolding writeTags
+user-fits true v at n t h = omega (arith, ap length (append-nil v))
+user-fits false v at n t h = let z : _≡_ {A = ℕ} 0 1 = cc in absurd (omega arith)
+
+pub user-laid : (there : Bool) (d v : List ℕ) (at : ℕ) → there ≡ true
+    → laid d at (writeTag (record { tag = 1; value = v })) ≡ laid d at (writeTags (userTag (given there v)))
+unfolding writeTags
+user-laid true d v at t = ap (λ (l : List ℕ). laid d at (1 ∷ length v ∷ l)) (sym (append-nil v))
+user-laid false d v at t = let z : _≡_ {A = ℕ} 0 1 = cc in absurd (omega arith)
+
+pub user-none : (there : Bool) (d v : List ℕ) (at : ℕ) → there ≡ false → d ≡ laid d at (writeTags (userTag (given there v)))
+unfolding writeTags
+user-none true d v at t = let z : _≡_ {A = ℕ} 0 1 = cc in absurd (omega arith)
+user-none false d v at t = sym (laid-nothing d at)
+
+-- ---- lengths, and values that are too long, as the code has them
+
+pub realm-length : (there : Bool) (v : List ℕ) (charset : ℕ) → length (writeTags (realmTag (given there (charset ∷ v)))) ≡ pick there (2 + (length v + 1)) 0
+unfolding writeTags
+realm-length true v charset = omega (arith, ap length (append-nil v))
+realm-length false v charset = refl
+
+pub realm-long : (there : Bool) (v : List ℕ) (charset : ℕ) → both there (ltb 255 (length v + 1)) ≡ overlong (given there (charset ∷ v))
+realm-long true v charset = rw add-one
+realm-long false v charset = refl
+
+pub user-length : (there : Bool) (v : List ℕ) → length (writeTags (userTag (given there v))) ≡ pick there (2 + length v) 0
+unfolding writeTags
+user-length true v = omega (arith, ap length (append-nil v))
+user-length false v = refl
+
+pub user-long : (there : Bool) (v : List ℕ) → both there (ltb 255 (length v)) ≡ overlong (given there v)
+user-long true v = refl
+user-long false v = refl
+
+pub at-most : (x : Bool) (n : ℕ) → pick x n 0 ≤ n
+at-most true n = omega arith
+at-most false n = omega arith
+
+-- ---- the challenge
+
+pub challenge-length : (n : List ℕ) (o : ℕ) (realm : Option (List ℕ)) → length n ≡ 16
+    → length (writeTags (challengeTags n o realm)) ≡ 21 + length (writeTags (realmTag realm))
+unfolding writeTags challengeTags
+challenge-length n o realm e = omega (arith, length-append n (1 ∷ 1 ∷ o ∷ writeTags (realmTag realm)))
+
+-- nonce, options and realm, one after the other
+pub challenge-steps : (s₀ s₁ s₂ s₃ m n : List ℕ) (at o : ℕ) (realm : Option (List ℕ)) (r₁ r₂ : Put) → n ≡ m → length m ≡ 16
+    → at + length (writeTags (challengeTags m o realm)) ≤ length s₀ → putting r₁ s₁ ≡ putTag s₀ at 0 n → putting r₂ s₂ ≡ putTag s₁ (at + 18) 1 (o ∷ [])
+    → s₃ ≡ laid s₂ (at + 21) (writeTags (realmTag realm)) → s₃ ≡ laid s₀ at (writeTags (challengeTags m o realm))
+unfolding writeTags challengeTags
+challenge-steps s₀ s₁ s₂ s₃ m n at o realm r₁ r₂ q l h p₁ p₂ p₃ =
+    let k = challenge-length m o realm l in
+    let a : List ℕ = 0 ∷ length m ∷ m in
+    let b : List ℕ = 1 ∷ 1 ∷ o ∷ [] in
+    let w = writeTags (realmTag realm) in
+    let e₁ : s₁ ≡ laid s₀ at a = put-laid s₀ m s₁ at 0 r₁ (omega arith) (omega arith) (rw q at p₁) in
+    let l₁ : length s₁ ≡ length s₀ = ap length e₁ ∙ length-laid s₀ a at (omega arith) in
+    let e₂ : s₂ ≡ laid s₁ (at + 18) b = put-laid s₁ (o ∷ []) s₂ (at + 18) 1 r₂ (omega arith) (omega arith) p₂ in
+    p₃
+    ∙ ap (λ (s : List ℕ). laid s (at + 21) w) e₂
+    ∙ laid-append s₁ b w (at + 18) (at + 21) (omega arith) (omega arith)
+    ∙ ap (λ (s : List ℕ). laid s (at + 18) (b ++ w)) e₁
+    ∙ laid-append s₀ a (b ++ w) at (at + 18) (omega arith) (omega arith)
+
+-- ---- the response
+
+answer-bytes : (d n : List ℕ) (user : Option (List ℕ))
+    → writeTags (answerTags d user n) ≡ writeTag (record { tag = 0; value = d }) ++ (writeTags (userTag user) ++ writeTag (record { tag = 2; value = n }))
+unfolding writeTags
+answer-bytes d n none = simp append-nil
+answer-bytes d n (some u) = simp (append-nil, append-assoc)
+
+pub answer-length : (d n : List ℕ) (user : Option (List ℕ)) → length d ≡ 16 → length n ≡ 16
+    → length (writeTags (answerTags d user n)) ≡ 36 + length (writeTags (userTag user))
+answer-length d n user e f =
+    let w = writeTags (userTag user) in
+    let t : List ℕ = 2 ∷ length n ∷ n in
+    ap length (answer-bytes d n user) ∙ omega (arith, length-append (0 ∷ length d ∷ d) (w ++ t), length-append w t)
+
+-- digest, user id and nonce, one after the other
+pub answer-steps : (s₀ s₁ s₂ s₃ d d′ n n′ : List ℕ) (at k : ℕ) (user : Option (List ℕ)) (r₁ r₃ : Put) → d′ ≡ d → n′ ≡ n → length d ≡ 16 → length n ≡ 16
+    → k ≡ length (writeTags (userTag user)) → at + length (writeTags (answerTags d user n)) ≤ length s₀ → putting r₁ s₁ ≡ putTag s₀ at 0 d′
+    → s₂ ≡ laid s₁ (at + 18) (writeTags (userTag user)) → putting r₃ s₃ ≡ putTag s₂ (at + 18 + k) 2 n′ → s₃ ≡ laid s₀ at (writeTags (answerTags d user n))
+answer-steps s₀ s₁ s₂ s₃ d d′ n n′ at k user r₁ r₃ qd qn ld ln lk h p₁ p₂ p₃ =
+    let z = answer-length d n user ld ln in
+    let a : List ℕ = 0 ∷ length d ∷ d in
+    let w = writeTags (userTag user) in
+    let t : List ℕ = 2 ∷ length n ∷ n in
+    let e₁ : s₁ ≡ laid s₀ at a = put-laid s₀ d s₁ at 0 r₁ (omega arith) (omega arith) (rw qd at p₁) in
+    let l₁ : length s₁ ≡ length s₀ = ap length e₁ ∙ length-laid s₀ a at (omega arith) in
+    let l₂ : length s₂ ≡ length s₁ = ap length p₂ ∙ length-laid s₁ w (at + 18) (omega arith) in
+    let e₃ : s₃ ≡ laid s₂ (at + 18 + k) t = put-laid s₂ n s₃ (at + 18 + k) 2 r₃ (omega arith) (omega arith) (rw qn at p₃) in
+    e₃
+    ∙ ap (λ (s : List ℕ). laid s (at + 18 + k) t) p₂
+    ∙ laid-append s₁ w t (at + 18) (at + 18 + k) (omega arith) (omega arith)
+    ∙ ap (λ (s : List ℕ). laid s (at + 18) (w ++ t)) e₁
+    ∙ laid-append s₀ a (w ++ t) at (at + 18) (omega arith) (omega (arith, length-append w t))
+    ∙ ap (laid s₀ at) (sym (answer-bytes d n user))
+
+-- ---- what is written reads back
+
+pub response-back : (n p : List ℕ) (user : Option (List ℕ)) → length n ≡ 16
+    → responseOf (writeTags (responseTags n user p)) ≡ some (record { digest = requestDigest n p; user = user; nonce = some n })
+unfolding responseOf responseTags responseFrom
+response-back n p none e = rw (write-read (responseTags n none p), eq-eqb (length (requestDigest n p)) 16 (length-request n p), eq-eqb (length n) 16 e)
+response-back n p (some u) e = rw (write-read (responseTags n (some u) p), eq-eqb (length (requestDigest n p)) 16 (length-request n p), eq-eqb (length n) 16 e)
+
+-- a realm has its charset at least
+pub challenge-back : (n : List ℕ) (o : ℕ) (there : Bool) (charset : ℕ) (v : List ℕ) → length n ≡ 16
+    → challengeOf (writeTags (challengeTags n o (given there (charset ∷ v)))) ≡ some (record { nonce = n; options = o; realm = given there (charset ∷ v) })
+unfolding challengeOf challengeTags challengeFrom
+challenge-back n o false charset v e = rw (write-read (challengeTags n o none), eq-eqb (length n) 16 e)
+challenge-back n o true charset v e =
+    rw (write-read (challengeTags n o (some (charset ∷ v))), eq-eqb (length n) 16 e, ne-eqb (suc (length v)) 0 (λ (q : suc (length v) ≡ 0). omega arith))
+
+pub options-back : (a b : Bool) → (userIdRequired (flagBits a b) ≡ a) × (readOnly (flagBits a b) ≡ b)
+unfolding userIdRequired readOnly flagBits
+options-back true true = (refl, refl)
+options-back true false = (refl, refl)
+options-back false true = (refl, refl)
+options-back false false = (refl, refl)
+
+-- what a reader's answer is worth for a nonce and a password
+abbrev pub accepts : Octets16 → List ℕ → DigestResponse → Bool
+accepts n p Unreadable = false
+accepts n p (Response d user named) = verifies n d named p
+
+-- an answer to a nonce is right for that nonce and password
+pub accepted : (n : Octets16) (p : List ℕ) (user : Option (List ℕ)) → n .first < 2 ^ 64 → n .second < 2 ^ 64
+    → accepts n p (readResponse (writeTags (responseTags (octets16 n) user p))) ≡ true
+unfolding readResponse verified
+accepted n p user f s =
+    let o = octets16 n in
+    rw (response-back o p user (length-octets16 n), numbers-octets n f s, octets-request o p, same-self o, same-self (requestDigest o p))

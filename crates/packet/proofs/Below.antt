@@ -1,0 +1,46 @@
+-- A rule for all numbers below a bound, proved by one test that antt computes, one number after the other. Of general use.
+-- Assumes nothing.
+use mathlib.Core.Path.{_≡_, refl, subst}
+use mathlib.Core.Bool.{Bool, true, false}
+use Prim.Native.Nat.{ℕ, zero, suc, _+_, _-_, _≤_, _<_}
+use native.Mathlib.Omega.{arith}
+use native.Mathlib.Nat.{le-of-suc-le-suc, not-suc-le-zero}
+use lib.Dec.{T, eqb, eqb→eq}
+use Rattle.base.specs.Pick.{both, not}
+use Rattle.base.proofs.Table.{both-left, both-right}
+
+-- the test passes at each number below n
+abbrev pub below : (ℕ → Bool) → ℕ → Bool
+below f zero = true
+below f (suc n) = both (f zero) (below (λ k. f (suc k)) n)
+
+pub at-each : (f : ℕ → Bool) (n : ℕ) → T (below f n) → (k : ℕ) → k < n → T (f k)
+at-each f zero t k h = absurd (not-suc-le-zero h)
+at-each f (suc n) t zero h = both-left (f zero) (below (λ k. f (suc k)) n) t
+at-each f (suc n) t (suc k) h = at-each (λ k. f (suc k)) n (both-right (f zero) (below (λ k. f (suc k)) n) t) k (le-of-suc-le-suc h)
+
+-- two numbers that a test calls equal at each place
+pub numbers-agree : (f g : ℕ → ℕ) (n : ℕ) → T (below (λ k. eqb (f k) (g k)) n) → (k : ℕ) → k < n → f k ≡ g k
+numbers-agree f g n t k h = eqb→eq (f k) (g k) (at-each (λ k. eqb (f k) (g k)) n t k h)
+
+-- two tests that say the same
+abbrev pub alike : Bool → Bool → Bool
+alike true b = b
+alike false b = not b
+
+alike-eq : (a b : Bool) → T (alike a b) → a ≡ b
+alike-eq true true t = refl
+alike-eq true false t = absurd t
+alike-eq false true t = absurd t
+alike-eq false false t = refl
+
+pub tests-agree : (f g : ℕ → Bool) (n : ℕ) → T (below (λ k. alike (f k) (g k)) n) → (k : ℕ) → k < n → f k ≡ g k
+tests-agree f g n t k h = alike-eq (f k) (g k) (at-each (λ k. alike (f k) (g k)) n t k h)
+
+-- a test says v at each number from lo to hi
+pub run : (f : ℕ → Bool) (v : Bool) (lo hi : ℕ) → T (below (λ k. alike (f (lo + k)) v) (hi + 1 - lo))
+    → (b : ℕ) → lo ≤ b → b ≤ hi → f b ≡ v
+run f v lo hi t b l h =
+    let e : lo + (b - lo) ≡ b = omega arith in
+    subst (λ (m : ℕ). f m ≡ v) e
+    (alike-eq (f (lo + (b - lo))) v (at-each (λ k. alike (f (lo + k)) v) (hi + 1 - lo) t (b - lo) (omega arith)))

@@ -1,0 +1,251 @@
+-- A header in a store: what stands before the value, and then the value, are one paste; the answer goes by numbers alone.
+-- Assumes nothing.
+use mathlib.Core.Path.{_≡_, refl, sym, ap, _∙_, subst}
+use mathlib.Core.Bool.{Bool, true, false}
+use mathlib.Core.List.{List, [], _∷_, _++_, append-assoc}
+use Prim.Native.Nat.{ℕ, _+_, _-_, _^_, _≤_, _<_, min}
+use native.Mathlib.Omega.{arith}
+use lib.Dec.{ltb}
+use lib.ListN.{length, take, drop, length-append}
+use lib.Seq.{sets, sets-eq, paste, length-paste, take-paste, drop-paste, length-take-le, take-at, drop-at, drop-drop, take-length}
+use mathlib.Core.Logic.{inl, inr}
+use denote.Enum.Declared.{tagOf}
+use types.Run.{OneOf}
+use borrow.Author.Tests.{lt-ltb, ltb-true, ltb-false}
+use Rattle.base.specs.Pick.{pick}
+use Rattle.base.specs.Bytes.{bytes16}
+use Rattle.packet.specs.declared.header.HeaderEncoding.{HeaderEncoding}
+use Rattle.packet.specs.declared.header.HeaderEncoding.the-variants.{Unicode, Bytes, U8, U32}
+use Rattle.packet.proofs.tlv.Put.{the-type}
+use Rattle.packet.specs.declared.tlv.Put.{Put}
+use Rattle.packet.specs.declared.tlv.Put.the-variants.{Written, TooLong, Short}
+use Rattle.packet.specs.Tags.{Putting, putting}
+use Rattle.packet.specs.Header.{Header, encodingOf, leadOf, lengthField, bytesOf}
+use Rattle.packet.specs.HeaderWriter.{tooLong, pasteAt, putHeader, roomFor, leadBytes, startBy, startHeader}
+use Rattle.packet.proofs.HeaderBytes.{pick-no}
+
+-- ---- one paste
+
+-- bytes stored one by one, and others copied after them (of general use)
+pub sets-paste : (d xs v : List ℕ) (at n : ℕ) → n ≡ at + length xs → n + length v ≤ length d
+    → paste (sets d at xs) n v (length v) ≡ paste d at (xs ++ v) (length (xs ++ v))
+sets-paste d xs v at n e h =
+    let r = drop (at + length xs) d in
+    let p : sets d at xs ≡ take at d ++ xs ++ r = sets-eq xs d at (omega arith) in
+    let k : length (take at d ++ xs) ≡ n = omega (arith, length-append (take at d) xs, length-take-le at d (omega arith)) in
+    let t : take n (sets d at xs) ≡ take at d ++ xs = ap (take n) p ∙ take-at (take at d ++ xs) r n k in
+    let f : drop n (sets d at xs) ≡ drop n d = ap (drop n) p ∙ drop-at (take at d ++ xs) r n k ∙ ap (λ (m : ℕ). drop m d) (sym e) in
+    let g : drop (n + length v) (sets d at xs) ≡ drop (n + length v) d =
+    sym (drop-drop (length v) n (sets d at xs)) ∙ ap (drop (length v)) f ∙ drop-drop (length v) n d in
+    let m : at + length (xs ++ v) ≡ n + length v = omega (arith, length-append xs v) in
+    rw (t, g, m, take-length v, take-length (xs ++ v), append-assoc (take at d) xs v)
+
+-- bytes copied, and others stored after them one by one (of general use)
+pub paste-sets : (d t zs : List ℕ) (at n : ℕ) → n ≡ at + length t → n + length zs ≤ length d
+    → sets (paste d at t (length t)) n zs ≡ paste d at (t ++ zs) (length (t ++ zs))
+paste-sets d t zs at n e h =
+    let p = paste d at t (length t) in
+    let k : length p ≡ length d = length-paste d at t (length t) (omega arith) (omega arith) in
+    let f : take n p ≡ take at d ++ t =
+    ap (λ (m : ℕ). take m p) e ∙ take-paste d at t (length t) (omega arith) (omega arith)
+    ∙ ap (λ (l : List ℕ). take at d ++ l) (take-length t) in
+    let g : drop n p ≡ drop n d =
+    ap (λ (m : ℕ). drop m p) e ∙ drop-paste d at t (length t) (omega arith) (omega arith) ∙ ap (λ (m : ℕ). drop m d) (sym e) in
+    let j : drop (n + length zs) p ≡ drop (n + length zs) d =
+    sym (drop-drop (length zs) n p) ∙ ap (drop (length zs)) g ∙ drop-drop (length zs) n d in
+    let m : at + length (t ++ zs) ≡ n + length zs = omega (arith, length-append t zs) in
+    sets-eq zs p n (omega arith) ∙ rw (f, j, m, take-length (t ++ zs), append-assoc (take at d) t zs)
+
+-- ---- what stands before the value
+
+lead-field : (e : HeaderEncoding) (id : ℕ) (v : List ℕ) → id ∷ (lengthField e v ++ v) ≡ leadBytes e id (length v) ++ v
+lead-field Unicode id v = refl
+lead-field Bytes id v = refl
+lead-field U8 id v = refl
+lead-field U32 id v = refl
+
+pub bytes-lead : (h : Header) → bytesOf h ≡ leadBytes (encodingOf (h .id)) (h .id) (length (h .value)) ++ h .value
+unfolding bytesOf
+bytes-lead h = lead-field (encodingOf (h .id)) (h .id) (h .value)
+
+pub lead-length : (e : HeaderEncoding) (id n : ℕ) → length (leadBytes e id n) ≡ leadOf e
+lead-length Unicode id n = refl
+lead-length Bytes id n = refl
+lead-length U8 id n = refl
+lead-length U32 id n = refl
+
+pub lead-some : (e : HeaderEncoding) → 1 ≤ leadOf e
+lead-some Unicode = omega arith
+lead-some Bytes = omega arith
+lead-some U8 = omega arith
+lead-some U32 = omega arith
+
+-- the id alone
+pub lead-one : (e : HeaderEncoding) (id n : ℕ) → leadOf e ≡ 1 → leadBytes e id n ≡ id ∷ []
+lead-one Unicode id n q = absurd (omega arith)
+lead-one Bytes id n q = absurd (omega arith)
+lead-one U8 id n q = refl
+lead-one U32 id n q = refl
+
+-- or a length field after it, of two bytes
+pub record Three (e : HeaderEncoding) (id n : ℕ) : Type 0 where
+  pub three : leadOf e ≡ 3
+  pub bytes : leadBytes e id n ≡ id ∷ bytes16 (3 + n)
+  pub small : 3 + n ≤ 65535
+
+pub lead-three : (e : HeaderEncoding) (id n : ℕ) → (leadOf e ≡ 1 → ⊥) → tooLong e n ≡ false → Three e id n
+lead-three Unicode id n q f = record { three = refl; bytes = refl; small = ltb-false 65535 (3 + n) f }
+lead-three Bytes id n q f = record { three = refl; bytes = refl; small = ltb-false 65535 (3 + n) f }
+lead-three U8 id n q f = absurd (q refl)
+lead-three U32 id n q f = absurd (q refl)
+
+pub bytes-length : (h : Header) → length (bytesOf h) ≡ leadOf (encodingOf (h .id)) + length (h .value)
+bytes-length h =
+    let e = encodingOf (h .id) in
+    let l = leadBytes e (h .id) (length (h .value)) in
+    ap length (bytes-lead h) ∙ length-append l (h .value)
+    ∙ ap (λ (n : ℕ). n + length (h .value)) (lead-length e (h .id) (length (h .value)))
+
+-- ---- the answer
+
+-- what becomes of the store, by the answer
+abbrev pub putBy : Put → List ℕ → ℕ → List ℕ → Putting
+putBy (Written n) d at bytes = putting (Written n) (paste d at bytes (length bytes))
+putBy TooLong d at bytes = putting TooLong d
+putBy Short d at bytes = putting Short d
+
+pick-put : (x y : Bool) (n : ℕ) (d : List ℕ) (at : ℕ) (bytes : List ℕ)
+    → pick x (putting TooLong d) (pick y (putting Short d) (putting (Written n) (paste d at bytes (length bytes))))
+    ≡ putBy (pick x TooLong (pick y Short (Written n))) d at bytes
+pick-put true y n d at bytes = refl
+pick-put false true n d at bytes = refl
+pick-put false false n d at bytes = refl
+
+pub put-room : (d : List ℕ) (at : ℕ) (h : Header)
+    → putHeader d at h ≡ putBy (roomFor (encodingOf (h .id)) (length d) at (length (h .value))) d at (bytesOf h)
+unfolding putHeader roomFor
+put-room d at h =
+    let e = encodingOf (h .id) in
+    let n : at + length (bytesOf h) ≡ at + leadOf e + length (h .value) = omega (arith, bytes-length h) in
+    ap (λ (m : ℕ). pick (tooLong e (length (h .value))) (putting TooLong d)
+    (pick (ltb (length d) m) (putting Short d) (putting (Written m) (paste d at (bytesOf h) (length (bytesOf h)))))) n
+    ∙ pick-put (tooLong e (length (h .value))) (ltb (length d) (at + leadOf e + length (h .value)))
+    (at + leadOf e + length (h .value)) d at (bytesOf h)
+
+-- a header that is written fits
+pub record Fitting (e : HeaderEncoding) (len at n end : ℕ) : Type 0 where
+  pub ends : end ≡ at + leadOf e + n
+  pub fits : end ≤ len
+  pub short : tooLong e n ≡ false
+
+pub room-written : (e : HeaderEncoding) (len at n end : ℕ) → roomFor e len at n ≡ Written end → Fitting e len at n end
+unfolding roomFor
+room-written e len at n end q =
+    let z = Written end in
+    let p1 = pick-no (tooLong e n) TooLong _ z q (λ w. let q : _≡_ {A = ℕ} 0 1 = cc in omega arith) in
+    let p2 = pick-no (ltb len (at + leadOf e + n)) Short _ z (p1 .1) (λ w. let q : _≡_ {A = ℕ} 0 1 = cc in omega arith) in
+    let r = p2 .1 in
+    let k : at + leadOf e + n ≡ end = cc in
+    let l : at + leadOf e + n ≤ len = ltb-false _ _ (p2 .0) in
+    record { ends = sym k; fits = omega arith; short = p1 .0 }
+
+-- values longer than any store
+none-for : (e : HeaderEncoding) (len at m n : ℕ) → len < 2 ^ 64 → 2 ^ 64 - 1 ≤ m → 2 ^ 64 - 1 ≤ n → roomFor e len at m ≡ roomFor e len at n
+unfolding roomFor
+none-for Unicode len at m n h j k = simp (lt-ltb 65535 (3 + m) (omega arith), lt-ltb 65535 (3 + n) (omega arith))
+none-for Bytes len at m n h j k = simp (lt-ltb 65535 (3 + m) (omega arith), lt-ltb 65535 (3 + n) (omega arith))
+none-for U8 len at m n h j k = simp (lt-ltb len (at + 1 + m) (omega arith), lt-ltb len (at + 1 + n) (omega arith))
+none-for U32 len at m n h j k = simp (lt-ltb len (at + 1 + m) (omega arith), lt-ltb len (at + 1 + n) (omega arith))
+
+-- a value longer than any store is as short of room as the longest that can be counted
+pub room-most : (e : HeaderEncoding) (len at n : ℕ) → len < 2 ^ 64 → roomFor e len at (min n (2 ^ 64 - 1)) ≡ roomFor e len at n
+room-most e len at n h = by (ltb (2 ^ 64 - 1) n) refl
+  where
+    by : (x : Bool) → ltb (2 ^ 64 - 1) n ≡ x → roomFor e len at (min n (2 ^ 64 - 1)) ≡ roomFor e len at n
+    by true q =
+        let k = ltb-true (2 ^ 64 - 1) n q in
+        let m : min n (2 ^ 64 - 1) ≡ 2 ^ 64 - 1 = omega arith in
+        rw m (none-for e len at (2 ^ 64 - 1) n h (omega arith) (omega arith))
+    by false q =
+        let k = ltb-false (2 ^ 64 - 1) n q in
+        let m : min n (2 ^ 64 - 1) ≡ n = omega arith in
+        rw m refl
+
+pub refused-start : (d : List ℕ) (at : ℕ) (lead : List ℕ) (a r : Put) → OneOf (1 ∷ 2 ∷ []) (tagOf the-type r) → a ≡ r
+    → putting r d ≡ startBy a d at lead
+refused-start d at lead a (Written end) (inl k) q = absurd (omega arith)
+refused-start d at lead a (Written end) (inr k) q = absurd (omega arith)
+refused-start d at lead a TooLong k q = rw q refl
+refused-start d at lead a Short k q = rw q refl
+
+-- ---- a header started: what stands before its value, and room for it
+
+pub record Started (d d₁ : List ℕ) (at : ℕ) (h : Header) (n end : ℕ) : Type 0 where
+  pub size : n ≡ length (h .value)
+  pub ends : end ≡ at + leadOf (encodingOf (h .id)) + length (h .value)
+  pub fits : end ≤ length d
+  pub room-is : roomFor (encodingOf (h .id)) (length d) at (length (h .value)) ≡ Written end
+  pub store-is : d₁ ≡ sets d at (leadBytes (encodingOf (h .id)) (h .id) (length (h .value)))
+
+module _ (d d₁ : List ℕ) (at : ℕ) (h : Header) (n : ℕ) (r : Put) (s : putting r d₁ ≡ startHeader d at (h .id) n)
+    (m : n ≡ min (length (h .value)) (2 ^ 64 - 1)) (l : length d < 2 ^ 64) where
+  room-same : roomFor (encodingOf (h .id)) (length d) at n ≡ roomFor (encodingOf (h .id)) (length d) at (length (h .value))
+  room-same = rw m (room-most (encodingOf (h .id)) (length d) at (length (h .value)) l)
+
+  pub started : (end : ℕ) → r ≡ Written end → Started d d₁ at h n end
+  unfolding startHeader
+  started end q = by (roomFor e (length d) at n) refl (ap (λ (p : Putting). p .answer) s) (ap (λ (p : Putting). p .store) s)
+    where
+      e : HeaderEncoding
+      e = encodingOf (h .id)
+
+      by : (a : Put) → roomFor e (length d) at n ≡ a → r ≡ startBy a d at (leadBytes e (h .id) n) .answer
+          → d₁ ≡ startBy a d at (leadBytes e (h .id) n) .store → Started d d₁ at h n end
+      by (Written to) w x y =
+          let f = room-written e (length d) at n to w in
+          let k : to ≡ end = cc in
+          let size : n ≡ length (h .value) = omega (arith, m, f .ends, f .fits, lead-some e) in
+          record {
+            size = size;
+            ends = omega (arith, f .ends);
+            fits = omega (arith, f .fits);
+            room-is = sym room-same ∙ w ∙ ap Written k;
+            store-is = y ∙ ap (λ (n : ℕ). sets d at (leadBytes e (h .id) n)) size;
+          }
+      by TooLong w x y = let z : _≡_ {A = ℕ} 0 1 = cc in absurd (omega arith)
+      by Short w x y = let z : _≡_ {A = ℕ} 0 1 = cc in absurd (omega arith)
+
+  -- a header that is refused changes nothing
+  pub put-refused : OneOf (1 ∷ 2 ∷ []) (tagOf the-type r) → putting r d₁ ≡ putHeader d at h
+  unfolding startHeader
+  put-refused k = by (roomFor e (length d) at n) refl (ap (λ (p : Putting). p .answer) s) (ap (λ (p : Putting). p .store) s)
+    where
+      e : HeaderEncoding
+      e = encodingOf (h .id)
+
+      written-not : (end : ℕ) → OneOf (1 ∷ 2 ∷ []) (tagOf the-type (Written end)) → ⊥
+      written-not end (inl k) = omega arith
+      written-not end (inr k) = omega arith
+
+      refused : (a : Put) → roomFor e (length d) at n ≡ a → putting r d₁ ≡ putBy a d at (bytesOf h) → putting r d₁ ≡ putHeader d at h
+      refused a w q = q ∙ sym (put-room d at h ∙ ap (λ (r : Put). putBy r d at (bytesOf h)) (sym room-same ∙ w))
+
+      by : (a : Put) → roomFor e (length d) at n ≡ a → r ≡ startBy a d at (leadBytes e (h .id) n) .answer
+          → d₁ ≡ startBy a d at (leadBytes e (h .id) n) .store → putting r d₁ ≡ putHeader d at h
+      by (Written m) w x y = absurd (written-not m (subst (λ (r : Put). OneOf (1 ∷ 2 ∷ []) (tagOf the-type r)) x k))
+      by TooLong w x y = refused TooLong w (rw (x, y) refl)
+      by Short w x y = refused Short w (rw (x, y) refl)
+
+-- a header that is written: the value after what stands before it
+pub put-written : (d d₁ d₂ : List ℕ) (at : ℕ) (h : Header) (n end : ℕ) → Started d d₁ at h n end → d₂ ≡ pasteAt d₁ (end - n) (h .value)
+    → putting (Written end) d₂ ≡ putHeader d at h
+put-written d d₁ d₂ at h n end w s =
+    let e = encodingOf (h .id) in
+    let v = h .value in
+    let l = leadBytes e (h .id) (length v) in
+    let k : end - n ≡ at + length l = omega (arith, w .ends, w .size, lead-length e (h .id) (length v)) in
+    let p : d₂ ≡ pasteAt d at (bytesOf h) =
+    s ∙ ap (λ (d : List ℕ). pasteAt d (end - n) v) (w .store-is)
+    ∙ sets-paste d l v at (end - n) k (omega (arith, w .ends, w .size, w .fits))
+    ∙ ap (pasteAt d at) (sym (bytes-lead h)) in
+    ap (putting (Written end)) p ∙ sym (put-room d at h ∙ ap (λ (r : Put). putBy r d at (bytesOf h)) (w .room-is))

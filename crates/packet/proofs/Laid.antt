@@ -1,0 +1,111 @@
+-- Bytes laid into a store one after the other are laid at once. Of general use. Assumes nothing.
+use mathlib.Core.Path.{_≡_, refl, sym, ap, ap₂, _∙_}
+use mathlib.Core.Bool.{Bool, true, false}
+use mathlib.Core.List.{List, [], _∷_, _++_, append-assoc}
+use Prim.Native.Nat.{ℕ, _+_, _≤_, _<_}
+use native.Mathlib.Omega.{arith}
+use native.Mathlib.Numerals.{add-one}
+use lib.ListN.{length, take, drop, set, length-append}
+use lib.Seq.{paste-zero, length-paste, take-paste, drop-paste, take-length, drop-drop, set-split}
+use lib.Dec.{ltb}
+use borrow.Author.Tests.{le-ltb, ltb-false}
+use Rattle.base.specs.Pick.{pick}
+use Rattle.packet.specs.declared.tlv.Put.{Put}
+use Rattle.packet.specs.declared.tlv.Put.the-variants.{Written, TooLong, Short}
+use Rattle.packet.specs.Tags.{Putting, putting, writeTag, putTag}
+use Rattle.packet.specs.Placed.{laid, roomOf, placed}
+
+pub length-laid : (d l : List ℕ) (at : ℕ) → at + length l ≤ length d → length (laid d at l) ≡ length d
+length-laid d l at h = length-paste d at l (length l) h (omega arith)
+
+pub laid-nothing : (d : List ℕ) (at : ℕ) → laid d at [] ≡ d
+laid-nothing d at = sym (paste-zero d at [])
+
+-- two runs of bytes, the second behind the first
+pub laid-append : (d a b : List ℕ) (at next : ℕ) → at + length a ≡ next → next + length b ≤ length d
+    → laid (laid d at a) next b ≡ laid d at (a ++ b)
+laid-append d a b at next e h =
+    let d₁ = laid d at a in
+    let t : take next d₁ ≡ take at d ++ a =
+    ap (λ (m : ℕ). take m d₁) (sym e) ∙ take-paste d at a (length a) (omega arith) (omega arith) ∙ ap (λ (l : List ℕ). take at d ++ l) (take-length a) in
+    let n : at + length (a ++ b) ≡ next + length b = omega (arith, length-append a b) in
+    let r : drop next d₁ ≡ drop next d =
+    ap (λ (m : ℕ). drop m d₁) (sym e) ∙ drop-paste d at a (length a) (omega arith) (omega arith) ∙ ap (λ (m : ℕ). drop m d) e in
+    let s : drop (next + length b) d₁ ≡ drop (next + length b) d =
+    sym (drop-drop (length b) next d₁) ∙ ap (drop (length b)) r ∙ drop-drop (length b) next d in
+    let x = drop (next + length b) d in
+    ap₂ (λ (u v : List ℕ). u ++ take (length b) b ++ v) t s
+    ∙ ap (λ (l : List ℕ). take at d ++ a ++ l ++ x) (take-length b)
+    ∙ simp (n, take-length (a ++ b), append-assoc)
+
+-- one byte
+pub set-laid : (d : List ℕ) (at x : ℕ) → at < length d → set d at x ≡ laid d at (x ∷ [])
+set-laid d at x h = set-split d at x h ∙ simp (append-assoc, add-one)
+
+-- a tag that fits
+pub put-laid : (store v after : List ℕ) (at t : ℕ) (r : Put) → length v ≤ 255 → at + 2 + length v ≤ length store
+    → putting r after ≡ putTag store at t v → after ≡ laid store at (writeTag (record { tag = t; value = v }))
+unfolding putTag
+put-laid store v after at t r s h e =
+    ap (λ (p : Putting). p .store) (rw (le-ltb 255 (length v) s, le-ltb (length store) (at + 2 + length v) h) at e)
+
+-- what a place that was granted tells
+pub record Granted (len at need next : ℕ) (forbidden : Bool) : Type 0 where
+  pub allowed : forbidden ≡ false
+  pub fits : at + need ≤ len
+  pub next-is : next ≡ at + need
+
+granted-by : (len at need next : ℕ) (forbidden x : Bool) → ltb len (at + need) ≡ x
+    → Written next ≡ pick x Short (pick forbidden TooLong (Written (at + need))) → Granted len at need next forbidden
+granted-by len at need next f true p e = let z : _≡_ {A = ℕ} 0 1 = cc in absurd (omega arith)
+granted-by len at need next true false p e = let z : _≡_ {A = ℕ} 0 1 = cc in absurd (omega arith)
+granted-by len at need next false false p e = record { allowed = refl; fits = ltb-false len (at + need) p; next-is = cc }
+
+pub granted : (len at need next : ℕ) (forbidden : Bool) → Written next ≡ roomOf len at need forbidden → Granted len at need next forbidden
+unfolding roomOf
+granted len at need next f e = granted-by len at need next f (ltb len (at + need)) refl e
+
+-- the three answers
+placed-as : (store bytes : List ℕ) (at next : ℕ) (forbidden : Bool) → Written next ≡ roomOf (length store) at (length bytes) forbidden
+    → putting (Written next) (laid store at bytes) ≡ placed store at forbidden bytes
+unfolding placed
+placed-as store bytes at next f e =
+    let g = granted (length store) at (length bytes) next f e in
+    rw (le-ltb (length store) (at + length bytes) (g .fits), g .allowed, g .next-is)
+
+refused-by : (store bytes : List ℕ) (at : ℕ) (x y : Bool)
+    → (r : Put) → ((n : ℕ) → r ≡ Written n → ⊥) → r ≡ pick x Short (pick y TooLong (Written (at + length bytes)))
+    → putting r store ≡ pick x (putting Short store) (pick y (putting TooLong store) (putting (Written (at + length bytes)) (laid store at bytes)))
+refused-by store bytes at true y r n e = ap (λ (r : Put). putting r store) e
+refused-by store bytes at false true r n e = ap (λ (r : Put). putting r store) e
+refused-by store bytes at false false r n e = absurd (n (at + length bytes) e)
+
+-- as the code says them, which has the length and the test as values of its own
+pub placed-written : (store bytes after : List ℕ) (at need next : ℕ) (f g : Bool) → length bytes ≡ need → g ≡ f
+    → Written next ≡ roomOf (length store) at need g → after ≡ laid store at bytes → putting (Written next) after ≡ placed store at f bytes
+placed-written store bytes after at need next f g n q e a = ap (putting (Written next)) a ∙ placed-as store bytes at next f (rw (n, ← q) e)
+
+pub placed-too-long : (store bytes : List ℕ) (at need : ℕ) (f g : Bool) → length bytes ≡ need → g ≡ f
+    → TooLong ≡ roomOf (length store) at need g → putting TooLong store ≡ placed store at f bytes
+unfolding placed roomOf
+placed-too-long store bytes at need f g n q e =
+    refused-by store bytes at (ltb (length store) (at + length bytes)) f TooLong (λ m p. let z : _≡_ {A = ℕ} 0 1 = cc in omega arith) (rw (n, ← q) e)
+
+pub placed-short : (store bytes : List ℕ) (at need : ℕ) (f g : Bool) → length bytes ≡ need → g ≡ f
+    → Short ≡ roomOf (length store) at need g → putting Short store ≡ placed store at f bytes
+unfolding placed roomOf
+placed-short store bytes at need f g n q e =
+    refused-by store bytes at (ltb (length store) (at + length bytes)) f Short (λ m p. let z : _≡_ {A = ℕ} 0 1 = cc in omega arith) (rw (n, ← q) e)
+
+-- one byte behind what was laid
+pub set-more : (d l : List ℕ) (at next x : ℕ) → at + length l ≡ next → next < length d → set (laid d at l) next x ≡ laid d at (l ++ (x ∷ []))
+set-more d l at next x e h =
+    set-laid (laid d at l) next x (omega (arith, length-laid d l at (omega arith)))
+    ∙ laid-append d l (x ∷ []) at next e (omega (arith, add-one next))
+
+-- three bytes, one by one
+pub three-laid : (d : List ℕ) (at x y z : ℕ) → at + 3 ≤ length d → set (set (set d at x) (at + 1) y) (at + 2) z ≡ laid d at (x ∷ y ∷ z ∷ [])
+three-laid d at x y z h =
+    ap (λ (l : List ℕ). set (set l (at + 1) y) (at + 2) z) (set-laid d at x (omega arith))
+    ∙ ap (λ (l : List ℕ). set l (at + 2) z) (set-more d (x ∷ []) at (at + 1) y (omega arith) (omega arith))
+    ∙ set-more d (x ∷ y ∷ []) at (at + 2) z (omega arith) (omega arith)

@@ -1,0 +1,23 @@
+-- What several proofs cite, here and in the crates above.
+pub mod Below
+pub mod TopBit
+pub mod OpcodeLaws
+pub mod CodeLaws
+pub mod TagLaws
+pub mod TagWrites
+pub mod HeaderBytes
+pub mod HeaderLaws
+pub mod HeaderWrites
+pub mod HeaderStore
+pub mod SameBytes
+pub mod TextForms
+pub mod TextStore
+pub mod CanonicalLaws
+pub mod HeaderRows
+pub mod LowBits
+pub mod Laid
+pub mod AuthLaws
+pub mod AuthWrites
+pub mod PacketLaws
+pub mod PacketWrites
+pub mod PacketExamples

@@ -1,0 +1,74 @@
+-- What the readers of digest authentication give: the values of Auth as numbers, and the places of the bytes that stay where they are.
+use Prim.Native.Nat.{ℕ, _-_}
+use mathlib.Core.List.{List, [], _∷_}
+use mathlib.Core.Bool.{Bool, true, false}
+use mathlib.Core.Option.{Option, none, some}
+use lib.ListN.{length, getD, take, drop}
+use lib.Dec.{eqb, ltb}
+use Rattle.base.specs.Pick.{pick, both, either, not}
+use Rattle.digest.specs.Md5.{octets16, numbers16}
+use Rattle.digest.specs.declared.md5.Octets16.{Octets16}
+use Rattle.packet.specs.declared.tlv.Found.{Found}
+use Rattle.packet.specs.declared.tlv.Found.the-variants as place
+use Rattle.packet.specs.declared.auth.Named.{Named}
+use Rattle.packet.specs.declared.auth.Named.the-variants as nonce
+use Rattle.packet.specs.declared.auth.DigestResponse.{DigestResponse}
+use Rattle.packet.specs.declared.auth.DigestResponse.the-variants as response
+use Rattle.packet.specs.declared.auth.DigestChallenge.{DigestChallenge}
+use Rattle.packet.specs.declared.auth.DigestChallenge.the-variants as challenge
+use Rattle.packet.specs.Tags.{Tag, Tags, unreadable, tagList, lastValue}
+use Rattle.packet.specs.Auth.{Response, Challenge, responseOf, challengeOf, realmPlace, userIdRequired, readOnly, verified}
+
+-- ---- the response
+
+-- a nonce as its two numbers, and a nonce's bytes
+abbrev pub namedOf : Option (List ℕ) → Named
+namedOf none = nonce.Missing
+namedOf (some n) = nonce.Nonce (numbers16 n)
+
+abbrev pub bytesNamed : Named → Option (List ℕ)
+bytesNamed nonce.Missing = none
+bytesNamed (nonce.Nonce n) = some (octets16 n)
+
+abbrev pub responseRead : Option Response → Found → DigestResponse
+responseRead none u = response.Unreadable
+responseRead (some r) u = response.Response (numbers16 (r .digest)) u (namedOf (r .nonce))
+
+-- the response that a tag list is; the user id stands where the last tag 1 does
+unfoldable pub readResponse : List ℕ → DigestResponse
+readResponse v = responseRead (responseOf v) (lastValue v 1)
+
+-- ---- the challenge
+
+abbrev pub challengeRead : Option Challenge → Found → DigestChallenge
+challengeRead none r = challenge.Unreadable
+challengeRead (some c) r = challenge.Challenge (numbers16 (c .nonce)) (userIdRequired (c .options)) (readOnly (c .options)) r
+
+-- the challenge that a tag list is, and where its realm stands, the charset byte included
+unfoldable pub readChallenge : List ℕ → DigestChallenge
+readChallenge v = challengeRead (challengeOf v) (realmPlace v)
+
+-- ---- parts of them
+
+-- each tag 0 of the list, a response's digest or a challenge's nonce, is 16 bytes long
+unfoldable pub allSixteen : List Tag → Bool
+allSixteen [] = true
+allSixteen (t ∷ ts) = both (either (not (eqb (t .tag) 0)) (eqb (length (t .value)) 16)) (allSixteen ts)
+
+abbrev pub sixteenIn : Tags → Bool
+sixteenIn unreadable = false
+sixteenIn (tagList ts) = allSixteen ts
+
+-- the 16 bytes at a place as two numbers; a value of another length is not named
+abbrev pub sixteenAt : List ℕ → Found → Named
+sixteenAt v place.Missing = nonce.Missing
+sixteenAt v (place.At b e) = pick (eqb (e - b) 16) (nonce.Nonce (numbers16 (take 16 (drop b v)))) nonce.Missing
+
+-- the first byte of the value at a place; empty options are 0
+abbrev pub optionsAt : List ℕ → Found → ℕ
+optionsAt v place.Missing = 0
+optionsAt v (place.At b e) = pick (ltb b e) (getD v b 0) 0
+
+-- ---- the check: the named nonce, where there is one, and the digest
+abbrev pub verifies : Octets16 → Octets16 → Named → List ℕ → Bool
+verifies n d named password = verified (octets16 n) (record { digest = octets16 d; user = none; nonce = bytesNamed named }) password

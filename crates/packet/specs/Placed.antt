@@ -1,0 +1,26 @@
+-- Bytes written into a lent store: whole, or refused with the store as it was.
+use Prim.Native.Nat.{ℕ, _+_}
+use mathlib.Core.List.{List}
+use mathlib.Core.Bool.{Bool}
+use lib.ListN.{length}
+use lib.Seq.{paste}
+use lib.Dec.{ltb}
+use Rattle.base.specs.Pick.{pick}
+use Rattle.packet.specs.declared.tlv.Put.{Put}
+use Rattle.packet.specs.declared.tlv.Put.the-variants.{Written, TooLong, Short}
+use Rattle.packet.specs.Tags.{Putting, putting}
+
+-- the store with the bytes from a place on
+abbrev pub laid : List ℕ → ℕ → List ℕ → List ℕ
+laid d at l = paste d at l (length l)
+
+-- whether need bytes go to a place of a store of len bytes: number 10 comes before what else forbids them (document 01, Refusals)
+unfoldable pub roomOf : ℕ → ℕ → ℕ → Bool → Put
+roomOf len at need forbidden = pick (ltb len (at + need)) Short (pick forbidden TooLong (Written (at + need)))
+
+-- the same with the store: what is refused changes nothing
+unfoldable pub placed : List ℕ → ℕ → Bool → List ℕ → Putting
+placed store at forbidden bytes =
+    pick (ltb (length store) (at + length bytes)) (putting Short store)
+    (pick forbidden (putting TooLong store)
+    (putting (Written (at + length bytes)) (laid store at bytes)))

@@ -1,0 +1,563 @@
+// Headers of a packet (01, Header; the source's header.rs). The reader is a cursor: a slice and a place in, an enum out.
+ghost use mathlib.Core.Path.{_≡_};
+ghost use Prim.Native.Nat.{_+_, _-_, _^_, _<_, _≤_, min};
+ghost use lib.ListN.{length, getD, drop};
+ghost use lib.Seq.{sets};
+ghost use mathlib.Core.Bool.{false};
+ghost use mathlib.Core.List.{[], _∷_, _++_};
+ghost use Rattle.base.specs.Bytes.{be32, bytes32};
+ghost use Rattle.digest.specs.Text.{asciiText, unicodeBytes};
+ghost use Rattle.digest.specs.Unicode.{scalars16, lossy, scalars8, text8};
+ghost use Rattle.packet.specs.Auth.{same};
+ghost use Rattle.packet.specs.Canonical.{terminated16, rewritten, canonical};
+ghost use Rattle.packet.specs.Header.{encodingOf, leadOf, sizeAt, tagged, allowed, encodedAt, headerAt, firstPlace};
+ghost use Rattle.packet.specs.HeaderList.{readableFrom};
+ghost use Rattle.packet.specs.HeaderWriter.{tooLong, putHeader, pasteAt, roomFor, leadBytes, header, startHeader, textValue};
+ghost use Rattle.packet.specs.Tags.{putting};
+use crate::action::is_action;
+use crate::srm::is_mode;
+use crate::srm::is_parameter;
+use crate::tlv::Found;
+use crate::tlv::Put;
+use crate::tlv::is_tag_list;
+use base::be16_at;
+use base::copy_into;
+use base::wide32;
+use digest::text::ascii_len;
+use digest::text::decode_ascii;
+use digest::text::encode_unicode;
+use digest::text::encoded_unicode_len;
+use digest::text::is_well_formed8;
+use digest::text::is_well_formed16;
+
+pub enum HeaderEncoding {
+    Unicode,
+    Bytes,
+    U8,
+    U32,
+}
+
+// What stands at a place of a packet.
+pub enum HeaderAt {
+    // A whole header, with the place of its value; the next one starts where the value ends.
+    At {
+        id: u8,
+        encoding: HeaderEncoding,
+        start: usize,
+        end: usize,
+    },
+    Unreadable,
+    End,
+}
+
+// ---- reading
+
+// The encoding of a header's value, by the two top bits of its id.
+pub fn encoding(id: u8) -> HeaderEncoding
+    ensures { λ r. ⌜ r ≡ encodingOf id ⌝ }
+{
+    if id < 0x40 {
+        return HeaderEncoding::Unicode;
+    }
+    if id < 0x80 {
+        return HeaderEncoding::Bytes;
+    }
+    if id < 0xC0 {
+        return HeaderEncoding::U8;
+    }
+    HeaderEncoding::U32
+}
+
+// How many bytes stand before the value.
+fn lead(e: HeaderEncoding) -> usize
+    ensures { λ r. ⌜ (r ≡ leadOf e) × (r ≤ 3) ⌝ }
+{
+    match e {
+        HeaderEncoding::Unicode => 3,
+        HeaderEncoding::Bytes => 3,
+        HeaderEncoding::U8 => 1,
+        HeaderEncoding::U32 => 1,
+    }
+}
+
+// How many bytes the header takes in all: what its length field says, or by its encoding.
+fn size_at(e: HeaderEncoding, s: &[u8], at: usize) -> usize
+    requires { ⌜ at + leadOf e ≤ length (now s) ⌝ }
+    ensures { λ r. ⌜ (r ≡ sizeAt e (now (s .entry)) at) × (r < 65536) ⌝ }
+{
+    match e {
+        HeaderEncoding::Unicode => be16_at(s, at + 1),
+        HeaderEncoding::Bytes => be16_at(s, at + 1),
+        HeaderEncoding::U8 => 2,
+        HeaderEncoding::U32 => 5,
+    }
+}
+
+// The byte of a value of one byte.
+fn first_byte(value: &[u8]) -> u8
+    ensures { λ r. ⌜ r ≡ getD (now (value .entry)) 0 0 ⌝ }
+{
+    if value.len() == 0 {
+        return 0;
+    }
+    value[0]
+}
+
+// The ids whose value is a tag list: application, session and authentication parameters.
+fn is_tagged(id: u8) -> bool
+    ensures { λ r. ⌜ r ≡ tagged id ⌝ }
+{
+    match id {
+        0x4C | 0x4D | 0x4E | 0x52 => true,
+        _ => false,
+    }
+}
+
+// Whether the id allows the value. Unknown ids allow any.
+fn is_allowed(id: u8, value: &[u8]) -> bool
+    ensures { λ r. ⌜ r ≡ allowed id (now (value .entry)) ⌝ }
+{
+    if id == 0x94 {
+        return is_action(first_byte(value));
+    }
+    if id == 0x97 {
+        return is_mode(first_byte(value));
+    }
+    if id == 0x98 {
+        return is_parameter(first_byte(value));
+    }
+    if is_tagged(id) {
+        return is_tag_list(value);
+    }
+    true
+}
+
+// The header whose id stands at a place.
+fn encoded_at(id: u8, e: HeaderEncoding, s: &[u8], at: usize) -> HeaderAt
+    requires { ⌜ at ≤ length (now s) ⌝ }
+    ensures { λ r. ⌜ r ≡ encodedAt id e (now (s .entry)) at ⌝ }
+{
+    let left = s.len() - at;
+    let n = lead(e);
+    if left < n {
+        return HeaderAt::Unreadable;
+    }
+    let size = size_at(e, s, at);
+    if size < n {
+        return HeaderAt::Unreadable;
+    }
+    if left < size {
+        return HeaderAt::Unreadable;
+    }
+    let start = at + n;
+    let end = at + size;
+    if is_allowed(id, &s[start..end]) {
+        return HeaderAt::At {
+            id,
+            encoding: e,
+            start,
+            end,
+        };
+    }
+    HeaderAt::Unreadable
+}
+
+pub fn header_at(s: &[u8], at: usize) -> HeaderAt
+    ensures { λ r. ⌜ r ≡ headerAt (now (s .entry)) at ⌝ }
+{
+    if s.len() <= at {
+        return HeaderAt::End;
+    }
+    let id = s[at];
+    encoded_at(id, encoding(id), s, at)
+}
+
+// A place in a packet.
+pub struct Cursor {
+    pub at: usize,
+}
+
+impl Cursor {
+    pub fn new(at: usize) -> Cursor
+        ensures { λ r. ⌜ r .at ≡ at ⌝ }
+    {
+        Cursor { at }
+    }
+
+    // What stands there. The next header's cursor is at the end of this one.
+    pub fn read(self, s: &[u8]) -> HeaderAt
+        ensures { λ r. ⌜ r ≡ headerAt (now (s .entry)) (self .at) ⌝ }
+    {
+        header_at(s, self.at)
+    }
+}
+
+// Whether headers fill the packet from a place to its end.
+pub fn is_readable(s: &[u8], from: usize) -> bool
+    ensures { λ r. ⌜ r ≡ readableFrom (now (s .entry)) from ⌝ }
+{
+    let mut at = from;
+    loop {
+        match header_at(s, at) {
+            HeaderAt::At {
+                id: _,
+                encoding: _,
+                start: _,
+                end,
+            } => {
+                at = end;
+            }
+            HeaderAt::Unreadable => {
+                return false;
+            }
+            HeaderAt::End => {
+                return true;
+            }
+        }
+    }
+}
+
+// Where the value of the first header with the id stands. What follows an unreadable header is not looked at.
+pub fn first_header(s: &[u8], from: usize, id: u8) -> Found
+    ensures { λ r. ⌜ r ≡ firstPlace id (now (s .entry)) from ⌝ }
+{
+    let mut at = from;
+    loop {
+        match header_at(s, at) {
+            HeaderAt::At {
+                id: i,
+                encoding: _,
+                start,
+                end,
+            } => {
+                if i == id {
+                    return Found::At { start, end };
+                }
+                at = end;
+            }
+            HeaderAt::Unreadable => {
+                return Found::Missing;
+            }
+            HeaderAt::End => {
+                return Found::Missing;
+            }
+        }
+    }
+}
+
+// The 32-bit number at a place, high-order byte first.
+pub fn be32_at(s: &[u8], at: usize) -> u32
+    requires { ⌜ at + 4 ≤ length (now s) ⌝ }
+    ensures { λ r. ⌜ r ≡ be32 (now (s .entry)) at ⌝ }
+{
+    let high = wide32(s[at]) * 256 + wide32(s[at + 1]);
+    (high * 256 + wide32(s[at + 2])) * 256 + wide32(s[at + 3])
+}
+
+// ---- writing: each header's bytes follow its id's own encoding
+
+fn is_too_long(e: HeaderEncoding, n: usize) -> bool
+    ensures { λ r. ⌜ r ≡ tooLong e n ⌝ }
+{
+    match e {
+        HeaderEncoding::Unicode => 65532 < n,
+        HeaderEncoding::Bytes => 65532 < n,
+        HeaderEncoding::U8 => false,
+        HeaderEncoding::U32 => false,
+    }
+}
+
+// What becomes of a value of n bytes at a place of a store.
+fn room(e: HeaderEncoding, len: usize, at: usize, n: usize) -> Put
+    ensures { λ r. ⌜ r ≡ roomFor e len at n ⌝ }
+{
+    if is_too_long(e, n) {
+        return Put::TooLong;
+    }
+    if len < at {
+        return Put::Short;
+    }
+    let first = lead(e);
+    if len - at < first {
+        return Put::Short;
+    }
+    if len - at - first < n {
+        return Put::Short;
+    }
+    Put::Written(at + first + n)
+}
+
+// What stands before a value of n bytes.
+fn put_lead(store: &mut [u8], at: usize, e: HeaderEncoding, id: u8, n: usize)
+    requires { ⌜ (at + leadOf e ≤ length (now store)) × (tooLong e n ≡ false) ⌝ }
+    ensures { λ r. ⌜ now (store .exit) ≡ sets (now (store .entry)) at (leadBytes e id n) ⌝ }
+{
+    store[at] = id;
+    if lead(e) == 1 {
+        return;
+    }
+    store[at + 1] = ((3 + n) / 256) as u8;
+    store[at + 2] = ((3 + n) % 256) as u8;
+}
+
+// Makes room for a value of n bytes, and writes what stands before it. The value is to end where the answer says.
+fn start(store: &mut [u8], at: usize, id: u8, n: usize) -> Put
+    ensures { λ r. ⌜ putting r (now (store .exit)) ≡ startHeader (now (store .entry)) at id n ⌝ }
+{
+    let e = encoding(id);
+    let answer = room(e, store.len(), at, n);
+    let Put::Written(end) = answer else {
+        return answer;
+    };
+    put_lead(store, at, e, id, n);
+    Put::Written(end)
+}
+
+// Writes a header with these bytes as its value at a place of the store. What is refused changes nothing.
+pub fn put_bytes(store: &mut [u8], at: usize, id: u8, value: &[u8]) -> Put
+    ensures { λ r. ⌜ putting r (now (store .exit)) ≡ putHeader (now (store .entry)) at (header id (now (value .entry))) ⌝ }
+{
+    let n = value.len();
+    let answer = start(store, at, id, n);
+    let Put::Written(end) = answer else {
+        return answer;
+    };
+    copy_into(store, end - n, value);
+    Put::Written(end)
+}
+
+// A one-byte value.
+pub fn put_u8(store: &mut [u8], at: usize, id: u8, value: u8) -> Put
+    ensures { λ r. ⌜ putting r (now (store .exit)) ≡ putHeader (now (store .entry)) at (header id (value ∷ [])) ⌝ }
+{
+    let v = [value];
+    put_bytes(store, at, id, &v)
+}
+
+// A four-byte value.
+pub fn put_u32(store: &mut [u8], at: usize, id: u8, value: u32) -> Put
+    ensures { λ r. ⌜ putting r (now (store .exit)) ≡ putHeader (now (store .entry)) at (header id (bytes32 value)) ⌝ }
+{
+    let v = [
+        (value / 16777216 % 256) as u8,
+        (value / 65536 % 256) as u8,
+        (value / 256 % 256) as u8,
+        (value % 256) as u8,
+    ];
+    put_bytes(store, at, id, &v)
+}
+
+// ---- writing text, given in UTF-8; what is ill-formed is replaced
+
+// How text is laid out: in UTF-16 with a zero unit, but where it is empty; in UTF-8 with a zero byte; in UTF-8.
+enum TextForm {
+    Wide,
+    Ended,
+    Bare,
+}
+
+// The sum, or the largest number where that is less.
+fn plus(a: usize, b: usize) -> usize
+    ensures { λ r. ⌜ r ≡ min (a + b) (2 ^ 64 - 1) ⌝ }
+{
+    if 0xFFFF_FFFF_FFFF_FFFF - a < b {
+        return 0xFFFF_FFFF_FFFF_FFFF;
+    }
+    a + b
+}
+
+fn wide_size(text: &[u8]) -> usize
+    ensures { λ r. ⌜ r ≡ min (length (terminated16 (lossy (now (text .entry))))) (2 ^ 64 - 1) ⌝ }
+{
+    let n = encoded_unicode_len(text);
+    if n == 0 {
+        return 0;
+    }
+    plus(n, 2)
+}
+
+// How many bytes a text takes, or the largest number where that is less.
+fn text_size(text: &[u8], form: TextForm) -> usize
+    ensures { λ r. ⌜ r ≡ min (length (textValue form (now (text .entry)))) (2 ^ 64 - 1) ⌝ }
+{
+    match form {
+        TextForm::Wide => wide_size(text),
+        TextForm::Ended => plus(ascii_len(text), 1),
+        TextForm::Bare => ascii_len(text),
+    }
+}
+
+fn write_units(store: &mut [u8], from: usize, end: usize, text: &[u8])
+    requires { ⌜ (from + length (unicodeBytes (now text)) ≡ end) × (end ≤ length (now store)) ⌝ }
+    ensures { λ r. ⌜ now (store .exit) ≡ pasteAt (now (store .entry)) from (unicodeBytes (now (text .entry))) ⌝ }
+{
+    encode_unicode(text, &mut store[from..end]);
+}
+
+fn write_wide(store: &mut [u8], from: usize, end: usize, text: &[u8])
+    requires { ⌜ (from + length (terminated16 (lossy (now text))) ≡ end) × (end ≤ length (now store)) ⌝ }
+    ensures { λ r. ⌜ now (store .exit) ≡ pasteAt (now (store .entry)) from (terminated16 (lossy (now (text .entry)))) ⌝ }
+{
+    if from == end {
+        return;
+    }
+    let n = end - 2;
+    write_units(store, from, n, text);
+    store[n] = 0;
+    store[n + 1] = 0;
+}
+
+fn write_bare(store: &mut [u8], from: usize, end: usize, text: &[u8])
+    requires { ⌜ (from + length (asciiText (now text)) ≡ end) × (end ≤ length (now store)) ⌝ }
+    ensures { λ r. ⌜ now (store .exit) ≡ pasteAt (now (store .entry)) from (asciiText (now (text .entry))) ⌝ }
+{
+    decode_ascii(text, &mut store[from..end]);
+}
+
+fn write_ended(store: &mut [u8], from: usize, end: usize, text: &[u8])
+    requires { ⌜ (from + length (asciiText (now text) ++ (0 ∷ [])) ≡ end) × (end ≤ length (now store)) ⌝ }
+    ensures { λ r. ⌜ now (store .exit) ≡ pasteAt (now (store .entry)) from (asciiText (now (text .entry)) ++ (0 ∷ [])) ⌝ }
+{
+    let n = end - 1;
+    write_bare(store, from, n, text);
+    store[n] = 0;
+}
+
+// A text, from a place up to its end.
+fn write_text(store: &mut [u8], from: usize, end: usize, text: &[u8], form: TextForm)
+    requires { ⌜ (from + length (textValue form (now text)) ≡ end) × (end ≤ length (now store)) ⌝ }
+    ensures { λ r. ⌜ now (store .exit) ≡ pasteAt (now (store .entry)) from (textValue form (now (text .entry))) ⌝ }
+{
+    match form {
+        TextForm::Wide => write_wide(store, from, end, text),
+        TextForm::Ended => write_ended(store, from, end, text),
+        TextForm::Bare => write_bare(store, from, end, text),
+    }
+}
+
+fn put_text(store: &mut [u8], at: usize, id: u8, text: &[u8], form: TextForm) -> Put
+    ensures { λ r. ⌜ putting r (now (store .exit)) ≡ putHeader (now (store .entry)) at (header id (textValue form (now (text .entry)))) ⌝ }
+{
+    let n = text_size(text, form);
+    let answer = start(store, at, id, n);
+    let Put::Written(end) = answer else {
+        return answer;
+    };
+    write_text(store, end - n, end, text, form);
+    Put::Written(end)
+}
+
+// A header with UTF-16 text: a zero unit at its end, unless it is empty.
+pub fn put_unicode(store: &mut [u8], at: usize, id: u8, text: &[u8]) -> Put
+    ensures { λ r. ⌜ putting r (now (store .exit)) ≡ putHeader (now (store .entry)) at (header id (terminated16 (lossy (now (text .entry))))) ⌝ }
+{
+    put_text(store, at, id, text, TextForm::Wide)
+}
+
+// Type: the text up to a zero, and always a zero byte.
+pub fn put_type(store: &mut [u8], at: usize, text: &[u8]) -> Put
+    ensures { λ r. ⌜ putting r (now (store .exit)) ≡ putHeader (now (store .entry)) at (header 0x42 (asciiText (now (text .entry)) ++ (0 ∷ []))) ⌝ }
+{
+    put_text(store, at, 0x42, text, TextForm::Ended)
+}
+
+// Time: the text up to a zero, and no zero byte.
+pub fn put_time(store: &mut [u8], at: usize, text: &[u8]) -> Put
+    ensures { λ r. ⌜ putting r (now (store .exit)) ≡ putHeader (now (store .entry)) at (header 0x44 (asciiText (now (text .entry)))) ⌝ }
+{
+    put_text(store, at, 0x44, text, TextForm::Bare)
+}
+
+// ---- canonical bytes: what the writer gives for what the reader reads
+
+// Text in UTF-16: no bytes, or well-formed ones and a zero unit.
+fn is_terminated16(value: &[u8]) -> bool
+    ensures { λ r. ⌜ r ≡ same (terminated16 (scalars16 (now (value .entry)))) (now (value .entry)) ⌝ }
+{
+    if value.len() == 0 {
+        return true;
+    }
+    if value.len() < 4 {
+        return false;
+    }
+    let n = value.len() - 2;
+    if value[n] != 0 {
+        return false;
+    }
+    if value[n + 1] != 0 {
+        return false;
+    }
+    is_well_formed16(&value[..n])
+}
+
+// Type: well-formed UTF-8 and a zero byte.
+fn is_terminated8(value: &[u8]) -> bool
+    ensures { λ r. ⌜ r ≡ same (text8 (scalars8 (now (value .entry))) ++ (0 ∷ [])) (now (value .entry)) ⌝ }
+{
+    if value.len() == 0 {
+        return false;
+    }
+    let n = value.len() - 1;
+    if value[n] != 0 {
+        return false;
+    }
+    is_well_formed8(&value[..n])
+}
+
+// Permissions: the top byte is 0.
+fn is_top_zero(value: &[u8]) -> bool
+    ensures { λ r. ⌜ r ≡ same (0 ∷ drop 1 (now (value .entry))) (now (value .entry)) ⌝ }
+{
+    if value.len() == 0 {
+        return false;
+    }
+    value[0] == 0
+}
+
+// Whether the writer gives this value for what the reader reads from it.
+fn is_rewritten(id: u8, value: &[u8]) -> bool
+    ensures { λ r. ⌜ r ≡ same (rewritten id (now (value .entry))) (now (value .entry)) ⌝ }
+{
+    if id < 0x40 {
+        return is_terminated16(value);
+    }
+    if id == 0x42 {
+        return is_terminated8(value);
+    }
+    if id == 0x44 {
+        return is_well_formed8(value);
+    }
+    if id == 0xD6 {
+        return is_top_zero(value);
+    }
+    true
+}
+
+// Whether headers fill the bytes, each as the writer gives it.
+pub fn is_canonical(s: &[u8]) -> bool
+    ensures { λ r. ⌜ r ≡ canonical (now (s .entry)) ⌝ }
+{
+    let mut at = 0;
+    loop {
+        match header_at(s, at) {
+            HeaderAt::At {
+                id,
+                encoding: _,
+                start,
+                end,
+            } => {
+                if is_rewritten(id, &s[start..end]) {
+                    at = end;
+                } else {
+                    return false;
+                }
+            }
+            HeaderAt::Unreadable => {
+                return false;
+            }
+            HeaderAt::End => {
+                return true;
+            }
+        }
+    }
+}

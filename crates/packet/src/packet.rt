@@ -1,0 +1,331 @@
+// Packets (01, Packet; the source's packet.rs): a first byte, the 16-bit length of the whole, Connect's four bytes or SetPath's two,
+// and headers to the end.
+ghost use mathlib.Core.Path.{_≡_};
+ghost use mathlib.Core.List.{_∷_};
+ghost use Prim.Native.Nat.{_+_, _≤_, _<_};
+ghost use lib.ListN.{length, getD};
+ghost use Rattle.base.specs.Bytes.{bytes16};
+ghost use Rattle.packet.specs.Tags.{putting};
+ghost use Rattle.packet.specs.Placed.{laid};
+ghost use Rattle.packet.specs.Packet.{fieldsOf, prefixOf, connectLimit, packetBytes};
+ghost use Rattle.packet.specs.PacketWrite.{connectBytes, setPathByte, fieldBytes, filled4, parameterBytes, writePacket, writeRequest, writeResponse};
+ghost use Rattle.packet.specs.PacketRead.{packetLength, parsePacket, parseFront, flagsOf};
+use crate::flags::flag_bits;
+use crate::header::is_readable;
+use crate::opcode::FirstByte;
+use crate::opcode::Opcode;
+use crate::opcode::from_byte;
+use crate::opcode::to_byte;
+use crate::response;
+use crate::store::room;
+use crate::tlv::Put;
+use base::be16_at;
+use base::copy_into;
+use base::wide;
+
+// The protocol version sent in Connect packets (1.0).
+pub const OBEX_VERSION: u8 = 0x10;
+
+// The smallest limit that a device may name, and the default.
+pub const MINIMUM_PACKET_LENGTH: u16 = 255;
+
+// The largest length of a packet.
+pub const MAXIMUM_PACKET_LENGTH: usize = 65535;
+
+// The number of bytes before the headers of a regular packet.
+pub const PACKET_PREFIX_LENGTH: usize = 3;
+
+pub enum Length {
+    Known(usize),
+    Missing,
+}
+
+pub enum Parsed {
+    // The headers stand from a place to the packet's end, at length.
+    Request {
+        opcode: Opcode,
+        is_final: bool,
+        headers: usize,
+        length: usize,
+    },
+    Unreadable,
+}
+
+pub struct SetPathFlags {
+    // Go up a level before applying the name.
+    pub backup: bool,
+    // Do not create the folder where it does not exist.
+    pub no_create: bool,
+}
+
+// ---- reading
+
+// The length of the packet at the start of buf, once its length field is there.
+pub fn packet_length(buf: &[u8]) -> Length
+    ensures { λ r. ⌜ r ≡ packetLength (now (buf .entry)) ⌝ }
+{
+    if buf.len() < PACKET_PREFIX_LENGTH {
+        return Length::Missing;
+    }
+    Length::Known(be16_at(buf, 1))
+}
+
+// The number of bytes between the packet length and the headers.
+fn fields_len(opcode: Opcode) -> usize
+    ensures { λ r. ⌜ (r ≡ fieldsOf opcode) × (r ≤ 4) ⌝ }
+{
+    match opcode {
+        Opcode::Connect => 4,
+        Opcode::SetPath => 2,
+        Opcode::Disconnect => 0,
+        Opcode::Put => 0,
+        Opcode::Get => 0,
+        Opcode::Action => 0,
+        Opcode::Session => 0,
+        Opcode::Abort => 0,
+        Opcode::UserDefined(_) => 0,
+    }
+}
+
+// The number of bytes before the headers of a request.
+pub fn prefix_len(opcode: Opcode) -> usize
+    ensures { λ r. ⌜ r ≡ prefixOf opcode ⌝ }
+{
+    PACKET_PREFIX_LENGTH + fields_len(opcode)
+}
+
+// The bytes as one packet, whatever their length field says.
+pub fn parse_packet(p: &[u8]) -> Parsed
+    ensures { λ r. ⌜ r ≡ parsePacket (now (p .entry)) ⌝ }
+{
+    if p.len() < PACKET_PREFIX_LENGTH {
+        return Parsed::Unreadable;
+    }
+    let FirstByte::Known { opcode, is_final } = from_byte(p[0]) else {
+        return Parsed::Unreadable;
+    };
+    let headers = prefix_len(opcode);
+    if p.len() < headers {
+        return Parsed::Unreadable;
+    }
+    if !is_readable(p, headers) {
+        return Parsed::Unreadable;
+    }
+    Parsed::Request {
+        opcode,
+        is_final,
+        headers,
+        length: p.len(),
+    }
+}
+
+// The packet at the front of the bytes, by its length field.
+pub fn parse(s: &[u8]) -> Parsed
+    ensures { λ r. ⌜ r ≡ parseFront (now (s .entry)) ⌝ }
+{
+    if s.len() < PACKET_PREFIX_LENGTH {
+        return Parsed::Unreadable;
+    }
+    let n = be16_at(s, 1);
+    if n < PACKET_PREFIX_LENGTH {
+        return Parsed::Unreadable;
+    }
+    if s.len() < n {
+        return Parsed::Unreadable;
+    }
+    parse_packet(&s[..n])
+}
+
+// A byte of a packet, 0 past its end.
+fn byte_at(p: &[u8], at: usize) -> u8
+    ensures { λ r. ⌜ r ≡ getD (now (p .entry)) at 0 ⌝ }
+{
+    if p.len() <= at {
+        return 0;
+    }
+    p[at]
+}
+
+// The limit that a Connect names.
+pub fn connect_limit(p: &[u8]) -> usize
+    ensures { λ r. ⌜ r ≡ connectLimit (now (p .entry)) ⌝ }
+{
+    wide(byte_at(p, 5)) * 256 + wide(byte_at(p, 6))
+}
+
+pub fn set_path_flags(p: &[u8]) -> SetPathFlags
+    ensures { λ r. ⌜ r ≡ flagsOf (now (p .entry)) ⌝ }
+{
+    let flags = byte_at(p, 3);
+    SetPathFlags {
+        backup: flags & 0x01 != 0,
+        no_create: flags & 0x02 != 0,
+    }
+}
+
+// ---- writing
+
+// The operation specific fields of a request. Those of another operation are ignored, and missing ones have their defaults.
+pub enum Fields {
+    Default,
+    Connect {
+        version: u8,
+        flags: u8,
+        max_packet_length: u16,
+    },
+    SetPath {
+        backup: bool,
+        no_create: bool,
+    },
+}
+
+// The fields of a response to a Connect.
+pub enum ConnectParameters {
+    Parameters {
+        version: u8,
+        flags: u8,
+        max_packet_length: u16,
+    },
+    Missing,
+}
+
+// The first byte and the length of a packet, at the front of the store.
+pub fn put_prefix(store: &mut [u8], byte: u8, size: usize)
+    requires { ⌜ (3 ≤ length (now store)) × (size < 65536) ⌝ }
+    ensures { λ r. ⌜ now (store .exit) ≡ laid (now (store .entry)) 0 (byte ∷ bytes16 size) ⌝ }
+{
+    store[0] = byte;
+    store[1] = (size / 256) as u8;
+    store[2] = (size % 256) as u8;
+}
+
+// A packet that fits.
+fn put_packet(store: &mut [u8], byte: u8, fields: &[u8], headers: &[u8])
+    requires { ⌜ (3 + length (now fields) + length (now headers) ≤ length (now store)) × (3 + length (now fields) + length (now headers) < 65536) ⌝ }
+    ensures { λ r. ⌜ now (store .exit) ≡ laid (now (store .entry)) 0 (packetBytes byte (now (fields .entry)) (now (headers .entry))) ⌝ }
+{
+    let n = PACKET_PREFIX_LENGTH + fields.len();
+    put_prefix(store, byte, n + headers.len());
+    copy_into(store, PACKET_PREFIX_LENGTH, fields);
+    copy_into(store, n, headers);
+}
+
+// A packet at the front of the store.
+fn write_packet(store: &mut [u8], byte: u8, fields: &[u8], headers: &[u8]) -> Put
+    requires { ⌜ length (now fields) ≤ 4 ⌝ }
+    ensures { λ r. ⌜ putting r (now (store .exit)) ≡ writePacket (now (store .entry)) (packetBytes byte (now (fields .entry)) (now (headers .entry))) ⌝ }
+{
+    let need = PACKET_PREFIX_LENGTH + fields.len() + headers.len();
+    match room(store.len(), 0, need, MAXIMUM_PACKET_LENGTH < need) {
+        Put::Written(next) => {
+            put_packet(store, byte, fields, headers);
+            Put::Written(next)
+        }
+        Put::TooLong => Put::TooLong,
+        Put::Short => Put::Short,
+    }
+}
+
+fn encode_connect(version: u8, flags: u8, limit: u16) -> [u8; 4]
+    ensures { λ r. ⌜ r ≡ version ∷ flags ∷ bytes16 limit ⌝ }
+{
+    [version, flags, (limit / 256) as u8, (limit % 256) as u8]
+}
+
+// Connect's four bytes.
+fn connect_bytes(fields: Fields) -> [u8; 4]
+    ensures { λ r. ⌜ r ≡ connectBytes fields ⌝ }
+{
+    match fields {
+        Fields::Connect {
+            version,
+            flags,
+            max_packet_length,
+        } => encode_connect(version, flags, max_packet_length),
+        Fields::Default => encode_connect(OBEX_VERSION, 0, MINIMUM_PACKET_LENGTH),
+        Fields::SetPath {
+            backup: _,
+            no_create: _,
+        } => encode_connect(OBEX_VERSION, 0, MINIMUM_PACKET_LENGTH),
+    }
+}
+
+// SetPath's first byte; its second is 0.
+fn set_path_byte(fields: Fields) -> u8
+    ensures { λ r. ⌜ r ≡ setPathByte fields ⌝ }
+{
+    match fields {
+        Fields::SetPath { backup, no_create } => flag_bits(backup, no_create),
+        Fields::Default => 0,
+        Fields::Connect {
+            version: _,
+            flags: _,
+            max_packet_length: _,
+        } => 0,
+    }
+}
+
+// A request's fields, in front of zeros.
+fn field_bytes(opcode: Opcode, fields: Fields) -> [u8; 4]
+    ensures { λ r. ⌜ r ≡ filled4 (fieldBytes opcode fields) ⌝ }
+{
+    let n = fields_len(opcode);
+    if n == 4 {
+        return connect_bytes(fields);
+    }
+    if n == 2 {
+        return [set_path_byte(fields), 0, 0, 0];
+    }
+    [0, 0, 0, 0]
+}
+
+// Writes a request at the front of the store. The Final bit is set where it is given or the opcode always has it.
+pub fn write_request(
+    store: &mut [u8],
+    opcode: Opcode,
+    is_final: bool,
+    fields: Fields,
+    headers: &[u8],
+) -> Put
+    ensures { λ r. ⌜ putting r (now (store .exit)) ≡ writeRequest (now (store .entry)) opcode «is_final» fields (now (headers .entry)) ⌝ }
+{
+    let bytes = field_bytes(opcode, fields);
+    let n = fields_len(opcode);
+    write_packet(store, to_byte(opcode, is_final), &bytes[..n], headers)
+}
+
+// The four bytes of a response to a Connect; four zeros, of which none is written, for any other.
+fn parameter_bytes(connect: ConnectParameters) -> [u8; 4]
+    ensures { λ r. ⌜ r ≡ filled4 (parameterBytes connect) ⌝ }
+{
+    match connect {
+        ConnectParameters::Parameters {
+            version,
+            flags,
+            max_packet_length,
+        } => encode_connect(version, flags, max_packet_length),
+        ConnectParameters::Missing => [0, 0, 0, 0],
+    }
+}
+
+fn parameters_len(connect: ConnectParameters) -> usize
+    ensures { λ r. ⌜ (r ≡ length (parameterBytes connect)) × (r ≤ 4) ⌝ }
+{
+    match connect {
+        ConnectParameters::Parameters {
+            version: _,
+            flags: _,
+            max_packet_length: _,
+        } => 4,
+        ConnectParameters::Missing => 0,
+    }
+}
+
+// Writes a response at the front of the store. The byte sent is the code plus 0x80.
+pub fn write_response(store: &mut [u8], code: u8, connect: ConnectParameters, headers: &[u8]) -> Put
+    ensures { λ r. ⌜ putting r (now (store .exit)) ≡ writeResponse (now (store .entry)) code connect (now (headers .entry)) ⌝ }
+{
+    let bytes = parameter_bytes(connect);
+    let n = parameters_len(connect);
+    write_packet(store, response::to_byte(code), &bytes[..n], headers)
+}

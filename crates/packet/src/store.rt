@@ -1,0 +1,20 @@
+// Places in a lent store.
+ghost use mathlib.Core.Path.{_≡_};
+ghost use Rattle.packet.specs.Placed.{roomOf};
+use crate::tlv::Put;
+
+// Whether need bytes go to a place of a store of len bytes, and what follows them.
+pub fn room(len: usize, at: usize, need: usize, forbidden: bool) -> Put
+    ensures { λ r. ⌜ r ≡ roomOf len at need forbidden ⌝ }
+{
+    if len < at {
+        return Put::Short;
+    }
+    if len - at < need {
+        return Put::Short;
+    }
+    if forbidden {
+        return Put::TooLong;
+    }
+    Put::Written(at + need)
+}
