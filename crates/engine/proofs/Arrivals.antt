@@ -19,13 +19,13 @@ use Rattle.incoming.specs.declared.io.Framed.{Framed}
 use Rattle.incoming.specs.Gather.{Gathering, gathering, gatherAll, headersOf}
 use Rattle.incoming.specs.declared.gather.Gathered.{Gathered}
 use Rattle.incoming.specs.declared.gather.Keep.{Keep}
-use Rattle.engine.specs.Model.{Stores, stores, Done, Stepped, stepped, ends, after, lengthOf, packetDone, framedAs, withPacket, offers, bytesStep, limitOf, headersIn, gathers, unknownByte, soundOperation}
+use Rattle.model.specs.Model.{Stores, stores, Done, Stepped, stepped, ends, after, lengthOf, packetDone, framedAs, withPacket, offers, bytesStep, limitOf, headersIn, gathers, unknownByte, soundOperation}
 use Rattle.engine.specs.Plan.{planned, endsPlan}
 use Rattle.engine.specs.Carry.{Written, carried, tookBy}
 use Rattle.engine.specs.Route.{unreadableRoute, headingRoute, routeAs, packetRoute, keepOf, fromOf, kindPlan, actsGathered, acts}
-use Rattle.engine.specs.declared.server.Engine.{Engine}
+use Rattle.model.specs.declared.server.Engine.{Engine}
 use Rattle.engine.specs.Turn.{withTaken}
-use Rattle.engine.specs.declared.server.Took.{Took}
+use Rattle.model.specs.declared.server.Took.{Took}
 use Rattle.engine.specs.declared.plan.Plan.{Plan}
 use Rattle.engine.specs.declared.route.Kind.{Kind}
 use Rattle.engine.specs.declared.route.Route.{Route}

@@ -4,27 +4,23 @@ use mathlib.Core.List.{List}
 use mathlib.Core.Bool.{Bool, true, false}
 use mathlib.Core.Option.{Option, none, some}
 use Prim.Native.Nat.{ℕ}
-use Rattle.packet.specs.Codes.{sentCode}
-use Rattle.packet.specs.FirstByte.{topBit}
 use Rattle.packet.specs.Packet.{packetBytes}
-use Rattle.connection.specs.Send.{Sending as Sent, sentInto, front}
+use Rattle.connection.specs.Send.{Sending as Sent, sendBytes, sentInto, front}
 use Rattle.connection.specs.declared.peer.Peer.{Peer}
 use Rattle.outgoing.specs.Outgoing.{Made}
 use Rattle.outgoing.specs.declared.body.Next.{Next}
 use Rattle.outgoing.specs.declared.body.Next.the-variants as next
-use Rattle.engine.specs.declared.server.Took.{Took}
+use Rattle.model.specs.declared.server.Took.{Took}
 use Rattle.engine.specs.declared.plan.Plan.{Plan}
 use Rattle.engine.proofs.Guards.{Goes, refusedIn, turned}
 use Rattle.engine.proofs.Plans.{Carries}
 use Rattle.engine.specs.Guard.{refusal}
-use Rattle.engine.specs.Model.{Stepped, stepped, after, guarded, Stores, Done, withReply, sent, sendsMade, sendsPacket, repliesCode}
+use Rattle.model.specs.Model.{Stepped, stepped, after, guarded, Stores, Done, withReply, sent, sendsMade, sendsPacket}
 use Rattle.engine.specs.declared.plan.Small.{Small}
 use Rattle.engine.specs.declared.plan.Small.the-variants.{Silent}
 use Rattle.engine.specs.Plan.{smallBytes, planned, endsPlan, codePlan, asksPlan}
-use Rattle.engine.specs.Carry.{Written, within, carried, tookBy, sentPlan, madePlan, packetPlan}
-use Rattle.engine.specs.declared.server.Operation.the-variants.{Nothing}
-use Rattle.engine.specs.declared.server.Engine.{Engine}
-use Rattle.engine.specs.declared.server.Await.the-variants as await
+use Rattle.engine.specs.Carry.{Written, written, within, carried, tookBy, sentPlan, sentBy, repliesBy, madePlan, packetPlan}
+use Rattle.model.specs.declared.server.Engine.{Engine}
 
 -- a reply that was sent, by what sending gave
 pub sent-carried : (e : Engine) (p : Peer) (q : Option (List ℕ)) (z : Sent) (s : Stores) → z ≡ sentInto q (s .reply)
@@ -71,11 +67,20 @@ silent-call from to e s d p q r g h k m is =
     ∙ sym (g .whole (after 0 d))
 
 -- what was sent, and nothing more to write
-took-sent : (e : Engine) (p : Peer) (q : Option (List ℕ)) (z : Sent) (s : Stores) → z ≡ sentInto q (s .reply)
+pub took-sent : (e : Engine) (p : Peer) (q : Option (List ℕ)) (z : Sent) (s : Stores) → z ≡ sentInto q (s .reply)
     → stepped (tookBy (sentPlan e p (z .answer))) (withReply s (z .reply)) ≡ after 0 (sent e p q s)
 unfolding sentPlan endsPlan
 took-sent e p none z s h = simp h
 took-sent e p (some q) z s h = simp h
+
+-- the same by the reply store alone
+pub sent-written : (e : Engine) (p : Peer) (code : ℕ) (fields hs y : List ℕ) (n : ℕ) (z : Sent) (x : Plan) (r : Took)
+    → z ≡ sentInto (sendBytes n code fields hs) y → n ≡ p .«remote_max_packet_length» → x ≡ sentPlan e p (z .answer) → r ≡ tookBy x
+    → written r (z .reply) ≡ repliesBy e p code fields hs y
+unfolding repliesBy
+sent-written e p code fields hs y n z x r h i k m =
+    ap (λ (t : Took). written t (z .reply)) (m ∙ ap (λ (x : Plan). tookBy x) k)
+    ∙ ap (λ (z : Sent). sentBy e p z) (h ∙ ap (λ (n : ℕ). sentInto (sendBytes n code fields hs) y) i)
 
 pub sent-call : (from to : ℕ) (e : Engine) (s : Stores) (p : Peer) (q : Option (List ℕ)) (z : Sent) (x : Plan) (r : Took) → Goes from to e s
     → z ≡ sentInto q (s .reply) → x ≡ sentPlan e p (z .answer) → r ≡ tookBy x

@@ -17,7 +17,7 @@ use Rattle.packet.specs.declared.tlv.Found.{Found}
 use Rattle.packet.specs.declared.tlv.Found.the-variants as place
 use Rattle.packet.proofs.HeaderLaws.{first-agrees}
 use Rattle.packet.proofs.AuthLaws.{Within, within}
-use Rattle.engine.specs.Model.{headersIn, responseIn, userIn, placedAt}
+use Rattle.model.specs.Model.{headersIn, responseIn, userIn, placedAt}
 use Rattle.engine.specs.Route.{answeredAs, answeredBy, Below}
 use Rattle.engine.specs.declared.connecting.Answered.the-variants.{Missing, User}
 
@@ -30,7 +30,8 @@ read : (x : Option Response) (u v : Found) (d : Octets16) (n : Named) (a : ℕ) 
 read none u v d n a h = absurd (let z : _≡_ {A = ℕ} 0 1 = cc in omega arith)
 read (some r) u v d n a h = let k : u ≡ v = cc in ap (λ (f : Found). User (placedAt a f)) k
 
-below : (s : List ℕ) (n : ℕ) (f : Found) → Within s f → n + length s < 2 ^ 64 → Below n f
+-- a place in a part of the packet, moved on
+pub below : (s : List ℕ) (n : ℕ) (f : Found) → Within s f → n + length s < 2 ^ 64 → Below n f
 below s n place.Missing w h = tt
 below s n (place.At a b) w h = (w .0, omega (arith, w .1))
 

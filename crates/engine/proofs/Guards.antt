@@ -11,9 +11,9 @@ use Rattle.base.specs.Pick.{pick}
 use Rattle.incoming.specs.declared.gather.Gathered.{Gathered}
 use Rattle.outgoing.specs.declared.body.Outgoing.{Outgoing}
 use Rattle.outgoing.specs.declared.body.Chunk.{Chunk}
-use Rattle.engine.specs.Model.{Stores, Stepped, short, sound, awaited, guarded, refuse, limitOf, soundGathered, soundOutgoing, soundOperation}
+use Rattle.model.specs.Model.{Stores, Stepped, short, sound, awaited, guarded, refuse, limitOf, soundGathered, soundOutgoing, soundOperation}
 use Rattle.engine.specs.Guard.{shortBy, refusedBy}
-use Rattle.engine.specs.declared.server.Engine.{Engine}
+use Rattle.model.specs.declared.server.Engine.{Engine}
 
 pub or-false : (a b : Bool) → a || b ≡ false → (a ≡ false) × (b ≡ false)
 or-false false b h = (refl, h)

@@ -3,7 +3,7 @@ use mathlib.Core.Path.{_≡_, refl, sym, ap, _∙_}
 use mathlib.Core.List.{List, []}
 use mathlib.Core.Bool.{Bool, true, false}
 use mathlib.Core.Option.{Option, none, some}
-use Prim.Native.Nat.{ℕ, _+_, _-_, _≤_, _<_}
+use Prim.Native.Nat.{ℕ, _+_, _-_, _≤_}
 use native.Mathlib.Omega.{arith}
 use lib.ListN.{length, getD, take, drop}
 use lib.Dec.{ltb}
@@ -21,7 +21,6 @@ use Rattle.packet.specs.AuthRead.{readResponse}
 use Rattle.packet.specs.declared.opcode.Opcode.{Opcode}
 use Rattle.packet.specs.declared.opcode.FirstByte.{FirstByte}
 use Rattle.packet.specs.declared.opcode.FirstByte.the-variants.{Known, Unknown}
-use Rattle.packet.specs.declared.packet.Parsed.{Parsed}
 use Rattle.packet.specs.declared.packet.Parsed.the-variants as parsed
 use Rattle.packet.specs.declared.header.HeaderAt.the-variants.{End}
 use Rattle.packet.specs.declared.tlv.Found.{Found}
@@ -29,16 +28,21 @@ use Rattle.packet.specs.declared.tlv.Found.the-variants as place
 use Rattle.packet.proofs.HeaderBytes.{Octets}
 use Rattle.packet.proofs.HeaderLaws.{by-cursor, first-found}
 use Rattle.packet.proofs.TextForms.{octets-take}
+use Rattle.journal.specs.Journal.{listOf as journalList}
+use Rattle.incoming.specs.Survey.{idOf, present, surveyOf}
+use Rattle.incoming.specs.declared.survey.Survey.{Survey}
+use Rattle.connection.specs.Peer.{idIn, isGiven}
 use Rattle.connection.specs.Pieces.{headersFrom, firstIn, checkOf}
+use Rattle.connection.specs.declared.peer.ConnectionId.the-variants as connection-id
 use Rattle.connection.specs.declared.peer.Challenge.{Challenge}
 use Rattle.connection.specs.declared.peer.Challenge.the-variants.{Stored, Absent}
 use Rattle.connection.proofs.Challenges.{first-in-bytes}
 use Rattle.connection.proofs.ByNumbers.{checkBy, check-by}
-use Rattle.engine.specs.Model.{Stores, stepped, after, guarded, passwordAnswer, clientResponse, lastHeaders, lastPacket, headersIn, responseIn, checks}
+use Rattle.model.specs.Model.{Stores, stepped, after, guarded, passwordAnswer, clientResponse, lastHeaders, lastPacket, headersIn, responseIn, checks}
 use Rattle.engine.specs.Plan.{asksPlan}
 use Rattle.engine.specs.Carry.{tookBy, passwordPlan}
-use Rattle.engine.specs.declared.server.Engine.{Engine}
-use Rattle.engine.specs.declared.server.Took.{Took}
+use Rattle.model.specs.declared.server.Engine.{Engine}
+use Rattle.model.specs.declared.server.Took.{Took}
 use Rattle.engine.specs.declared.plan.Plan.{Plan}
 use Rattle.engine.proofs.Guards.{Goes}
 use Rattle.engine.specs.Last.{fromIn, lastFrom}
@@ -57,19 +61,22 @@ unfolding headerAt
 at-end q = let n : length q ≤ length q = omega arith in by-cursor q (length q) End (simp (le-leb _ _ n)) .1
 
 -- its headers
-pub last-headers : (q : List ℕ) → headersFrom q (lastFrom q) ≡ headersIn (requestOf q)
+pub last-read : (q : List ℕ) → readHeaders q (lastFrom q) ≡ some (headersIn (requestOf q))
 unfolding lastFrom requestOf
-last-headers q = go (firstByte (getD q 0 0))
+last-read q = go (firstByte (getD q 0 0))
   where
     by : (o : Opcode) (f t : Bool) (r : Option (List Header)) → readHeaders q (prefixOf o) ≡ r
-        → headersFrom q (fromIn (pick t none (requestWith o f q r)) (length q)) ≡ headersIn (pick t none (requestWith o f q r))
-    by o f true r h = simp (at-end q)
-    by o f false none h = simp (at-end q)
-    by o f false (some hs) h = simp h
+        → readHeaders q (fromIn (pick t none (requestWith o f q r)) (length q)) ≡ some (headersIn (pick t none (requestWith o f q r)))
+    by o f true r h = at-end q
+    by o f false none h = at-end q
+    by o f false (some hs) h = h
 
-    go : (b : FirstByte) → headersFrom q (fromIn (requestBy b q) (length q)) ≡ headersIn (requestBy b q)
-    go Unknown = simp (at-end q)
+    go : (b : FirstByte) → readHeaders q (fromIn (requestBy b q) (length q)) ≡ some (headersIn (requestBy b q))
+    go Unknown = at-end q
     go (Known o f) = by o f (ltb (length q) (prefixOf o)) (readHeaders q (prefixOf o)) refl
+
+pub last-headers : (q : List ℕ) → headersFrom q (lastFrom q) ≡ headersIn (requestOf q)
+last-headers q = ap (λ (r : Option (List Header)). journalList r) (last-read q)
 
 -- the place of the first header of an id
 pub first-bounds : (id : ℕ) (q : List ℕ) (from a b : ℕ) → firstIn id q from ≡ place.At a b → (a ≤ b) × (b ≤ length q)
@@ -83,6 +90,37 @@ first-bounds id q from a b = go (readableFrom q from)
 pub first-value : (id : ℕ) (q : List ℕ) (f : Found) → firstIn id q (lastFrom q) ≡ f → bytesAt q f ≡ first id (headersIn (requestOf q))
 first-value id q f e =
     sym (ap (bytesAt q) e) ∙ first-in-bytes id q (lastFrom q) ∙ ap (λ (hs : List Header). first id hs) (last-headers q)
+
+-- ---- what else is asked of headers
+
+-- the first ConnectionID, by the survey
+pub id-given : (r : Option (List Header)) (v : Survey) → v ≡ surveyOf r → v .«has_id» ≡ true → connection-id.Id (v .id) ≡ idIn (first 0xCB (journalList r))
+unfolding surveyOf
+id-given none v e h = absurd (let z : _≡_ {A = ℕ} 0 1 = cc in omega arith)
+id-given (some hs) v e h = rw e (go (first 0xCB hs) (rw e at h))
+  where
+    go : (o : Option (List ℕ)) → present o ≡ true → connection-id.Id (idOf o) ≡ idIn o
+    go none k = absurd (let z : _≡_ {A = ℕ} 0 1 = cc in omega arith)
+    go (some x) k = refl
+
+pub id-missing : (r : Option (List Header)) (v : Survey) → v ≡ surveyOf r → v .«has_id» ≡ false → connection-id.Missing ≡ idIn (first 0xCB (journalList r))
+unfolding surveyOf first
+id-missing none v e h = refl
+id-missing (some hs) v e h = go (first 0xCB hs) (rw e at h)
+  where
+    go : (o : Option (List ℕ)) → present o ≡ false → connection-id.Missing ≡ idIn o
+    go none k = refl
+    go (some x) k = absurd (let z : _≡_ {A = ℕ} 0 1 = cc in omega arith)
+
+pub enabling : (q : List ℕ) (n : ℕ) (v : Survey) → v ≡ surveyOf (readHeaders q n) → n ≡ lastFrom q → v .enable ≡ surveyOf (some (headersIn (requestOf q))) .enable
+enabling q n v e h =
+    ap (λ (x : Survey). x .enable) (e ∙ ap (λ (m : ℕ). surveyOf (readHeaders q m)) h ∙ ap (λ (r : Option (List Header)). surveyOf r) (last-read q))
+
+pub given-at : (id : ℕ) (q : List ℕ) (a b : ℕ) → firstIn id q (lastFrom q) ≡ place.At a b → true ≡ isGiven (first id (headersIn (requestOf q)))
+given-at id q a b e = ap (λ (v : Option (List ℕ)). isGiven v) (first-value id q (place.At a b) e)
+
+pub given-missing : (id : ℕ) (q : List ℕ) → firstIn id q (lastFrom q) ≡ place.Missing → false ≡ isGiven (first id (headersIn (requestOf q)))
+given-missing id q e = ap (λ (v : Option (List ℕ)). isGiven v) (first-value id q place.Missing e)
 
 -- ---- the password's check
 

@@ -1,18 +1,16 @@
 -- The start, and an object that is sent: how each way of the code is the model's. Assumes nothing.
 use mathlib.Core.Path.{_≡_, refl, sym, ap, _∙_}
 use mathlib.Core.List.{List, [], _∷_}
-use mathlib.Core.Logic.{_⊎_, inl, inr}
 use mathlib.Core.Bool.{Bool, true, false, _||_, not}
 use Prim.Native.Nat.{ℕ, _<_, _≤_}
 use native.Mathlib.Omega.{arith}
 use denote.Enum.Declared.{tagOf}
-use types.Run.{OneOf}
+use types.Run.{OneOf, miss}
 use borrow.Author.Tests.{lt-ltb, le-ltb, ltb-false}
 use lib.ListN.{length}
 use lib.Dec.{ltb}
 use lib.Seq.{paste}
 use Rattle.connection.proofs.Front.{front-paste}
-use Rattle.base.specs.Pick.{pick}
 use Rattle.packet.specs.Canonical.{canonical}
 use Rattle.connection.specs.Send.{front}
 use Rattle.connection.specs.Peer.{freshPeer}
@@ -20,19 +18,18 @@ use Rattle.incoming.specs.declared.gather.Gathered.{Gathered}
 use Rattle.outgoing.specs.Outgoing.{Made, nextPacket, bodyGiven}
 use Rattle.outgoing.specs.declared.body.Outgoing.{Outgoing}
 use Rattle.outgoing.specs.declared.body.Chunk.{Chunk}
-use Rattle.engine.specs.Model.{Stores, Stepped, Done, stepped, withReply, withHeaders, after, refuse, bodyFor, objectFor, objectOf, badHeaders, sendsPacket, sendsNext, capacityOf, soundOperation, engineWith, started, short, startStep}
+use Rattle.model.specs.Model.{Stores, Done, stepped, withHeaders, after, refuse, bodyFor, objectFor, badHeaders, sendsPacket, sendsNext, capacityOf, soundOperation, engineWith, started, short, startStep}
 use Rattle.engine.specs.Guard.{shortBy, startNumber, refusal}
-use Rattle.engine.specs.Plan.{planned}
-use Rattle.engine.specs.Carry.{Written, within, carried, tookBy, packetPlan, packetSent, objectWith}
-use Rattle.engine.specs.declared.server.Settings.{Settings}
-use Rattle.engine.specs.declared.server.Operation.{Operation}
-use Rattle.engine.specs.declared.server.Operation.the-variants.{Nothing, Putting, Getting, Sending, Gathering as GatheringOp, Connecting, Draining}
-use Rattle.engine.specs.declared.server.Await.the-variants as await
-use Rattle.engine.specs.declared.server.Engine.{Engine}
-use Rattle.engine.specs.declared.server.Outcome.the-variants as outcome
-use Rattle.engine.specs.declared.server.Took.{Took}
+use Rattle.engine.specs.Carry.{Written, within, carried, packetPlan, packetSent, objectWith}
+use Rattle.model.specs.declared.server.Settings.{Settings}
+use Rattle.model.specs.declared.server.Operation.{Operation}
+use Rattle.model.specs.declared.server.Operation.the-variants.{Nothing, Putting, Getting, Sending, Gathering as GatheringOp, Connecting, Draining}
+use Rattle.model.specs.declared.server.Await.the-variants as await
+use Rattle.model.specs.declared.server.Engine.{Engine}
+use Rattle.model.specs.declared.server.Outcome.the-variants as outcome
+use Rattle.model.specs.declared.server.Took.{Took}
 use Rattle.engine.specs.declared.plan.Plan.{Plan}
-use Rattle.engine.proofs.server.Operation.{the-type}
+use Rattle.model.proofs.server.Operation.{the-type}
 use Rattle.engine.proofs.Guards.{Sendable, sendable, or-false}
 use Rattle.engine.proofs.Carried.{packet-carried}
 
@@ -58,12 +55,7 @@ body-other (Getting g srm confirm wait) e d s k = refl
 body-other (GatheringOp o g) e d s k = refl
 body-other (Connecting code f n) e d s k = refl
 body-other (Draining code) e d s k = refl
-body-other (Sending o c srm wait) e d s (inl k) = absurd (omega arith)
-body-other (Sending o c srm wait) e d s (inr (inl k)) = absurd (omega arith)
-body-other (Sending o c srm wait) e d s (inr (inr (inl k))) = absurd (omega arith)
-body-other (Sending o c srm wait) e d s (inr (inr (inr (inl k)))) = absurd (omega arith)
-body-other (Sending o c srm wait) e d s (inr (inr (inr (inr (inl k))))) = absurd (omega arith)
-body-other (Sending o c srm wait) e d s (inr (inr (inr (inr (inr k))))) = absurd (omega arith)
+body-other (Sending o c srm wait) e d s k = absurd (miss (0 ∷ 1 ∷ 2 ∷ 4 ∷ 5 ∷ 6 ∷ []) 3 tt k)
 
 module _ (p : Operation) (o : Outgoing) (c : Chunk) (srm wait : Bool) (is : p ≡ Sending o c srm wait) where
   pub sending-bounds : (limit : ℕ) → soundOperation limit p ≡ true → Sendable o c
@@ -90,12 +82,7 @@ object-other (Sending o c srm wait) e hs has s k = refl
 object-other (GatheringOp o g) e hs has s k = refl
 object-other (Connecting code f n) e hs has s k = refl
 object-other (Draining code) e hs has s k = refl
-object-other (Getting g srm confirm wait) e hs has s (inl k) = absurd (omega arith)
-object-other (Getting g srm confirm wait) e hs has s (inr (inl k)) = absurd (omega arith)
-object-other (Getting g srm confirm wait) e hs has s (inr (inr (inl k))) = absurd (omega arith)
-object-other (Getting g srm confirm wait) e hs has s (inr (inr (inr (inl k)))) = absurd (omega arith)
-object-other (Getting g srm confirm wait) e hs has s (inr (inr (inr (inr (inl k))))) = absurd (omega arith)
-object-other (Getting g srm confirm wait) e hs has s (inr (inr (inr (inr (inr k))))) = absurd (omega arith)
+object-other (Getting g srm confirm wait) e hs has s k = absurd (miss (0 ∷ 1 ∷ 3 ∷ 4 ∷ 5 ∷ 6 ∷ []) 2 tt k)
 
 -- good header bytes are not too long
 pub good-length : (hs : List ℕ) (t : Bool) → t ≡ badHeaders hs → t ≡ false → length hs ≤ 65535
@@ -119,25 +106,25 @@ module _ (p : Operation) (g : Gathered) (srm confirm wait : Bool) (is : p ≡ Ge
 
 -- ---- the start
 
-module _ (st : Settings) (realm : ℕ) (s : Stores) (n : ℕ) (e : Engine) (number : n ≡ startNumber (st .«max_object_size») realm (length (s .packet)) (length (s .headers)) (length (s .body)) (length (s .reply))) where
+module _ (st : Settings) (s : Stores) (n : ℕ) (e : Engine) (number : n ≡ startNumber (st .«max_object_size») (st .«realm_length») (length (s .packet)) (length (s .headers)) (length (s .body)) (length (s .reply))) where
   same : (t : Bool) → shortBy (st .«max_object_size») (length (s .packet)) (length (s .headers)) (length (s .body)) (length (s .reply)) ≡ t → short (st .«max_object_size») s ≡ t
   unfolding short shortBy
   same t h = h
 
-  pub start-refused : e ≡ engineWith st freshPeer Nothing await.Nothing 0 0 → (n ≡ 0 → ⊥) → (r : Took) → r ≡ refusal n e → stepped r s ≡ startStep st realm s
+  pub start-refused : e ≡ engineWith st freshPeer Nothing await.Nothing 0 0 → (n ≡ 0 → ⊥) → (r : Took) → r ≡ refusal n e → stepped r s ≡ startStep st s
   unfolding startStep startNumber
-  start-refused k w r h = go (shortBy (st .«max_object_size») (length (s .packet)) (length (s .headers)) (length (s .body)) (length (s .reply))) (ltb 254 realm) refl refl
+  start-refused k w r h = go (shortBy (st .«max_object_size») (length (s .packet)) (length (s .headers)) (length (s .body)) (length (s .reply))) (ltb 254 (st .«realm_length»)) refl refl
     where
-      go : (t u : Bool) → shortBy (st .«max_object_size») (length (s .packet)) (length (s .headers)) (length (s .body)) (length (s .reply)) ≡ t → ltb 254 realm ≡ u → stepped r s ≡ startStep st realm s
+      go : (t u : Bool) → shortBy (st .«max_object_size») (length (s .packet)) (length (s .headers)) (length (s .body)) (length (s .reply)) ≡ t → ltb 254 (st .«realm_length») ≡ u → stepped r s ≡ startStep st s
       go true u a b = let z : n ≡ 10 = simp a at number in simp (h, k, z, same true a)
       go false true a b = let z : n ≡ 8 = simp (a, b) at number in simp (h, k, z, same false a, b)
       go false false a b = let z : n ≡ 0 = simp (a, b) at number in absurd (w z)
 
-  pub start-goes : e ≡ engineWith st freshPeer Nothing await.Bytes 0 0 → n ≡ 0 → stepped (record { engine = e; taken = 0; outcome = outcome.WantsBytes }) s ≡ startStep st realm s
+  pub start-goes : e ≡ engineWith st freshPeer Nothing await.Bytes 0 0 → n ≡ 0 → stepped (record { engine = e; taken = 0; outcome = outcome.WantsBytes }) s ≡ startStep st s
   unfolding startStep startNumber started
-  start-goes k w = go (shortBy (st .«max_object_size») (length (s .packet)) (length (s .headers)) (length (s .body)) (length (s .reply))) (ltb 254 realm) refl refl
+  start-goes k w = go (shortBy (st .«max_object_size») (length (s .packet)) (length (s .headers)) (length (s .body)) (length (s .reply))) (ltb 254 (st .«realm_length»)) refl refl
     where
-      go : (t u : Bool) → shortBy (st .«max_object_size») (length (s .packet)) (length (s .headers)) (length (s .body)) (length (s .reply)) ≡ t → ltb 254 realm ≡ u → stepped (record { engine = e; taken = 0; outcome = outcome.WantsBytes }) s ≡ startStep st realm s
+      go : (t u : Bool) → shortBy (st .«max_object_size») (length (s .packet)) (length (s .headers)) (length (s .body)) (length (s .reply)) ≡ t → ltb 254 (st .«realm_length») ≡ u → stepped (record { engine = e; taken = 0; outcome = outcome.WantsBytes }) s ≡ startStep st s
       go true u a b = let z : n ≡ 10 = simp a at number in absurd (omega arith)
       go false true a b = let z : n ≡ 8 = simp (a, b) at number in absurd (omega arith)
       go false false a b = simp (k, same false a, b)

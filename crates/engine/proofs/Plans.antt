@@ -11,14 +11,14 @@ use Rattle.packet.specs.declared.opcode.Opcode.{Opcode}
 use Rattle.connection.specs.declared.peer.Peer.{Peer}
 use Rattle.incoming.specs.Gather.{Gathering}
 use Rattle.incoming.specs.declared.survey.Survey.{Survey}
-use Rattle.engine.specs.Model.{Stores, Done, withGathered, wants, asks, ends, replies, repliesCode, continues, putContinues, putGathered, getContinues, getGathered, headersGathered}
+use Rattle.model.specs.Model.{Stores, Done, withGathered, wants, asks, ends, replies, repliesCode, continues, putContinues, putGathered, getContinues, getGathered, headersGathered}
 use Rattle.engine.specs.Plan.{planned, wantsPlan, asksPlan, endsPlan, codePlan, continuePlan, putContinuePlan, putPlan, getContinuePlan, getPlan, headersPlan}
-use Rattle.engine.specs.declared.server.Operation.{Operation}
-use Rattle.engine.specs.declared.server.Operation.the-variants.{Nothing, Putting, Getting, Gathering as GatheringOp}
-use Rattle.engine.specs.declared.server.Await.{Await}
-use Rattle.engine.specs.declared.server.Await.the-variants as await
-use Rattle.engine.specs.declared.server.Engine.{Engine}
-use Rattle.engine.specs.declared.server.Request.{Request}
+use Rattle.model.specs.declared.server.Operation.{Operation}
+use Rattle.model.specs.declared.server.Operation.the-variants.{Nothing, Putting, Getting, Gathering as GatheringOp}
+use Rattle.model.specs.declared.server.Await.{Await}
+use Rattle.model.specs.declared.server.Await.the-variants as await
+use Rattle.model.specs.declared.server.Engine.{Engine}
+use Rattle.model.specs.declared.server.Request.{Request}
 use Rattle.engine.specs.declared.plan.Plan.{Plan}
 
 -- the plan, carried out over these stores, is this step

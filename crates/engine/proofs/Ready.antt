@@ -20,16 +20,16 @@ use Rattle.packet.specs.declared.opcode.Opcode.the-variants as op
 use Rattle.incoming.specs.Survey.{surveyOf}
 use Rattle.incoming.specs.declared.gather.Gathered.{Gathered}
 use Rattle.outgoing.specs.declared.body.Chunk.{Chunk}
-use Rattle.engine.specs.Model.{limitOf, headersIn, nothingGathered, soundGathered, soundOutgoing, soundOperation, rejection, unknownByte, busy}
+use Rattle.model.specs.Model.{limitOf, headersIn, nothingGathered, soundGathered, soundOutgoing, soundOperation, rejection, unknownByte, busy}
 use Rattle.engine.specs.Route.{headingOf, admissionOf, drainedBy, rejectedRoute, dispatchRoute, admittedRoute, openRoute, insideRoute, headingRoute, routeAs, packetRoute, fromOf}
-use Rattle.engine.specs.declared.server.Operation.{Operation}
-use Rattle.engine.specs.declared.server.Operation.the-variants.{Nothing, Putting, Getting, Sending, Gathering as GatheringOp, Connecting, Draining}
-use Rattle.engine.specs.declared.server.Engine.{Engine}
+use Rattle.model.specs.declared.server.Operation.{Operation}
+use Rattle.model.specs.declared.server.Operation.the-variants.{Nothing, Putting, Getting, Sending, Gathering as GatheringOp, Connecting, Draining}
+use Rattle.model.specs.declared.server.Engine.{Engine}
 use Rattle.engine.specs.declared.route.Route.{Route}
 use Rattle.engine.specs.declared.route.Route.the-variants.{Plain, Connect, Gather, Send}
 use Rattle.engine.specs.declared.route.Admission.{Admission}
 use Rattle.engine.specs.declared.route.Admission.the-variants.{Admits, Rejects}
-use Rattle.engine.proofs.Dispatch.{same-is}
+use Rattle.model.proofs.Dispatch.{same-is}
 
 -- the headers of a request are those after its fields, and its bytes are the packet
 pub record Parts (q : List ℕ) (r : Packet) : Type 0 where

@@ -21,15 +21,15 @@ use Rattle.connection.specs.Peer.{limited}
 use Rattle.connection.specs.declared.peer.Challenge.{Challenge}
 use Rattle.connection.specs.declared.peer.Challenge.the-variants.{Stored, Absent}
 use Rattle.connection.specs.declared.peer.Peer.{Peer}
-use Rattle.engine.specs.Model.{Stores, Done, engineWith, lastPacket, lastHeaders, responseIn, clientResponse, userPlace, verifies, wants, asks, ends, replies, repliesCode, headersIn, nothingGathered, gathers, sendsNext, putPacket, getPacket, headersPacket, connectPacket, Rejection, admits, rejects, rejection, drains, rejected, confirms, dispatches, admittedAs, dispatch, interrupts, inside, unknownByte, busy, unreadable, readAs, lengthOf, packetDone}
+use Rattle.model.specs.Model.{Stores, Done, engineWith, lastPacket, lastHeaders, responseIn, clientResponse, userPlace, verifies, wants, asks, ends, replies, repliesCode, headersIn, nothingGathered, gathers, sendsNext, putPacket, getPacket, headersPacket, connectPacket, Rejection, admits, rejects, rejection, drains, rejected, confirms, dispatches, admittedAs, dispatch, interrupts, inside, unknownByte, busy, unreadable, readAs, lengthOf, packetDone}
 use Rattle.engine.specs.Route.{headingOf, askRoute, codeRoute, admissionOf, rejectedRoute, putRoute, getRoute, headersRoute, dispatchRoute, admittedRoute, openRoute, interruptsRoute, insideRoute, headingRoute, unreadableRoute, routeAs, packetRoute, briefPlan, keepOf, kindPlan, actsGathered, answeredAs, verifiesPlan, limitedPlan, connectPlan, acts}
-use Rattle.engine.specs.declared.server.Operation.{Operation}
-use Rattle.engine.specs.declared.server.Operation.the-variants.{Nothing, Putting, Getting, Sending, Gathering as GatheringOp, Connecting, Draining}
-use Rattle.engine.specs.declared.server.Await.{Await}
-use Rattle.engine.specs.declared.server.Await.the-variants as await
-use Rattle.engine.specs.declared.server.Engine.{Engine}
-use Rattle.engine.specs.declared.server.Request.{Request}
-use Rattle.engine.specs.declared.server.Request.the-variants as request
+use Rattle.model.specs.declared.server.Operation.{Operation}
+use Rattle.model.specs.declared.server.Operation.the-variants.{Nothing, Putting, Getting, Sending, Gathering as GatheringOp, Connecting, Draining}
+use Rattle.model.specs.declared.server.Await.{Await}
+use Rattle.model.specs.declared.server.Await.the-variants as await
+use Rattle.model.specs.declared.server.Engine.{Engine}
+use Rattle.model.specs.declared.server.Request.{Request}
+use Rattle.model.specs.declared.server.Request.the-variants as request
 use Rattle.engine.specs.declared.route.Brief.the-variants as brief
 use Rattle.engine.specs.declared.route.Kind.{Kind}
 use Rattle.engine.specs.declared.route.Kind.the-variants as kind

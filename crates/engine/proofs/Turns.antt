@@ -8,13 +8,13 @@ use Rattle.base.specs.Pick.{pick}
 use Rattle.outgoing.specs.Outgoing.{Made, made, nextPacket}
 use Rattle.outgoing.specs.declared.body.Outgoing.{Outgoing}
 use Rattle.outgoing.specs.declared.body.Packet.{Packet}
-use Rattle.engine.specs.Model.{Stores, Done, withReply, limitOf, capacityOf, awaited, soundOperation, goesOn, ends, sendsNext, after, takenStep}
+use Rattle.model.specs.Model.{Stores, Done, withReply, limitOf, capacityOf, awaited, soundOperation, goesOn, ends, sendsNext, after, takenStep}
 use Rattle.engine.specs.Plan.{planned}
 use Rattle.engine.specs.Carry.{Written, within, carried, packetPlan}
 use Rattle.engine.specs.Turn.{PlanMade, planMade, objectPlan, goesTurn, turnOf, turnActs}
-use Rattle.engine.specs.declared.server.Operation.{Operation}
-use Rattle.engine.specs.declared.server.Operation.the-variants.{Nothing, Putting, Getting, Sending, Gathering as GatheringOp, Connecting, Draining}
-use Rattle.engine.specs.declared.server.Engine.{Engine}
+use Rattle.model.specs.declared.server.Operation.{Operation}
+use Rattle.model.specs.declared.server.Operation.the-variants.{Nothing, Putting, Getting, Sending, Gathering as GatheringOp, Connecting, Draining}
+use Rattle.model.specs.declared.server.Engine.{Engine}
 use Rattle.engine.specs.declared.plan.Plan.{Plan}
 use Rattle.engine.specs.declared.arrival.Turn.{Turn}
 use Rattle.engine.specs.declared.arrival.Turn.the-variants.{Send, Wait, End}

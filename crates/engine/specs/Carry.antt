@@ -1,9 +1,9 @@
 -- Plans carried out: what a call gives that takes no bytes, with the reply store afterwards; and plans for what was sent.
 use Prim.Native.Nat.{ℕ}
 use mathlib.Core.List.{List}
-use mathlib.Core.Bool.{Bool, true, false}
+use mathlib.Core.Bool.{Bool, false}
 use Rattle.base.specs.Pick.{pick}
-use Rattle.connection.specs.Send.{front}
+use Rattle.connection.specs.Send.{Sending as Replying, sendBytes, sentInto, front}
 use Rattle.connection.specs.Peer.{verifiedPeer}
 use Rattle.connection.specs.declared.peer.Peer.{Peer}
 use Rattle.connection.specs.declared.send.Sent.{Sent}
@@ -13,15 +13,15 @@ use Rattle.outgoing.specs.declared.body.Outgoing.{Outgoing}
 use Rattle.outgoing.specs.declared.body.Packet.{Packet}
 use Rattle.outgoing.specs.declared.body.Next.{Next}
 use Rattle.outgoing.specs.declared.body.Next.the-variants as next
-use Rattle.engine.specs.Model.{Stores, Stepped, stepped, withReply, engineWith}
+use Rattle.model.specs.Model.{Stores, Stepped, stepped, withReply, engineWith}
 use Rattle.engine.specs.Plan.{smallBytes, plan, endsPlan, asksPlan, codePlan}
-use Rattle.engine.specs.declared.server.Operation.{Operation}
-use Rattle.engine.specs.declared.server.Operation.the-variants.{Nothing, Sending}
-use Rattle.engine.specs.declared.server.Await.the-variants as await
-use Rattle.engine.specs.declared.server.Engine.{Engine}
-use Rattle.engine.specs.declared.server.Request.the-variants as request
-use Rattle.engine.specs.declared.server.Outcome.the-variants as outcome
-use Rattle.engine.specs.declared.server.Took.{Took}
+use Rattle.model.specs.declared.server.Operation.{Operation}
+use Rattle.model.specs.declared.server.Operation.the-variants.{Nothing, Sending}
+use Rattle.model.specs.declared.server.Await.the-variants as await
+use Rattle.model.specs.declared.server.Engine.{Engine}
+use Rattle.model.specs.declared.server.Request.the-variants as request
+use Rattle.model.specs.declared.server.Outcome.the-variants as outcome
+use Rattle.model.specs.declared.server.Took.{Took}
 use Rattle.engine.specs.declared.plan.Plan.{Plan}
 use Rattle.engine.specs.declared.plan.Small.the-variants.{Silent}
 
@@ -48,6 +48,14 @@ unfoldable pub sentPlan : Engine → Peer → Sent → Plan
 sentPlan e p sent.TooLarge = endsPlan e p 7
 sentPlan e p (sent.Reply n) =
     plan (engineWith (e .settings) p Nothing await.Taken 0 (e .length)) (outcome.Reply n) Silent
+
+-- the same, by what sending gave
+abbrev pub sentBy : Engine → Peer → Replying → Written
+sentBy e p z = written (tookBy (sentPlan e p (z .answer))) (z .reply)
+
+-- a reply with headers, after some fields
+unfoldable pub repliesBy : Engine → Peer → ℕ → List ℕ → List ℕ → List ℕ → Written
+repliesBy e p code fields hs y = sentBy e p (sentInto (sendBytes (p .«remote_max_packet_length») code fields hs) y)
 
 -- the operation after a packet of an object
 abbrev pub sendingOn : Packet → Bool → Bool → Bool → Operation

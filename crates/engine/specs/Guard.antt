@@ -3,10 +3,10 @@ use Prim.Native.Nat.{ℕ}
 use mathlib.Core.Bool.{Bool, _&&_, _||_}
 use lib.Dec.{ltb, leb}
 use Rattle.base.specs.Pick.{pick}
-use Rattle.engine.specs.Model.{limitOf, sound, awaited}
-use Rattle.engine.specs.declared.server.Engine.{Engine}
-use Rattle.engine.specs.declared.server.Outcome.the-variants as outcome
-use Rattle.engine.specs.declared.server.Took.{Took}
+use Rattle.model.specs.Model.{limitOf, sound, awaited}
+use Rattle.model.specs.declared.server.Engine.{Engine}
+use Rattle.model.specs.declared.server.Outcome.the-variants as outcome
+use Rattle.model.specs.declared.server.Took.{Took}
 
 -- a lent store is too short, by the lengths of packet, headers, body and reply
 unfoldable pub shortBy : ℕ → ℕ → ℕ → ℕ → ℕ → Bool

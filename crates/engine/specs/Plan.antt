@@ -9,17 +9,17 @@ use Rattle.packet.specs.declared.opcode.Opcode.{Opcode}
 use Rattle.connection.specs.Send.{front}
 use Rattle.connection.specs.declared.peer.Peer.{Peer}
 use Rattle.incoming.specs.declared.gather.Gathered.{Gathered}
-use Rattle.engine.specs.Model.{Stores, Done, done, withReply, engineWith, headersRequest, putBody}
-use Rattle.engine.specs.declared.server.Operation.{Operation}
-use Rattle.engine.specs.declared.server.Operation.the-variants.{Nothing, Putting, Getting, Gathering as GatheringOp}
-use Rattle.engine.specs.declared.server.Await.{Await}
-use Rattle.engine.specs.declared.server.Await.the-variants as await
-use Rattle.engine.specs.declared.server.Body.{Body}
-use Rattle.engine.specs.declared.server.Engine.{Engine}
-use Rattle.engine.specs.declared.server.Request.{Request}
-use Rattle.engine.specs.declared.server.Request.the-variants as request
-use Rattle.engine.specs.declared.server.Outcome.{Outcome}
-use Rattle.engine.specs.declared.server.Outcome.the-variants as outcome
+use Rattle.model.specs.Model.{Stores, Done, done, withReply, engineWith, headersRequest, putBody}
+use Rattle.model.specs.declared.server.Operation.{Operation}
+use Rattle.model.specs.declared.server.Operation.the-variants.{Nothing, Putting, Getting, Gathering as GatheringOp}
+use Rattle.model.specs.declared.server.Await.{Await}
+use Rattle.model.specs.declared.server.Await.the-variants as await
+use Rattle.model.specs.declared.server.Body.{Body}
+use Rattle.model.specs.declared.server.Engine.{Engine}
+use Rattle.model.specs.declared.server.Request.{Request}
+use Rattle.model.specs.declared.server.Request.the-variants as request
+use Rattle.model.specs.declared.server.Outcome.{Outcome}
+use Rattle.model.specs.declared.server.Outcome.the-variants as outcome
 use Rattle.engine.specs.declared.plan.Small.{Small}
 use Rattle.engine.specs.declared.plan.Small.the-variants.{Silent, Byte, Grant}
 use Rattle.engine.specs.declared.plan.Plan.{Plan}

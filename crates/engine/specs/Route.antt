@@ -24,15 +24,15 @@ use Rattle.connection.specs.Peer.{limited}
 use Rattle.connection.specs.declared.peer.Challenge.{Challenge}
 use Rattle.connection.specs.declared.peer.Challenge.the-variants.{Stored, Absent}
 use Rattle.connection.specs.declared.peer.Peer.{Peer}
-use Rattle.engine.specs.Model.{Stores, Done, withGathered, headersIn, responseIn, userIn, nothingGathered, gathers, sendsNext, Rejection, admits, rejects, rejection, drains, confirms, unknownByte, busy}
+use Rattle.model.specs.Model.{Stores, Done, withGathered, headersIn, responseIn, userIn, nothingGathered, gathers, sendsNext, Rejection, admits, rejects, rejection, drains, confirms, unknownByte, busy}
 use Rattle.engine.specs.Plan.{planned, wantsPlan, asksPlan, endsPlan, codePlan, putPlan, getPlan, headersPlan}
-use Rattle.engine.specs.declared.server.Operation.{Operation}
-use Rattle.engine.specs.declared.server.Operation.the-variants.{Nothing, Putting, Getting, Sending, Gathering as GatheringOp, Connecting, Draining}
-use Rattle.engine.specs.declared.server.Await.{Await}
-use Rattle.engine.specs.declared.server.Await.the-variants as await
-use Rattle.engine.specs.declared.server.Engine.{Engine}
-use Rattle.engine.specs.declared.server.Request.{Request}
-use Rattle.engine.specs.declared.server.Request.the-variants as request
+use Rattle.model.specs.declared.server.Operation.{Operation}
+use Rattle.model.specs.declared.server.Operation.the-variants.{Nothing, Putting, Getting, Sending, Gathering as GatheringOp, Connecting, Draining}
+use Rattle.model.specs.declared.server.Await.{Await}
+use Rattle.model.specs.declared.server.Await.the-variants as await
+use Rattle.model.specs.declared.server.Engine.{Engine}
+use Rattle.model.specs.declared.server.Request.{Request}
+use Rattle.model.specs.declared.server.Request.the-variants as request
 use Rattle.engine.specs.declared.plan.Plan.{Plan}
 use Rattle.engine.specs.declared.connecting.Answered.{Answered}
 use Rattle.engine.specs.declared.connecting.Answered.the-variants.{Missing, User}

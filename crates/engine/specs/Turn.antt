@@ -6,13 +6,13 @@ use lib.Dec.{eqb}
 use Rattle.base.specs.Pick.{pick}
 use Rattle.outgoing.specs.Outgoing.{Made}
 use Rattle.outgoing.specs.declared.body.Outgoing.{Outgoing}
-use Rattle.engine.specs.Model.{Stores, Done, engineWith, wants, ends, awaited, sendsNext}
+use Rattle.model.specs.Model.{Stores, Done, engineWith, wants, ends, awaited, sendsNext}
 use Rattle.engine.specs.Carry.{packetPlan}
-use Rattle.engine.specs.declared.server.Operation.{Operation}
-use Rattle.engine.specs.declared.server.Operation.the-variants.{Nothing, Putting, Getting, Sending, Gathering as GatheringOp, Connecting, Draining}
-use Rattle.engine.specs.declared.server.Engine.{Engine}
-use Rattle.engine.specs.declared.server.Outcome.the-variants as outcome
-use Rattle.engine.specs.declared.server.Took.{Took}
+use Rattle.model.specs.declared.server.Operation.{Operation}
+use Rattle.model.specs.declared.server.Operation.the-variants.{Nothing, Putting, Getting, Sending, Gathering as GatheringOp, Connecting, Draining}
+use Rattle.model.specs.declared.server.Engine.{Engine}
+use Rattle.model.specs.declared.server.Outcome.the-variants as outcome
+use Rattle.model.specs.declared.server.Took.{Took}
 use Rattle.engine.specs.declared.plan.Plan.{Plan}
 use Rattle.engine.specs.declared.arrival.Turn.{Turn}
 use Rattle.engine.specs.declared.arrival.Turn.the-variants.{Send, Wait, End}

@@ -1,26 +1,29 @@
 // Carrying out a plan: the small reply is written, and the rest handed back. Plans for what the lower layers sent.
 ghost use mathlib.Core.Path.{_≡_};
-ghost use Prim.Native.Nat.{_≤_};
+ghost use mathlib.Core.List.{[]};
+ghost use Prim.Native.Nat.{_≤_, _<_};
 ghost use lib.ListN.{length};
-ghost use Rattle.connection.specs.Send.{front};
+ghost use Rattle.connection.specs.Send.{fieldsOf, front};
 ghost use Rattle.engine.specs.Plan.{smallBytes};
-ghost use Rattle.engine.specs.Carry.{tookBy, written, carried, sentPlan, sendingOn, packetPlan};
+ghost use Rattle.engine.specs.Carry.{tookBy, written, carried, sentPlan, repliesBy, sendingOn, packetPlan};
 use crate::plan::Plan;
 use crate::plan::Small;
 use crate::plan::asks;
 use crate::plan::code;
 use crate::plan::ends;
 use crate::plan::engine_with;
-use crate::server::Await;
-use crate::server::Engine;
-use crate::server::Operation;
-use crate::server::Outcome;
-use crate::server::Request;
-use crate::server::Took;
 use connection::peer::Peer;
 use connection::send::Sent;
 use connection::send::put_continue;
 use connection::send::put_reply_code;
+use connection::send::send;
+use connection::send::send_connect;
+use model::server::Await;
+use model::server::Engine;
+use model::server::Operation;
+use model::server::Outcome;
+use model::server::Request;
+use model::server::Took;
 use outgoing::body::Next;
 use outgoing::body::Packet;
 
@@ -81,6 +84,33 @@ pub fn sent_plan(e: Engine, peer: Peer, sent: Sent) -> Plan
             small: Small::Silent,
         },
     }
+}
+
+pub fn wide16(n: u16) -> usize
+    ensures { λ r. ⌜ (r ≡ n) × (r < 65536) ⌝ }
+{
+    n as usize
+}
+
+// A reply with headers.
+pub fn sends(e: Engine, peer: Peer, code: u8, header_bytes: &[u8], reply: &mut [u8]) -> Took
+    requires { ⌜ 65535 ≤ length (now reply) ⌝ }
+    ensures { λ r. ⌜ written r (now (reply .exit)) ≡ repliesBy e peer code [] (now («header_bytes» .entry)) (now (reply .entry)) ⌝ }
+{
+    let remote = wide16(peer.remote_max_packet_length);
+    let sent = send(reply, remote, code, header_bytes);
+    took(sent_plan(e, peer, sent))
+}
+
+// A reply with Connect's fields and headers.
+pub fn sends_connect(e: Engine, peer: Peer, code: u8, header_bytes: &[u8], reply: &mut [u8]) -> Took
+    requires { ⌜ 65535 ≤ length (now reply) ⌝ }
+    ensures { λ r. ⌜ written r (now (reply .exit)) ≡ repliesBy e peer code (fieldsOf (e .settings .«max_packet_length»)) (now («header_bytes» .entry)) (now (reply .entry)) ⌝ }
+{
+    let remote = wide16(peer.remote_max_packet_length);
+    let limit = e.settings.max_packet_length;
+    let sent = send_connect(reply, remote, code, limit, header_bytes);
+    took(sent_plan(e, peer, sent))
 }
 
 // The operation after a packet of an object.

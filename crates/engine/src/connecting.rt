@@ -1,21 +1,20 @@
 // A Connect packet: the peer's limit is set, and the password asked for where one is required.
 ghost use mathlib.Core.Path.{_≡_};
 ghost use mathlib.Core.Option.{some};
-ghost use Prim.Native.Nat.{_≤_};
 ghost use lib.ListN.{length};
 ghost use Rattle.packet.specs.Header.{readHeaders};
 ghost use Rattle.packet.specs.Packet.{requestOf};
-ghost use Rattle.engine.specs.Model.{headersIn, placedAt};
+ghost use Rattle.model.specs.Model.{headersIn, placedAt};
 ghost use Rattle.engine.specs.Route.{Below, answeredBy, verifiesPlan, limitedPlan, connectPlan};
 use crate::plan::Plan;
 use crate::plan::asks;
-use crate::server::Await;
-use crate::server::Engine;
-use crate::server::Operation;
-use crate::server::Request;
 use connection::peer::Challenge;
 use connection::peer::Peer;
 use connection::peer::limited;
+use model::server::Await;
+use model::server::Engine;
+use model::server::Operation;
+use model::server::Request;
 use packet::auth::DigestResponse;
 use packet::auth::read_response;
 use packet::header::first_header;
@@ -31,7 +30,7 @@ pub enum Answered {
 }
 
 // A place in a part of the packet, as a place in the packet.
-fn placed(at: usize, found: Found) -> Found
+pub fn placed(at: usize, found: Found) -> Found
     requires { ⌜ Below at found ⌝ }
     ensures { λ r. ⌜ r ≡ placedAt at found ⌝ }
 {

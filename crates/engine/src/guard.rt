@@ -1,14 +1,14 @@
 // Which calls are refused, decided by the state and the lengths of the lent stores: 10 where a store is short, then 9 where the state is
 // none that a call can leave, or where another call is awaited.
 ghost use mathlib.Core.Path.{_≡_};
-ghost use Rattle.engine.specs.Model.{awaited, sound, soundGathered, soundOutgoing, soundOperation};
+ghost use Rattle.model.specs.Model.{awaited, sound, soundGathered, soundOutgoing, soundOperation};
 ghost use Rattle.engine.specs.Guard.{shortBy, refusedBy, refusal};
-use crate::server::Await;
-use crate::server::Engine;
-use crate::server::Operation;
-use crate::server::Outcome;
-use crate::server::Took;
 use incoming::gather::Gathered;
+use model::server::Await;
+use model::server::Engine;
+use model::server::Operation;
+use model::server::Outcome;
+use model::server::Took;
 use outgoing::body::Chunk;
 use outgoing::body::Outgoing;
 

@@ -1,42 +1,55 @@
 // The host's answers to the engine's requests.
 ghost use mathlib.Core.Path.{_≡_};
-ghost use mathlib.Core.Bool.{_||_};
-ghost use Prim.Native.Nat.{_≤_, _<_};
+ghost use mathlib.Core.Bool.{_||_, _&&_};
+ghost use Prim.Native.Nat.{_≤_};
 ghost use lib.ListN.{length};
 ghost use Rattle.digest.specs.Md5.{octets16};
 ghost use Rattle.packet.specs.AuthWrite.{given};
 ghost use Rattle.packet.specs.Header.{bytesOf};
 ghost use Rattle.connection.specs.Send.{fieldsOf, sendBytes, sending, sentInto};
 ghost use Rattle.connection.specs.Connect.{challengeHeader};
+ghost use Rattle.connection.specs.Pieces.{credentialsOf};
 ghost use Rattle.outgoing.specs.Outgoing.{nextPacket};
 ghost use Rattle.engine.specs.Carry.{written, packetSent, objectWith, passwordPlan};
-ghost use Rattle.engine.specs.Model.{stepped, stores, acknowledgeStep, bodyFailedStep, bodyStep, objectStep, nonceStep, passwordStep, optionsOf, realmOf, badHeaders, capacityOf};
+ghost use Rattle.model.specs.Model.{stepped, stores, acknowledgeStep, bodyFailedStep, bodyStep, objectStep, nonceStep, passwordStep, replyStep, credentialsStep, optionsOf, realmOf, badHeaders, badReply, capacityOf};
+ghost use Rattle.engine.specs.Accept.{repliedPeer};
+use crate::accept::connect_answer;
+use crate::accept::connect_sends;
 use crate::carry::carry_out;
 use crate::carry::packet_plan;
+use crate::carry::sends;
 use crate::carry::sent_plan;
 use crate::carry::took;
+use crate::carry::wide16;
+use crate::guard::awaited;
 use crate::guard::refuse;
 use crate::guard::refused;
+use crate::last::first_id;
 use crate::last::is_right;
+use crate::last::last_from;
 use crate::plan::Plan;
 use crate::plan::asks;
 use crate::plan::code;
-use crate::server::Await;
-use crate::server::Engine;
-use crate::server::Operation;
-use crate::server::Request;
-use crate::server::Settings;
-use crate::server::Took;
 use base::copy_into;
 use connection::connect::challenge_reply;
+use connection::peer::Peer;
 use connection::peer::challenged;
+use connection::peer::disconnected;
 use connection::peer::verified;
 use connection::send::Sent;
 use digest::md5::Octets16;
+use model::server::Await;
+use model::server::Engine;
+use model::server::Operation;
+use model::server::Request;
+use model::server::Settings;
+use model::server::Took;
 use outgoing::body::Outgoing;
 use outgoing::body::body_given;
 use outgoing::body::next_packet;
+use packet::auth::is_long;
 use packet::header::is_canonical;
+use packet::response::is_code;
 
 // An Abort is acknowledged without a code, and gets 0xA0.
 pub fn acknowledge(
@@ -86,12 +99,6 @@ pub fn body_failed(
         return refuse(e, number);
     }
     carry_out(code(e, e.peer, Await::Taken, 0xD0), reply)
-}
-
-fn wide16(n: u16) -> usize
-    ensures { λ r. ⌜ (r ≡ n) × (r < 65536) ⌝ }
-{
-    n as usize
 }
 
 // Header bytes that are too long or not canonical.
@@ -319,4 +326,127 @@ pub fn password(
     let stored = peer.challenge;
     let right = is_right(stored, &packet[..length], has_password, password);
     took(password_plan(e, right))
+}
+
+// Header bytes as above, or a code that is none.
+fn bad_reply(code: u8, header_bytes: &[u8]) -> bool
+    ensures { λ r. ⌜ r ≡ badReply code (now («header_bytes» .entry)) ⌝ }
+{
+    if !is_code(code) {
+        return true;
+    }
+    bad_headers(header_bytes)
+}
+
+// Disconnect closes ids before the reply is made.
+fn replied_peer(e: Engine, packet: &[u8]) -> Peer
+    requires { ⌜ e .peer .count ≤ 64 ⌝ }
+    ensures { λ r. ⌜ r ≡ repliedPeer e (now (packet .entry)) ⌝ }
+{
+    let awaits = e.awaits;
+    if awaited(awaits) != 4 {
+        return e.peer;
+    }
+    disconnected(e.peer, first_id(packet, last_from(packet)))
+}
+
+// A reply to a request that awaits one.
+pub fn reply(
+    e: Engine,
+    code: u8,
+    header_bytes: &[u8],
+    packet: &mut [u8],
+    headers: &mut [u8],
+    body: &mut [u8],
+    reply: &mut [u8],
+) -> Took
+    ensures { λ r. ⌜ stepped r (stores (now (packet .exit)) (now (headers .exit)) (now (body .exit)) (now (reply .exit))) ≡ replyStep e code (now («header_bytes» .entry)) (stores (now (packet .entry)) (now (headers .entry)) (now (body .entry)) (now (reply .entry))) ⌝ }
+{
+    let number = refused(
+        e,
+        packet.len(),
+        headers.len(),
+        body.len(),
+        reply.len(),
+        3,
+        6,
+    );
+    if number != 0 {
+        return refuse(e, number);
+    }
+    if bad_reply(code, header_bytes) {
+        return refuse(e, 8);
+    }
+    let length = e.length;
+    let awaits = e.awaits;
+    if awaited(awaits) == 3 {
+        return connect_answer(e, code, header_bytes, &packet[..length], headers, reply);
+    }
+    let peer = replied_peer(e, &packet[..length]);
+    sends(e, peer, code, header_bytes, reply)
+}
+
+// Whether credentials come with a user id.
+fn both(a: bool, b: bool) -> bool
+    ensures { λ r. ⌜ r ≡ a && b ⌝ }
+{
+    if !a {
+        return false;
+    }
+    b
+}
+
+// Credentials for the peer's challenge, or none: the host's answer to the Connect goes out.
+pub fn credentials(
+    e: Engine,
+    has_credentials: bool,
+    has_user: bool,
+    user: &[u8],
+    password: &[u8],
+    packet: &mut [u8],
+    headers: &mut [u8],
+    body: &mut [u8],
+    reply: &mut [u8],
+) -> Took
+    ensures { λ r. ⌜ stepped r (stores (now (packet .exit)) (now (headers .exit)) (now (body .exit)) (now (reply .exit))) ≡ credentialsStep e (credentialsOf «has_credentials» (given «has_user» (now (user .entry))) (now (password .entry))) (stores (now (packet .entry)) (now (headers .entry)) (now (body .entry)) (now (reply .entry))) ⌝ }
+{
+    let number = refused(
+        e,
+        packet.len(),
+        headers.len(),
+        body.len(),
+        reply.len(),
+        10,
+        10,
+    );
+    if number != 0 {
+        return refuse(e, number);
+    }
+    let operation = e.operation;
+    let Operation::Connecting {
+        code,
+        front,
+        length: kept,
+    } = operation
+    else {
+        return refuse(e, 9);
+    };
+    let named = both(has_credentials, has_user);
+    if is_long(named, user.len()) {
+        return refuse(e, 8);
+    }
+    let length = e.length;
+    connect_sends(
+        e,
+        e.peer,
+        code,
+        front,
+        &packet[..length],
+        &headers[..kept],
+        has_credentials,
+        named,
+        user,
+        password,
+        reply,
+    )
 }

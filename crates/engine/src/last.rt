@@ -1,17 +1,25 @@
 // The last whole packet, read again for an answer that comes later.
 ghost use mathlib.Core.Path.{_≡_};
+ghost use mathlib.Core.Option.{some};
 ghost use Rattle.packet.specs.Header.{first};
 ghost use Rattle.packet.specs.Packet.{requestOf};
 ghost use Rattle.packet.specs.AuthWrite.{given};
-ghost use Rattle.engine.specs.Model.{checks, responseIn, headersIn};
+ghost use Rattle.incoming.specs.Survey.{surveyOf};
+ghost use Rattle.connection.specs.Peer.{idIn, isGiven};
+ghost use Rattle.connection.specs.Pieces.{headersFrom};
+ghost use Rattle.model.specs.Model.{checks, responseIn, headersIn};
 ghost use Rattle.engine.specs.Last.{lastFrom};
 use connection::challenge::first_in;
 use connection::challenge::verify_client;
 use connection::peer::Challenge;
+use connection::peer::ConnectionId;
+use incoming::survey::survey_headers;
 use packet::auth::read_response;
 use packet::packet::Parsed;
 use packet::packet::parse_packet;
 use packet::tlv::Found;
+
+const TARGET: u8 = 0x46;
 
 const AUTHENTICATE_RESPONSE: u8 = 0x4E;
 
@@ -29,6 +37,35 @@ pub fn last_from(q: &[u8]) -> usize
         return q.len();
     };
     headers
+}
+
+// The first ConnectionID from a place on.
+pub fn first_id(s: &[u8], from: usize) -> ConnectionId
+    ensures { λ r. ⌜ r ≡ idIn (first 0xCB (headersFrom (now (s .entry)) from)) ⌝ }
+{
+    let v = survey_headers(s, from);
+    if v.has_id {
+        return ConnectionId::Id(v.id);
+    }
+    ConnectionId::Missing
+}
+
+// Whether it has a Target.
+pub fn has_target(q: &[u8]) -> bool
+    ensures { λ r. ⌜ r ≡ isGiven (first 0x46 (headersIn (requestOf (now (q .entry))))) ⌝ }
+{
+    let Found::At { start: _, end: _ } = first_in(q, last_from(q), TARGET) else {
+        return false;
+    };
+    true
+}
+
+// Whether its first SingleResponseMode is Enable.
+pub fn is_enabling(q: &[u8]) -> bool
+    ensures { λ r. ⌜ r ≡ surveyOf (some (headersIn (requestOf (now (q .entry))))) .enable ⌝ }
+{
+    let v = survey_headers(q, last_from(q));
+    v.enable
 }
 
 // Whether the password is right for the stored challenge and the packet's first AuthenticateResponse.

@@ -1,4 +1,5 @@
 // The server engine: a state machine over lent stores (the source's engine/server.rs).
+pub mod accept;
 pub mod arrival;
 pub mod carry;
 pub mod connecting;
@@ -7,5 +8,4 @@ pub mod host;
 pub mod last;
 pub mod plan;
 pub mod route;
-pub mod server;
 pub mod session;

@@ -1,16 +1,16 @@
 // What to do next, decided without the stores: the state, what the call answers, and a reply of a few bytes where one is due.
 ghost use mathlib.Core.Path.{_≡_};
-ghost use Rattle.engine.specs.Model.{engineWith, putBody, headersRequest};
+ghost use Rattle.model.specs.Model.{engineWith, putBody, headersRequest};
 ghost use Rattle.engine.specs.Plan.{wantsPlan, asksPlan, endsPlan, codePlan, continuePlan, putContinuePlan, putFinalPlan, putPlan, getPlan, headersPlan};
-use crate::server::Await;
-use crate::server::Body;
-use crate::server::Engine;
-use crate::server::Operation;
-use crate::server::Outcome;
-use crate::server::Request;
-use crate::server::Settings;
 use connection::peer::Peer;
 use incoming::gather::Gathered;
+use model::server::Await;
+use model::server::Body;
+use model::server::Engine;
+use model::server::Operation;
+use model::server::Outcome;
+use model::server::Request;
+use model::server::Settings;
 use packet::opcode::Opcode;
 
 // A reply of a few bytes.

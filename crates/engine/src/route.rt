@@ -1,7 +1,7 @@
 // Which way a packet goes, decided without the stores.
 ghost use mathlib.Core.Path.{_≡_};
 ghost use Prim.Native.Nat.{_≤_};
-ghost use Rattle.engine.specs.Model.{nothingGathered, rejection as rejectionOf, drains as drainsOf, confirms as confirmsOf, busy as busyWith};
+ghost use Rattle.model.specs.Model.{nothingGathered, rejection as rejectionOf, drains as drainsOf, confirms as confirmsOf, busy as busyWith};
 ghost use Rattle.engine.specs.Route.{admissionOf, unauthorizedFor, codeRoute, askRoute, drainedBy, rejectedRoute, putRoute, getRoute, headersRoute, dispatchRoute, openRoute, interruptsRoute, continuedRoute, drainingRoute, insideRoute, headingRoute, unreadableRoute, briefPlan, keepOf, kindPlan};
 use crate::plan::Plan;
 use crate::plan::asks;
@@ -11,14 +11,14 @@ use crate::plan::get_plan;
 use crate::plan::headers_plan;
 use crate::plan::put_plan;
 use crate::plan::wants;
-use crate::server::Await;
-use crate::server::Engine;
-use crate::server::Operation;
-use crate::server::Request;
 use connection::peer::is_open;
 use incoming::gather::Gathered;
 use incoming::gather::Keep;
 use incoming::survey::Survey;
+use model::server::Await;
+use model::server::Engine;
+use model::server::Operation;
+use model::server::Request;
 use outgoing::body::Outgoing;
 use packet::opcode::Opcode;
 use packet::opcode::same;

@@ -4,21 +4,21 @@ ghost use lib.Dec.{eqb};
 ghost use Rattle.base.specs.Pick.{pick};
 ghost use Rattle.connection.specs.Peer.{freshPeer};
 ghost use Rattle.engine.specs.Guard.{startNumber};
-ghost use Rattle.engine.specs.Model.{stepped, stores, endStep, startStep, engineWith};
+ghost use Rattle.model.specs.Model.{stepped, stores, endStep, startStep, engineWith};
 use crate::carry::took;
 use crate::guard::is_short;
 use crate::guard::refuse;
 use crate::guard::refused;
 use crate::plan::ends;
 use crate::plan::engine_with;
-use crate::server::Await;
-use crate::server::Engine;
-use crate::server::Operation;
-use crate::server::Outcome;
-use crate::server::Settings;
-use crate::server::Took;
 use connection::peer::Challenge;
 use connection::peer::Peer;
+use model::server::Await;
+use model::server::Engine;
+use model::server::Operation;
+use model::server::Outcome;
+use model::server::Settings;
+use model::server::Took;
 
 // Nothing is open, the counter stands at 1, and the peer's limit is the smallest there is.
 fn fresh_peer() -> Peer
@@ -62,20 +62,19 @@ fn start_number(
     0
 }
 
-// The start: a realm's length is told before it is cut to the settings' room for it.
+// The start: a realm that is longer than the settings have room for is told by its length.
 pub fn start(
     settings: Settings,
-    realm: usize,
     packet: &mut [u8],
     headers: &mut [u8],
     body: &mut [u8],
     reply: &mut [u8],
 ) -> Took
-    ensures { λ r. ⌜ stepped r (stores (now (packet .exit)) (now (headers .exit)) (now (body .exit)) (now (reply .exit))) ≡ startStep settings realm (stores (now (packet .entry)) (now (headers .entry)) (now (body .entry)) (now (reply .entry))) ⌝ }
+    ensures { λ r. ⌜ stepped r (stores (now (packet .exit)) (now (headers .exit)) (now (body .exit)) (now (reply .exit))) ≡ startStep settings (stores (now (packet .entry)) (now (headers .entry)) (now (body .entry)) (now (reply .entry))) ⌝ }
 {
     let number = start_number(
         settings.max_object_size,
-        realm,
+        settings.realm_length,
         packet.len(),
         headers.len(),
         body.len(),

@@ -107,6 +107,24 @@ pub within : (s : List ℕ) (want : ℕ) → Within s (lastValue s want)
 unfolding lastValue
 within s want = within-by s want (tags s) refl
 
+realm-from-within : (s : List ℕ) (ts : List Tag) (at : ℕ) (before : Found) → at + length (writeTags ts) ≡ length s → Within s before
+    → Within s (realmFrom at before ts)
+unfolding realmFrom writeTags
+realm-from-within s [] at before e w = w
+realm-from-within s (t ∷ ts) at before e w =
+    let v = t .value in
+    let l = length-append v (writeTags ts) in
+    realm-from-within s ts (at + 2 + length v) _ (omega arith)
+    (pick-within s (eqb (t .tag) 2 && ltb 0 (length v)) (at + 2) (at + 2 + length v) before (omega arith) (omega arith) w)
+
+realm-within-by : (s : List ℕ) (r : Tags) → tags s ≡ r → Within s (realmIn r)
+realm-within-by s unreadable e = tt
+realm-within-by s (tagList ts) e = realm-from-within s ts 0 place.Missing (let l = ap length (read-write s ts e) in omega arith) tt
+
+pub realm-within : (s : List ℕ) → Within s (realmPlace s)
+unfolding realmPlace
+realm-within s = realm-within-by s (tags s) refl
+
 -- ---- the parts as bytes
 
 -- a value of 16 bytes, or none

@@ -120,7 +120,7 @@ fn options(v: &[u8]) -> u8
 }
 
 // The last realm that is not empty.
-fn realm(v: &[u8]) -> Found
+pub fn realm(v: &[u8]) -> Found
     ensures { λ r. ⌜ r ≡ realmPlace (now (v .entry)) ⌝ }
 {
     let mut at = 0;
@@ -221,7 +221,7 @@ fn tag_len(there: bool, n: usize) -> usize
 }
 
 // Whether a value of n bytes, where it is there, is too long for its length byte.
-fn is_long(there: bool, n: usize) -> bool
+pub fn is_long(there: bool, n: usize) -> bool
     ensures { λ r. ⌜ r ≡ both there (ltb 255 n) ⌝ }
 {
     if !there {

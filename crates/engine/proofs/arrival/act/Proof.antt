@@ -1,7 +1,7 @@
 -- `engine::arrival::act` meets its contract: each way has its plan, and what is known on it meets what the plan requires (proofs/Ready.antt). Assumes nothing.
 use mathlib.Core.Path.{_∙_, sym, ap}
 use native.Mathlib.Omega.{arith}
-use Rattle.engine.specs.Model.{stores}
+use Rattle.model.specs.Model.{stores}
 use Rattle.engine.specs.Plan.{planned}
 use Rattle.engine.specs.declared.plan.Plan.{Plan}
 use Rattle.engine.proofs.Arrivals.{by-route, ready-at}

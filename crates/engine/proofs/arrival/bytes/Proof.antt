@@ -1,8 +1,8 @@
 -- `engine::arrival::bytes` meets its contract. The guard refuses as the model does, and each end of the frame is the model's (proofs/Arrivals.antt). Assumes nothing.
 use mathlib.Core.Path.{ap}
 use native.Mathlib.Omega.{arith}
-use Rattle.engine.specs.Model.{stores, stepped, withPacket, bytesStep}
-use Rattle.engine.specs.declared.server.Took.{Took}
+use Rattle.model.specs.Model.{stores, stepped, withPacket, bytesStep}
+use Rattle.model.specs.declared.server.Took.{Took}
 use Rattle.engine.proofs.Carried.{refused-call}
 use Rattle.engine.proofs.Guards.{going}
 use Rattle.engine.proofs.Arrivals.{framed-call, taken-after, short-took}

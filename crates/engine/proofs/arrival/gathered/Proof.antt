@@ -1,5 +1,5 @@
 -- `engine::arrival::gathered` meets its contract: what `gather` gives is what the model gathers (proofs/Arrivals.antt). Assumes nothing.
-use Rattle.engine.specs.Model.{stores, limitOf}
+use Rattle.model.specs.Model.{stores, limitOf}
 use Rattle.engine.proofs.Guards.{gathered-bounds}
 use Rattle.engine.proofs.Arrivals.{gathered-way, gathered-planned}
 use borrow.Author.Needs.{needs}

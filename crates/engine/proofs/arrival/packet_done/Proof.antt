@@ -3,7 +3,7 @@ use mathlib.Core.Path.{_≡_, sym}
 use native.Mathlib.Omega.{arith}
 use lib.ListN.{length, take}
 use lib.Seq.{length-take-le}
-use Rattle.engine.specs.Model.{stores, engineWith}
+use Rattle.model.specs.Model.{stores, engineWith}
 use Rattle.engine.proofs.Arrivals.{done-call}
 use borrow.Author.Needs.{needs}
 use Rattle.engine.proofs.arrival.packet_done.Statement.{statement}

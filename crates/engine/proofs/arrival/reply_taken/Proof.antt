@@ -1,6 +1,6 @@
 -- `engine::arrival::reply_taken` meets its contract. The guard refuses as the model does, and the plan is the model's step. Assumes nothing.
 use native.Mathlib.Omega.{arith}
-use Rattle.engine.specs.Model.{stores, takenStep}
+use Rattle.model.specs.Model.{stores, takenStep}
 use Rattle.engine.proofs.Carried.{refused-call}
 use Rattle.engine.proofs.Guards.{going}
 use Rattle.engine.proofs.Turns.{taken-call}

@@ -1,7 +1,7 @@
 -- `engine::arrival::turn_plan` meets its contract: each turn that `next_turn` tells has its plan (proofs/Turns.antt). Assumes nothing.
 use mathlib.Core.Path.{_≡_, _∙_, sym, ap, subst}
 use native.Mathlib.Omega.{arith}
-use Rattle.engine.specs.Model.{stores}
+use Rattle.model.specs.Model.{stores}
 use Rattle.engine.specs.Plan.{planned}
 use Rattle.engine.specs.declared.plan.Plan.{Plan}
 use Rattle.engine.specs.declared.arrival.Turn.{Turn}

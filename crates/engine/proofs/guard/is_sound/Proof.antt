@@ -2,7 +2,7 @@
 use borrow.Author.Needs.{needs}
 use native.Mathlib.Omega.{arith}
 use borrow.Author.Tests.{lt-ltb, le-ltb, lt-leb, le-leb}
-use Rattle.engine.specs.Model.{sound}
+use Rattle.model.specs.Model.{sound}
 use Rattle.engine.proofs.guard.is_sound.Statement.{statement}
 use Rattle.engine.proofs.guard.is_sound.Tie as tie
 

@@ -2,8 +2,8 @@
 use borrow.Author.Needs.{needs}
 use native.Mathlib.Omega.{arith}
 use mathlib.Core.Path.{_≡_, sym, ap, _∙_}
-use Rattle.engine.specs.Model.{stores, after, acknowledgeStep}
-use Rattle.engine.specs.declared.server.Await.the-variants as await
+use Rattle.model.specs.Model.{stores, after, acknowledgeStep}
+use Rattle.model.specs.declared.server.Await.the-variants as await
 use Rattle.engine.proofs.Guards.{going}
 use Rattle.engine.proofs.Carried.{refused-call, carried-call}
 use Rattle.engine.proofs.Plans.{code-planned}

@@ -1,7 +1,7 @@
 -- `engine::host::bad_headers` meets its contract. The two tests are those of the definition.
 use borrow.Author.Needs.{needs}
 use borrow.Author.Tests.{lt-ltb, le-ltb}
-use Rattle.engine.specs.Model.{badHeaders}
+use Rattle.model.specs.Model.{badHeaders}
 use Rattle.engine.proofs.host.bad_headers.Statement.{statement}
 use Rattle.engine.proofs.host.bad_headers.Tie as tie
 

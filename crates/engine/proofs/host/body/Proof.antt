@@ -2,11 +2,11 @@
 use borrow.Author.Needs.{needs}
 use native.Mathlib.Omega.{arith}
 use mathlib.Core.Path.{_≡_, sym, ap, _∙_}
-use Rattle.engine.specs.Model.{stores, after, bodyStep, bodyFor, sendsPacket, stepped}
-use Rattle.engine.specs.declared.server.Await.the-variants as await
+use Rattle.model.specs.Model.{stores, after, bodyStep, bodyFor, sendsPacket, stepped}
+use Rattle.model.specs.declared.server.Await.the-variants as await
 use Rattle.engine.proofs.Guards.{going}
 use Rattle.engine.proofs.Carried.{refused-call}
-use Rattle.engine.specs.declared.server.Took.{Took}
+use Rattle.model.specs.declared.server.Took.{Took}
 use Rattle.outgoing.specs.Outgoing.{Made, made, bodyGiven}
 use Rattle.engine.proofs.Objects.{body-other, sending-bounds, body-much, body-goes, packet-sent, packet-call}
 use Rattle.engine.proofs.host.body.Statement.{statement}

@@ -1,6 +1,6 @@
 -- `engine::plan::engine_with` meets its contract: it lists the fields that the definition lists. Assumes nothing.
 use borrow.Author.Needs.{needs}
-use Rattle.engine.specs.Model.{engineWith}
+use Rattle.model.specs.Model.{engineWith}
 use Rattle.engine.proofs.plan.engine_with.Statement.{statement}
 use Rattle.engine.proofs.plan.engine_with.Tie as tie
 

@@ -2,7 +2,7 @@
 use mathlib.Core.Path.{_≡_, _∙_, sym}
 use native.Mathlib.Omega.{arith}
 use lib.ListN.{length}
-use Rattle.engine.specs.Model.{rejection}
+use Rattle.model.specs.Model.{rejection}
 use borrow.Author.Needs.{needs}
 use Rattle.engine.proofs.route.rejection.Statement.{statement}
 use Rattle.engine.proofs.route.rejection.Tie as tie

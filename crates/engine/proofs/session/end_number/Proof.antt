@@ -1,13 +1,23 @@
--- `engine::session::end_number` meets its contract. The two arms are those of the definition.
+-- `engine::session::end_number` meets its contract: the test is the definition's. Assumes nothing.
+use Prim.Native.Nat.{ℕ}
+use mathlib.Core.Path.{_≡_, sym}
+use lib.Dec.{eqb}
 use borrow.Author.Tests.{eq-eqb, ne-eqb}
+use Rattle.base.specs.Pick.{pick}
 use Rattle.engine.proofs.session.end_number.Statement.{statement}
 use Rattle.engine.proofs.session.end_number.Tie as tie
 
+between : (begun : ℕ) → begun ≡ 0 → _≡_ {A = ℕ} (pick (eqb begun 0) 1 2) 1
+between begun e = simp (eq-eqb begun 0 e)
+
+inside : (begun : ℕ) → (begun ≡ 0 → ⊥) → _≡_ {A = ℕ} (pick (eqb begun 0) 1 2) 2
+inside begun n = simp (ne-eqb begun 0 n)
+
 returns : tie.Need-returns
-returns c = rw (eq-eqb _ _ (c .if1 .taken))
+returns c = sym (between _ (c .if1 .taken))
 
 returns-2 : tie.Need-returns-2
-returns-2 c = rw (ne-eqb _ _ (c .if1 .left))
+returns-2 c = sym (inside _ (c .if1 .left))
 
 pub end-number-spec : {M : Type 1} → statement M
 end-number-spec = tie.close (tie.spec returns returns-2)

@@ -4,8 +4,8 @@ use native.Mathlib.Omega.{arith}
 use mathlib.Core.Path.{_≡_, refl, sym, ap, _∙_}
 use Prim.Native.Nat.{ℕ}
 use Rattle.engine.specs.Plan.{endsPlan}
-use Rattle.engine.specs.Model.{stores, after, endStep}
-use Rattle.engine.specs.declared.server.Await.the-variants as await
+use Rattle.model.specs.Model.{stores, after, endStep}
+use Rattle.model.specs.declared.server.Await.the-variants as await
 use Rattle.engine.proofs.Guards.{going}
 use Rattle.engine.proofs.Carried.{refused-call, silent-call}
 use Rattle.engine.proofs.Plans.{ends-planned}

@@ -1,0 +1,299 @@
+-- Replies, and the host's answer to a Connect: what the code does by the last packet and two stores is the model's step. Assumes nothing.
+use mathlib.Core.Path.{_≡_, refl, sym, ap, ap₂, _∙_}
+use mathlib.Core.List.{List, [], _∷_}
+use mathlib.Core.Bool.{Bool, true, false, _&&_, _||_, not}
+use mathlib.Core.Option.{Option, none, some}
+use Prim.Native.Nat.{ℕ, _≤_}
+use denote.Enum.Declared.{tagOf}
+use types.Run.{OneOf, miss}
+use Rattle.digest.specs.declared.md5.Octets16.{Octets16}
+use borrow.Author.Tests.{eq-eqb, ne-eqb, leb-true}
+use native.Mathlib.Omega.{arith}
+use lib.ListN.{length, take, length-take}
+use lib.Dec.{eqb, ltb}
+use Rattle.base.specs.Pick.{pick, both}
+use Rattle.packet.specs.Codes.{isCode, isSuccess}
+use Rattle.packet.specs.Header.{Header, readHeaders, first, firstPlace, allBytes}
+use Rattle.packet.specs.Auth.{Challenge as PeerChallenge}
+use Rattle.packet.specs.AuthRead.{challengeRead}
+use Rattle.packet.specs.AuthWrite.{given, overlong}
+use Rattle.packet.specs.declared.tlv.Found.{Found}
+use Rattle.packet.specs.declared.auth.DigestChallenge.{DigestChallenge}
+use Rattle.packet.specs.declared.auth.DigestChallenge.the-variants as challenge
+use Rattle.journal.specs.Calls.{Credentials}
+use Rattle.incoming.specs.Survey.{surveyOf}
+use Rattle.connection.specs.Send.{Sending as Sent, fieldsOf, sendBytes, sentInto, front}
+use Rattle.connection.specs.Peer.{idIn, isGiven, openedFor, openedBy as peerOpened, openingOf, frontBy, answerBy, disconnectedPeer, disconnectedBy}
+use Rattle.connection.specs.Connect.{answeredChallenge, connectHeaders}
+use Rattle.connection.specs.Pieces.{headersFrom, realmOf, answeredIn, idGiven, credentialsOf}
+use Rattle.connection.specs.declared.peer.Peer.{Peer}
+use Rattle.connection.specs.declared.peer.ConnectionId.{ConnectionId}
+use Rattle.connection.specs.declared.peer.Answer.{Answer}
+use Rattle.connection.proofs.ByNumbers.{opened-by, disconnected-by}
+use Rattle.model.specs.Model.{Stores, Stepped, stepped, Done, after, refuse, badHeaders, badReply, replyStep, longUser, credentialsWith, soundOperation, lastPacket, lastHeaders, srmAsked, sends, sendsConnect, connectSends, frontFor, listOf, realmIn, connectChallenged, connectOpened, connectAnswer, replyAnswer, awaited}
+use Rattle.engine.specs.Plan.{asksPlan}
+use Rattle.engine.specs.Guard.{refusal}
+use Rattle.engine.specs.Carry.{Written, written, within, tookBy, sentPlan, repliesBy}
+use Rattle.engine.specs.Last.{lastFrom}
+use Rattle.engine.specs.Accept.{Answering, answering, among, leaving, headersOf, srmAskedBy, connectReplies, acceptedHeaders, answerFor, challengedBy, openedBy, acceptedBy, repliedPeer}
+use Rattle.model.specs.declared.server.Operation.{Operation}
+use Rattle.model.specs.declared.server.Operation.the-variants.{Nothing, Putting, Getting, Sending, Gathering as GatheringOp, Connecting, Draining}
+use Rattle.model.specs.declared.server.Await.the-variants as await
+use Rattle.model.specs.declared.server.Engine.{Engine}
+use Rattle.model.specs.declared.server.Request.the-variants as request
+use Rattle.model.specs.declared.server.Took.{Took}
+use Rattle.engine.specs.declared.plan.Plan.{Plan}
+use Rattle.engine.proofs.Carried.{took-sent, sent-written}
+use Rattle.model.proofs.server.Operation.{the-type}
+use Rattle.engine.proofs.Guards.{Goes, or-false}
+use Rattle.engine.proofs.Objects.{good-length}
+use Rattle.engine.proofs.LastPacket.{last-headers}
+
+-- ---- the id in front
+
+front-by : (p : Peer) (v t : Option (List ℕ)) → frontBy p (idIn v) (isGiven t) ≡ frontFor p v t
+front-by p (some v) t = refl
+front-by p none none = refl
+front-by p none (some t) = refl
+
+-- ---- what the functions of the code found
+
+-- the peer when a reply is made
+module _ (e : Engine) (q : List ℕ) (m : ℕ) (now : m ≡ awaited (e .awaits)) where
+  pub replied-closing : m ≡ 4 → (n : ℕ) (i : ConnectionId) (p : Peer) → n ≡ lastFrom q → i ≡ idIn (first 0xCB (headersFrom q n))
+      → p ≡ disconnectedBy (e .peer) i → p ≡ repliedPeer e q
+  unfolding repliedPeer
+  replied-closing k n i p h c w =
+      w
+      ∙ ap (λ (i : ConnectionId). disconnectedBy (e .peer) i) (c ∙ ap (λ (n : ℕ). idIn (first 0xCB (headersFrom q n))) h ∙ ap (λ (hs : List Header). idIn (first 0xCB hs)) (last-headers q))
+      ∙ sym (disconnected-by (e .peer) (first 0xCB (headersOf q)))
+      ∙ sym (simp (eq-eqb (awaited (e .awaits)) 4 (sym now ∙ k)))
+
+  pub replied-other : (m ≡ 4 → ⊥) → e .peer ≡ repliedPeer e q
+  unfolding repliedPeer
+  replied-other k = sym (simp (ne-eqb (awaited (e .awaits)) 4 (λ (z : awaited (e .awaits) ≡ 4). k (now ∙ z))))
+
+-- the challenge that is answered, or none
+pub challenge-known : (q : List ℕ) (n : ℕ) (d x : DigestChallenge) → n ≡ lastFrom q → d ≡ answeredIn (headersFrom q n) → d ≡ x
+    → x ≡ answeredIn (headersOf q)
+challenge-known q n d x h k i = sym i ∙ k ∙ ap (λ (hs : List Header). answeredIn hs) (ap (λ (m : ℕ). headersFrom q m) h ∙ last-headers q)
+
+-- the bytes of the reply to a Connect
+module _ (e : Engine) (p : Peer) (code : ℕ) (f : ConnectionId) (q hs y : List ℕ) where
+  abbrev made : Option Credentials → ℕ → List Header → Bool → Sent
+  made c n r b =
+      sentInto (sendBytes n code (fieldsOf (e .settings .«max_packet_length»)) (allBytes (connectHeaders (idGiven f) r (headersFrom hs 0) c b))) y
+
+  pub accepted-sent : (c : Option Credentials) (n m : ℕ) (b : Bool) (z : Sent) (x : Plan) (r : Took) → z ≡ made c n (headersFrom q m) b → n ≡ p .«remote_max_packet_length» → m ≡ lastFrom q
+      → b ≡ srmAskedBy e q → x ≡ sentPlan e p (z .answer) → r ≡ tookBy x
+      → written r (z .reply) ≡ connectReplies e p code (acceptedHeaders e f q hs c) y
+  unfolding acceptedHeaders
+  accepted-sent c n m b z x r h i j k l t =
+      sent-written e p code (fieldsOf (e .settings .«max_packet_length»)) (acceptedHeaders e f q hs c) y n z x r
+      (h ∙ ap₂ (λ (r : List Header) (b : Bool). made c n r b) (ap (λ (m : ℕ). headersFrom q m) j ∙ last-headers q) k) i l t
+
+  pub not-challenged : (h : List ℕ) (w : Written) → challenge.Unreadable ≡ answeredIn (headersOf q) → w ≡ connectReplies e p code (acceptedHeaders e f q hs none) y
+      → leaving h w ≡ challengedBy (answeredIn (headersOf q)) e p code f hs q h y
+  not-challenged h w k i =
+      ap (λ (w : Written). leaving h w) i ∙ ap (λ (d : DigestChallenge). challengedBy d e p code f hs q h y) k
+
+  pub challenged : (h z : List ℕ) (n : Octets16) (u r : Bool) (a m : Found) (x : Plan) (t : Took) → challenge.Challenge n u r a ≡ answeredIn (headersOf q)
+      → t ≡ tookBy x → x ≡ asksPlan e p (Connecting code f (length hs)) await.Credentials (request.Credentials n u r m)
+      → m ≡ realmIn q (firstPlace 0x4D q 7) → z ≡ front hs h
+      → answering t z y ≡ challengedBy (answeredIn (headersOf q)) e p code f hs q h y
+  challenged h z n u r a m x t k i j l o =
+      ap₂ (λ (t : Took) (z : List ℕ). answering t z y)
+      (i ∙ ap (λ (x : Plan). tookBy x) (j ∙ ap (λ (m : Found). asksPlan e p (Connecting code f (length hs)) await.Credentials (request.Credentials n u r m)) l)) o
+      ∙ ap (λ (d : DigestChallenge). challengedBy d e p code f hs q h y) k
+
+-- the ways of the answer
+module _ (e : Engine) (code : ℕ) (hs q h y : List ℕ) (b : Bool) (success : b ≡ isSuccess code) where
+  pub answer-declined : b ≡ false → (w : Written) → w ≡ connectReplies e (e .peer) code hs y → leaving h w ≡ acceptedBy e code hs q h y
+  unfolding acceptedBy
+  answer-declined k w i = ap (λ (w : Written). leaving h w) i ∙ sym (simp (sym success ∙ k))
+
+  module _ (k : b ≡ true) (a : Answer) (opens : a ≡ answerFor e hs q) where
+    answer-by : (x : Answering) → x ≡ openedBy a e code hs q h y → x ≡ acceptedBy e code hs q h y
+    unfolding acceptedBy
+    answer-by x i = i ∙ ap (λ (a : Answer). openedBy a e code hs q h y) opens ∙ sym (simp (sym success ∙ k))
+
+    pub answer-full : a .opening .full ≡ true → (w : Written) → w ≡ connectReplies e (e .peer) 0x53 [] y → leaving h w ≡ acceptedBy e code hs q h y
+    answer-full f w i = answer-by (leaving h w) (ap (λ (w : Written). leaving h w) i ∙ sym (simp f))
+
+    pub answer-accepted : a .opening .full ≡ false → (x : Answering) → x ≡ challengedBy (answeredIn (headersOf q)) e (a .opening .peer) code (a .front) hs q h y
+        → x ≡ acceptedBy e code hs q h y
+    answer-accepted f x i = answer-by x (i ∙ sym (simp f))
+
+module _ (e : Engine) (s : Stores) where
+  -- ---- a reply
+
+  pub replies-plain : (p : Peer) (code : ℕ) (hs : List ℕ) → within (repliesBy e p code [] hs (s .reply)) s ≡ after 0 (sends e p code hs s)
+  unfolding repliesBy sends
+  replies-plain p code hs = took-sent e p (sendBytes (p .«remote_max_packet_length») code [] hs) _ s refl
+
+  pub replies-connect : (p : Peer) (code : ℕ) (hs : List ℕ) → within (connectReplies e p code hs (s .reply)) s ≡ after 0 (sendsConnect e p code hs s)
+  unfolding repliesBy sendsConnect
+  replies-connect p code hs =
+      took-sent e p (sendBytes (p .«remote_max_packet_length») code (fieldsOf (e .settings .«max_packet_length»)) hs) _ s refl
+
+  -- ---- a Connect that the host accepted
+
+  pub accepted-replies : (p : Peer) (code : ℕ) (f : ConnectionId) (hs : List ℕ) (c : Option Credentials)
+      → within (connectReplies e p code (acceptedHeaders e f (lastPacket e s) hs c) (s .reply)) s
+      ≡ after 0 (connectSends e p code f (listOf (readHeaders hs 0)) c s)
+  unfolding acceptedHeaders connectSends lastHeaders
+  accepted-replies p code f hs c = replies-connect p code (acceptedHeaders e f (lastPacket e s) hs c)
+
+  module _ (code : ℕ) (hs : List ℕ) where
+    challenged-is : (p : Peer) (f : ConnectionId) (c : Option PeerChallenge) (x : Found)
+        → among (challengedBy (challengeRead c x) e p code f hs (lastPacket e s) (s .headers) (s .reply)) s
+        ≡ after 0 (connectChallenged e p code f hs c s)
+    unfolding asksPlan
+    challenged-is p f none x = accepted-replies p code f hs none
+    challenged-is p f (some c) x = refl
+
+    opened-is : (o : Option Peer) (f : ConnectionId)
+        → among (openedBy (record { opening = openingOf (e .peer) o; front = f }) e code hs (lastPacket e s) (s .headers) (s .reply)) s
+        ≡ after 0 (connectOpened e o code f hs s)
+    unfolding answeredIn lastHeaders
+    opened-is none f = replies-connect (e .peer) 0x53 []
+    opened-is (some p) f =
+        challenged-is p f (answeredChallenge (lastHeaders e s)) (realmOf (first 0x4D (lastHeaders e s)))
+
+    answer-opened : (srm : Bool) (v t : Option (List ℕ))
+        → among (openedBy (answerBy (e .peer) srm (idIn v) (isGiven t)) e code hs (lastPacket e s) (s .headers) (s .reply)) s
+        ≡ after 0 (connectOpened e (openedFor (e .peer) srm v t) code (frontFor (e .peer) v t) hs s)
+    answer-opened srm v t =
+        opened-is (peerOpened (e .peer) srm (idIn v) (isGiven t)) (frontBy (e .peer) (idIn v) (isGiven t))
+        ∙ ap₂ (λ (o : Option Peer) (f : ConnectionId). after 0 (connectOpened e o code f hs s)) (sym (opened-by (e .peer) srm v t)) (front-by (e .peer) v t)
+
+    pub answer-is : among (acceptedBy e code hs (lastPacket e s) (s .headers) (s .reply)) s ≡ after 0 (connectAnswer e code hs s)
+    unfolding acceptedBy connectAnswer answerFor lastHeaders
+    answer-is = go (isSuccess code)
+      where
+        srm : Bool
+        srm = e .peer .«srm_enabled» || srmAsked e (surveyOf (some (lastHeaders e s)))
+
+        named : Option (List ℕ)
+        named = first 0xCB (listOf (readHeaders hs 0))
+
+        target : Option (List ℕ)
+        target = first 0x46 (lastHeaders e s)
+
+        go : (t : Bool)
+            → among (pick t (openedBy (answerFor e hs (lastPacket e s)) e code hs (lastPacket e s) (s .headers) (s .reply)) (leaving (s .headers) (connectReplies e (e .peer) code hs (s .reply)))) s
+            ≡ after 0 (pick t (connectOpened e (openedFor (e .peer) srm named target) code (frontFor (e .peer) named target) hs s) (sendsConnect e (e .peer) code hs s))
+        go true = answer-opened srm named target
+        go false = replies-connect (e .peer) code hs
+
+    -- ---- a call for a reply
+
+    to-connect : awaited (e .awaits) ≡ 3 → connectAnswer e code hs s ≡ replyAnswer e code hs s
+    unfolding replyAnswer
+    to-connect k = sym (simp (eq-eqb (awaited (e .awaits)) 3 k))
+
+    to-another : (awaited (e .awaits) ≡ 3 → ⊥) → sends e (repliedPeer e (lastPacket e s)) code hs s ≡ replyAnswer e code hs s
+    unfolding replyAnswer repliedPeer lastHeaders
+    to-another k = sym (simp (ne-eqb (awaited (e .awaits)) 3 k) (go (eqb (awaited (e .awaits)) 4)))
+      where
+        go : (t : Bool)
+            → pick t (sends e (disconnectedPeer (e .peer) (first 0xCB (lastHeaders e s))) code hs s) (sends e (e .peer) code hs s)
+            ≡ sends e (pick t (disconnectedPeer (e .peer) (first 0xCB (lastHeaders e s))) (e .peer)) code hs s
+        go true = refl
+        go false = refl
+
+    module _ (g : Goes 3 6 e s) (t : Bool) (bad : t ≡ badReply code hs) where
+      pub reply-bad : t ≡ true → (r : Took) → r ≡ refusal 8 e → stepped r s ≡ replyStep e code hs s
+      unfolding replyStep
+      reply-bad k r h = ap (λ (r : Took). stepped r s) h ∙ sym (simp (sym bad ∙ k)) ∙ sym (g .whole _)
+
+      reply-by : t ≡ false → (x : Stepped) → x ≡ after 0 (replyAnswer e code hs s) → x ≡ replyStep e code hs s
+      unfolding replyStep
+      reply-by k x h = h ∙ sym (simp (sym bad ∙ k)) ∙ sym (g .whole _)
+
+      module _ (good : t ≡ false) (n : ℕ) (now : n ≡ awaited (e .awaits)) where
+        pub reply-connect : n ≡ 3 → (a : Answering) → a ≡ acceptedBy e code hs (take (e .length) (s .packet)) (s .headers) (s .reply)
+            → among a s ≡ replyStep e code hs s
+        unfolding lastPacket
+        reply-connect k a h =
+            reply-by good (among a s) (ap (λ (a : Answering). among a s) h ∙ answer-is ∙ ap (λ (d : Done). after 0 d) (to-connect (sym now ∙ k)))
+
+        pub reply-another : (n ≡ 3 → ⊥) → (p : Peer) (w : Written) → p ≡ repliedPeer e (take (e .length) (s .packet)) → w ≡ repliesBy e p code [] hs (s .reply)
+            → within w s ≡ replyStep e code hs s
+        unfolding lastPacket
+        reply-another k p w i h =
+            reply-by good (within w s)
+            (ap (λ (w : Written). within w s) h ∙ replies-plain p code hs
+            ∙ ap (λ (p : Peer). after 0 (sends e p code hs s)) i
+            ∙ ap (λ (d : Done). after 0 d) (to-another (λ (z : awaited (e .awaits) ≡ 3). k (now ∙ z))))
+
+-- bytes at the front of a store that is long
+pub record Prefix (n : ℕ) (s : List ℕ) : Type 0 where
+  pub inside : n ≤ length s
+  pub count : n ≡ length (take n s)
+  pub short : length (take n s) ≤ 65535
+
+pub prefix-in : (n : ℕ) (s : List ℕ) → n ≤ 65535 → 65535 ≤ length s → Prefix n s
+prefix-in n s h k = let l = length-take n s in record { inside = omega arith; count = omega arith; short = omega arith }
+
+-- good header bytes are not too long
+pub good-reply : (code : ℕ) (hs : List ℕ) (t : Bool) → t ≡ badReply code hs → t ≡ false → length hs ≤ 65535
+unfolding badReply
+good-reply code hs t h k = good-length hs _ refl (or-false (not (isCode code)) (badHeaders hs) (sym h ∙ k) .1)
+
+-- ---- a call for credentials
+
+-- no Connect waits for them
+pub credentials-other : (o : Operation) (e : Engine) (c : Option Credentials) (s : Stores) → OneOf (0 ∷ 1 ∷ 2 ∷ 3 ∷ 4 ∷ 6 ∷ []) (tagOf the-type o) → refuse 9 e s ≡ credentialsWith o e c s
+credentials-other Nothing e c s k = refl
+credentials-other (Putting g srm) e c s k = refl
+credentials-other (Getting g srm confirm wait) e c s k = refl
+credentials-other (Sending o x srm wait) e c s k = refl
+credentials-other (GatheringOp o g) e c s k = refl
+credentials-other (Draining code) e c s k = refl
+credentials-other (Connecting code f n) e c s k = absurd (miss (0 ∷ 1 ∷ 2 ∷ 3 ∷ 4 ∷ 6 ∷ []) 5 tt k)
+
+-- a user id counts where there are credentials; m says whether it does
+module _ (has named m : Bool) (is : m ≡ has && named) (user password : List ℕ) where
+  abbrev told : Option Credentials
+  told = credentialsOf has (given named user) password
+
+  long-is : both m (ltb 255 (length user)) ≡ longUser told
+  long-is = ap (λ (x : Bool). both x (ltb 255 (length user))) is ∙ go has named
+    where
+      go : (a b : Bool) → both (a && b) (ltb 255 (length user)) ≡ longUser (credentialsOf a (given b user) password)
+      go true true = refl
+      go true false = refl
+      go false b = refl
+
+  told-is : credentialsOf has (given m user) password ≡ told
+  told-is = ap (λ (x : Bool). credentialsOf has (given x user) password) is ∙ go has
+    where
+      go : (a : Bool) → credentialsOf a (given (a && named) user) password ≡ credentialsOf a (given named user) password
+      go true = refl
+      go false = refl
+
+  pub user-fits : (t : Bool) → t ≡ both m (ltb 255 (length user)) → t ≡ false → overlong (given m user) ≡ false
+  user-fits t h k = go m (sym h ∙ k)
+    where
+      go : (a : Bool) → both a (ltb 255 (length user)) ≡ false → overlong (given a user) ≡ false
+      go true z = z
+      go false z = refl
+
+  module _ (o : Operation) (code : ℕ) (f : ConnectionId) (n : ℕ) (waits : o ≡ Connecting code f n) (e : Engine) (s : Stores) (t : Bool) (long : t ≡ both m (ltb 255 (length user))) where
+    pub credentials-long : t ≡ true → (r : Took) → r ≡ refusal 8 e → stepped r s ≡ credentialsWith o e told s
+    credentials-long k r h = ap (λ (r : Took). stepped r s) h ∙ sym (simp (waits, sym long-is ∙ sym long ∙ k))
+
+    pub credentials-go : t ≡ false → (w : Written)
+        → w ≡ connectReplies e (e .peer) code (acceptedHeaders e f (take (e .length) (s .packet)) (take n (s .headers)) (credentialsOf has (given m user) password)) (s .reply)
+        → within w s ≡ credentialsWith o e told s
+    unfolding lastPacket
+    credentials-go k w h =
+        ap (λ (w : Written). within w s) h
+        ∙ accepted-replies e s (e .peer) code f (take n (s .headers)) (credentialsOf has (given m user) password)
+        ∙ ap (λ (c : Option Credentials). after 0 (connectSends e (e .peer) code f (listOf (readHeaders (take n (s .headers)) 0)) c s)) told-is
+        ∙ sym (simp (waits, sym long-is ∙ sym long ∙ k))
+
+-- the headers that wait are in the header store
+pub waiting-length : (o : Operation) (code : ℕ) (f : ConnectionId) (n limit : ℕ) → o ≡ Connecting code f n → soundOperation limit o ≡ true → n ≤ 65535
+waiting-length o code f n limit h k = leb-true n 65535 (simp h at k)

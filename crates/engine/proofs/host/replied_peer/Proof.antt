@@ -1,0 +1,34 @@
+-- `engine::host::replied_peer` meets its contract: a Disconnect closes the id that its packet names. Assumes nothing.
+use Rattle.engine.proofs.Accepts.{replied-closing, replied-other}
+use borrow.Author.Needs.{needs}
+use Rattle.engine.proofs.host.replied_peer.Statement.{statement}
+use Rattle.engine.proofs.host.replied_peer.Tie as tie
+
+awaited-requires : tie.Need-awaited-requires
+awaited-requires c κs = search needs
+
+returns : tie.Need-returns
+returns c = let k = c .before .before .before .before .args in replied-other (k .e) (k .packet .now) _ (c .before .before .awaited .ensures) (c .before .if1 .taken)
+
+last-from-requires : tie.Need-last-from-requires
+last-from-requires c κs = search needs
+
+first-id-requires : tie.Need-first-id-requires
+first-id-requires c κs = search needs
+
+disconnected-requires : tie.Need-disconnected-requires
+disconnected-requires c κs = search needs
+
+returns-2 : tie.Need-returns-2
+returns-2 c = let k = c .before .before .before .before .before .before .args in replied-closing (k .e) (k .packet .now) _ (c .before .before .before .before .awaited .ensures) (c .before .before .before .if1 .left) _ _ _ (c .before .before .last-from .ensures) (c .before .first-id .ensures) (c .disconnected .ensures)
+
+pub replied-peer-spec : {M : Type 1} → statement M
+replied-peer-spec =
+    tie.close
+    (tie.spec
+    awaited-requires
+    returns
+    last-from-requires
+    first-id-requires
+    disconnected-requires
+    returns-2)

@@ -1,0 +1,118 @@
+-- `engine::host::reply` meets its contract: the guard refuses as the model does; then the ways of the code are those of `replyAnswer`. Assumes nothing.
+use Rattle.model.specs.Model.{Stores, stores, replyStep}
+use Rattle.engine.proofs.Guards.{Goes, going}
+use Rattle.engine.proofs.Carried.{refused-call}
+use Rattle.engine.proofs.Accepts.{reply-bad, reply-connect, reply-another, Prefix, prefix-in, good-reply}
+use borrow.Author.Needs.{needs}
+use Rattle.engine.proofs.host.reply.Statement.{statement}
+use Rattle.engine.proofs.host.reply.Tie as tie
+
+-- the stores that are lent
+abbrev lent : tie.After-refused → Stores
+lent k = let a = k .before .before .before .before .before .before .args in stores (a .packet .now) (a .headers .now) (a .body .now) (a .reply .now)
+
+-- the guard lets the call go on
+goes : (k : tie.Else1) → Goes 3 6 (k .before .before .before .before .before .before .before .args .e) (lent (k .before))
+goes k = going 3 6 (k .before .before .before .before .before .before .before .args .e) (lent (k .before)) _ (k .before .refused .ensures) (k .if1 .left)
+
+-- the last packet in its store
+last : (k : tie.Else1) → Prefix (k .before .before .before .before .before .before .before .args .e .length) (k .before .before .before .before .before .before .before .args .packet .now)
+last k = let g = goes k in prefix-in (k .before .before .before .before .before .before .before .args .e .length) (k .before .before .before .before .before .before .before .args .packet .now) (g .bounds .length) (g .room .packet)
+
+refused-requires : tie.Need-refused-requires
+refused-requires c κs = search needs
+
+refuse-requires : tie.Need-refuse-requires
+refuse-requires c κs = search needs
+
+returns : tie.Need-returns
+unfolding replyStep
+returns c = let k = c .before .before in refused-call 3 6 (c .before .before .before .before .before .before .before .before .args .e) (lent k) _ _ _ (c .refuse .ensures) (k .refused .ensures) (c .before .if1 .taken)
+
+bad-reply-requires : tie.Need-bad-reply-requires
+bad-reply-requires c κs = search needs
+
+refuse-requires-2 : tie.Need-refuse-requires-2
+refuse-requires-2 c κs = search needs
+
+returns-2 : tie.Need-returns-2
+returns-2 c = let k = c .before .before .before .before .before .before .before .before .before .before .args in
+    let b = c .before .before in
+    reply-bad (k .e) (lent (c .before .before .before .before)) (k .code) (k .header-bytes .now) (goes (c .before .before .before)) _ (b .bad-reply .ensures) (c .before .if2 .taken) _ (c .refuse2 .ensures)
+
+awaited-requires : tie.Need-awaited-requires
+awaited-requires c κs = search needs
+
+slice-reshare-prefix-connect-answer : tie.Need-slice-reshare-prefix-connect-answer
+slice-reshare-prefix-connect-answer c = last (c .before .before .before .before) .inside
+
+slice-aggregate-connect-answer : tie.Need-slice-aggregate-connect-answer
+slice-aggregate-connect-answer c = last (c .before .before .before .before .before) .count
+
+connect-answer-requires : tie.Need-connect-answer-requires
+connect-answer-requires c κs = let k = c .before .before .before .before .before .before .before .before .before .before .before .before .before .before .args in
+    let g = goes (c .before .before .before .before .before .before .before) in
+    (g .bounds .count, g .room .reply, g .room .headers, last (c .before .before .before .before .before .before .before) .short, good-reply (k .code) (k .header-bytes .now) _ (c .before .before .before .before .before .before .bad-reply .ensures) (c .before .before .before .before .before .if2 .left))
+
+same-length : tie.Need-same-length
+same-length c = search needs
+
+same-length-2 : tie.Need-same-length-2
+same-length-2 c = search needs
+
+same-length-3 : tie.Need-same-length-3
+same-length-3 c = search needs
+
+returns-3 : tie.Need-returns-3
+returns-3 c = let k = c .before .before .before .before .before .before .before .before .before .before .before .before .before .before .before .before .before .before .before .args in
+    reply-connect (k .e) (lent (c .before .before .before .before .before .before .before .before .before .before .before .before .before)) (k .code) (k .header-bytes .now) (goes (c .before .before .before .before .before .before .before .before .before .before .before .before)) _ (c .before .before .before .before .before .before .before .before .before .before .before .bad-reply .ensures) (c .before .before .before .before .before .before .before .before .before .before .if2 .left)
+    _ (c .before .before .before .before .before .before .before .before .before .awaited .ensures) (c .before .before .before .before .before .before .before .before .if3 .taken) _ (c .before .before .before .before .connect-answer .ensures)
+
+slice-reshare-prefix-replied-peer : tie.Need-slice-reshare-prefix-replied-peer
+slice-reshare-prefix-replied-peer c = last (c .before .before .before .before) .inside
+
+slice-aggregate-replied-peer : tie.Need-slice-aggregate-replied-peer
+slice-aggregate-replied-peer c = last (c .before .before .before .before .before) .count
+
+replied-peer-requires : tie.Need-replied-peer-requires
+replied-peer-requires c κs = goes (c .before .before .before .before .before) .bounds .count
+
+sends-requires : tie.Need-sends-requires
+sends-requires c κs = goes (c .before .before .before .before .before .before .before) .room .reply
+
+same-length-4 : tie.Need-same-length-4
+same-length-4 c = search needs
+
+same-length-5 : tie.Need-same-length-5
+same-length-5 c = search needs
+
+returns-4 : tie.Need-returns-4
+returns-4 c = let k = c .before .before .before .before .before .before .before .before .before .before .before .before .before .before .before .before .before .args in
+    reply-another (k .e) (lent (c .before .before .before .before .before .before .before .before .before .before .before)) (k .code) (k .header-bytes .now) (goes (c .before .before .before .before .before .before .before .before .before .before)) _ (c .before .before .before .before .before .before .before .before .before .bad-reply .ensures) (c .before .before .before .before .before .before .before .before .if2 .left)
+    _ (c .before .before .before .before .before .before .before .awaited .ensures) (c .before .before .before .before .before .before .if3 .left) _ _ (c .before .before .before .before .replied-peer .ensures) (c .before .before .sends .ensures)
+
+pub reply-spec : {M : Type 1} → statement M
+reply-spec =
+    tie.close
+    (tie.spec
+    refused-requires
+    refuse-requires
+    returns
+    bad-reply-requires
+    refuse-requires-2
+    returns-2
+    awaited-requires
+    slice-reshare-prefix-connect-answer
+    slice-aggregate-connect-answer
+    connect-answer-requires
+    same-length
+    same-length-2
+    same-length-3
+    returns-3
+    slice-reshare-prefix-replied-peer
+    slice-aggregate-replied-peer
+    replied-peer-requires
+    sends-requires
+    same-length-4
+    same-length-5
+    returns-4)

@@ -1,0 +1,94 @@
+-- The host's answer to a Connect by the last packet and the two stores that it touches: how the model's `connectAnswer` comes about.
+-- `proofs/Accepts.antt` says that it is that.
+use Prim.Native.Nat.{ℕ}
+use mathlib.Core.List.{List, []}
+use mathlib.Core.Bool.{Bool, _||_}
+use mathlib.Core.Option.{Option, none, some}
+use lib.ListN.{length}
+use lib.Dec.{eqb}
+use Rattle.base.specs.Pick.{pick}
+use Rattle.packet.specs.Codes.{isSuccess}
+use Rattle.packet.specs.Header.{Header, first, firstPlace, allBytes}
+use Rattle.packet.specs.Packet.{requestOf}
+use Rattle.packet.specs.declared.auth.DigestChallenge.{DigestChallenge}
+use Rattle.packet.specs.declared.auth.DigestChallenge.the-variants as challenge
+use Rattle.journal.specs.Calls.{Credentials}
+use Rattle.incoming.specs.Survey.{surveyOf}
+use Rattle.connection.specs.Send.{fieldsOf, front}
+use Rattle.connection.specs.Peer.{idIn, isGiven, answerBy, disconnectedPeer}
+use Rattle.connection.specs.Connect.{connectHeaders}
+use Rattle.connection.specs.Pieces.{headersFrom, answeredIn, idGiven}
+use Rattle.connection.specs.declared.peer.Peer.{Peer}
+use Rattle.connection.specs.declared.peer.Answer.{Answer}
+use Rattle.connection.specs.declared.peer.ConnectionId.{ConnectionId}
+use Rattle.model.specs.Model.{Stores, Stepped, stepped, stores, headersIn, srmAsked, realmIn, awaited}
+use Rattle.engine.specs.Plan.{asksPlan}
+use Rattle.engine.specs.Carry.{Written, tookBy, repliesBy}
+use Rattle.model.specs.declared.server.Operation.the-variants.{Connecting}
+use Rattle.model.specs.declared.server.Await.the-variants as await
+use Rattle.model.specs.declared.server.Engine.{Engine}
+use Rattle.model.specs.declared.server.Request.the-variants as request
+use Rattle.model.specs.declared.server.Took.{Took}
+
+-- what a call gives, and the header and reply stores afterwards
+pub record Answering : Type 0 where
+  pub took : Took
+  pub headers : List ℕ
+  pub reply : List ℕ
+
+abbrev pub answering : Took → List ℕ → List ℕ → Answering
+answering r h y = record { took = r; headers = h; reply = y }
+
+-- the header store stays; and the other two
+abbrev pub leaving : List ℕ → Written → Answering
+leaving h w = answering (w .took) h (w .reply)
+
+abbrev pub among : Answering → Stores → Stepped
+among a s = stepped (a .took) (stores (s .packet) (a .headers) (s .body) (a .reply))
+
+-- the headers of a packet; none where it cannot be read
+abbrev pub headersOf : List ℕ → List Header
+headersOf q = headersIn (requestOf q)
+
+-- SRM is asked for by a packet and supported
+abbrev pub srmAskedBy : Engine → List ℕ → Bool
+srmAskedBy e q = srmAsked e (surveyOf (some (headersOf q)))
+
+-- a reply with Connect's fields
+abbrev pub connectReplies : Engine → Peer → ℕ → List ℕ → List ℕ → Written
+connectReplies e p code hs y = repliesBy e p code (fieldsOf (e .settings .«max_packet_length»)) hs y
+
+-- the headers of the reply to a Connect that the host accepted
+unfoldable pub acceptedHeaders : Engine → ConnectionId → List ℕ → List ℕ → Option Credentials → List ℕ
+acceptedHeaders e f q hs c =
+    allBytes (connectHeaders (idGiven f) (headersOf q) (headersFrom hs 0) c (srmAskedBy e q))
+
+-- what the answer opens
+unfoldable pub answerFor : Engine → List ℕ → List ℕ → Answer
+answerFor e hs q =
+    answerBy (e .peer) (e .peer .«srm_enabled» || srmAskedBy e q) (idIn (first 0xCB (headersFrom hs 0)))
+    (isGiven (first 0x46 (headersOf q)))
+
+-- credentials are asked for where the peer sent challenges that can all be read; the host's headers wait in the header store
+abbrev pub challengedBy : DigestChallenge → Engine → Peer → ℕ → ConnectionId → List ℕ → List ℕ → List ℕ → List ℕ → Answering
+challengedBy challenge.Unreadable e p code f hs q h y = leaving h (connectReplies e p code (acceptedHeaders e f q hs none) y)
+challengedBy (challenge.Challenge n u r x) e p code f hs q h y =
+    answering
+    (tookBy (asksPlan e p (Connecting code f (length hs)) await.Credentials (request.Credentials n u r (realmIn q (firstPlace 0x4D q 7)))))
+    (front hs h)
+    y
+
+-- a 65th id gets 0x53
+abbrev pub openedBy : Answer → Engine → ℕ → List ℕ → List ℕ → List ℕ → List ℕ → Answering
+openedBy a e code hs q h y =
+    pick (a .opening .full) (leaving h (connectReplies e (e .peer) 0x53 [] y))
+    (challengedBy (answeredIn (headersOf q)) e (a .opening .peer) code (a .front) hs q h y)
+
+-- the answer to a Connect: any but success is sent as it is
+unfoldable pub acceptedBy : Engine → ℕ → List ℕ → List ℕ → List ℕ → List ℕ → Answering
+acceptedBy e code hs q h y =
+    pick (isSuccess code) (openedBy (answerFor e hs q) e code hs q h y) (leaving h (connectReplies e (e .peer) code hs y))
+
+-- the peer when a reply is made: Disconnect closes ids before it
+unfoldable pub repliedPeer : Engine → List ℕ → Peer
+repliedPeer e q = pick (eqb (awaited (e .awaits)) 4) (disconnectedPeer (e .peer) (first 0xCB (headersOf q))) (e .peer)

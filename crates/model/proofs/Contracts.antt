@@ -1,0 +1,57 @@
+-- The claims of `Demand3` over contracts: what a contract says of a call is the model's step, so a run by contracts is a run of the model.
+-- Assumes nothing.
+use mathlib.Core.Path.{_≡_, refl, sym, ap, _∙_, subst}
+use mathlib.Core.List.{List, [], _∷_, _++_}
+use mathlib.Core.Bool.{Bool, true, false}
+use Prim.Native.Nat.{ℕ, _≤_}
+use native.Mathlib.Omega.{arith}
+use lib.Dec.{ltb}
+use borrow.Author.Tests.{ltb-false}
+use Rattle.journal.specs.Carried.{Carried}
+use Rattle.journal.specs.Calls.{Call, Verdict}
+use Rattle.journal.specs.Journal.{fresh, packets}
+use Rattle.journal.specs.PutForm.{Exactly}
+use Rattle.model.specs.Model.{Stores, Stepped, stepped, short, started, startStep}
+use Rattle.model.specs.Runs.{State, stateOf, stepOf, handed, records, Started}
+use Rattle.model.specs.Refusal.{bytes, verdictOf, returned, feedOf}
+use Rattle.model.specs.Claims.{settingsOf}
+use Rattle.model.specs.Contracts.{state, Ran, none, call, Accepted, ContractsUphold}
+use Rattle.model.specs.declared.server.Settings.{Settings}
+use Rattle.model.specs.declared.server.Took.{Took}
+use Rattle.model.specs.declared.server.Outcome.the-variants as outcome
+use Rattle.model.proofs.Demand3.{demand3, refusals}
+
+ran-records : {s : State} {cs : List Call} {vs : List Verdict} {ls : List Carried} → Ran s cs vs ls → ls ≡ records s cs
+ran-records none = refl
+ran-records (call {cs = cs} {ls = ls} c r t e h) =
+    ap (λ (l : List Carried). handed (r .outcome) t ++ l) (ran-records h)
+    ∙ ap (λ (m : Stepped). handed (m .took .outcome) (m .stores) ++ records (stateOf m) cs) e
+
+ran-returned : {s : State} {cs : List Call} {vs : List Verdict} {ls : List Carried} → Ran s cs vs ls → vs ≡ returned s cs
+ran-returned none = refl
+ran-returned (call {cs = cs} {vs = vs} c r t e h) =
+    ap (λ (l : List Verdict). verdictOf (r .outcome) ∷ l) (ran-returned h)
+    ∙ ap (λ (m : Stepped). verdictOf (m .took .outcome) ∷ returned (stateOf m) cs) e
+
+-- an accepted start is one of which demand 3 speaks
+start-accepted : (st : Settings) (s : Stores) → startStep st s .took .outcome ≡ outcome.WantsBytes → Started st (stateOf (startStep st s))
+unfolding startStep
+start-accepted st s = go (short (st .«max_object_size») s) (ltb 254 (st .«realm_length»)) refl refl
+  where
+    go : (a b : Bool) → short (st .«max_object_size») s ≡ a → ltb 254 (st .«realm_length») ≡ b
+        → startStep st s .took .outcome ≡ outcome.WantsBytes → Started st (stateOf (startStep st s))
+    go true b h k e = let z : _≡_ {A = ℕ} 0 1 = (let w = simp h at e in cc) in absurd (omega arith)
+    go false true h k e = let z : _≡_ {A = ℕ} 0 1 = (let w = simp (h, k) at e in cc) in absurd (omega arith)
+    go false false h k e =
+        simp (h, k) (record { fresh = refl; realm = ltb-false 254 (st .«realm_length») k; room = h })
+
+pub contracts-uphold : ContractsUphold
+contracts-uphold st s t r cs vs ls a o h =
+    let w : Started st (state r t) =
+    subst (λ (m : Stepped). Started st (stateOf m)) (sym (a .says)) (start-accepted st s (ap (λ (m : Stepped). m .took .outcome) (sym (a .says)) ∙ a .accepted)) in
+    record {
+      refusals = ran-returned h ∙ refusals st (state r t) w cs o;
+      journal = λ k. ran-records h ∙ demand3 st (state r t) w cs o k .journal;
+      forms = λ k. subst (Exactly (st .«max_object_size») (packets (fresh (settingsOf st)) (feedOf bytes (state r t) cs))) (sym (ran-records h))
+          (demand3 st (state r t) w cs o k .forms);
+    }

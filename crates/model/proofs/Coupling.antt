@@ -1,0 +1,177 @@
+-- How the engine and the journal stand to one another between two calls, by what the engine awaits and by the operation that is open.
+-- Assumes nothing.
+use mathlib.Core.Path.{_≡_, refl, sym, ap, _∙_, subst}
+use mathlib.Core.List.{List, []}
+use mathlib.Core.Bool.{Bool, true, false}
+use mathlib.Core.Option.{some}
+use Prim.Native.Nat.{ℕ}
+use native.Mathlib.Omega.{arith}
+use lib.ListN.{length, getD, take}
+use lib.Dec.{eqb}
+use Rattle.base.specs.Pick.{pick}
+use Rattle.packet.specs.Codes.{sentCode}
+use Rattle.packet.specs.Packet.{Request as Packet, requestOf, packetBytes}
+use Rattle.packet.specs.declared.opcode.Opcode.{Opcode}
+use Rattle.packet.specs.declared.opcode.Opcode.the-variants as op
+use Rattle.journal.specs.Carried.{Carried}
+use Rattle.journal.specs.Journal.{Opened, nothing, putting, getting, sending, gathering, draining, Journal, Entry, unchanged, opens, replyTo, replyLast, takenAt}
+use Rattle.incoming.specs.Gather.{gathering as gatheringOf}
+use Rattle.incoming.specs.declared.gather.Gathered.{Gathered}
+use Rattle.connection.specs.Send.{front}
+use Rattle.connection.specs.declared.peer.Peer.{Peer}
+use Rattle.model.specs.Model.{Stores, withReply, engineWith, Done, done, wants, ends, replies, repliesCode, headersIn}
+use Rattle.model.specs.Runs.{handed}
+use Rattle.model.specs.Claims.{settingsOf}
+use Rattle.model.specs.declared.server.Settings.{Settings}
+use Rattle.model.specs.declared.server.Operation.{Operation}
+use Rattle.model.specs.declared.server.Operation.the-variants.{Nothing, Putting, Getting, Sending, Gathering as GatheringOp, Connecting, Draining}
+use Rattle.model.specs.declared.server.Await.{Await}
+use Rattle.model.specs.declared.server.Await.the-variants as await
+use Rattle.model.specs.declared.server.Engine.{Engine}
+use Rattle.model.specs.declared.server.Outcome.{Outcome}
+use Rattle.model.specs.declared.server.Outcome.the-variants as outcome
+use Rattle.connection.proofs.Standings.{standingOf}
+use Rattle.incoming.proofs.Gathers.{PutAgrees, KeptAgrees}
+
+-- ---- what is open
+
+-- a Put: what the journal carries is gathered in the stores
+pub record PutOpen (limit : ℕ) (g : Gathered) (srm : Bool) (h b : List ℕ) (x : Opened) : Type 0 where
+  pub carries : Carried
+  pub is : x ≡ putting carries srm
+  pub agrees : PutAgrees limit (gatheringOf g h b) carries
+
+-- an operation of which the journal keeps headers alone
+pub record KeptOpen (limit : ℕ) (g : Gathered) (f : List ℕ → Opened) (h b : List ℕ) (x : Opened) : Type 0 where
+  pub keeps : List ℕ
+  pub is : x ≡ f keeps
+  pub agrees : KeptAgrees limit (gatheringOf g h b) keeps
+
+-- an opcode to which the journal does nothing on a reply
+abbrev pub Plain : Opcode → Type 0
+Plain o = (j : Journal) (r : Packet) (code : ℕ) (hs : List ℕ) → replyTo o j r code hs ≡ j
+
+-- the operation, over the header and body stores, and what the journal has open
+abbrev pub OpenedAt : ℕ → Operation → List ℕ → List ℕ → Opened → Type 0
+OpenedAt limit Nothing h b x = x ≡ nothing
+OpenedAt limit (Putting g srm) h b x = PutOpen limit g srm h b x
+OpenedAt limit (Getting g srm confirm wait) h b x = KeptOpen limit g getting h b x
+OpenedAt limit (Sending o c srm wait) h b x = x ≡ sending
+OpenedAt limit (GatheringOp o g) h b x = KeptOpen limit g (gathering o) h b x × Plain o
+OpenedAt limit (Connecting c f n) h b x = ⊥
+OpenedAt limit (Draining c) h b x = x ≡ draining
+
+-- ---- the coupling
+
+-- settings and standing are the journal's, and it has not ended
+pub record Fixed (st : Settings) (p : Peer) (j : Journal) : Type 0 where
+  pub settings : j .settings ≡ settingsOf st
+  pub standing : j .standing ≡ standingOf p
+  pub ended : j .ended ≡ false
+
+-- and so are what is open and the bytes of a packet begun
+pub record Held (st : Settings) (p : Peer) (o : Operation) (s : Stores) (q : List ℕ) (j : Journal) : Type 0 where
+  pub fixed : Fixed st p j
+  pub begun : j .begun ≡ q
+  pub opened : OpenedAt (st .«max_object_size») o (s .headers) (s .body) (j .opened)
+
+-- the host's answer to the last packet, a Connect or a Disconnect, is awaited
+pub record AskedBy (st : Settings) (p : Peer) (o : Opcode) (n : ℕ) (s : Stores) (j : Journal) : Type 0 where
+  pub held : Held st p Nothing s [] j
+  pub request : Packet
+  pub last : j .last ≡ some request
+  pub opcode : request .opcode ≡ o
+  pub headers : request .headers ≡ headersIn (requestOf (take n (s .packet)))
+
+-- a reply to the last packet changes nothing
+abbrev pub Still : Journal → Type 0
+Still j = (code : ℕ) (hs : List ℕ) → replyLast (j .last) j code hs ≡ j
+
+-- while a reply waits, the journal is told by what it does once the reply is taken
+abbrev pub CoupledAt : Await → Operation → Settings → Peer → ℕ → ℕ → Stores → Journal → Type 0
+CoupledAt await.Bytes o st p b n s j = Held st p o s (take b (s .packet)) j
+CoupledAt await.Taken o st p b n s j = (j .ended ≡ false) × Held st p o s [] (takenAt (j .opened) j (getD (s .reply) 0 0))
+CoupledAt await.Last o st p b n s j = j .ended ≡ true
+CoupledAt await.Connect o st p b n s j = AskedBy st p op.Connect n s j
+CoupledAt await.Disconnect o st p b n s j = AskedBy st p op.Disconnect n s j
+CoupledAt await.Get o st p b n s j = Held st p o s [] j
+CoupledAt await.Reply o st p b n s j = Held st p Nothing s [] j × Still j
+CoupledAt await.Acknowledgement o st p b n s j = Held st p Nothing s [] j
+CoupledAt await.Password o st p b n s j = AskedBy st p op.Connect n s j
+CoupledAt await.Nonce o st p b n s j = AskedBy st p op.Connect n s j
+CoupledAt await.Credentials o st p b n s j = Held st p Nothing s [] j
+CoupledAt await.Body o st p b n s j = Held st p o s [] j
+CoupledAt await.Nothing o st p b n s j = Unit {0}
+
+abbrev pub Coupled : Engine → Stores → Journal → Type 0
+Coupled e s j = CoupledAt (e .awaits) (e .operation) (e .settings) (e .peer) (e .begun) (e .length) s j
+
+-- ---- what a step leads to is what the journal enters
+
+pub record Told (d : Done) (x : Entry) : Type 0 where
+  pub given : handed (d .outcome) (d .stores) ≡ x .given
+  pub after : Coupled (d .engine) (d .stores) (x .next)
+
+pub told-pick : (t : Bool) (a b : Done) (x : Entry) → (t ≡ true → Told a x) → (t ≡ false → Told b x) → Told (pick t a b) x
+told-pick true a b x f g = f refl
+told-pick false a b x f g = g refl
+
+pub told-done : (e : Engine) (p : Peer) (o : Operation) (a : Await) (c : Outcome) (z : Stores) (j : Journal) (l : List Carried)
+    → CoupledAt a o (e .settings) p 0 (e .length) z j → handed c z ≡ l
+    → Told (done (engineWith (e .settings) p o a 0 (e .length)) c z) (record { next = j; given = l })
+unfolding engineWith
+told-done e p o a c z j l w g = record { given = g; after = w }
+
+-- no operation that sends an object
+abbrev pub quiet : Operation → Bool
+quiet (Sending o c srm wait) = false
+quiet Nothing = true
+quiet (Putting g srm) = true
+quiet (Getting g srm confirm wait) = true
+quiet (GatheringOp o g) = true
+quiet (Connecting c f n) = true
+quiet (Draining c) = true
+
+taken-still : (limit : ℕ) (o : Operation) (h b : List ℕ) (x : Opened) (j : Journal) (y : ℕ) → quiet o ≡ true → OpenedAt limit o h b x
+    → takenAt x j y ≡ j
+taken-still limit Nothing h b x j y q w = ap (λ (u : Opened). takenAt u j y) w
+taken-still limit (Putting g srm) h b x j y q w = ap (λ (u : Opened). takenAt u j y) (w .is)
+taken-still limit (Getting g srm confirm wait) h b x j y q w = ap (λ (u : Opened). takenAt u j y) (w .is)
+taken-still limit (Sending o c srm wait) h b x j y q w = absurd (let z : _≡_ {A = ℕ} 0 1 = cc in omega arith)
+taken-still limit (GatheringOp o g) h b x j y q w = ap (λ (u : Opened). takenAt u j y) (w .0 .is)
+taken-still limit (Connecting c f n) h b x j y q w = absurd w
+taken-still limit (Draining c) h b x j y q w = ap (λ (u : Opened). takenAt u j y) w
+
+module _ (e : Engine) (p : Peer) (z : Stores) (j : Journal) where
+  pub told-ends : (n : ℕ) → Told (ends e p n z) (unchanged j)
+  told-ends n = told-done e p Nothing await.Nothing (outcome.End n) z j [] tt refl
+
+  pub told-wants : (o : Operation) → Held (e .settings) p o z [] j → Told (wants e p o z) (unchanged j)
+  told-wants o w = told-done e p o await.Bytes outcome.WantsBytes z j [] w refl
+
+  pub told-replies : (o : Operation) (q : List ℕ) → quiet o ≡ true → Held (e .settings) p o z [] j
+      → Told (replies e p o await.Taken q z) (unchanged j)
+  told-replies o q k w =
+      told-done e p o await.Taken (outcome.Reply (length q)) (withReply z (front q (z .reply))) j [] (
+        w .fixed .ended,
+        subst (λ (x : Journal). Held (e .settings) p o (withReply z (front q (z .reply))) [] x)
+            (sym (taken-still (e .settings .«max_object_size») o (z .headers) (z .body) (j .opened) j (getD (front q (z .reply)) 0 0) k (w .opened)))
+            (record { fixed = w .fixed; begun = w .begun; opened = w .opened }),
+      )
+      refl
+
+  pub told-code : (code : ℕ) → Held (e .settings) p Nothing z [] j → Told (repliesCode e p Nothing code z) (unchanged j)
+  told-code code w = told-replies Nothing (packetBytes (sentCode code) [] []) refl w
+
+  -- a Get whose object was sent closes on a reply that is not 0x90
+  pub told-closes : (c : Outcome) (y : List ℕ) → handed c (withReply z y) ≡ [] → eqb (getD y 0 0) 0x90 ≡ false → Fixed (e .settings) p j
+      → j .begun ≡ [] → j .opened ≡ sending
+      → Told (done (engineWith (e .settings) p Nothing await.Taken 0 (e .length)) c (withReply z y)) (unchanged j)
+  told-closes c y g b f k w =
+      told-done e p Nothing await.Taken c (withReply z y) j [] (
+        f .ended,
+        subst (λ (x : Journal). Held (e .settings) p Nothing (withReply z y) [] x)
+            (sym (ap (λ (u : Opened). takenAt u j (getD y 0 0)) w ∙ ap (λ (t : Bool). pick t j (opens j nothing)) b))
+            (record { fixed = record { settings = f .settings; standing = f .standing; ended = f .ended }; begun = k; opened = refl }),
+      )
+      g

@@ -1,0 +1,248 @@
+-- A packet between operations: what the engine makes of it is what the journal does. Assumes nothing.
+use mathlib.Core.Path.{_≡_, refl, sym, ap, ap₂, _∙_, subst}
+use mathlib.Core.List.{List, []}
+use mathlib.Core.Bool.{Bool, true, false, _&&_, _||_, not, and-false, false≢true, true≢false}
+use mathlib.Core.Option.{Option, none, some}
+use Prim.Native.Nat.{ℕ, _≤_}
+use native.Mathlib.Omega.{arith}
+use lib.ListN.{length, take}
+use lib.Dec.{eqb}
+use borrow.Author.Tests.{eqb-true}
+use Rattle.base.specs.Pick.{pick, both}
+use Rattle.packet.specs.FirstByte.{sameOpcode, kindOf, valueOf}
+use Rattle.packet.specs.Header.{first, allBytes}
+use Rattle.packet.specs.Packet.{Request as Packet, requestOf, connectLimit, backup, noCreate}
+use Rattle.packet.specs.Auth.{Response}
+use Rattle.packet.specs.declared.opcode.Opcode.{Opcode}
+use Rattle.packet.specs.declared.opcode.Opcode.the-variants as op
+use Rattle.journal.specs.Carried.{bare, carriedBy}
+use Rattle.journal.specs.Ids.{member}
+use Rattle.journal.specs.Journal.{Standing, nothing, draining, Journal, Entry, unchanged, after, unauthorized, notOpen, admitted, asksSrm, putRead, gatherRead, turnedAway, dropped, firstRead}
+use Rattle.incoming.specs.Survey.{idOf, present, surveyOf}
+use Rattle.incoming.specs.Gather.{gathering as gatheringOf}
+use Rattle.incoming.specs.declared.survey.Survey.{Survey}
+use Rattle.connection.specs.Peer.{idsOf, limited}
+use Rattle.connection.specs.declared.peer.Challenge.{Challenge}
+use Rattle.connection.specs.declared.peer.Challenge.the-variants.{Stored, Absent}
+use Rattle.connection.specs.declared.peer.Peer.{Peer}
+use Rattle.model.specs.Model.{Stores, Done, wants, asks, repliesCode, putPacket, headersPacket, headersIn, lastPacket, limitOf, nothingGathered, clientResponse, userPlace, verifies, connectPacket, Rejection, admits, rejects, rejection, drains, rejected, confirms, dispatches, admittedAs, dispatch}
+use Rattle.model.specs.Runs.{handedBy}
+use Rattle.model.specs.declared.server.Operation.the-variants.{Nothing, Draining}
+use Rattle.model.specs.declared.server.Await.{Await}
+use Rattle.model.specs.declared.server.Await.the-variants as await
+use Rattle.model.specs.declared.server.Engine.{Engine}
+use Rattle.model.specs.declared.server.Request.{Request}
+use Rattle.model.specs.declared.server.Request.the-variants as request
+use Rattle.model.specs.declared.server.Outcome.the-variants as outcome
+use Rattle.connection.proofs.Standings.{standingOf, limited-standing}
+use Rattle.incoming.proofs.Gathers.{KeptAgrees, put-begins, carried-headers, kept-headers, kept-begins}
+use Rattle.model.proofs.Fit.{Base}
+use Rattle.model.proofs.Coupling.{Plain, Fixed, AskedBy, CoupledAt, Told, told-pick, told-done, told-wants, told-code}
+use Rattle.model.proofs.Gathers.{held-after, still-after, put-packet, get-packet, headers-packet}
+
+-- ---- opcodes
+
+-- an opcode is told by its kind and value
+abbrev opcodeOf : ℕ → ℕ → Opcode
+opcodeOf k n =
+    pick (eqb k 1) (op.UserDefined n) (pick (eqb n 0) op.Connect (pick (eqb n 1) op.Disconnect (pick (eqb n 2) op.Put (pick (eqb n 3) op.Get
+    (pick (eqb n 5) op.SetPath (pick (eqb n 6) op.Action (pick (eqb n 7) op.Session op.Abort)))))))
+
+told-by : (o : Opcode) → opcodeOf (kindOf o) (valueOf o) ≡ o
+told-by op.Connect = refl
+told-by op.Disconnect = refl
+told-by op.Put = refl
+told-by op.Get = refl
+told-by op.SetPath = refl
+told-by op.Action = refl
+told-by op.Session = refl
+told-by op.Abort = refl
+told-by (op.UserDefined x) = refl
+
+pub same-is : (a b : Opcode) → sameOpcode a b ≡ true → a ≡ b
+unfolding sameOpcode
+same-is a b h =
+    let k : kindOf a ≡ kindOf b = eqb-true _ _ (both-left (eqb (kindOf a) (kindOf b)) _ h) in
+    let v : valueOf a ≡ valueOf b = eqb-true _ _ (both-right (eqb (kindOf a) (kindOf b)) _ h) in
+    sym (told-by a) ∙ ap₂ (λ (m n : ℕ). opcodeOf m n) k v ∙ told-by b
+  where
+    both-left : (x y : Bool) → both x y ≡ true → x ≡ true
+    both-left true y e = refl
+    both-left false y e = e
+
+    both-right : (x y : Bool) → both x y ≡ true → y ≡ true
+    both-right true y e = e
+    both-right false y e = absurd (false≢true e)
+
+-- ---- admission
+
+-- the id that is named is not open
+survey-open : (ids : List ℕ) (x : Option (List ℕ)) → notOpen ids x ≡ (present x && not (member (idOf x) ids))
+survey-open ids none = refl
+survey-open ids (some v) = refl
+
+module _ (e : Engine) (s : Stores) (j : Journal) (f : Fixed (e .settings) (e .peer) j) (r : Packet) where
+  abbrev v : Survey
+  v = surveyOf (some (r .headers))
+
+  abbrev noPassword : Bool
+  noPassword = unauthorized (j .settings) (j .standing) (r .opcode)
+
+  abbrev closedId : Bool
+  closedId = notOpen (j .standing .ids) (first 0xCB (r .headers))
+
+  rejection-is : rejection e (r .opcode) v ≡ pick noPassword (rejects 0x41) (pick closedId (rejects 0x53) admits)
+  unfolding rejection unauthorized surveyOf
+  rejection-is = rw (f .settings, f .standing) (rw (survey-open (idsOf (e .peer)) (first 0xCB (r .headers))) refl)
+
+  admitted-is : admitted (j .settings) (j .standing) r ≡ (not noPassword && not closedId)
+  unfolding admitted
+  admitted-is = refl
+
+  -- turned away or not, as the journal has it
+  decides : (y z : Entry) → Told (dispatches (r .opcode) e r v s) y → ((code : ℕ) → Told (rejected e r code s) z)
+      → Told (admittedAs (rejection e (r .opcode) v) e r v s) (pick (admitted (j .settings) (j .standing) r) y z)
+  decides y z a b = rw (rejection-is, admitted-is) (go noPassword closedId)
+    where
+      go : (t u : Bool) → Told (admittedAs (pick t (rejects 0x41) (pick u (rejects 0x53) admits)) e r v s) (pick (not t && not u) y z)
+      go true u = b 0x41
+      go false true = b 0x53
+      go false false = a
+
+  drops : (code : ℕ) → Told (repliesCode e (e .peer) Nothing code s) (dropped j r)
+  drops code = told-code e (e .peer) s (after j (some r) nothing) code (held-after e s j f r Nothing nothing s refl)
+
+  -- turned away: drained, or dropped
+  srm-is : j .standing .srm ≡ e .peer .«srm_enabled»
+  srm-is = ap (λ (x : Standing). x .srm) (f .standing)
+
+  turned-away : (code : ℕ) → drains (r .opcode) ≡ true → Told (rejected e r code s) (turnedAway j r)
+  turned-away code d =
+      subst (λ (t : Bool). Told (pick t (wants e (e .peer) (Draining code) s) (repliesCode e (e .peer) Nothing code s)) (turnedAway j r))
+      (ap₂ (λ (m t : Bool). m && (t && not (r .final))) srm-is (sym d)) (go (j .standing .srm && not (r .final)))
+    where
+      go : (t : Bool)
+          → Told (pick t (wants e (e .peer) (Draining code) s) (repliesCode e (e .peer) Nothing code s)) (unchanged (after j (some r) (pick t draining nothing)))
+      go true = told-wants e (e .peer) s (after j (some r) draining) (Draining code) (held-after e s j f r (Draining code) draining s refl)
+      go false = drops code
+
+  turned-down : (code : ℕ) → drains (r .opcode) ≡ false → Told (rejected e r code s) (dropped j r)
+  turned-down code d = rw (d, and-false (e .peer .«srm_enabled»)) (drops code)
+
+  -- admitted or not, the journal keeps nothing of it
+  either-way : (x : Rejection) (y : Entry) → Told (dispatches (r .opcode) e r v s) y → ((code : ℕ) → Told (rejected e r code s) y)
+      → Told (admittedAs x e r v s) y
+  either-way admits y a b = a
+  either-way (rejects code) y a b = b code
+
+  -- ---- Connect
+
+  module _ (last : requestOf (take (e .length) (s .packet)) ≡ some r) where
+    -- the host is asked about this packet
+    asks-told : (o : Opcode) (p : Peer) (a : Await) (q : Request) → r .opcode ≡ o → standingOf p ≡ standingOf (e .peer)
+        → (AskedBy (e .settings) p o (e .length) s (after j (some r) nothing) → CoupledAt a Nothing (e .settings) p 0 (e .length) s (after j (some r) nothing))
+        → handedBy q s ≡ [] → Told (asks e p Nothing a q s) (dropped j r)
+    asks-told o p a q i k w g =
+        told-done e p Nothing a (outcome.Request q) s (after j (some r) nothing) []
+        (w (record {
+          held = record { fixed = record { settings = f .settings; standing = f .standing ∙ sym k; ended = f .ended }; begun = refl; opened = refl };
+          request = r;
+          last = refl;
+          opcode = i;
+          headers = sym (ap headersIn last);
+        }))
+        g
+
+    connect-told : r .opcode ≡ op.Connect → Told (connectPacket e s) (dropped j r)
+    unfolding connectPacket
+    connect-told i =
+        told-pick (e .settings .authentication) _ _ _ (λ m. go (p .challenge) (clientResponse e s))
+        (λ m. asks-told op.Connect p await.Connect (request.Connect (e .length)) i same (λ x. x) refl)
+      where
+        p : Peer
+        p = limited (e .peer) (connectLimit (lastPacket e s))
+
+        same : standingOf p ≡ standingOf (e .peer)
+        same = limited-standing (e .peer) (connectLimit (lastPacket e s))
+
+        go : (c : Challenge) (x : Option Response) → Told (verifies e p c x s) (dropped j r)
+        go Absent x = asks-told op.Connect p await.Nonce request.Nonce i same (λ x. x) refl
+        go (Stored n) none = asks-told op.Connect p await.Nonce request.Nonce i same (λ x. x) refl
+        go (Stored n) (some x) = asks-told op.Connect p await.Password (request.Password (userPlace e s)) i same (λ x. x) refl
+
+    -- ---- nothing is open
+
+    module _ (h : Base e s) (small : length (allBytes (r .headers)) ≤ 65535) where
+      none-kept : KeptAgrees (limitOf e) (gatheringOf nothingGathered (s .headers) (s .body)) []
+      none-kept = kept-begins (limitOf e) (s .headers) (s .body) (h .room .headers) (h .room .body)
+
+      plain-told : (o : Opcode) → r .opcode ≡ o → Plain o → Told (headersPacket e r o nothingGathered s) (gatherRead j r o (allBytes (r .headers)))
+      plain-told o i p = headers-packet e s j f r o nothingGathered [] none-kept small p i
+
+      -- SRM from the second packet on
+      srm-next : (m a : Bool) → pick m true (not m && a) ≡ (m || a)
+      srm-next true a = refl
+      srm-next false a = refl
+
+      confirms-is : confirms e v ≡ (not (j .standing .srm) && asksSrm (j .settings) (r .headers))
+      unfolding surveyOf asksSrm
+      confirms-is = rw (f .settings, f .standing) refl
+
+      abbrev firstPut : Done
+      firstPut = putPacket e r v (e .peer .«srm_enabled») (confirms e v) nothingGathered s
+
+      first-put : r .opcode ≡ op.Put
+          → Told firstPut (putRead j r (j .standing .srm) (j .standing .srm || asksSrm (j .settings) (r .headers)) (carriedBy (r .headers)))
+      first-put i =
+          subst (λ (t : Bool). Told firstPut (putRead j r (j .standing .srm) t (carriedBy (r .headers))))
+          (ap (pick (j .standing .srm) true) confirms-is ∙ srm-next (j .standing .srm) (asksSrm (j .settings) (r .headers)))
+          (subst (λ (t : Bool). Told firstPut (putRead j r t (pick t true (confirms e v)) (carriedBy (r .headers))))
+          (sym (ap (λ (x : Standing). x .srm) (f .standing)))
+          (put-packet e s j f r v (e .peer .«srm_enabled») (confirms e v) nothingGathered bare
+          (put-begins (limitOf e) (s .headers) (s .body) (h .room .headers) (h .room .body))
+          (omega (arith, carried-headers (r .headers))) i))
+
+      not-connect : (o : Opcode) (y : Entry) → r .opcode ≡ o → sameOpcode o op.Connect ≡ false
+          → Told (admittedAs (rejection e (r .opcode) v) e r v s) y → Told (dispatch e r v s) y
+      unfolding dispatch
+      not-connect o y i n w =
+          subst (λ (t : Bool). Told (pick t (connectPacket e s) (admittedAs (rejection e (r .opcode) v) e r v s)) y)
+          (sym (ap (λ (x : Opcode). sameOpcode x op.Connect) i ∙ n)) w
+
+      by-opcode : (o : Opcode) (y : Entry) → r .opcode ≡ o → Told (dispatches o e r v s) y → Told (dispatches (r .opcode) e r v s) y
+      by-opcode o y i w = subst (λ (x : Opcode). Told (dispatches x e r v s) y) (sym i) w
+
+      plain-first : (o : Opcode) (y : Entry) → r .opcode ≡ o → sameOpcode o op.Connect ≡ false → drains o ≡ false → Told (dispatches o e r v s) y
+          → Told (dispatch e r v s) (pick (admitted (j .settings) (j .standing) r) y (dropped j r))
+      plain-first o y i n d w = not-connect o _ i n (decides y (dropped j r) (by-opcode o y i w) (λ code. turned-down code (ap drains i ∙ d)))
+
+      drained-first : (o : Opcode) (y : Entry) → r .opcode ≡ o → sameOpcode o op.Connect ≡ false → drains o ≡ true → Told (dispatches o e r v s) y
+          → Told (dispatch e r v s) (pick (admitted (j .settings) (j .standing) r) y (turnedAway j r))
+      drained-first o y i n d w = not-connect o _ i n (decides y (turnedAway j r) (by-opcode o y i w) (λ code. turned-away code (ap drains i ∙ d)))
+
+      dropped-first : (o : Opcode) → r .opcode ≡ o → sameOpcode o op.Connect ≡ false → drains o ≡ false → Told (dispatches o e r v s) (dropped j r)
+          → Told (dispatch e r v s) (dropped j r)
+      dropped-first o i n d w =
+          not-connect o _ i n
+          (either-way (rejection e (r .opcode) v) (dropped j r) (by-opcode o (dropped j r) i w) (λ code. turned-down code (ap drains i ∙ d)))
+
+      pub dispatch-told : (o : Opcode) → r .opcode ≡ o → sameOpcode o op.Abort ≡ false → Told (dispatch e r v s) (firstRead o j r)
+      unfolding dispatch firstRead sameOpcode
+      dispatch-told op.Connect i n =
+          subst (λ (t : Bool). Told (pick t (connectPacket e s) (admittedAs (rejection e (r .opcode) v) e r v s)) (dropped j r))
+          (sym (ap (λ (x : Opcode). sameOpcode x op.Connect) i)) (connect-told i)
+      dispatch-told op.Abort i n = absurd (true≢false n)
+      dispatch-told op.Disconnect i n =
+          dropped-first op.Disconnect i refl refl
+          (asks-told op.Disconnect (e .peer) await.Disconnect (request.Disconnect (e .length)) i refl (λ x. x) refl)
+      dispatch-told op.SetPath i n =
+          dropped-first op.SetPath i refl refl
+          (asks-told op.SetPath (e .peer) await.Reply (request.SetPath (e .length) (backup (r .bytes)) (noCreate (r .bytes))) i refl
+          (λ x. (x .held, still-after e s j f r op.SetPath nothing i (λ a b y z. refl))) refl)
+      dispatch-told op.Put i n = drained-first op.Put _ i refl refl (first-put i)
+      dispatch-told op.Get i n =
+          drained-first op.Get _ i refl refl
+          (get-packet e s j f r v (e .peer .«srm_enabled») (confirms e v) nothingGathered [] none-kept (omega (arith, kept-headers (r .headers))))
+      dispatch-told op.Action i n = plain-first op.Action _ i refl refl (plain-told op.Action i (λ a b y z. refl))
+      dispatch-told op.Session i n = plain-first op.Session _ i refl refl (plain-told op.Session i (λ a b y z. refl))
+      dispatch-told (op.UserDefined x) i n = plain-first (op.UserDefined x) _ i refl refl (plain-told (op.UserDefined x) i (λ a b y z. refl))

@@ -1,0 +1,255 @@
+-- What holds of the engine and the stores between two calls, and of what a step leads to: the state is sound, the stores have room, and the
+-- host was told what is awaited. Assumes nothing.
+use mathlib.Core.Path.{_≡_, refl}
+use mathlib.Core.List.{List, []}
+use mathlib.Core.Bool.{Bool, true, false, _&&_, _||_, false≢true, true≢false}
+use Prim.Native.Nat.{ℕ, _≤_, _<_}
+use native.Mathlib.Omega.{arith}
+use lib.ListN.{length, take, length-append, length-drop}
+use lib.Dec.{ltb}
+use borrow.Author.Tests.{ltb-false, lt-ltb, le-ltb, le-leb}
+use Rattle.base.specs.Pick.{pick}
+use Rattle.packet.specs.Codes.{sentCode}
+use Rattle.packet.specs.Packet.{packetBytes}
+use Rattle.journal.specs.Calls.{goes}
+use Rattle.incoming.specs.Frame.{frameEnd}
+use Rattle.incoming.specs.declared.io.Frame.the-variants.{More}
+use Rattle.incoming.specs.declared.gather.Gathered.{Gathered}
+use Rattle.outgoing.specs.declared.body.Outgoing.{Outgoing}
+use Rattle.outgoing.specs.declared.body.Chunk.{Chunk}
+use Rattle.connection.specs.Send.{front}
+use Rattle.connection.specs.declared.peer.Peer.{Peer}
+use Rattle.model.specs.Model.{Stores, withHeaders, stores, withReply, engineWith, Done, done, wants, asks, ends, replies, repliesCode, continueBytes, continues, limitOf, short, soundOperation, sound}
+use Rattle.model.specs.Refusal.{Waits, bytes, taking, reply, object, acknowledgement, password, nonce, credentials, nothing, reading, asked, told, verdictOf}
+use Rattle.model.specs.declared.server.Operation.{Operation}
+use Rattle.model.specs.declared.server.Operation.the-variants.{Nothing, Putting, Getting, Sending, Gathering as GatheringOp, Connecting, Draining}
+use Rattle.connection.specs.declared.peer.ConnectionId.{ConnectionId}
+use Rattle.model.specs.declared.server.Await.{Await}
+use Rattle.model.specs.declared.server.Await.the-variants as await
+use Rattle.model.specs.declared.server.Engine.{Engine}
+use Rattle.model.specs.declared.server.Request.{Request}
+use Rattle.model.specs.declared.server.Outcome.{Outcome}
+use Rattle.model.specs.declared.server.Outcome.the-variants as outcome
+use Rattle.connection.proofs.Standings.{PeerFits}
+use Rattle.incoming.proofs.Frames.{Octets}
+
+-- ---- tests
+
+pub and-left : (a b : Bool) → (a && b) ≡ true → a ≡ true
+and-left true b h = refl
+and-left false b h = h
+
+pub and-right : (a b : Bool) → (a && b) ≡ true → b ≡ true
+and-right true b h = h
+and-right false b h = absurd (false≢true h)
+
+pub or-left : (a b : Bool) → (a || b) ≡ false → a ≡ false
+or-left true b h = h
+or-left false b h = refl
+
+pub or-right : (a b : Bool) → (a || b) ≡ false → b ≡ false
+or-right true b h = absurd (true≢false h)
+or-right false b h = h
+
+-- ---- the stores have room
+
+pub record Room (limit : ℕ) (s : Stores) : Type 0 where
+  pub packet : 65535 ≤ length (s .packet)
+  pub headers : 65535 ≤ length (s .headers)
+  pub reply : 65535 ≤ length (s .reply)
+  pub body : limit ≤ length (s .body)
+
+pub room : (limit : ℕ) (s : Stores) → short limit s ≡ false → Room limit s
+unfolding short
+room limit s h =
+    let p = or-right (ltb (length (s .packet)) 65535) _ h in
+    let q = or-right (ltb (length (s .headers)) 65535) _ p in
+    record {
+      packet = ltb-false _ _ (or-left _ _ h);
+      headers = ltb-false _ _ (or-left _ _ p);
+      reply = ltb-false _ _ (or-left _ _ q);
+      body = ltb-false _ _ (or-right (ltb (length (s .reply)) 65535) _ q);
+    }
+
+pub not-short : (limit : ℕ) (s : Stores) → Room limit s → short limit s ≡ false
+unfolding short
+not-short limit s r = simp (le-ltb _ _ (r .packet), le-ltb _ _ (r .headers), le-ltb _ _ (r .reply), le-ltb _ _ (r .body))
+
+-- bytes at the front of a store keep its length
+pub front-length : (q y : List ℕ) → length q ≤ length y → length (front q y) ≡ length y
+front-length q y h = simp (length-append, length-drop) (omega arith)
+
+pub room-reply : (limit : ℕ) (s : Stores) (y : List ℕ) → length y ≡ length (s .reply) → Room limit s → Room limit (withReply s y)
+room-reply limit s y e r = record { packet = r .packet; headers = r .headers; reply = rw e (r .reply); body = r .body }
+
+pub room-headers : (limit : ℕ) (s : Stores) (hs : List ℕ) → length hs ≤ 65535 → Room limit s → Room limit (withHeaders s (front hs (s .headers)))
+room-headers limit s hs l r =
+    record {
+      packet = r .packet;
+      headers = rw (front-length hs (s .headers) (omega (arith, r .headers))) (r .headers);
+      reply = r .reply;
+      body = r .body;
+    }
+
+-- ---- what is open, by what is awaited
+
+-- a Get that the host is asked about, an object whose body is read, a Connect that waits for credentials
+pub record IsGetting (o : Operation) : Type 0 where
+  pub gathered : Gathered
+  pub srm : Bool
+  pub confirm : Bool
+  pub wait : Bool
+  pub is : o ≡ Getting gathered srm confirm wait
+
+pub record IsSending (o : Operation) : Type 0 where
+  pub outgoing : Outgoing
+  pub chunk : Chunk
+  pub srm : Bool
+  pub wait : Bool
+  pub is : o ≡ Sending outgoing chunk srm wait
+
+pub record IsConnecting (o : Operation) : Type 0 where
+  pub code : ℕ
+  pub front : ConnectionId
+  pub size : ℕ
+  pub is : o ≡ Connecting code front size
+
+abbrev pub connecting : Operation → Bool
+connecting (Connecting c f n) = true
+connecting Nothing = false
+connecting (Putting g srm) = false
+connecting (Getting g srm confirm wait) = false
+connecting (Sending o c srm wait) = false
+connecting (GatheringOp o g) = false
+connecting (Draining c) = false
+
+-- the operation in which something can be awaited
+abbrev pub Shape : Await → Operation → Type 0
+Shape await.Bytes o = connecting o ≡ false
+Shape await.Taken o = connecting o ≡ false
+Shape await.Get o = IsGetting o
+Shape await.Body o = IsSending o
+Shape await.Credentials o = IsConnecting o
+Shape await.Last o = o ≡ Nothing
+Shape await.Connect o = o ≡ Nothing
+Shape await.Disconnect o = o ≡ Nothing
+Shape await.Reply o = o ≡ Nothing
+Shape await.Acknowledgement o = o ≡ Nothing
+Shape await.Password o = o ≡ Nothing
+Shape await.Nonce o = o ≡ Nothing
+Shape await.Nothing o = o ≡ Nothing
+
+-- what waits for the host
+abbrev pub roomOf : Operation → ℕ
+roomOf (Sending o c srm wait) = c .room
+roomOf Nothing = 0
+roomOf (Putting g srm) = 0
+roomOf (Getting g srm confirm wait) = 0
+roomOf (GatheringOp o g) = 0
+roomOf (Connecting c f n) = 0
+roomOf (Draining c) = 0
+
+abbrev pub waitsOf : Await → Operation → Waits
+waitsOf await.Bytes o = bytes
+waitsOf await.Taken o = taking
+waitsOf await.Last o = taking
+waitsOf await.Connect o = reply
+waitsOf await.Disconnect o = reply
+waitsOf await.Get o = object
+waitsOf await.Reply o = reply
+waitsOf await.Acknowledgement o = acknowledgement
+waitsOf await.Password o = password
+waitsOf await.Nonce o = nonce
+waitsOf await.Credentials o = credentials
+waitsOf await.Body o = reading (roomOf o)
+waitsOf await.Nothing o = nothing
+
+-- ---- between two calls
+
+-- whatever is awaited
+pub record Base (e : Engine) (s : Stores) : Type 0 where
+  pub room : Room (limitOf e) s
+  pub peer : PeerFits (e .peer)
+  pub realm : e .settings .«realm_length» ≤ 254
+  pub last : e .length ≤ 65535
+
+-- the bytes of a packet begun
+pub record Begun (b : ℕ) (p : List ℕ) : Type 0 where
+  pub small : b < 65535
+  pub octets : Octets (take b p)
+  pub goes-on : frameEnd p b ≡ More
+
+pub none-begun : (p : List ℕ) → Begun 0 p
+unfolding frameEnd
+none-begun p = record { small = omega arith; octets = λ k. omega arith; goes-on = refl }
+
+pub record Sits (e : Engine) (s : Stores) : Type 0 where
+  pub base : Base e s
+  pub begun : Begun (e .begun) (s .packet)
+  pub counts : soundOperation (limitOf e) (e .operation) ≡ true
+  pub shape : Shape (e .awaits) (e .operation)
+
+pub is-sound : (e : Engine) (s : Stores) → Sits e s → sound e ≡ true
+unfolding sound
+is-sound e s h =
+    simp (
+      lt-ltb _ _ (h .begun .small),
+      le-leb _ _ (h .base .last),
+      le-leb _ _ (h .base .peer .count),
+      le-leb _ _ (h .base .peer .least),
+      le-leb _ _
+          (h .base .realm),
+      h .counts,
+    )
+
+-- ---- what a step leads to
+
+pub record Fine (d : Done) : Type 0 where
+  pub sits : Sits (d .engine) (d .stores)
+  pub waits : (w : Waits) → told w (d .outcome) ≡ waitsOf (d .engine .awaits) (d .engine .operation)
+  pub goes : verdictOf (d .outcome) ≡ goes
+
+pub fine-pick : (t : Bool) (a b : Done) → Fine a → Fine b → Fine (pick t a b)
+fine-pick true a b x y = x
+fine-pick false a b x y = y
+
+module _ (e : Engine) (s : Stores) (h : Base e s) where
+  pub fine-done : (p : Peer) (o : Operation) (a : Await) (c : Outcome) (z : Stores) → PeerFits p → Room (limitOf e) z
+      → soundOperation (limitOf e) o ≡ true → Shape a o
+      → ((w : Waits) → told w c ≡ waitsOf a o) → verdictOf c ≡ goes → Fine (done (engineWith (e .settings) p o a 0 (e .length)) c z)
+  unfolding engineWith
+  fine-done p o a c z f r k x w g =
+      record {
+        sits = record { base = record { room = r; peer = f; realm = h .realm; last = h .last }; begun = none-begun (z .packet); counts = k; shape = x };
+        waits = w;
+        goes = g;
+      }
+
+  pub fine-wants : (p : Peer) (o : Operation) (z : Stores) → PeerFits p → Room (limitOf e) z → soundOperation (limitOf e) o ≡ true
+      → Shape await.Bytes o
+      → Fine (wants e p o z)
+  fine-wants p o z f r k x = fine-done p o await.Bytes outcome.WantsBytes z f r k x (λ w. refl) refl
+
+  pub fine-asks : (p : Peer) (a : Await) (q : Request) (z : Stores) → PeerFits p → Room (limitOf e) z → Shape a Nothing → asked q ≡ waitsOf a Nothing
+      → Fine (asks e p Nothing a q z)
+  fine-asks p a q z f r x w = fine-done p Nothing a (outcome.Request q) z f r refl x (λ v. w) refl
+
+  pub fine-ends : (p : Peer) (n : ℕ) (z : Stores) → PeerFits p → Room (limitOf e) z → Fine (ends e p n z)
+  fine-ends p n z f r = fine-done p Nothing await.Nothing (outcome.End n) z f r refl refl (λ w. refl) refl
+
+  pub fine-replies : (p : Peer) (o : Operation) (a : Await) (q : List ℕ) (z : Stores) → PeerFits p → Room (limitOf e) z
+      → soundOperation (limitOf e) o ≡ true → Shape a o
+      → taking ≡ waitsOf a o → length q ≤ 65535 → Fine (replies e p o a q z)
+  fine-replies p o a q z f r k x w l =
+      fine-done p o a (outcome.Reply (length q)) (withReply z (front q (z .reply))) f
+      (room-reply (limitOf e) z (front q (z .reply)) (front-length q (z .reply) (omega (arith, r .reply))) r) k x (λ v. w) refl
+
+  pub fine-code : (p : Peer) (code : ℕ) (z : Stores) → PeerFits p → Room (limitOf e) z → Fine (repliesCode e p Nothing code z)
+  unfolding packetBytes
+  fine-code p code z f r = fine-replies p Nothing await.Taken (packetBytes (sentCode code) [] []) z f r refl refl refl (omega arith)
+
+  pub fine-continues : (o : Operation) (grant : Bool) (z : Stores) → Room (limitOf e) z → soundOperation (limitOf e) o ≡ true → Shape await.Taken o
+      → Fine (continues e o grant z)
+  unfolding packetBytes
+  fine-continues o true z r k x = fine-replies (e .peer) o await.Taken (continueBytes true) z (h .peer) r k x refl (omega arith)
+  fine-continues o false z r k x = fine-replies (e .peer) o await.Taken (continueBytes false) z (h .peer) r k x refl (omega arith)

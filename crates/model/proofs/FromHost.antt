@@ -1,0 +1,250 @@
+-- The host's answers: each such call agrees with what is due and with the journal. Assumes nothing.
+use mathlib.Core.Path.{_≡_, refl, sym, ap, _∙_, subst}
+use mathlib.Core.List.{List, []}
+use mathlib.Core.Bool.{Bool, true, false, _||_, not}
+use mathlib.Core.Option.{Option}
+use Prim.Native.Nat.{ℕ, _≤_, _<_}
+use native.Mathlib.Omega.{arith}
+use lib.ListN.{length, getD, take}
+use lib.Dec.{ltb, leb, eqb}
+use borrow.Author.Tests.{ltb-true, ltb-false, leb-true, eqb-true, eqb-false, lt-leb, le-leb}
+use Rattle.base.specs.Pick.{pick}
+use Rattle.digest.specs.declared.md5.Octets16.{Octets16}
+use Rattle.packet.specs.Codes.{isCode}
+use Rattle.packet.specs.Header.{readHeaders}
+use Rattle.packet.specs.declared.opcode.Opcode.the-variants as op
+use Rattle.journal.specs.Calls.{Call, replyGiven, objectGiven, bodyGiven, bodyFailed, abortAcknowledged, passwordGiven, nonceGiven, credentialsGiven, Credentials, goes, refused}
+use Rattle.journal.specs.Journal.{Opened, nothing, getting, sending, Journal, unchanged, opens, replied, objectSent, journalCall, journalFed}
+use Rattle.outgoing.specs.Outgoing.{bodyGiven as givenBody}
+use Rattle.outgoing.specs.declared.body.Outgoing.{Outgoing}
+use Rattle.outgoing.specs.declared.body.Chunk.{Chunk}
+use Rattle.connection.specs.Send.{front}
+use Rattle.model.specs.Model.{Stores, withHeaders, connectSends, Done, refuse, after, limitOf, listOf, sends, sendsPacket, sendsNext, awaited, badHeaders, badReply, checked, replyAnswer, objectOf, objectFor, bodyFor, longUser, credentialsWith, soundOperation}
+use Rattle.model.specs.Runs.{State}
+use Rattle.model.specs.Refusal.{Waits, roomIn, bad}
+use Rattle.model.specs.declared.server.Operation.{Operation}
+use Rattle.model.specs.declared.server.Await.{Await}
+use Rattle.model.specs.declared.server.Await.the-variants as await
+use Rattle.model.specs.declared.server.Engine.{Engine}
+use Rattle.outgoing.proofs.Sent.{body-sends}
+use Rattle.model.proofs.Fit.{and-left, and-right, or-left, or-right, room-headers, IsGetting, IsSending, IsConnecting, Shape, roomOf, waitsOf, Base, Sits, Fine, fine-code}
+use Rattle.model.proofs.Steps.{OutgoingFits, outgoing-within, sends-next-fine, sends-packet-fine, reply-fine, password-fine, nonce-fine, connect-sends-fine}
+use Rattle.model.proofs.Coupling.{KeptOpen, OpenedAt, Held, Coupled, Told, told-pick, told-code}
+use Rattle.model.proofs.Gathers.{next-told, fails-told, sends-told as made-told}
+use Rattle.model.proofs.Answers.{sends-told, connect-sends-told, connect-told, disconnect-told, password-told, nonce-told}
+use Rattle.model.proofs.Moments.{awaited-is, range-is, inRange, Agree, Agrees, fed-goes, agree-goes, agree-refused, agrees}
+use Rattle.model.proofs.FromPeer.{coupled-at}
+
+-- an answer's headers that are not refused fit the header store
+headers-fit : (hs : List ℕ) → badHeaders hs ≡ false → length hs ≤ 65535
+unfolding badHeaders
+headers-fit hs b = ltb-false _ _ (or-left _ _ b)
+
+reply-headers-fit : (code : ℕ) (hs : List ℕ) → badReply code hs ≡ false → length hs ≤ 65535
+unfolding badReply
+reply-headers-fit code hs b = headers-fit hs (or-right (not (isCode code)) _ b)
+
+module _ (w : Waits) (s : State) (h : Sits (s .engine) (s .stores)) (k : w ≡ waitsOf (s .engine .awaits) (s .engine .operation)) where
+  abbrev e : Engine
+  e = s .engine
+
+  abbrev st : Stores
+  st = s .stores
+
+  shape-at : (a : Await) → e .awaits ≡ a → Shape a (e .operation)
+  shape-at a i = subst (λ (x : Await). Shape x (e .operation)) i (h .shape)
+
+  -- a Get that the host is asked about is a Get for the journal, and a body that is read an object's
+  get-open : (at : e .awaits ≡ await.Get) (j : Journal) → OpenedAt (limitOf e) (e .operation) (st .headers) (st .body) (j .opened)
+      → KeptOpen (limitOf e) (shape-at await.Get at .gathered) getting (st .headers) (st .body) (j .opened)
+  get-open at j w =
+      subst (λ (o : Operation). OpenedAt (limitOf e) o (st .headers) (st .body) (j .opened)) (shape-at await.Get at .is) w
+
+  -- the journal's step, on a journal that has not ended
+  entered : (c : Call) (j : Journal) (d : Done) → j .ended ≡ false → Told d (journalCall j c (getD (st .reply) 0 0))
+      → Told d (journalFed j c goes (getD (st .reply) 0 0))
+  entered c j d i x = subst (Told d) (sym (fed-goes j c (getD (st .reply) 0 0) i)) x
+
+  -- an answer that may be refused with 8
+  checked-agrees : (c : Call) (b : Bool) (d : Done) → (b ≡ false → Fine d)
+      → (b ≡ false → (j : Journal) → Coupled e st j → Told d (journalFed j c goes (getD (st .reply) 0 0)))
+      → Agree w s c (pick b (refused 8) goes) (checked b e st d)
+  checked-agrees c true d f g = agree-refused w s h k c 8
+  checked-agrees c false d f g = agree-goes w s h k c 0 d (f refl) (λ j x u. g refl j x)
+
+  -- ---- a reply
+
+  module _ (code : ℕ) (hs : List ℕ) where
+    -- to a Get it is sent as it is, and closes it; to any other request it is sent as it is
+    plain-reply : (t : Bool) → eqb (awaited (e .awaits)) 5 ≡ t → (eqb (awaited (e .awaits)) 5 ≡ false → e .awaits ≡ await.Reply) → (j : Journal)
+        → Coupled e st j
+        → Told (sends e (e .peer) code hs st) (journalFed j (replyGiven code hs) goes (getD (st .reply) 0 0))
+    plain-reply true i o j x =
+        let at = awaited-is (e .awaits) 5 (eqb-true _ _ i) in
+        let y = coupled-at w s h k await.Get j at x in
+        let g = get-open at j (y .opened) in
+        entered (replyGiven code hs) j _ (y .fixed .ended)
+        (subst (λ (u : Opened). Told (sends e (e .peer) code hs st) (unchanged (replied u j code hs))) (sym (g .is))
+        (sends-told e st (e .peer) (opens j nothing)
+        (record { fixed = record { settings = y .fixed .settings; standing = y .fixed .standing; ended = y .fixed .ended }; begun = y .begun; opened = refl }) code hs))
+    plain-reply false i o j x =
+        let y = coupled-at w s h k await.Reply j (o i) x in
+        entered (replyGiven code hs) j _ (y .0 .fixed .ended)
+        (subst (λ (u : Journal). Told (sends e (e .peer) code hs st) (unchanged u)) (sym (ap (λ (v : Opened). replied v j code hs) (y .0 .opened) ∙ y .1 code hs))
+        (sends-told e st (e .peer) j (y .0) code hs))
+
+    reply-told : inRange 3 6 (e .awaits) ≡ true → (j : Journal) → Coupled e st j
+        → Told (replyAnswer e code hs st) (journalFed j (replyGiven code hs) goes (getD (st .reply) 0 0))
+    unfolding replyAnswer
+    reply-told r j x =
+        told-pick (eqb (awaited (e .awaits)) 3) _ _ _
+        (λ m. let y = coupled-at w s h k await.Connect j (awaited-is (e .awaits) 3 (eqb-true _ _ m)) x in
+        entered (replyGiven code hs) j _ (y .held .fixed .ended) (connect-told e st j op.Connect y (h .base .peer) code hs refl))
+        (λ m. told-pick (eqb (awaited (e .awaits)) 4) _ _ _
+        (λ n. let y = coupled-at w s h k await.Disconnect j (awaited-is (e .awaits) 4 (eqb-true _ _ n)) x in
+        entered (replyGiven code hs) j _ (y .held .fixed .ended) (disconnect-told e st j op.Disconnect y (h .base .peer) code hs refl))
+        (λ n. plain-reply (eqb (awaited (e .awaits)) 5) refl (λ o. awaited-is (e .awaits) 6 (six m n o)) j x))
+      where
+        six : eqb (awaited (e .awaits)) 3 ≡ false → eqb (awaited (e .awaits)) 4 ≡ false → eqb (awaited (e .awaits)) 5 ≡ false
+            → awaited (e .awaits) ≡ 6
+        six m n o =
+            let lower : 3 ≤ awaited (e .awaits) = leb-true _ _ (and-left _ _ r) in
+            let upper : awaited (e .awaits) ≤ 6 = leb-true _ _ (and-right (leb 3 (awaited (e .awaits))) _ r) in
+            let a : awaited (e .awaits) ≡ 3 → ⊥ = eqb-false _ _ m in
+            let b : awaited (e .awaits) ≡ 4 → ⊥ = eqb-false _ _ n in
+            let c : awaited (e .awaits) ≡ 5 → ⊥ = eqb-false _ _ o in
+            omega arith
+
+    pub reply-agrees : Agrees w s (replyGiven code hs)
+    unfolding bad
+    reply-agrees =
+        agrees w s h k (replyGiven code hs)
+        (λ r. checked-agrees (replyGiven code hs) (badReply code hs) (replyAnswer e code hs st)
+        (λ b. reply-fine e st (h .base) code hs (reply-headers-fit code hs b)) (λ b j x. reply-told r j x))
+
+  -- ---- an object
+
+  module _ (hs : List ℕ) (has : Bool) where
+    abbrev z : Stores
+    z = withHeaders st (front hs (st .headers))
+
+    object-base : length hs ≤ 65535 → Base e z
+    object-base l =
+        record { room = room-headers (limitOf e) st hs l (h .base .room); peer = h .base .peer; realm = h .base .realm; last = h .base .last }
+
+    object-told : length hs ≤ 65535 → (srm confirm wait : Bool) → e .awaits ≡ await.Get → (j : Journal) → Coupled e st j
+        → Told (sendsNext e (objectOf hs confirm has) srm wait z) (journalFed j (objectGiven hs has) goes (getD (st .reply) 0 0))
+    object-told l srm confirm wait at j x =
+        let y = coupled-at w s h k await.Get j at x in
+        let g = get-open at j (y .opened) in
+        entered (objectGiven hs has) j _ (y .fixed .ended)
+        (subst (λ (u : Opened). Told (sendsNext e (objectOf hs confirm has) srm wait z) (unchanged (objectSent u j))) (sym (g .is))
+        (next-told e z (opens j sending) (record { settings = y .fixed .settings; standing = y .fixed .standing; ended = y .fixed .ended }) (y .begun) refl
+        (object-base l) (objectOf hs confirm has) srm wait (omega arith) l))
+
+    object-at : (at : e .awaits ≡ await.Get) → IsGetting (e .operation)
+        → Agree w s (objectGiven hs has) (pick (badHeaders hs) (refused 8) goes) (objectFor (e .operation) e hs has st)
+    object-at at v =
+        subst (λ (o : Operation). Agree w s (objectGiven hs has) (pick (badHeaders hs) (refused 8) goes) (objectFor o e hs has st)) (sym (v .is))
+        (checked-agrees (objectGiven hs has) (badHeaders hs) (sendsNext e (objectOf hs (v .confirm) has) (v .srm || v .confirm) (v .wait) z)
+        (λ b. sends-next-fine e z (object-base (headers-fit hs b)) (objectOf hs (v .confirm) has) (v .srm || v .confirm) (v .wait) (omega arith)
+        (headers-fit hs b))
+        (λ b j y. object-told (headers-fit hs b) (v .srm || v .confirm) (v .confirm) (v .wait) at j y))
+
+    pub object-agrees : Agrees w s (objectGiven hs has)
+    unfolding bad
+    object-agrees =
+        agrees w s h k (objectGiven hs has)
+        (λ r. let at = range-is (e .awaits) 5 r in object-at at (shape-at await.Get at))
+
+  -- ---- body bytes
+
+  module _ (at : e .awaits ≡ await.Body) (j : Journal) (x : Coupled e st j) where
+    body-held : Held (e .settings) (e .peer) (e .operation) st [] j
+    body-held = coupled-at w s h k await.Body j at x
+
+    body-open : j .opened ≡ sending
+    body-open =
+        subst (λ (o : Operation). OpenedAt (limitOf e) o (st .headers) (st .body) (j .opened)) (shape-at await.Body at .is)
+        (body-held .opened)
+
+  module _ (d : List ℕ) where
+    -- more than were asked for is refused with 9
+    body-at : e .awaits ≡ await.Body → (o : Outgoing) (c : Chunk) (srm wait : Bool) → OutgoingFits o c → (t : Bool) → ltb (c .room) (length d) ≡ t
+        → Agree w s (bodyGiven d) (pick (leb (length d) (c .room)) goes (refused 9)) (pick t (refuse 9 e st) (after 0 (sendsPacket e srm wait (givenBody o c d (st .reply)) st)))
+    body-at at o c srm wait y true i =
+        let more : c .room < length d = ltb-true _ _ i in
+        subst (λ (t : Bool). Agree w s (bodyGiven d) (pick t goes (refused 9)) (refuse 9 e st)) (sym (lt-leb (length d) (c .room) more)) (agree-refused w s h k (bodyGiven d) 9)
+    body-at at o c srm wait y false i =
+        let within : length d ≤ c .room = ltb-false _ _ i in
+        let m = body-sends o c d (st .reply) (h .base .room .reply) within (y .begun) (y .chunk) (y .sent) in
+        subst (λ (t : Bool). Agree w s (bodyGiven d) (pick t goes (refused 9)) (after 0 (sendsPacket e srm wait (givenBody o c d (st .reply)) st))) (sym (le-leb (length d) (c .room) within))
+        (agree-goes w s h k (bodyGiven d) 0 _ (sends-packet-fine e st (h .base) o srm wait (givenBody o c d (st .reply)) (y .total) m)
+        (λ j x u. let l = body-held at j x in
+        entered (bodyGiven d) j _ (l .fixed .ended)
+        (made-told e st j (l .fixed) (l .begun) (body-open at j x) o srm wait (givenBody o c d (st .reply)) m)))
+
+    body-for : e .awaits ≡ await.Body → (v : IsSending (e .operation))
+        → Agree w s (bodyGiven d) (pick (leb (length d) (roomIn (waitsOf (e .awaits) (e .operation)))) goes (refused 9)) (bodyFor (e .operation) e d st)
+    body-for at v =
+        subst (λ (a : Await). Agree w s (bodyGiven d) (pick (leb (length d) (roomIn (waitsOf a (e .operation)))) goes (refused 9)) (bodyFor (e .operation) e d st)) (sym at)
+        (subst (λ (o : Operation). Agree w s (bodyGiven d) (pick (leb (length d) (roomOf o)) goes (refused 9)) (bodyFor o e d st)) (sym (v .is))
+        (body-at at (v .outgoing) (v .chunk) (v .srm) (v .wait)
+        (outgoing-within (v .outgoing) (v .chunk) (ap (soundOperation (limitOf e)) (sym (v .is)) ∙ h .counts)) _ refl))
+
+    pub body-agrees : Agrees w s (bodyGiven d)
+    unfolding bad
+    body-agrees =
+        agrees w s h k (bodyGiven d)
+        (λ r. let at = range-is (e .awaits) 11 r in body-for at (shape-at await.Body at))
+
+  pub body-failed-agrees : Agrees w s bodyFailed
+  unfolding bad
+  body-failed-agrees =
+      agrees w s h k bodyFailed
+      (λ r. let at = range-is (e .awaits) 11 r in
+      agree-goes w s h k bodyFailed 0 _ (fine-code e st (h .base) (e .peer) 0x50 st (h .base .peer) (h .base .room))
+      (λ j x u. let l = body-held at j x in entered bodyFailed j _ (l .fixed .ended)
+      (fails-told e st j (l .fixed) (l .begun) (body-open at j x) (st .reply))))
+
+  -- ---- an Abort is acknowledged; the password, the nonce, credentials
+
+  pub acknowledge-agrees : Agrees w s abortAcknowledged
+  unfolding bad
+  acknowledge-agrees =
+      agrees w s h k abortAcknowledged
+      (λ r. agree-goes w s h k abortAcknowledged 0 _ (fine-code e st (h .base) (e .peer) 0x20 st (h .base .peer) (h .base .room))
+      (λ j x u. let y = coupled-at w s h k await.Acknowledgement j (range-is (e .awaits) 7 r) x in
+      entered abortAcknowledged j _ (y .fixed .ended) (told-code e (e .peer) st j 0x20 y)))
+
+  pub password-agrees : (p : Option (List ℕ)) → Agrees w s (passwordGiven p)
+  unfolding bad
+  password-agrees p =
+      agrees w s h k (passwordGiven p)
+      (λ r. agree-goes w s h k (passwordGiven p) 0 _ (password-fine e st (h .base) p)
+      (λ j x u. let y = coupled-at w s h k await.Password j (range-is (e .awaits) 8 r) x in
+      entered (passwordGiven p) j _ (y .held .fixed .ended) (password-told e st j op.Connect y refl p)))
+
+  pub nonce-agrees : (n : Octets16) → Agrees w s (nonceGiven n)
+  unfolding bad
+  nonce-agrees n =
+      agrees w s h k (nonceGiven n)
+      (λ r. agree-goes w s h k (nonceGiven n) 0 _ (nonce-fine e st (h .base) n)
+      (λ j x u. let y = coupled-at w s h k await.Nonce j (range-is (e .awaits) 9 r) x in
+      entered (nonceGiven n) j _ (y .held .fixed .ended) (nonce-told e st j op.Connect y n)))
+
+  credentials-at : (c : Option Credentials) → e .awaits ≡ await.Credentials → IsConnecting (e .operation)
+      → Agree w s (credentialsGiven c) (pick (longUser c) (refused 8) goes) (credentialsWith (e .operation) e c st)
+  credentials-at c at v =
+      let answer = listOf (readHeaders (take (v .size) (st .headers)) 0) in
+      subst (λ (o : Operation). Agree w s (credentialsGiven c) (pick (longUser c) (refused 8) goes) (credentialsWith o e c st)) (sym (v .is))
+      (checked-agrees (credentialsGiven c) (longUser c) (connectSends e (e .peer) (v .code) (v .front) answer c st)
+      (λ b. connect-sends-fine e st (h .base) (e .peer) (v .code) (v .front) answer c (h .base .peer))
+      (λ b j x. let y = coupled-at w s h k await.Credentials j at x in
+      entered (credentialsGiven c) j _ (y .fixed .ended) (connect-sends-told e st (e .peer) j y (v .code) (v .front) answer c)))
+
+  pub credentials-agree : (c : Option Credentials) → Agrees w s (credentialsGiven c)
+  unfolding bad
+  credentials-agree c =
+      agrees w s h k (credentialsGiven c)
+      (λ r. let at = range-is (e .awaits) 10 r in credentials-at c at (shape-at await.Credentials at))

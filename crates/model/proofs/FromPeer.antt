@@ -1,0 +1,218 @@
+-- Bytes, the end of the stream, and replies taken: each such call agrees with what is due and with the journal. Assumes nothing.
+use mathlib.Core.Path.{_≡_, refl, sym, ap, _∙_, subst}
+use mathlib.Core.List.{List, []}
+use mathlib.Core.Bool.{Bool, true, false, _&&_, not}
+use Prim.Native.Nat.{ℕ, _≤_}
+use native.Mathlib.Omega.{arith}
+use lib.ListN.{length, getD, take}
+use lib.Dec.{leb, eqb}
+use borrow.Author.Tests.{leb-true, eqb-true, eqb-false}
+use Rattle.base.specs.Pick.{pick}
+use Rattle.packet.specs.Packet.{requestOf}
+use Rattle.journal.specs.Calls.{bytesOffered, streamEnded, replyTaken, goes}
+use Rattle.journal.specs.Journal.{Journal, unchanged, begin, end, Read, more, whole, short, readUp, bytesRead, packetRead, journalPacket, takenAt, journalCall, journalFed, readIn, fedReads, keptRead, keptAfter}
+use Rattle.incoming.specs.Frame.{Frames, framed}
+use Rattle.incoming.specs.declared.io.Frame.{Frame}
+use Rattle.incoming.specs.declared.io.Frame.the-variants.{More, Whole, Short}
+use Rattle.model.specs.Model.{Stores, done, wants, ends, after, engineWith, limitOf, lastPacket, lengthOf, packetDone, framedAs, withPacket, offers, awaited, goesOn, soundOperation}
+use Rattle.model.specs.Runs.{State}
+use Rattle.model.specs.Refusal.{Waits, bad}
+use Rattle.model.specs.Claims.{Kept}
+use Rattle.model.specs.declared.server.Operation.{Operation}
+use Rattle.model.specs.declared.server.Operation.the-variants.{Nothing, Putting, Getting, Sending, Gathering as GatheringOp, Connecting, Draining}
+use Rattle.model.specs.declared.server.Await.{Await}
+use Rattle.model.specs.declared.server.Await.the-variants as await
+use Rattle.model.specs.declared.server.Engine.{Engine}
+use Rattle.model.specs.declared.server.Outcome.the-variants as outcome
+use Rattle.incoming.proofs.Frames.{Octets, Agrees as Frames-agree, frames-agree}
+use Rattle.model.proofs.Fit.{and-left, and-right, Room, Shape, waitsOf, Base, Sits, Fine, fine-pick, fine-wants, fine-ends}
+use Rattle.model.proofs.Steps.{outgoing-within, sends-next-fine, read-fine}
+use Rattle.model.proofs.Coupling.{OpenedAt, Held, CoupledAt, Coupled, Told, told-pick, told-ends, told-wants}
+use Rattle.model.proofs.Gathers.{next-told}
+use Rattle.model.proofs.Packets.{read-told}
+use Rattle.model.proofs.Moments.{awaited-is, range-is, Agree, Agrees, fed-goes, agree-goes, agrees}
+
+module _ (w : Waits) (s : State) (h : Sits (s .engine) (s .stores)) (k : w ≡ waitsOf (s .engine .awaits) (s .engine .operation)) where
+  abbrev e : Engine
+  e = s .engine
+
+  abbrev st : Stores
+  st = s .stores
+
+  -- the coupling, where it is known what is awaited
+  pub coupled-at : (a : Await) (j : Journal) → e .awaits ≡ a → Coupled e st j
+      → CoupledAt a (e .operation) (e .settings) (e .peer) (e .begun) (e .length) st j
+  coupled-at a j i x = subst (λ (y : Await). CoupledAt y (e .operation) (e .settings) (e .peer) (e .begun) (e .length) st j) i x
+
+  -- ---- bytes
+
+  module _ (i : List ℕ) (o : Octets i) (at : e .awaits ≡ await.Bytes) where
+    abbrev f : Frames
+    f = framed (st .packet) (e .begun) 0 i
+
+    abbrev z : Stores
+    z = withPacket st (f .packet)
+
+    abbrev n : ℕ
+    n = f .result .begun
+
+    abbrev Begins : Journal → Type 0
+    Begins j = Held (e .settings) (e .peer) (e .operation) st (take (e .begun) (st .packet)) j
+
+    -- what the journal reads
+    journal-reads : (j : Journal) (r : Read) → Begins j → readUp (take (e .begun) (st .packet)) i ≡ r
+        → journalFed j (bytesOffered i) goes (getD (st .reply) 0 0) ≡ bytesRead j r
+    journal-reads j r x q =
+        fed-goes j (bytesOffered i) (getD (st .reply) 0 0) (x .fixed .ended) ∙ ap (bytesRead j) (ap (λ (l : List ℕ). readUp l i) (x .begun) ∙ q)
+
+    kept-reads : (j : Journal) (r : Read) → Begins j → readUp (take (e .begun) (st .packet)) i ≡ r → Kept (fedReads j (bytesOffered i) goes)
+        → Kept (readIn j r)
+    kept-reads j r x q y =
+        subst Kept (ap (λ (t : Bool). pick t [] (readIn j (readUp (j .begun) i))) (x .fixed .ended) ∙ ap (readIn j) (ap (λ (l : List ℕ). readUp l i) (x .begun) ∙ q)) y
+
+    room-at : length (f .packet) ≡ length (st .packet) → Room (limitOf e) z
+    room-at l =
+        record { packet = rw l (h .base .room .packet); headers = h .base .room .headers; reply = h .base .room .reply; body = h .base .room .body }
+
+    -- a packet goes on
+    more-fine : (q : List ℕ) → Frames-agree (st .packet) f (more q)
+        → Fine (done (engineWith (e .settings) (e .peer) (e .operation) (e .awaits) n (e .length)) outcome.WantsBytes z)
+    unfolding engineWith
+    more-fine q (a, g, l, m) =
+        record {
+          sits = record {
+            base = record { room = room-at (g .same-length); peer = h .base .peer; realm = h .base .realm; last = h .base .last };
+            begun = record { small = l; octets = subst Octets (g .bytes) (g .octets); goes-on = m };
+            counts = h .counts;
+            shape = h .shape;
+          };
+          waits = λ v. ap (λ (y : Await). waitsOf y (e .operation)) (sym at);
+          goes = refl;
+        }
+
+    more-told : (q : List ℕ) → Frames-agree (st .packet) f (more q) → (j : Journal) → Begins j
+        → Told (done (engineWith (e .settings) (e .peer) (e .operation) (e .awaits) n (e .length)) outcome.WantsBytes z) (bytesRead j (more q))
+    unfolding engineWith
+    more-told q (a, g, l, m) j x =
+        record {
+          given = refl;
+          after = subst (λ (y : Await). CoupledAt y (e .operation) (e .settings) (e .peer) n (e .length) z (begin j q)) (sym at)
+              (record { fixed = record { settings = x .fixed .settings; standing = x .fixed .standing; ended = x .fixed .ended }; begun = g .bytes; opened = x .opened });
+        }
+
+    -- a packet is whole
+    whole-base : (q : List ℕ) → Frames-agree (st .packet) f (whole q) → Base (lengthOf e n) z
+    unfolding engineWith
+    whole-base q (a, g, l) = record { room = room-at (g .same-length); peer = h .base .peer; realm = h .base .realm; last = l }
+
+    whole-fine : (q : List ℕ) → Frames-agree (st .packet) f (whole q) → Fine (packetDone e n z)
+    unfolding engineWith packetDone lastPacket
+    whole-fine q (a, g, l) =
+        read-fine (lengthOf e n) z (whole-base q (a, g, l)) (subst Octets (g .bytes) (g .octets)) (h .counts) (take n (f .packet))
+        (requestOf (take n (f .packet)))
+
+    whole-told : (q : List ℕ) → Frames-agree (st .packet) f (whole q) → (j : Journal) → Begins j → Kept (readIn j (whole q))
+        → Told (packetDone e n z) (bytesRead j (whole q))
+    unfolding engineWith packetDone journalPacket keptAfter
+    whole-told q (a, g, l) j x y =
+        subst (λ (p : List ℕ). Told (packetDone e n z) (packetRead (requestOf p) j)) (sym (g .bytes))
+        (read-told (lengthOf e n) z j (record { settings = x .fixed .settings; standing = x .fixed .standing; ended = x .fixed .ended })
+        (whole-base q (a, g, l)) (subst Octets (g .bytes) (g .octets)) (x .opened) (h .counts)
+        (take n (f .packet)) (requestOf (take n (f .packet))) refl
+        (subst (λ (p : List ℕ). length (keptRead (j .opened) (requestOf p)) ≤ 65535) (g .bytes) (y .0)))
+
+    -- by where the bytes end
+    frame-at : (x : Frame) → f .result .frame ≡ x → Agree w s (bytesOffered i) goes (framedAs x e n (f .result .taken) z)
+        → Agree w s (bytesOffered i) goes (offers e f st)
+    frame-at x q a = subst (λ (y : Frame). Agree w s (bytesOffered i) goes (framedAs y e n (f .result .taken) z)) (sym q) a
+
+    read-agrees : (r : Read) → readUp (take (e .begun) (st .packet)) i ≡ r → Frames-agree (st .packet) f r
+        → Agree w s (bytesOffered i) goes (offers e f st)
+    read-agrees (more q) y g =
+        frame-at More (g .0)
+        (agree-goes w s h k (bytesOffered i) (f .result .taken) _ (more-fine q g)
+        (λ j x u. subst (Told _) (sym (journal-reads j (more q) (coupled-at await.Bytes j at x) y)) (more-told q g j (coupled-at await.Bytes j at x))))
+    read-agrees (whole q) y g =
+        frame-at Whole (g .0)
+        (agree-goes w s h k (bytesOffered i) (f .result .taken) _ (whole-fine q g)
+        (λ j x u. subst (Told _) (sym (journal-reads j (whole q) (coupled-at await.Bytes j at x) y))
+        (whole-told q g j (coupled-at await.Bytes j at x) (kept-reads j (whole q) (coupled-at await.Bytes j at x) y u))))
+    read-agrees short y g =
+        frame-at Short (g .0)
+        (agree-goes w s h k (bytesOffered i) (f .result .taken) _ (fine-ends e st (h .base) (e .peer) 3 z (h .base .peer) (room-at (g .1)))
+        (λ j x u. subst (Told _) (sym (journal-reads j short (coupled-at await.Bytes j at x) y)) (told-ends e (e .peer) z (end j) 3)))
+
+  pub bytes-agree : (i : List ℕ) → Octets i → Agrees w s (bytesOffered i)
+  unfolding bad
+  bytes-agree i o =
+      agrees w s h k (bytesOffered i)
+      (λ r. read-agrees i o (range-is (e .awaits) 0 r) _ refl
+      (frames-agree (st .packet) i (e .begun) 0 (h .begun .small) (h .base .room .packet) (h .begun .octets) o (h .begun .goes-on)))
+
+  -- ---- the end of the stream
+
+  pub end-agrees : Agrees w s streamEnded
+  unfolding bad
+  end-agrees =
+      agrees w s h k streamEnded
+      (λ r. agree-goes w s h k streamEnded 0 _ (fine-ends e st (h .base) (e .peer) (pick (eqb (e .begun) 0) 1 2) st (h .base .peer) (h .base .room))
+      (λ j x u. subst (Told _) (sym (fed-goes j streamEnded (getD (st .reply) 0 0) (coupled-at await.Bytes j (range-is (e .awaits) 0 r) x .fixed .ended)))
+      (told-ends e (e .peer) st (end j) (pick (eqb (e .begun) 0) 1 2))))
+
+  -- ---- a reply is taken
+
+  goes-on-fine : (o : Operation) → soundOperation (limitOf e) o ≡ true → Fine (wants e (e .peer) (e .operation) st) → Fine (goesOn o e st)
+  goes-on-fine Nothing c x = x
+  goes-on-fine (Putting g srm) c x = x
+  goes-on-fine (Getting g srm confirm wait) c x = x
+  goes-on-fine (Sending o q srm wait) c x =
+      let y = outgoing-within o q c in
+      fine-pick (srm && not wait) _ _ (sends-next-fine e st (h .base) o srm wait (y .sent) (y .total)) x
+  goes-on-fine (GatheringOp o g) c x = x
+  goes-on-fine (Connecting q g m) c x = x
+  goes-on-fine (Draining q) c x = x
+
+  goes-on-told : (j : Journal) → Held (e .settings) (e .peer) (e .operation) st [] j → (o : Operation)
+      → OpenedAt (limitOf e) o (st .headers) (st .body) (j .opened) → soundOperation (limitOf e) o ≡ true
+      → Told (wants e (e .peer) (e .operation) st) (unchanged j) → Told (goesOn o e st) (unchanged j)
+  goes-on-told j l Nothing p c x = x
+  goes-on-told j l (Putting g srm) p c x = x
+  goes-on-told j l (Getting g srm confirm wait) p c x = x
+  goes-on-told j l (Sending o q srm wait) p c x =
+      let y = outgoing-within o q c in
+      told-pick (srm && not wait) _ _ _ (λ m. next-told e st j (l .fixed) (l .begun) p (h .base) o srm wait (y .sent) (y .total)) (λ m. x)
+  goes-on-told j l (GatheringOp o g) p c x = x
+  goes-on-told j l (Connecting q g m) p c x = x
+  goes-on-told j l (Draining q) p c x = x
+
+  taken-goes : (t : Bool) → eqb (awaited (e .awaits)) 1 ≡ t → leb (awaited (e .awaits)) 2 ≡ true → leb 1 (awaited (e .awaits)) ≡ true
+      → Agree w s replyTaken goes (after 0 (pick t (goesOn (e .operation) e st) (ends e (e .peer) 5 st)))
+  taken-goes true i l m =
+      agree-goes w s h k replyTaken 0 _
+      (goes-on-fine (e .operation) (h .counts)
+      (fine-wants e st (h .base) (e .peer) (e .operation) st (h .base .peer) (h .base .room) (h .counts) (subst (λ (x : Await). Shape x (e .operation)) at (h .shape))))
+      (λ j x u. let y = coupled-at await.Taken j at x in
+      subst (Told _) (sym (fed-goes j replyTaken (getD (st .reply) 0 0) (y .0)))
+      (goes-on-told (takenAt (j .opened) j (getD (st .reply) 0 0)) (y .1) (e .operation) (y .1 .opened) (h .counts)
+      (told-wants e (e .peer) st _ (e .operation) (y .1))))
+    where
+      at : e .awaits ≡ await.Taken
+      at = awaited-is (e .awaits) 1 (eqb-true _ _ i)
+  taken-goes false i l m =
+      agree-goes w s h k replyTaken 0 _ (fine-ends e st (h .base) (e .peer) 5 st (h .base .peer) (h .base .room))
+      (λ j x u. subst (Told _) (sym (ap (λ (t : Bool). pick t (unchanged j) (journalCall j replyTaken (getD (st .reply) 0 0))) (coupled-at await.Last j at x))) (told-ends e (e .peer) st j 5))
+    where
+      two : awaited (e .awaits) ≡ 2
+      two =
+          let upper : awaited (e .awaits) ≤ 2 = leb-true _ _ l in
+          let lower : 1 ≤ awaited (e .awaits) = leb-true _ _ m in
+          let other : awaited (e .awaits) ≡ 1 → ⊥ = eqb-false _ _ i in
+          omega arith
+
+      at : e .awaits ≡ await.Last
+      at = awaited-is (e .awaits) 2 two
+
+  pub taken-agrees : Agrees w s replyTaken
+  unfolding bad
+  taken-agrees =
+      agrees w s h k replyTaken (λ r. taken-goes (eqb (awaited (e .awaits)) 1) refl (and-right (leb 1 (awaited (e .awaits))) _ r) (and-left _ _ r))

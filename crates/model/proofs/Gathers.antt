@@ -1,0 +1,200 @@
+-- A packet of a Put, a Get, or an operation of headers alone, and a packet of an object that is sent: the engine and the journal go together.
+-- Assumes nothing.
+use mathlib.Core.Path.{_≡_, refl, sym, ap, ap₂, _∙_, subst}
+use mathlib.Core.List.{List, [], _∷_, _++_}
+use mathlib.Core.Bool.{Bool, true, false, not, or-true}
+use mathlib.Core.Option.{Option, none, some}
+use Prim.Native.Nat.{ℕ, _≤_, _<_}
+use native.Mathlib.Omega.{arith}
+use lib.ListN.{length, getD, take}
+use lib.Dec.{leb, eqb}
+use borrow.Author.Tests.{ltb-true, ltb-false, lt-leb, le-leb}
+use Rattle.base.specs.Pick.{pick}
+use Rattle.packet.specs.Codes.{sentCode}
+use Rattle.packet.specs.Header.{allBytes}
+use Rattle.packet.specs.Packet.{Request as Packet, packetBytes}
+use Rattle.packet.specs.declared.opcode.Opcode.{Opcode}
+use Rattle.packet.specs.declared.opcode.Opcode.the-variants as op
+use Rattle.journal.specs.Carried.{Carried, joined, sizeOf, carriedBy, keptByGet}
+use Rattle.journal.specs.Journal.{Settings as JournalSettings, Opened, nothing, putting, getting, sending, gathering, Journal, unchanged, after, putRead, gatherRead, replyTo, takenAt}
+use Rattle.incoming.specs.Gather.{Gathering, gathering as gatheringOf}
+use Rattle.incoming.specs.declared.survey.Survey.{Survey}
+use Rattle.incoming.specs.declared.gather.Keep.the-variants as keep
+use Rattle.incoming.specs.declared.gather.Gathered.{Gathered}
+use Rattle.outgoing.specs.Outgoing.{Made, nextPacket}
+use Rattle.outgoing.specs.declared.body.Outgoing.{Outgoing}
+use Rattle.outgoing.specs.declared.body.Next.{Next}
+use Rattle.outgoing.specs.declared.body.Next.the-variants as next
+use Rattle.connection.specs.Send.{front}
+use Rattle.model.specs.Model.{Stores, withReply, withGathered, repliesCode, limitOf, continueBytes, putBody, putGathered, putPacket, getGathered, getPacket, headersRequest, headersGathered, headersPacket, gathers, capacityOf, sendsMade, sendsPacket, sendsNext}
+use Rattle.model.specs.Runs.{bodyIn, handed}
+use Rattle.model.specs.declared.server.Operation.{Operation}
+use Rattle.model.specs.declared.server.Operation.the-variants.{Nothing, Putting, Getting, Sending, Gathering as GatheringOp}
+use Rattle.model.specs.declared.server.Await.the-variants as await
+use Rattle.model.specs.declared.server.Engine.{Engine}
+use Rattle.model.specs.declared.server.Body.the-variants as body
+use Rattle.model.specs.declared.server.Request.the-variants as request
+use Rattle.model.specs.declared.server.Outcome.the-variants as outcome
+use Rattle.incoming.proofs.Gathers.{PutAgrees, KeptAgrees, put-agrees, get-agrees, all-agrees}
+use Rattle.outgoing.proofs.Sent.{SendsFrom}
+use Rattle.model.proofs.Fit.{Base}
+use Rattle.model.proofs.Steps.{headers-request, next-made}
+use Rattle.model.proofs.Coupling.{PutOpen, Plain, OpenedAt, Fixed, Held, Still, Told, told-pick, told-done, told-wants, told-replies, told-code, told-closes}
+
+-- the body that a Put request hands over
+body-handed : (g : Gathered) (b : List ℕ) → bodyIn (putBody g) b ≡ pick (g .came) (some (take (g .body) b)) none
+body-handed g b = go (g .came)
+  where
+    go : (t : Bool) → bodyIn (pick t (body.Bytes (g .body)) body.Missing) b ≡ pick t (some (take (g .body) b)) none
+    go true = refl
+    go false = refl
+
+module _ (e : Engine) (s : Stores) (j : Journal) (f : Fixed (e .settings) (e .peer) j) (r : Packet) where
+  -- the journal after the packet, with something open
+  pub held-after : (o : Operation) (x : Opened) (z : Stores) → OpenedAt (limitOf e) o (z .headers) (z .body) x
+      → Held (e .settings) (e .peer) o z [] (after j (some r) x)
+  held-after o x z w = record { fixed = record { settings = f .settings; standing = f .standing; ended = f .ended }; begun = refl; opened = w }
+
+  pub still-after : (o : Opcode) (x : Opened) → r .opcode ≡ o → Plain o → Still (after j (some r) x)
+  still-after o x i p code hs = ap (λ (u : Opcode). replyTo u (after j (some r) x) r code hs) i ∙ p (after j (some r) x) r code hs
+
+  -- ---- Put
+
+  module _ (x : Gathering) (c : Carried) (w : PutAgrees (limitOf e) x c) where
+    limit-is : j .settings .limit ≡ limitOf e
+    limit-is = ap (λ (u : JournalSettings). u .limit) (f .settings)
+
+    within-test : (t : Bool) → x .got .over ≡ t → leb (sizeOf c) (j .settings .limit) ≡ not t
+    within-test true i =
+        let z : limitOf e < sizeOf c = ltb-true _ _ (sym (w .over) ∙ i) in lt-leb (sizeOf c) (j .settings .limit) (omega (arith, limit-is))
+    within-test false i =
+        let z : sizeOf c ≤ limitOf e = ltb-false _ _ (sym (w .over) ∙ i) in le-leb (sizeOf c) (j .settings .limit) (omega (arith, limit-is))
+
+    put-handed : x .got .over ≡ false → handed (outcome.Request (request.Put (x .got .kept) (putBody (x .got)))) (withGathered s x) ≡ c ∷ []
+    put-handed i =
+        ap₂ (λ (h : List ℕ) (b : Option (List ℕ)). record { headers = h; body = b } ∷ []) (sym (w .headers))
+        (body-handed (x .got) (x .body) ∙ sym (w .body i .1))
+
+    put-open : (srm : Bool) → PutOpen (limitOf e) (x .got) srm (x .headers) (x .body) (putting c srm)
+    put-open srm = record { carries = c; is = refl; agrees = w }
+
+    put-told : (v : Survey) (srm confirm t u : Bool) → r .opcode ≡ op.Put → x .got .over ≡ t → r .final ≡ u
+        → Told (putGathered e r v srm confirm x s) (putRead j r srm (pick srm true confirm) c)
+    unfolding putRead
+    put-told v srm confirm true true o i k =
+        simp (w .full, i, k, within-test true i)
+        (told-code e (e .peer) (withGathered s x) (after j (some r) nothing) 0x4D (held-after Nothing nothing (withGathered s x) refl))
+    put-told v srm confirm false true o i k =
+        simp (w .full, i, k, within-test false i)
+        (told-done e (e .peer) Nothing await.Reply (outcome.Request (request.Put (x .got .kept) (putBody (x .got)))) (withGathered s x)
+        (after j (some r) nothing) (c ∷ [])
+        (held-after Nothing nothing (withGathered s x) refl, still-after op.Put nothing o (λ a b y z. refl))
+        (put-handed i))
+    put-told v true confirm t false o i k =
+        simp (w .full, k, within-test t i, or-true (not t))
+        (told-pick (v .additional) _ _ _
+        (λ m. told-replies e (e .peer) (withGathered s x) (after j (some r) (putting c true)) (Putting (x .got) true) (continueBytes false) refl
+        (held-after (Putting (x .got) true) (putting c true) (withGathered s x) (put-open true)))
+        (λ m. told-wants e (e .peer) (withGathered s x) (after j (some r) (putting c true)) (Putting (x .got) true)
+        (held-after (Putting (x .got) true) (putting c true) (withGathered s x) (put-open true))))
+    put-told v false confirm true false o i k =
+        simp (w .full, i, k, within-test true i)
+        (told-code e (e .peer) (withGathered s x) (after j (some r) nothing) 0x4D (held-after Nothing nothing (withGathered s x) refl))
+    put-told v false confirm false false o i k =
+        simp (w .full, i, k, within-test false i)
+        (told-replies e (e .peer) (withGathered s x) (after j (some r) (putting c confirm)) (Putting (x .got) confirm) (continueBytes confirm) refl
+        (held-after (Putting (x .got) confirm) (putting c confirm) (withGathered s x) (put-open confirm)))
+
+  -- a Put packet, where c was carried before
+  pub put-packet : (v : Survey) (srm confirm : Bool) (g : Gathered) (c : Carried) → PutAgrees (limitOf e) (gatheringOf g (s .headers) (s .body)) c
+      → length (c .headers ++ carriedBy (r .headers) .headers) ≤ 65535 → r .opcode ≡ op.Put
+      → Told (putPacket e r v srm confirm g s) (putRead j r srm (pick srm true confirm) (joined c (carriedBy (r .headers))))
+  unfolding putPacket
+  put-packet v srm confirm g c w l o =
+      put-told (gathers e keep.Put (r .headers) g s) (joined c (carriedBy (r .headers)))
+      (put-agrees (limitOf e) (r .headers) (gatheringOf g (s .headers) (s .body)) c w l)
+      v srm confirm _ _ o refl refl
+
+  -- ---- Get
+
+  get-told : (v : Survey) (srm confirm u : Bool) (x : Gathering) (k : List ℕ) → KeptAgrees (limitOf e) x k → r .final ≡ u
+      → Told (getGathered e r v srm confirm x s) (unchanged (after j (some r) (getting k)))
+  get-told v srm confirm true x k w i =
+      simp (w .full, i)
+      (told-done e (e .peer) (Getting (x .got) srm confirm (v .wait)) await.Get (outcome.Request (request.Get (x .got .kept))) (withGathered s x)
+      (after j (some r) (getting k)) []
+      (held-after (Getting (x .got) srm confirm (v .wait)) (getting k) (withGathered s x) (record { keeps = k; is = refl; agrees = w }))
+      refl)
+  get-told v true confirm false x k w i =
+      simp (w .full, i)
+      (told-wants e (e .peer) (withGathered s x) (after j (some r) (getting k)) (Getting (x .got) true confirm (v .wait))
+      (held-after (Getting (x .got) true confirm (v .wait)) (getting k) (withGathered s x) (record { keeps = k; is = refl; agrees = w })))
+  get-told v false confirm false x k w i =
+      simp (w .full, i)
+      (told-replies e (e .peer) (withGathered s x) (after j (some r) (getting k)) (Getting (x .got) confirm false (v .wait)) (continueBytes confirm) refl
+      (held-after (Getting (x .got) confirm false (v .wait)) (getting k) (withGathered s x) (record { keeps = k; is = refl; agrees = w })))
+
+  pub get-packet : (v : Survey) (srm confirm : Bool) (g : Gathered) (k : List ℕ) → KeptAgrees (limitOf e) (gatheringOf g (s .headers) (s .body)) k
+      → length (k ++ keptByGet (r .headers)) ≤ 65535
+      → Told (getPacket e r v srm confirm g s) (unchanged (after j (some r) (getting (k ++ keptByGet (r .headers)))))
+  unfolding getPacket
+  get-packet v srm confirm g k w l =
+      get-told v srm confirm _ (gathers e keep.Get (r .headers) g s) (k ++ keptByGet (r .headers))
+      (get-agrees (limitOf e) (r .headers) (gatheringOf g (s .headers) (s .body)) k w l) refl
+
+  -- ---- Action, Session and user-defined operations
+
+  headers-told : (o : Opcode) (u : Bool) (x : Gathering) (k : List ℕ) → KeptAgrees (limitOf e) x k → Plain o → r .opcode ≡ o → r .final ≡ u
+      → Told (headersGathered e r o x s) (gatherRead j r o k)
+  headers-told o true x k w p q i =
+      simp (w .full, i)
+      (told-done e (e .peer) Nothing await.Reply (outcome.Request (headersRequest o (x .got .kept))) (withGathered s x) (after j (some r) nothing) []
+      (held-after Nothing nothing (withGathered s x) refl, still-after o nothing q p)
+      (headers-request o (x .got .kept) (withGathered s x) .1))
+  headers-told o false x k w p q i =
+      simp (w .full, i)
+      (told-replies e (e .peer) (withGathered s x) (after j (some r) (gathering o k)) (GatheringOp o (x .got)) (continueBytes false) refl
+      (held-after (GatheringOp o (x .got)) (gathering o k) (withGathered s x) (record { keeps = k; is = refl; agrees = w }, p)))
+
+  pub headers-packet : (o : Opcode) (g : Gathered) (k : List ℕ) → KeptAgrees (limitOf e) (gatheringOf g (s .headers) (s .body)) k
+      → length (k ++ allBytes (r .headers)) ≤ 65535 → Plain o → r .opcode ≡ o
+      → Told (headersPacket e r o g s) (gatherRead j r o (k ++ allBytes (r .headers)))
+  unfolding headersPacket
+  headers-packet o g k w l p q =
+      headers-told o _ (gathers e keep.All (r .headers) g s) (k ++ allBytes (r .headers))
+      (all-agrees (limitOf e) (r .headers) (gatheringOf g (s .headers) (s .body)) k w l) p q refl
+
+-- ---- an object is sent
+
+module _ (e : Engine) (s : Stores) (j : Journal) (f : Fixed (e .settings) (e .peer) j) (k : j .begun ≡ []) (z : j .opened ≡ sending) where
+  -- 0x50 ends it
+  pub fails-told : (y : List ℕ) → Told (repliesCode e (e .peer) Nothing 0x50 (withReply s y)) (unchanged j)
+  unfolding packetBytes
+  fails-told y =
+      told-closes e (e .peer) s j (outcome.Reply (length (packetBytes (sentCode 0x50) [] [])))
+      (front (packetBytes (sentCode 0x50) [] []) y) refl refl f k z
+
+  made-told : (o : Outgoing) (srm wait : Bool) (m : Made) → SendsFrom o (s .reply) m → (n : Next) → m .packet .next ≡ n
+      → Told (sendsMade e srm wait n m s) (unchanged j)
+  made-told o srm wait m w (next.Send n true) i =
+      told-closes e (e .peer) s j (outcome.Reply n) (m .reply) refl (ap (λ (b : ℕ). eqb b 0x90) (w .last n i)) f k z
+  made-told o srm wait m w (next.Send n false) i =
+      told-done e (e .peer) (Sending (m .packet .outgoing) (m .packet .chunk) srm wait) await.Taken (outcome.Reply n) (withReply s (m .reply)) j [] (
+        f .ended,
+        subst (λ (x : Journal). Held (e .settings) (e .peer) (Sending (m .packet .outgoing) (m .packet .chunk) srm wait) (withReply s (m .reply)) [] x)
+            (sym (ap (λ (u : Opened). takenAt u j (getD (m .reply) 0 0)) z ∙ ap (λ (b : ℕ). takenAt sending j b) (w .going n i)))
+            (record { fixed = f; begun = k; opened = z }),
+      )
+      refl
+  made-told o srm wait m w next.Read i =
+      told-done e (e .peer) (Sending (m .packet .outgoing) (m .packet .chunk) srm wait) await.Body
+      (outcome.Request (request.Read (m .packet .chunk .room))) (withReply s (m .reply)) j []
+      (record { fixed = f; begun = k; opened = z }) refl
+  made-told o srm wait m w next.TooLarge i = fails-told (m .reply)
+
+  pub sends-told : (o : Outgoing) (srm wait : Bool) (m : Made) → SendsFrom o (s .reply) m → Told (sendsPacket e srm wait m s) (unchanged j)
+  sends-told o srm wait m w = made-told o srm wait m w (m .packet .next) refl
+
+  pub next-told : Base e s → (o : Outgoing) (srm wait : Bool) → o .sent ≤ o .total → o .total ≤ 65535 → Told (sendsNext e o srm wait s) (unchanged j)
+  unfolding sendsNext
+  next-told h o srm wait k t = sends-told o srm wait (nextPacket (capacityOf e) o (s .headers) (s .reply)) (next-made e s h o k t)

@@ -1,0 +1,16 @@
+-- Theorems over the definitions of specs/. `Cases`: the table. The rest proves demand 3 (`Demand3`): what holds of the engine
+-- alone (`Fit`, `Steps`), how it stands to the journal (`Coupling`), packets (`Gathers`, `Dispatch`, `Packets`) and the host's answers
+-- (`Answers`), and the calls (`Moments`, `FromPeer`, `FromHost`).
+pub mod Cases
+pub mod Fit
+pub mod Steps
+pub mod Coupling
+pub mod Gathers
+pub mod Dispatch
+pub mod Packets
+pub mod Answers
+pub mod Moments
+pub mod FromPeer
+pub mod FromHost
+pub mod Demand3
+pub mod Contracts

@@ -1,0 +1,141 @@
+-- A whole packet, by what is open: what the engine makes of it is what the journal does. Assumes nothing.
+use mathlib.Core.Path.{_≡_, refl, sym, ap, subst}
+use mathlib.Core.List.{List, [], _++_}
+use mathlib.Core.Bool.{Bool, true, false}
+use mathlib.Core.Option.{Option, none, some}
+use Prim.Native.Nat.{ℕ, _≤_}
+use native.Mathlib.Omega.{arith}
+use lib.ListN.{length, getD, take, length-take}
+use Rattle.base.specs.Pick.{pick}
+use Rattle.packet.specs.FirstByte.{sameOpcode, firstByte}
+use Rattle.packet.specs.Codes.{sentCode}
+use Rattle.packet.specs.Header.{allBytes}
+use Rattle.packet.specs.Packet.{Request as Packet, requestOf, packetBytes}
+use Rattle.packet.specs.declared.opcode.Opcode.{Opcode}
+use Rattle.packet.specs.declared.opcode.Opcode.the-variants as op
+use Rattle.journal.specs.Carried.{joined, carriedBy, keptByGet}
+use Rattle.journal.specs.Journal.{Opened, nothing, sending, draining, busy as busyOpened, Journal, Entry, unchanged, after, end, putRead, dropped, stopped, requestRead, packetRead, keptWith, keptRead}
+use Rattle.incoming.specs.Survey.{surveyOf}
+use Rattle.incoming.specs.declared.survey.Survey.{Survey}
+use Rattle.connection.specs.Send.{front}
+use Rattle.model.specs.Model.{Stores, withReply, Done, wants, asks, ends, repliesCode, putPacket, limitOf, dispatch, interrupts, inside, busy, unknownByte, unreadable, readAs, soundOperation}
+use Rattle.model.specs.declared.server.Operation.{Operation}
+use Rattle.model.specs.declared.server.Operation.the-variants.{Nothing, Putting, Getting, Sending, Gathering as GatheringOp, Connecting, Draining}
+use Rattle.model.specs.declared.server.Await.the-variants as await
+use Rattle.model.specs.declared.server.Engine.{Engine}
+use Rattle.model.specs.declared.server.Request.{Request}
+use Rattle.model.specs.declared.server.Request.the-variants as request
+use Rattle.model.specs.declared.server.Outcome.the-variants as outcome
+use Rattle.incoming.proofs.Frames.{Octets}
+use Rattle.packet.proofs.HeaderBytes.{request-headers}
+use Rattle.model.proofs.Fit.{Base}
+use Rattle.model.proofs.Steps.{outgoing-within}
+use Rattle.model.proofs.Coupling.{OpenedAt, Fixed, Told, told-done, told-ends, told-wants, told-code}
+use Rattle.model.proofs.Gathers.{held-after, put-packet, get-packet, headers-packet, next-told}
+use Rattle.model.proofs.Dispatch.{same-is, dispatch-told}
+
+-- ---- what is open is open for both
+
+busy-same : (limit : ℕ) (o : Operation) (h b : List ℕ) (x : Opened) → OpenedAt limit o h b x → busyOpened x ≡ busy o
+busy-same limit Nothing h b x w = ap busyOpened w
+busy-same limit (Putting g srm) h b x w = ap busyOpened (w .is)
+busy-same limit (Getting g srm confirm wait) h b x w = ap busyOpened (w .is)
+busy-same limit (Sending o c srm wait) h b x w = ap busyOpened w
+busy-same limit (GatheringOp o g) h b x w = ap busyOpened (w .0 .is)
+busy-same limit (Connecting c f n) h b x w = absurd w
+busy-same limit (Draining c) h b x w = ap busyOpened w
+
+module _ (e : Engine) (s : Stores) (j : Journal) (f : Fixed (e .settings) (e .peer) j) (h : Base e s) where
+  -- ---- a packet that can be read
+
+  module _ (r : Packet) (last : requestOf (take (e .length) (s .packet)) ≡ some r) (small : length (allBytes (r .headers)) ≤ 65535) where
+    abbrev v : Survey
+    v = surveyOf (some (r .headers))
+
+    interrupts-told : Told (interrupts e s) (stopped j)
+    interrupts-told =
+        told-done e (e .peer) Nothing await.Last (outcome.Reply (length (packetBytes (sentCode 0x40) [] [])))
+        (withReply s (front (packetBytes (sentCode 0x40) [] []) (s .reply))) (end j) [] refl refl
+
+    -- of an operation that is open, a packet of its opcode or of another; the premise on kept headers is for the first
+    goes-on : (o : Opcode) (d : Done) (y : Entry) (k : List ℕ) → length (pick (sameOpcode (r .opcode) o) k []) ≤ 65535
+        → (length k ≤ 65535 → r .opcode ≡ o → Told d y)
+        → Told (pick (sameOpcode (r .opcode) o) d (interrupts e s)) (pick (sameOpcode (r .opcode) o) y (stopped j))
+    goes-on o d y k l w = go (sameOpcode (r .opcode) o) refl l
+      where
+        go : (t : Bool) → sameOpcode (r .opcode) o ≡ t → length (pick t k []) ≤ 65535 → Told (pick t d (interrupts e s)) (pick t y (stopped j))
+        go true i l = w l (same-is (r .opcode) o i)
+        go false i l = interrupts-told
+
+    srm-stays : (m : Bool) → pick m true false ≡ m
+    srm-stays true = refl
+    srm-stays false = refl
+
+    drain-told : (code : ℕ) (t : Bool)
+        → Told (pick t (repliesCode e (e .peer) Nothing code s) (wants e (e .peer) (Draining code) s)) (unchanged (after j (some r) (pick t nothing draining)))
+    drain-told code true = told-code e (e .peer) s (after j (some r) nothing) code (held-after e s j f r Nothing nothing s refl)
+    drain-told code false = told-wants e (e .peer) s (after j (some r) draining) (Draining code) (held-after e s j f r (Draining code) draining s refl)
+
+    -- by what is open, x for the journal
+    inside-told : (o : Operation) (x : Opened) → OpenedAt (limitOf e) o (s .headers) (s .body) x → soundOperation (limitOf e) o ≡ true
+        → length (keptWith x r) ≤ 65535
+        → sameOpcode (r .opcode) op.Abort ≡ false → Told (inside o e r v s) (requestRead x j r)
+    inside-told Nothing x w c k n =
+        subst (λ (y : Opened). Told (dispatch e r v s) (requestRead y j r)) (sym w) (dispatch-told e s j f r last h small (r .opcode) refl n)
+    inside-told (Putting g srm) x w c k n =
+        let a = w .carries in
+        subst (λ (y : Opened). length (keptWith y r) ≤ 65535 → Told (inside (Putting g srm) e r v s) (requestRead y j r)) (sym (w .is))
+        (λ l. goes-on op.Put _ _ (a .headers ++ carriedBy (r .headers) .headers) l
+        (λ l′ i. subst (λ (t : Bool). Told (putPacket e r v srm false g s) (putRead j r srm t (joined a (carriedBy (r .headers))))) (srm-stays srm) (put-packet e s j f r v srm false g a (w .agrees) l′ i)))
+        k
+    inside-told (Getting g srm confirm wait) x w c k n =
+        let a = w .keeps in
+        subst (λ (y : Opened). length (keptWith y r) ≤ 65535 → Told (inside (Getting g srm confirm wait) e r v s) (requestRead y j r)) (sym (w .is))
+        (λ l. goes-on op.Get _ _ (a ++ keptByGet (r .headers)) l (λ l′ i. get-packet e s j f r v srm confirm g a (w .agrees) l′))
+        k
+    inside-told (Sending o q srm wait) x w c k n =
+        let z = outgoing-within o q c in
+        subst (λ (y : Opened). Told (inside (Sending o q srm wait) e r v s) (requestRead y j r)) (sym w)
+        (goes-on op.Get _ _ [] (nil-short (sameOpcode (r .opcode) op.Get))
+        (λ l i. next-told e s (after j (some r) sending) (record { settings = f .settings; standing = f .standing; ended = f .ended }) refl refl h o srm
+        (v .wait) (z .sent) (z .total)))
+      where
+        nil-short : (t : Bool) → length (pick {A = List ℕ} t [] []) ≤ 65535
+        nil-short true = omega arith
+        nil-short false = omega arith
+    inside-told (GatheringOp o g) x w c k n =
+        let a = w .0 .keeps in
+        subst (λ (y : Opened). length (keptWith y r) ≤ 65535 → Told (inside (GatheringOp o g) e r v s) (requestRead y j r)) (sym (w .0 .is))
+        (λ l. goes-on o _ _ (a ++ allBytes (r .headers)) l (λ l′ i. headers-packet e s j f r o g a (w .0 .agrees) l′ (w .1) i))
+        k
+    inside-told (Connecting q g m) x w c k n = absurd w
+    inside-told (Draining code) x w c k n =
+        subst (λ (y : Opened). Told (inside (Draining code) e r v s) (requestRead y j r)) (sym w) (drain-told code (r .final))
+
+  -- ---- any packet
+
+  pub read-told : Octets (take (e .length) (s .packet)) → OpenedAt (limitOf e) (e .operation) (s .headers) (s .body) (j .opened)
+      → soundOperation (limitOf e) (e .operation) ≡ true
+      → (q : List ℕ) (x : Option Packet) → requestOf (take (e .length) (s .packet)) ≡ x → length (keptRead (j .opened) x) ≤ 65535
+      → Told (readAs x e q s) (packetRead x j)
+  read-told o w c q none i k =
+      subst (λ (t : Bool). Told (unreadable e q s) (unchanged (pick t (end j) (after j none nothing)))) (sym (busy-same (limitOf e) (e .operation) (s .headers) (s .body) (j .opened) w))
+      (go (busy (e .operation)))
+    where
+      go : (t : Bool)
+          → Told (pick t (ends e (e .peer) 4 s) (repliesCode e (e .peer) Nothing (pick (unknownByte (firstByte (getD q 0 0))) 0x51 0x40) s)) (unchanged (pick t (end j) (after j none nothing)))
+      go true = told-ends e (e .peer) s (end j) 4
+      go false =
+          told-code e (e .peer) s (after j none nothing) _
+          (record { fixed = record { settings = f .settings; standing = f .standing; ended = f .ended }; begun = refl; opened = refl })
+  read-told o w c q (some r) i k = go (sameOpcode (r .opcode) op.Abort) refl
+    where
+      short : length (allBytes (r .headers)) ≤ 65535
+      short = omega (arith, request-headers (take (e .length) (s .packet)) r o i, length-take (e .length) (s .packet), h .last)
+
+      go : (t : Bool) → sameOpcode (r .opcode) op.Abort ≡ t
+          → Told (pick t (asks e (e .peer) Nothing await.Acknowledgement (request.Abort (e .length)) s) (inside (e .operation) e r (surveyOf (some (r .headers))) s)) (pick t (dropped j r) (requestRead (j .opened) j r))
+      go true m =
+          told-done e (e .peer) Nothing await.Acknowledgement (outcome.Request (request.Abort (e .length))) s (after j (some r) nothing) []
+          (held-after e s j f r Nothing nothing s refl) refl
+      go false m = inside-told r i short (e .operation) (j .opened) w c k m

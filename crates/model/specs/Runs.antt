@@ -1,0 +1,99 @@
+-- A list of calls on one engine, each getting the state and the stores as the call before left them, and the records that it hands over.
+use Prim.Native.Nat.{ℕ, _<_, _≤_}
+use mathlib.Core.Path.{_≡_}
+use mathlib.Core.List.{List, [], _∷_, _++_}
+use mathlib.Core.Bool.{Bool, true, false}
+use mathlib.Core.Option.{Option, none, some}
+use lib.ListN.{getD, take}
+use Rattle.journal.specs.Carried.{Carried}
+use Rattle.journal.specs.Calls.{Call, bytesOffered, streamEnded, replyTaken, replyGiven, objectGiven, bodyGiven, bodyFailed, abortAcknowledged, passwordGiven, nonceGiven, credentialsGiven}
+use Rattle.model.specs.Model.{Stores, Stepped, bytesStep, endStep, takenStep, replyStep, objectStep, bodyStep, bodyFailedStep, acknowledgeStep, passwordStep, nonceStep, credentialsStep, started, short}
+use Rattle.model.specs.declared.server.Settings.{Settings}
+use Rattle.model.specs.declared.server.Engine.{Engine}
+use Rattle.model.specs.declared.server.Body.{Body}
+use Rattle.model.specs.declared.server.Body.the-variants as body
+use Rattle.model.specs.declared.server.Request.{Request}
+use Rattle.model.specs.declared.server.Request.the-variants as request
+use Rattle.model.specs.declared.server.Outcome.{Outcome}
+use Rattle.model.specs.declared.server.Outcome.the-variants as outcome
+
+-- the state and the stores between two calls
+pub record State : Type 0 where
+  pub engine : Engine
+  pub stores : Stores
+
+abbrev pub stepOf : State → Call → Stepped
+stepOf s (bytesOffered i) = bytesStep (s .engine) i (s .stores)
+stepOf s streamEnded = endStep (s .engine) (s .stores)
+stepOf s replyTaken = takenStep (s .engine) (s .stores)
+stepOf s (replyGiven code hs) = replyStep (s .engine) code hs (s .stores)
+stepOf s (objectGiven hs b) = objectStep (s .engine) hs b (s .stores)
+stepOf s (bodyGiven d) = bodyStep (s .engine) d (s .stores)
+stepOf s bodyFailed = bodyFailedStep (s .engine) (s .stores)
+stepOf s abortAcknowledged = acknowledgeStep (s .engine) (s .stores)
+stepOf s (passwordGiven p) = passwordStep (s .engine) p (s .stores)
+stepOf s (nonceGiven n) = nonceStep (s .engine) n (s .stores)
+stepOf s (credentialsGiven c) = credentialsStep (s .engine) c (s .stores)
+
+abbrev pub stateOf : Stepped → State
+stateOf m = record { engine = m .took .engine; stores = m .stores }
+
+-- ---- handing over: a call returns the Put request, with its kept headers and its body bytes or none
+
+abbrev pub bodyIn : Body → List ℕ → Option (List ℕ)
+bodyIn body.Missing b = none
+bodyIn (body.Bytes n) b = some (take n b)
+
+abbrev pub handedBy : Request → Stores → List Carried
+handedBy (request.Put k b) s = record { headers = take k (s .headers); body = bodyIn b (s .body) } ∷ []
+handedBy (request.Connect n) s = []
+handedBy (request.Disconnect n) s = []
+handedBy (request.SetPath n u c) s = []
+handedBy (request.Abort n) s = []
+handedBy (request.Get k) s = []
+handedBy (request.Action k) s = []
+handedBy (request.Session k) s = []
+handedBy (request.UserDefined o k) s = []
+handedBy (request.Password u) s = []
+handedBy request.Nonce s = []
+handedBy (request.Credentials n u r p) s = []
+handedBy (request.Read n) s = []
+
+abbrev pub handed : Outcome → Stores → List Carried
+handed (outcome.Request r) s = handedBy r s
+handed outcome.WantsBytes s = []
+handed (outcome.Reply n) s = []
+handed (outcome.End n) s = []
+handed (outcome.Refused n) s = []
+
+-- the records that a list of calls hands over
+abbrev pub records : State → List Call → List Carried
+records s [] = []
+records s (c ∷ cs) = handed (stepOf s c .took .outcome) (stepOf s c .stores) ++ records (stateOf (stepOf s c)) cs
+
+-- ---- the accepted starts: a fresh engine with these settings, and stores that are long enough
+pub record Started (st : Settings) (s : State) : Type 0 where
+  pub fresh : s .engine ≡ started st
+  pub realm : st .«realm_length» ≤ 254
+  pub room : short (st .«max_object_size») (s .stores) ≡ false
+
+-- what is offered are bytes
+abbrev pub Octets : List ℕ → Type 0
+Octets l = (k : ℕ) → getD l k 0 < 256
+
+abbrev pub Octet : Call → Type 0
+Octet (bytesOffered i) = Octets i
+Octet streamEnded = Unit {0}
+Octet replyTaken = Unit {0}
+Octet (replyGiven code hs) = Octets hs
+Octet (objectGiven hs b) = Octets hs
+Octet (bodyGiven d) = Unit {0}
+Octet bodyFailed = Unit {0}
+Octet abortAcknowledged = Unit {0}
+Octet (passwordGiven p) = Unit {0}
+Octet (nonceGiven n) = Unit {0}
+Octet (credentialsGiven c) = Unit {0}
+
+abbrev pub AllOctets : List Call → Type 0
+AllOctets [] = Unit {0}
+AllOctets (c ∷ cs) = Octet c × AllOctets cs

@@ -1,0 +1,3 @@
+-- What the proofs share, and the theorems of the walk.
+pub mod Held
+pub mod Walks

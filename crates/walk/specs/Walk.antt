@@ -1,0 +1,50 @@
+-- The walk over a packet's headers (01, 'What changes shape'): it holds the packet's bytes and its place. What its functions give, and the list
+-- of headers that they give from a place to the end; the same list by the cursor, which is passed the bytes each time.
+use Prim.Native.Nat.{ℕ, zero, suc, _+_}
+use mathlib.Core.List.{List}
+use mathlib.Core.Option.{Option, none, some}
+use lib.ListN.{length}
+use denote.Ref.{RefT, now}
+use Rattle.packet.specs.declared.header.Cursor.{Cursor}
+use Rattle.packet.specs.Header.{Header, headerAt, walkFrom}
+use Rattle.walk.specs.declared.Walk.{Walk}
+use Rattle.walk.specs.declared.Count.{Count}
+use Rattle.walk.specs.declared.Count.the-variants.{Headers, Unreadable}
+
+-- ---- what the functions give
+
+-- `new`: the walk over a packet that stands at a place
+abbrev pub walkAt : RefT (List ℕ) → ℕ → Walk
+walkAt packet at = record { packet = packet; at = at }
+
+-- `moved`: the same packet, another place
+abbrev pub movedTo : Walk → ℕ → Walk
+movedTo w at = walkAt (w .packet) at
+
+-- n headers, and then those of a list; `none` is unreadable
+abbrev pub countFrom : ℕ → Option (List Header) → Count
+countFrom n none = Unreadable
+countFrom n (some hs) = Headers (n + length hs)
+
+-- `len`: how many headers a list has
+abbrev pub countOf : Option (List Header) → Count
+countOf r = countFrom 0 r
+
+-- ---- the list
+
+-- the headers from where the walk stands: what `next` gives, and on from where `moved` stands behind it. Each takes a byte at least, so a fuel
+-- over the packet's length is enough
+unfoldable pub walkedFor : ℕ → Walk → Option (List Header)
+walkedFor zero w = none
+walkedFor (suc k) w = walkFrom (now (w .packet)) (headerAt (now (w .packet)) (w .at)) (λ n. walkedFor k (movedTo w n))
+
+unfoldable pub walked : Walk → Option (List Header)
+walked w = walkedFor (suc (length (now (w .packet)))) w
+
+-- the same by the cursor: what `Cursor::read` gives, and on from `Cursor::new` behind it
+unfoldable pub cursorFor : ℕ → List ℕ → Cursor → Option (List Header)
+cursorFor zero s c = none
+cursorFor (suc k) s c = walkFrom s (headerAt s (c .at)) (λ n. cursorFor k s (record { at = n }))
+
+unfoldable pub byCursor : List ℕ → Cursor → Option (List Header)
+byCursor s c = cursorFor (suc (length s)) s c
