@@ -4,10 +4,10 @@
 test:
 	@rt ci
 
-# Proves the vectors program and shows its answers beside its questions.
+# Proves what is needed and plays the example session through the bench.
 run:
-	@rt check vectors >/dev/null
-	@target/bin/vectors <crates/vectors/stdin | paste -d' ' crates/vectors/stdin -
+	@rt check bench >/dev/null
+	@target/bin/bench <crates/bench/stdin
 
 # The original with a driver, for comparison by running. Nothing of the gate needs it.
 oracle:
@@ -21,8 +21,15 @@ perf:
 mutants:
 	@tools/mutants $(NAME)
 
-# Headers, packets and tag lists beside the original, on random and exhaustive questions. Last line: 'compared N different 0'. N=number.
+# Port beside original: headers, packets and tag lists on random and exhaustive questions, then whole sessions, the state after each
+# operation included. Last line of each: 'compared N different 0'. N=number of sessions (1,000,000), SEED=another seed.
 .PHONY: compare
 compare: oracle
-	@rt check leaves >/dev/null
-	@tools/compare-leaves $(N)
+	@rt check leaves replay >/dev/null
+	@tools/compare-leaves
+	@tools/compare-sessions $(or $(N),1000000) $(SEED)
+
+# Wrong readings of the papers, planted in copies of the original: the sessions tell each apart. Last line: 'planted N found N'.
+.PHONY: planted
+planted: oracle
+	@tools/planted $(N) $(SEED)

@@ -6,6 +6,8 @@ use std::io::{self, BufRead, Write};
 pub enum Stop {
     /// The line with this number does not follow the subcommand's grammar.
     BadLine(usize, String),
+    /// Two transcripts are not the same; how has been printed.
+    Different,
     Io(io::Error),
 }
 

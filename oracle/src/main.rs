@@ -10,20 +10,26 @@ use std::process::ExitCode;
 // header, md5, opcode, packet, response, server, srm, tlv.
 include!(concat!(env!("OUT_DIR"), "/original/glue.rs"));
 
+mod ahead;
+mod compare;
+mod cover;
 mod digest;
 mod driver;
 mod hex;
 mod host;
 mod leaf;
 mod lines;
+mod rules;
 mod script;
+mod sessions;
 mod show;
 mod text;
 
 use lines::{answer_each, Stop};
 
 const USAGE: &str =
-    "usage: oracle md5 | md5-speed [MB] | text | leaf | engine [digest=N] [sent=all]";
+    "usage: oracle md5 | md5-speed [MB] | text | leaf | engine [digest=N] [sent=all]
+    | sessions SEED COUNT [FIRST] | compare ORIGINAL PORT | cover";
 
 /// A run's data can come in hundreds of megabytes.
 const BUFFER: usize = 1 << 20;
@@ -48,6 +54,12 @@ fn main() -> ExitCode {
             Some(options) => driver::run(input, &mut output, options),
             None => return usage(),
         },
+        ["sessions", ref words @ ..] => match sessions::options(words) {
+            Some(options) => sessions::run(options, &mut output).map_err(Stop::from),
+            None => return usage(),
+        },
+        ["compare", original, port] => compare::run(original, port, &mut output),
+        ["cover"] => cover::run(input, &mut output),
         _ => return usage(),
     };
 
@@ -59,6 +71,7 @@ fn main() -> ExitCode {
             eprintln!("oracle: {error}");
             ExitCode::from(1)
         }
+        Err(Stop::Different) => ExitCode::from(1),
         Err(Stop::BadLine(number, text)) => {
             eprintln!("bad line {number}: {text}");
             ExitCode::from(2)

@@ -138,6 +138,7 @@ fn accepted(
         realm: _,
     } = answered_challenge(packet, last_from(packet))
     else {
+        // No credentials: the bytes passed for them are not read.
         return connect_sends(
             e,
             peer,

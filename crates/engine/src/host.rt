@@ -328,7 +328,7 @@ pub fn password(
     took(password_plan(e, right))
 }
 
-// Header bytes as above, or a code that is none.
+// Bad header bytes, or a code that is none.
 fn bad_reply(code: u8, header_bytes: &[u8]) -> bool
     ensures { λ r. ⌜ r ≡ badReply code (now («header_bytes» .entry)) ⌝ }
 {

@@ -26,10 +26,15 @@ same-length : tie.Need-same-length
 same-length c = search needs
 
 returns : tie.Need-returns
-returns c = let k = c .before .before .before .before .before .before .before .before .before .before .before .before .args in
+returns c =
+    let s = c .before .before in
+    let t = s .before .before in
+    let a = t .before .before in
+    let l = a .before in
+    let k = l .before .before .before .before .before .args in
     not-challenged (k .e) (k .peer) (k .code) (k .front) (k .packet .now) (k .header-bytes .now) (k .reply .now) (k .headers .now) _
-    (challenge-known (k .packet .now) _ _ _ (c .before .before .before .before .before .before .before .last-from .ensures) (c .before .before .before .before .before .before .answered-challenge .ensures) (c .before .before .before .before .enum-told .given .1))
-    (c .before .before .connect-sends .ensures)
+    (challenge-known (k .packet .now) _ _ _ (l .last-from .ensures) (a .answered-challenge .ensures) (t .enum-told .given .1))
+    (s .connect-sends .ensures)
 
 copy-into-requires : tie.Need-copy-into-requires
 copy-into-requires c κs = search needs
@@ -47,11 +52,18 @@ same-length-2 : tie.Need-same-length-2
 same-length-2 c = search needs
 
 returns-2 : tie.Need-returns-2
-returns-2 c = let k = c .before .before .before .before .before .before .before .before .before .before .before .before .before .before .before .before .args in
+returns-2 c =
+    let r = c .before .before in
+    let p = r .before .before .before in
+    let n = p .before .before .before in
+    let a = n .before .before in
+    let l = a .before in
+    let k = l .before .before .before .before .before .args in
+    let w = l .before .before .before .before .before .pre in
     challenged (k .e) (k .peer) (k .code) (k .front) (k .packet .now) (k .header-bytes .now) (k .reply .now) (k .headers .now) _ _ _ _ _ _ _ _
-    (challenge-known (k .packet .now) _ _ _ (c .before .before .before .before .before .before .before .before .before .before .before .last-from .ensures) (c .before .before .before .before .before .before .before .before .before .before .answered-challenge .ensures) (c .before .before .before .before .before .before .before .before .nonce .given .1))
-    (c .took .ensures) (c .before .asks .ensures) (c .before .before .challenge-realm .ensures)
-    (c .before .before .before .before .before .copy-into .ensures ∙ store-front (k .header-bytes .now) (k .headers .now) (let w = c .before .before .before .before .before .before .before .before .before .before .before .before .before .before .before .before .pre in omega (arith, w .1, w .3)))
+    (challenge-known (k .packet .now) _ _ _ (l .last-from .ensures) (a .answered-challenge .ensures) (n .nonce .given .1))
+    (c .took .ensures) (c .before .asks .ensures) (r .challenge-realm .ensures)
+    (p .copy-into .ensures ∙ store-front (k .header-bytes .now) (k .headers .now) (omega (arith, w .1, w .3)))
 
 pub accepted-spec : {M : Type 1} → statement M
 accepted-spec =

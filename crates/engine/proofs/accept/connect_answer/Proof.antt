@@ -15,9 +15,12 @@ same-length : tie.Need-same-length
 same-length c = search needs
 
 returns : tie.Need-returns
-returns c = let k = c .before .before .before .before .before .before .before .before .before .before .args in
-    let b = c .before .before .before .before .before in
-    answer-declined (k .e) (k .code) (k .header-bytes .now) (k .packet .now) (k .headers .now) (k .reply .now) _ (b .is-success .ensures) (not-true (b .is-success .result) (c .before .before .before .before .if1 .taken)) _ (c .before .before .sends-connect .ensures)
+returns c =
+    let s = c .before .before in
+    let i = s .before .before in
+    let b = i .before in
+    let k = b .before .before .before .before .before .args in
+    answer-declined (k .e) (k .code) (k .header-bytes .now) (k .packet .now) (k .headers .now) (k .reply .now) _ (b .is-success .ensures) (not-true (b .is-success .result) (i .if1 .taken)) _ (s .sends-connect .ensures)
 
 opens-requires : tie.Need-opens-requires
 opens-requires c κs = search needs
@@ -32,11 +35,15 @@ same-length-2 : tie.Need-same-length-2
 same-length-2 c = search needs
 
 returns-2 : tie.Need-returns-2
-returns-2 c = let k = c .before .before .before .before .before .before .before .before .before .before .before .before .before .before .args in
-    let b = c .before .before .before .before .before .before .before .before .before in
-    let o = c .before .before .before .before .before .before .before in
-    answer-full (k .e) (k .code) (k .header-bytes .now) (k .packet .now) (k .headers .now) (k .reply .now) _ (b .is-success .ensures) (not-false (b .is-success .result) (c .before .before .before .before .before .before .before .before .if1 .left)) (o .opens .result) (o .opens .ensures)
-    (c .before .before .before .before .before .if2 .taken) _ (c .before .before .sends-connect2 .ensures)
+returns-2 c =
+    let s = c .before .before in
+    let f = s .before .before .before in
+    let o = f .before .before in
+    let i = o .before in
+    let b = i .before in
+    let k = b .before .before .before .before .before .args in
+    answer-full (k .e) (k .code) (k .header-bytes .now) (k .packet .now) (k .headers .now) (k .reply .now) _ (b .is-success .ensures) (not-false (b .is-success .result) (i .if1 .left)) (o .opens .result) (o .opens .ensures) (f .if2 .taken) _
+    (s .sends-connect2 .ensures)
 
 accepted-requires : tie.Need-accepted-requires
 accepted-requires c κs = search needs
@@ -48,11 +55,15 @@ same-length-4 : tie.Need-same-length-4
 same-length-4 c = search needs
 
 returns-3 : tie.Need-returns-3
-returns-3 c = let k = c .before .before .before .before .before .before .before .before .before .before .before .before .before .before .before .before .args in
-    let b = c .before .before .before .before .before .before .before .before .before .before .before in
-    let o = c .before .before .before .before .before .before .before .before .before in
-    answer-accepted (k .e) (k .code) (k .header-bytes .now) (k .packet .now) (k .headers .now) (k .reply .now) _ (b .is-success .ensures) (not-false (b .is-success .result) (c .before .before .before .before .before .before .before .before .before .before .if1 .left)) (o .opens .result) (o .opens .ensures)
-    (c .before .before .before .before .before .before .before .if2 .left) _ (c .before .before .before .before .accepted .ensures)
+returns-3 c =
+    let s = c .before .before .before .before in
+    let f = s .before .before .before in
+    let o = f .before .before in
+    let i = o .before in
+    let b = i .before in
+    let k = b .before .before .before .before .before .args in
+    answer-accepted (k .e) (k .code) (k .header-bytes .now) (k .packet .now) (k .headers .now) (k .reply .now) _ (b .is-success .ensures) (not-false (b .is-success .result) (i .if1 .left)) (o .opens .result) (o .opens .ensures) (f .if2 .left) _
+    (s .accepted .ensures)
 
 pub connect-answer-spec : {M : Type 1} → statement M
 connect-answer-spec =

@@ -26,9 +26,14 @@ same-length : tie.Need-same-length
 same-length c = search needs
 
 returns : tie.Need-returns
-returns c = let k = c .before .before .before .before .before .before .before .before .before .before .before .before .before .before .args in
+returns c =
+    let a = c .before .before .before .before in
+    let m = a .before in
+    let l = m .before in
+    let w = l .before in
+    let k = w .before .before .before .before .before .before .before .args in
     accepted-sent (k .e) (k .peer) (k .code) (k .front) (k .packet .now) (k .header-bytes .now) (k .reply .now) _ _ _ _ _ _ _
-    (c .before .before .before .before .connect-reply .ensures) (c .before .before .before .before .before .before .before .wide16 .ensures .0) (c .before .before .before .before .before .before .last-from .ensures) (c .before .before .before .before .before .srm-asked .ensures) (c .before .sent-plan .ensures) (c .took .ensures)
+    (a .connect-reply .ensures) (w .wide16 .ensures .0) (l .last-from .ensures) (m .srm-asked .ensures) (c .before .sent-plan .ensures) (c .took .ensures)
 
 pub connect-sends-spec : {M : Type 1} → statement M
 connect-sends-spec =

@@ -33,7 +33,9 @@ refuse-requires c κs = search needs
 
 returns : tie.Need-returns
 unfolding credentialsStep
-returns c = let k = c .before .before in refused-call 10 10 (c .before .before .before .before .before .before .before .before .before .args .e) (lent k) _ _ _ (c .refuse .ensures) (k .refused .ensures) (c .before .if1 .taken)
+returns c =
+    let k = c .before .before in
+    refused-call 10 10 (k .before .before .before .before .before .before .before .args .e) (lent k) _ _ _ (c .refuse .ensures) (k .refused .ensures) (c .before .if1 .taken)
 
 enum-known-operation : tie.Need-enum-known-operation
 enum-known-operation c = search needs
@@ -43,9 +45,11 @@ refuse-requires-2 c κs = search needs
 
 returns-2 : tie.Need-returns-2
 unfolding credentialsStep
-returns-2 c = let k = c .before .before .before .before .before .before .before .before .before .before .args in
-    let s = lent (c .before .before .before) in
-    ap (λ (r : Took). stepped r s) (c .refuse2 .ensures) ∙ credentials-other (k .e .operation) (k .e) _ s (c .before .match .keys2) ∙ sym (goes (c .before .before) .whole _)
+returns-2 c =
+    let z = c .before .before in
+    let k = z .before .before .before .before .before .before .before .before .args in
+    let s = lent (z .before) in
+    ap (λ (r : Took). stepped r s) (c .refuse2 .ensures) ∙ credentials-other (k .e .operation) (k .e) _ s (c .before .match .keys2) ∙ sym (goes z .whole _)
 
 both-requires : tie.Need-both-requires
 both-requires c κs = search needs
@@ -58,10 +62,15 @@ refuse-requires-3 c κs = search needs
 
 returns-3 : tie.Need-returns-3
 unfolding credentialsStep
-returns-3 c = let k = c .before .before .before .before .before .before .before .before .before .before .before .before .before .before .before .args in
-    credentials-long (k .has-credentials) (k .has-user) _ (c .before .before .before .both .ensures) (k .user .now) (k .password .now) (k .e .operation) _ _ _ (c .before .before .before .before .before .operation .given .1)
-    (k .e) (lent (c .before .before .before .before .before .before .before .before)) _ (c .before .before .is-long .ensures) (c .before .if2 .taken) _ (c .refuse3 .ensures)
-    ∙ sym (goes (c .before .before .before .before .before .before .before) .whole _)
+returns-3 c =
+    let l = c .before .before in
+    let b = l .before in
+    let o = b .before .before in
+    let z = o .before .before in
+    let k = z .before .before .before .before .before .before .before .before .args in
+    credentials-long (k .has-credentials) (k .has-user) _ (b .both .ensures) (k .user .now) (k .password .now) (k .e .operation) _ _ _ (o .operation .given .1) (k .e) (lent (z .before)) _ (l .is-long .ensures) (c .before .if2 .taken) _
+    (c .refuse3 .ensures)
+    ∙ sym (goes z .whole _)
 
 slice-reshare-prefix-connect-sends : tie.Need-slice-reshare-prefix-connect-sends
 slice-reshare-prefix-connect-sends c = last (c .before .before .before .before .before .before) .inside
@@ -76,12 +85,14 @@ slice-aggregate-connect-sends-2 : tie.Need-slice-aggregate-connect-sends-2
 slice-aggregate-connect-sends-2 c = kept (c .before .before .before .before .before) .count
 
 connect-sends-requires : tie.Need-connect-sends-requires
-connect-sends-requires c κs = let k = c .before .before .before .before .before .before .before .before .before .before .before .before .before .before .before .before .before .args in (
-  goes (c .before .before .before .before .before .before .before .before .before) .room .reply,
-  last (c .before .before .before .before .before .before .before .before .before) .short,
-  kept (c .before .before .before .before .before .before) .short,
-  user-fits (k .has-credentials) (k .has-user) _ (c .before .before .before .before .before .both .ensures) (k .user .now) (k .password .now) _ (c .before .before .before .before .is-long .ensures) (c .before .before .before .if2 .left),
-)
+connect-sends-requires c κs =
+    let u = c .before .before .before in
+    let l = u .before in
+    let b = l .before in
+    let w = b .before in
+    let z = w .before .before .before in
+    let k = z .before .before .before .before .before .before .before .before .args in
+    (goes z .room .reply, last z .short, kept w .short, user-fits (k .has-credentials) (k .has-user) _ (b .both .ensures) (k .user .now) (k .password .now) _ (l .is-long .ensures) (u .if2 .left))
 
 same-length : tie.Need-same-length
 same-length c = search needs
@@ -94,10 +105,17 @@ same-length-3 c = search needs
 
 returns-4 : tie.Need-returns-4
 unfolding credentialsStep
-returns-4 c = let k = c .before .before .before .before .before .before .before .before .before .before .before .before .before .before .before .before .before .before .before .before .args in
-    credentials-go (k .has-credentials) (k .has-user) _ (c .before .before .before .before .before .before .before .before .both .ensures) (k .user .now) (k .password .now) (k .e .operation) _ _ _ (c .before .before .before .before .before .before .before .before .before .before .operation .given .1)
-    (k .e) (lent (c .before .before .before .before .before .before .before .before .before .before .before .before .before)) _ (c .before .before .before .before .before .before .before .is-long .ensures) (c .before .before .before .before .before .before .if2 .left) _ (c .before .before .connect-sends .ensures)
-    ∙ sym (goes (c .before .before .before .before .before .before .before .before .before .before .before .before) .whole _)
+returns-4 c =
+    let a = c .before .before in
+    let u = a .before .before .before .before in
+    let l = u .before in
+    let b = l .before in
+    let o = b .before .before in
+    let z = o .before .before in
+    let k = z .before .before .before .before .before .before .before .before .args in
+    credentials-go (k .has-credentials) (k .has-user) _ (b .both .ensures) (k .user .now) (k .password .now) (k .e .operation) _ _ _ (o .operation .given .1) (k .e) (lent (z .before)) _ (l .is-long .ensures) (u .if2 .left) _
+    (a .connect-sends .ensures)
+    ∙ sym (goes z .whole _)
 
 pub credentials-spec : {M : Type 1} → statement M
 credentials-spec =

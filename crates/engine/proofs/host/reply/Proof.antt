@@ -27,7 +27,9 @@ refuse-requires c κs = search needs
 
 returns : tie.Need-returns
 unfolding replyStep
-returns c = let k = c .before .before in refused-call 3 6 (c .before .before .before .before .before .before .before .before .args .e) (lent k) _ _ _ (c .refuse .ensures) (k .refused .ensures) (c .before .if1 .taken)
+returns c =
+    let k = c .before .before in
+    refused-call 3 6 (k .before .before .before .before .before .before .args .e) (lent k) _ _ _ (c .refuse .ensures) (k .refused .ensures) (c .before .if1 .taken)
 
 bad-reply-requires : tie.Need-bad-reply-requires
 bad-reply-requires c κs = search needs
@@ -36,9 +38,11 @@ refuse-requires-2 : tie.Need-refuse-requires-2
 refuse-requires-2 c κs = search needs
 
 returns-2 : tie.Need-returns-2
-returns-2 c = let k = c .before .before .before .before .before .before .before .before .before .before .args in
+returns-2 c =
     let b = c .before .before in
-    reply-bad (k .e) (lent (c .before .before .before .before)) (k .code) (k .header-bytes .now) (goes (c .before .before .before)) _ (b .bad-reply .ensures) (c .before .if2 .taken) _ (c .refuse2 .ensures)
+    let z = b .before in
+    let k = z .before .before .before .before .before .before .before .args in
+    reply-bad (k .e) (lent (z .before)) (k .code) (k .header-bytes .now) (goes z) _ (b .bad-reply .ensures) (c .before .if2 .taken) _ (c .refuse2 .ensures)
 
 awaited-requires : tie.Need-awaited-requires
 awaited-requires c κs = search needs
@@ -50,9 +54,13 @@ slice-aggregate-connect-answer : tie.Need-slice-aggregate-connect-answer
 slice-aggregate-connect-answer c = last (c .before .before .before .before .before) .count
 
 connect-answer-requires : tie.Need-connect-answer-requires
-connect-answer-requires c κs = let k = c .before .before .before .before .before .before .before .before .before .before .before .before .before .before .args in
-    let g = goes (c .before .before .before .before .before .before .before) in
-    (g .bounds .count, g .room .reply, g .room .headers, last (c .before .before .before .before .before .before .before) .short, good-reply (k .code) (k .header-bytes .now) _ (c .before .before .before .before .before .before .bad-reply .ensures) (c .before .before .before .before .before .if2 .left))
+connect-answer-requires c κs =
+    let u = c .before .before .before .before .before in
+    let b = u .before in
+    let z = b .before in
+    let k = z .before .before .before .before .before .before .before .args in
+    let g = goes z in
+    (g .bounds .count, g .room .reply, g .room .headers, last z .short, good-reply (k .code) (k .header-bytes .now) _ (b .bad-reply .ensures) (u .if2 .left))
 
 same-length : tie.Need-same-length
 same-length c = search needs
@@ -64,9 +72,16 @@ same-length-3 : tie.Need-same-length-3
 same-length-3 c = search needs
 
 returns-3 : tie.Need-returns-3
-returns-3 c = let k = c .before .before .before .before .before .before .before .before .before .before .before .before .before .before .before .before .before .before .before .args in
-    reply-connect (k .e) (lent (c .before .before .before .before .before .before .before .before .before .before .before .before .before)) (k .code) (k .header-bytes .now) (goes (c .before .before .before .before .before .before .before .before .before .before .before .before)) _ (c .before .before .before .before .before .before .before .before .before .before .before .bad-reply .ensures) (c .before .before .before .before .before .before .before .before .before .before .if2 .left)
-    _ (c .before .before .before .before .before .before .before .before .before .awaited .ensures) (c .before .before .before .before .before .before .before .before .if3 .taken) _ (c .before .before .before .before .connect-answer .ensures)
+returns-3 c =
+    let a = c .before .before .before .before in
+    let t = a .before .before .before .before in
+    let n = t .before in
+    let u = n .before in
+    let b = u .before in
+    let z = b .before in
+    let k = z .before .before .before .before .before .before .before .args in
+    reply-connect (k .e) (lent (z .before)) (k .code) (k .header-bytes .now) (goes z) _ (b .bad-reply .ensures) (u .if2 .left) _ (n .awaited .ensures) (t .if3 .taken) _
+    (a .connect-answer .ensures)
 
 slice-reshare-prefix-replied-peer : tie.Need-slice-reshare-prefix-replied-peer
 slice-reshare-prefix-replied-peer c = last (c .before .before .before .before) .inside
@@ -87,9 +102,17 @@ same-length-5 : tie.Need-same-length-5
 same-length-5 c = search needs
 
 returns-4 : tie.Need-returns-4
-returns-4 c = let k = c .before .before .before .before .before .before .before .before .before .before .before .before .before .before .before .before .before .args in
-    reply-another (k .e) (lent (c .before .before .before .before .before .before .before .before .before .before .before)) (k .code) (k .header-bytes .now) (goes (c .before .before .before .before .before .before .before .before .before .before)) _ (c .before .before .before .before .before .before .before .before .before .bad-reply .ensures) (c .before .before .before .before .before .before .before .before .if2 .left)
-    _ (c .before .before .before .before .before .before .before .awaited .ensures) (c .before .before .before .before .before .before .if3 .left) _ _ (c .before .before .before .before .replied-peer .ensures) (c .before .before .sends .ensures)
+returns-4 c =
+    let a = c .before .before in
+    let p = a .before .before in
+    let t = p .before .before in
+    let n = t .before in
+    let u = n .before in
+    let b = u .before in
+    let z = b .before in
+    let k = z .before .before .before .before .before .before .before .args in
+    reply-another (k .e) (lent (z .before)) (k .code) (k .header-bytes .now) (goes z) _ (b .bad-reply .ensures) (u .if2 .left) _ (n .awaited .ensures) (t .if3 .left) _ _
+    (p .replied-peer .ensures) (a .sends .ensures)
 
 pub reply-spec : {M : Type 1} → statement M
 reply-spec =

@@ -1,0 +1,100 @@
+// Plays one session: the peer's bytes come on standard input, and what the engine does goes to standard output, a line each.
+mod host;
+mod shown;
+
+use engine::arrival;
+use model::server::Outcome;
+use model::server::Settings;
+use engine::session;
+use stream::feed::Rest;
+use stream::feed::Step;
+use stream::feed::feed;
+use stream::feed::over;
+
+// The original's, but for the Put limit.
+fn settings() -> Settings {
+    Settings {
+        realm: [0; 254],
+        realm_length: 0,
+        max_object_size: 1024,
+        max_packet_length: 65535,
+        charset: 0,
+        has_realm: false,
+        srm_supported: false,
+        authentication: false,
+        user_id_required: false,
+        read_only: false,
+    }
+}
+
+// One call: the one that the last call's outcome asks for.
+fn turn(
+    p: Step,
+    input: &mut [u8],
+    packet: &mut [u8],
+    headers: &mut [u8],
+    body: &mut [u8],
+    reply: &mut [u8],
+) -> Step {
+    let rest = p.rest;
+    let last = p.took;
+    let e = last.engine;
+    let outcome = last.outcome;
+    match outcome {
+        Outcome::WantsBytes => feed(e, rest, input, packet, headers, body, reply),
+        Outcome::Reply { length } => {
+            shown::reply(reply, length);
+            let took = arrival::reply_taken(e, packet, headers, body, reply);
+            Step { took, rest }
+        }
+        Outcome::Request(request) => {
+            shown::request(request);
+            let took = host::answer(e, request, packet, headers, body, reply);
+            Step { took, rest }
+        }
+        Outcome::End(_) => p,
+        Outcome::Refused(_) => p,
+    }
+}
+
+// A proved loop has to end, and nothing says that the input does. So the turns are counted down, from a number that no run uses up.
+fn play(
+    input: &mut [u8],
+    packet: &mut [u8],
+    headers: &mut [u8],
+    body: &mut [u8],
+    reply: &mut [u8],
+) {
+    let took = session::start(settings(), packet, headers, body, reply);
+    let mut p = Step {
+        took,
+        rest: Rest { at: 0, end: 0 },
+    };
+    let mut left = u64::MAX;
+    while left > 0 {
+        let last = p.took;
+        let outcome = last.outcome;
+        let number = over(outcome);
+        if number != 0 {
+            shown::end(number);
+            return;
+        }
+        p = turn(p, input, packet, headers, body, reply);
+        left -= 1;
+    }
+}
+
+fn main() {
+    let mut input = [0u8; 65536];
+    let mut packet = [0u8; 65535];
+    let mut headers = [0u8; 65535];
+    let mut body = [0u8; 1024];
+    let mut reply = [0u8; 65535];
+    play(
+        &mut input,
+        &mut packet,
+        &mut headers,
+        &mut body,
+        &mut reply,
+    );
+}

@@ -1,0 +1,56 @@
+// The lines that are printed.
+use model::server::Body;
+use model::server::Request;
+use lines::output;
+use stream::name::put_name;
+
+// A body's length, or a dash where there is none.
+fn put_body(out: &mut [u8], n: usize, body: Body) -> usize {
+    match body {
+        Body::Bytes(length) => output::put_number(out, n, length),
+        Body::Missing => output::put(out, n, b"-"),
+    }
+}
+
+// Of a Put, how many header bytes were kept, and how many bytes its body has.
+fn put_counts(out: &mut [u8], n: usize, request: Request) -> usize {
+    let Request::Put { kept, body } = request else {
+        return n;
+    };
+    let a = output::put(out, n, b" ");
+    let b = output::put_number(out, a, kept);
+    let c = output::put(out, b, b" ");
+    put_body(out, c, body)
+}
+
+// A request by the name of the handler's method.
+pub fn request(request: Request) {
+    let mut out = [0u8; 64];
+    let a = put_name(&mut out, 0, request);
+    let b = put_counts(&mut out, a, request);
+    let n = output::put(&mut out, b, b"\n");
+    output::write(&out, n);
+}
+
+fn packet(s: &[u8]) {
+    let mut out = [0u8; 131080];
+    let a = output::put(&mut out, 0, b"out ");
+    let b = output::put_digits(&mut out, a, s);
+    let n = output::put(&mut out, b, b"\n");
+    output::write(&out, n);
+}
+
+// A reply, the first bytes of its store, in hexadecimal.
+pub fn reply(store: &[u8], length: usize) {
+    if length <= store.len() {
+        packet(&store[0..length]);
+    }
+}
+
+pub fn end(number: u8) {
+    let mut out = [0u8; 16];
+    let a = output::put(&mut out, 0, b"end ");
+    let b = output::put_number(&mut out, a, base::wide(number));
+    let n = output::put(&mut out, b, b"\n");
+    output::write(&out, n);
+}

@@ -1,0 +1,25 @@
+// Reading: what stands in a store of the standard input, and what is kept of it.
+ghost use Prim.Native.Nat.{_≤_};
+ghost use lib.ListN.{length};
+use libc::STDIN_FILENO;
+
+// Reads once; no bytes are the end.
+pub fn read(s: &mut [u8]) -> usize
+    ensures { λ r. ⌜ r ≤ length (now (s .exit)) ⌝ }
+{
+    let got = libc::read(STDIN_FILENO, s);
+    io::count(got, s)
+}
+
+// Moves what stands between two places to the front.
+pub fn keep(s: &mut [u8], from: usize, to: usize) -> usize
+    requires { ⌜ (from ≤ to) × (to ≤ length (now s)) ⌝ }
+    ensures { λ r. ⌜ r ≤ length (now (s .exit)) ⌝ }
+{
+    let mut i = 0;
+    while i < to - from {
+        s[i] = s[from + i];
+        i += 1;
+    }
+    i
+}

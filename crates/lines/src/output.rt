@@ -1,0 +1,143 @@
+// An output that is collected in a lent store, so that a word costs no call of the system. What does not fit is left out.
+ghost use mathlib.Core.Path.{_≡_};
+ghost use Prim.Native.Nat.{_≤_, _<_};
+ghost use lib.ListN.{length};
+use base::copy_into;
+use digest::md5;
+use libc::STDOUT_FILENO;
+
+// The smaller number.
+pub fn least(a: usize, b: usize) -> usize
+    ensures { λ r. ⌜ (r ≤ a) × (r ≤ b) ⌝ }
+{
+    if a < b { a } else { b }
+}
+
+// Bytes behind the first n.
+pub fn put(out: &mut [u8], n: usize, s: &[u8]) -> usize
+    ensures { λ r. ⌜ r ≤ length (now (out .exit)) ⌝ }
+{
+    let at = least(n, out.len());
+    let k = least(s.len(), out.len() - at);
+    copy_into(out, at, &s[0..k]);
+    at + k
+}
+
+fn digit(x: u8) -> u8
+    requires { ⌜ x < 16 ⌝ }
+{
+    if x < 10 { 48 + x } else { 87 + x }
+}
+
+// The two digits of a byte.
+pub fn pair(b: u8) -> [u8; 2]
+    ensures { λ r. ⌜ 2 ≡ length r ⌝ }
+{
+    [digit(b / 16 % 16), digit(b % 16)]
+}
+
+// The digits of the bytes, as many as there is room for.
+pub fn digits(s: &[u8], out: &mut [u8]) -> usize
+    ensures { λ r. ⌜ r ≤ length (now (out .exit)) ⌝ }
+{
+    let mut n = 0;
+    while n < out.len() / 2 {
+        if s.len() <= n {
+            return 2 * n;
+        }
+        out[2 * n] = digit(s[n] / 16 % 16);
+        out[2 * n + 1] = digit(s[n] % 16);
+        n += 1;
+    }
+    2 * n
+}
+
+pub fn put_byte(out: &mut [u8], n: usize, b: u8) -> usize
+    ensures { λ r. ⌜ r ≤ length (now (out .exit)) ⌝ }
+{
+    let two = pair(b);
+    put(out, n, &two)
+}
+
+// A number of four bytes, in eight digits.
+pub fn put_u32(out: &mut [u8], n: usize, x: u32) -> usize
+    ensures { λ r. ⌜ r ≤ length (now (out .exit)) ⌝ }
+{
+    let bytes = [
+        (x / 16777216 % 256) as u8,
+        (x / 65536 % 256) as u8,
+        (x / 256 % 256) as u8,
+        (x % 256) as u8,
+    ];
+    put_digits(out, n, &bytes)
+}
+
+// A number in decimal digits.
+pub fn put_number(out: &mut [u8], n: usize, x: usize) -> usize
+    ensures { λ r. ⌜ r ≤ length (now (out .exit)) ⌝ }
+{
+    let mut text = [0u8; 20];
+    let k = io::decimal(x as u64, &mut text);
+    put(out, n, &text[..k])
+}
+
+pub fn put_flag(out: &mut [u8], n: usize, b: bool) -> usize
+    ensures { λ r. ⌜ r ≤ length (now (out .exit)) ⌝ }
+{
+    if b {
+        return put(out, n, b"1");
+    }
+    put(out, n, b"0")
+}
+
+// Bytes in hexadecimal; none are no word.
+pub fn put_digits(out: &mut [u8], n: usize, s: &[u8]) -> usize
+    ensures { λ r. ⌜ r ≤ length (now (out .exit)) ⌝ }
+{
+    let at = least(n, out.len());
+    let k = digits(s, &mut out[at..]);
+    at + k
+}
+
+// How many bytes there are, and their MD5.
+pub fn put_digest(out: &mut [u8], n: usize, s: &[u8]) -> usize
+    ensures { λ r. ⌜ r ≤ length (now (out .exit)) ⌝ }
+{
+    let a = put(out, n, b"#");
+    let b = put_number(out, a, s.len());
+    let c = put(out, b, b":");
+    let sum = md5::digest(s);
+    put_digits(out, c, &sum)
+}
+
+// Bytes in hexadecimal, or a dash; of more than the longest, how many and their MD5.
+pub fn put_hex(out: &mut [u8], n: usize, s: &[u8], longest: usize) -> usize
+    ensures { λ r. ⌜ r ≤ length (now (out .exit)) ⌝ }
+{
+    if s.len() == 0 {
+        return put(out, n, b"-");
+    }
+    if longest < s.len() {
+        return put_digest(out, n, s);
+    }
+    put_digits(out, n, s)
+}
+
+// Writes out what was collected, and gives how much is left of it.
+pub fn write(out: &[u8], n: usize) -> usize
+    ensures { λ r. ⌜ r ≡ 0 ⌝ }
+{
+    let k = least(n, out.len());
+    io::write_all(STDOUT_FILENO, &out[0..k]);
+    0
+}
+
+// The same where the store is half full.
+pub fn flush(out: &[u8], n: usize) -> usize
+    ensures { λ r. ⌜ r ≤ n ⌝ }
+{
+    if n < out.len() / 2 {
+        return n;
+    }
+    write(out, n)
+}

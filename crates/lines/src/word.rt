@@ -1,0 +1,191 @@
+// Words of a line: places, numbers, and bytes in hexadecimal.
+ghost use mathlib.Core.Path.{_≡_};
+ghost use Prim.Native.Nat.{_≤_, _<_};
+ghost use lib.ListN.{length, getD};
+use base::wide;
+
+// How far hexadecimal digits are read: their place, how many bytes they gave, and where the last group starts.
+struct Scan {
+    at: usize,
+    n: usize,
+    unit: usize,
+}
+
+// The place of a byte from another place on, or the end.
+pub fn find(s: &[u8], from: usize, byte: u8) -> usize
+    requires { ⌜ from ≤ length (now s) ⌝ }
+    ensures { λ r. ⌜ (from ≤ r) × (r ≤ length (now (s .entry))) ⌝ }
+{
+    let mut i = from;
+    while i < s.len() {
+        if s[i] == byte {
+            return i;
+        }
+        i += 1;
+    }
+    i
+}
+
+// The place after another, or the end.
+pub fn after(s: &[u8], end: usize) -> usize
+    requires { ⌜ end ≤ length (now s) ⌝ }
+    ensures { λ r. ⌜ (end ≤ r) × (r ≤ length (now (s .entry))) ⌝ }
+{
+    if end < s.len() { end + 1 } else { end }
+}
+
+// The byte at a place, 0 past the end.
+pub fn byte_at(s: &[u8], at: usize) -> u8
+    ensures { λ r. ⌜ r ≡ getD (now (s .entry)) at 0 ⌝ }
+{
+    if at < s.len() { s[at] } else { 0 }
+}
+
+// What a digit stands for; 0 for any other sign.
+pub fn value(c: u8) -> u8
+    ensures { λ r. ⌜ r < 16 ⌝ }
+{
+    if c < 48 {
+        return 0;
+    }
+    if c < 58 {
+        return c - 48;
+    }
+    if c < 97 {
+        return 0;
+    }
+    if c < 103 { c - 87 } else { 0 }
+}
+
+// A digit more, up to the tenth.
+fn more(n: usize, c: u8) -> usize
+    requires { ⌜ n < 20000000000 ⌝ }
+    ensures { λ r. ⌜ r < 20000000000 ⌝ }
+{
+    if 1000000000 <= n {
+        return n;
+    }
+    n * 10 + wide(value(c))
+}
+
+// A word as a decimal number, as far as ten digits go.
+pub fn number(s: &[u8]) -> usize
+    ensures { λ r. ⌜ r < 20000000000 ⌝ }
+{
+    let mut n = 0;
+    let mut i = 0;
+    while i < s.len() {
+        n = more(n, s[i]);
+        i += 1;
+    }
+    n
+}
+
+// Copies what stands between two places behind it.
+fn again(out: &mut [u8], from: usize, to: usize, at: usize) -> usize {
+    let mut i = from;
+    let mut n = at;
+    while i < to {
+        if out.len() <= n {
+            return n;
+        }
+        if out.len() <= i {
+            return n;
+        }
+        out[n] = out[i];
+        i += 1;
+        n += 1;
+    }
+    n
+}
+
+// What stands between two places, so often.
+fn repeat(out: &mut [u8], from: usize, to: usize, count: usize) -> usize {
+    if count == 0 {
+        return from;
+    }
+    let mut n = to;
+    let mut i = 1;
+    while i < count {
+        let next = again(out, from, to, n);
+        if next == n {
+            return n;
+        }
+        n = next;
+        i += 1;
+    }
+    n
+}
+
+// Stores a byte, where there is room.
+fn push(out: &mut [u8], n: usize, b: u8) -> usize {
+    if n < out.len() {
+        out[n] = b;
+        return n + 1;
+    }
+    n
+}
+
+// The end of a group: its bytes stand there so often.
+fn group(s: &[u8], p: Scan, out: &mut [u8]) -> Scan
+    requires { ⌜ p .at < length (now s) ⌝ }
+    ensures { λ r. ⌜ (p .at < r .at) × (r .at ≤ length (now (s .entry))) ⌝ }
+{
+    let start = p.at + 1;
+    let end = find(s, start, b')');
+    let n = repeat(out, p.unit, p.n, number(&s[start..end]));
+    Scan {
+        at: end,
+        n,
+        unit: n,
+    }
+}
+
+// Two digits, or the end of a group of bytes and how often they stand there; any other sign is passed over.
+fn scan_one(s: &[u8], p: Scan, out: &mut [u8]) -> Scan
+    requires { ⌜ p .at < length (now s) ⌝ }
+    ensures { λ r. ⌜ (p .at < r .at) × (r .at ≤ length (now (s .entry))) ⌝ }
+{
+    let at = p.at;
+    let c = s[at];
+    if c == b'*' {
+        return group(s, p, out);
+    }
+    if c < 48 {
+        return Scan {
+            at: at + 1,
+            n: p.n,
+            unit: p.n,
+        };
+    }
+    if c == b':' {
+        return Scan {
+            at: at + 1,
+            n: p.n,
+            unit: p.n,
+        };
+    }
+    let next = after(s, at + 1);
+    let n = push(out, p.n, value(c) * 16 + value(byte_at(s, at + 1)));
+    Scan {
+        at: next,
+        n,
+        unit: p.unit,
+    }
+}
+
+// The bytes of a word in hexadecimal: pairs of digits and groups (HEX*COUNT). A dash stands for no bytes.
+pub fn unhex(s: &[u8], out: &mut [u8]) -> usize
+    ensures { λ r. ⌜ r ≤ length (now (out .exit)) ⌝ }
+{
+    let mut p = Scan {
+        at: 0,
+        n: 0,
+        unit: 0,
+    };
+    while p.at < s.len() {
+        p = scan_one(s, p, out);
+    }
+    let n = p.n;
+    if n <= out.len() { n } else { 0 }
+}

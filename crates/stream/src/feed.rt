@@ -1,0 +1,81 @@
+// Offering the peer's bytes to the engine. What it does not take is offered again.
+use engine::arrival;
+use model::server::Engine;
+use model::server::Outcome;
+use model::server::Took;
+use engine::session;
+use lines::input::read;
+ghost use Prim.Native.Nat.{_≤_};
+ghost use lib.ListN.{length};
+
+// The part of the input store that was read and is not taken yet.
+pub struct Rest {
+    pub at: usize,
+    pub end: usize,
+}
+
+// What the last call gave, and the input that is left.
+pub struct Step {
+    pub took: Took,
+    pub rest: Rest,
+}
+
+// The number at which the session is over, or 0. A program that makes the calls that are awaited is never refused.
+pub fn over(outcome: Outcome) -> u8 {
+    match outcome {
+        Outcome::WantsBytes => 0,
+        Outcome::Reply { length: _ } => 0,
+        Outcome::Request(_) => 0,
+        Outcome::End(number) => number,
+        Outcome::Refused(number) => number,
+    }
+}
+
+// Reads once where nothing is left. Nothing is left after that at the end of the stream only.
+fn refilled(rest: Rest, input: &mut [u8]) -> Rest
+    ensures { λ r. ⌜ (r .at ≤ r .end) × (r .end ≤ length (now (input .exit))) ⌝ }
+{
+    if rest.at < rest.end {
+        if rest.end <= input.len() {
+            return rest;
+        }
+    }
+    let end = read(input);
+    Rest { at: 0, end }
+}
+
+// A call never takes more than it was offered.
+fn without(rest: Rest, taken: usize) -> Rest {
+    if rest.end < rest.at {
+        return rest;
+    }
+    if rest.end - rest.at < taken {
+        return rest;
+    }
+    Rest {
+        at: rest.at + taken,
+        end: rest.end,
+    }
+}
+
+// Offers what is left of the input, or tells the engine that the stream has ended.
+pub fn feed(
+    e: Engine,
+    rest: Rest,
+    input: &mut [u8],
+    packet: &mut [u8],
+    headers: &mut [u8],
+    body: &mut [u8],
+    reply: &mut [u8],
+) -> Step {
+    let r = refilled(rest, input);
+    let at = r.at;
+    let end = r.end;
+    if at == end {
+        let took = session::end_of_stream(e, packet, headers, body, reply);
+        return Step { took, rest: r };
+    }
+    let took = arrival::bytes(e, &input[at..end], packet, headers, body, reply);
+    let left = without(r, took.taken);
+    Step { took, rest: left }
+}
