@@ -3,9 +3,9 @@ mod host;
 mod shown;
 
 use engine::arrival;
+use engine::session;
 use model::server::Outcome;
 use model::server::Settings;
-use engine::session;
 use stream::feed::Rest;
 use stream::feed::Step;
 use stream::feed::feed;
@@ -90,11 +90,5 @@ fn main() {
     let mut headers = [0u8; 65535];
     let mut body = [0u8; 1024];
     let mut reply = [0u8; 65535];
-    play(
-        &mut input,
-        &mut packet,
-        &mut headers,
-        &mut body,
-        &mut reply,
-    );
+    play(&mut input, &mut packet, &mut headers, &mut body, &mut reply);
 }

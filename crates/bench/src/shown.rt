@@ -1,7 +1,7 @@
 // The lines that are printed.
+use lines::output;
 use model::server::Body;
 use model::server::Request;
-use lines::output;
 use stream::name::put_name;
 
 // A body's length, or a dash where there is none.

@@ -1,10 +1,10 @@
 // Offering the peer's bytes to the engine. What it does not take is offered again.
 use engine::arrival;
+use engine::session;
+use lines::input::read;
 use model::server::Engine;
 use model::server::Outcome;
 use model::server::Took;
-use engine::session;
-use lines::input::read;
 ghost use Prim.Native.Nat.{_≤_};
 ghost use lib.ListN.{length};
 

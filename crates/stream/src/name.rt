@@ -1,6 +1,6 @@
 // Requests by name.
-use model::server::Request;
 use lines::output::put;
+use model::server::Request;
 
 // The name of the handler's method behind the first n bytes. A nonce and a body read are no methods, and have none.
 pub fn put_name(out: &mut [u8], n: usize, request: Request) -> usize {
