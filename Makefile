@@ -1,4 +1,4 @@
-.PHONY: test run oracle perf mutants
+.PHONY: test run serve interop oracle perf mutants
 
 # The gate: every crate proved from nothing, every must-fail edit refused, every program run and compared. Its last line is 'N passed, 0 failed'.
 test:
@@ -8,6 +8,20 @@ test:
 run:
 	@rt check bench >/dev/null
 	@target/bin/bench <crates/bench/stdin
+
+# A server of the files in DIR, behind a socket of the loopback. PORT=number DIR=folder.
+PORT ?= 6500
+DIR ?= ./served
+serve:
+	@rt check serve >/dev/null
+	@mkdir -p $(DIR)
+	@echo 'serving $(DIR) at 127.0.0.1:$(PORT)'
+	@cd $(DIR) && exec socat TCP-LISTEN:$(PORT),bind=127.0.0.1,reuseaddr,fork EXEC:$(CURDIR)/target/bin/serve
+
+# Stock clients against the server. Last line: 'interop: N of N'.
+interop:
+	@rt check serve >/dev/null
+	@tools/interop
 
 # The original with a driver, for comparison by running. Nothing of the gate needs it.
 oracle:

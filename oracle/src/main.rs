@@ -19,6 +19,7 @@ mod hex;
 mod host;
 mod leaf;
 mod lines;
+mod load;
 mod rules;
 mod script;
 mod sessions;
@@ -29,7 +30,7 @@ use lines::{answer_each, Stop};
 
 const USAGE: &str =
     "usage: oracle md5 | md5-speed [MB] | text | leaf | engine [digest=N] [sent=all]
-    | sessions SEED COUNT [FIRST] | compare ORIGINAL PORT | cover";
+    | sessions SEED COUNT [FIRST] | compare ORIGINAL PORT | cover | load COUNT READ";
 
 /// A run's data can come in hundreds of megabytes.
 const BUFFER: usize = 1 << 20;
@@ -60,6 +61,12 @@ fn main() -> ExitCode {
         },
         ["compare", original, port] => compare::run(original, port, &mut output),
         ["cover"] => cover::run(input, &mut output),
+        ["load", count, longest] => match (count.parse(), longest.parse()) {
+            (Ok(count), Ok(longest)) => {
+                load::run(input, &mut output, count, longest).map_err(Stop::from)
+            }
+            _ => return usage(),
+        },
         _ => return usage(),
     };
 

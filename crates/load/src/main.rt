@@ -1,0 +1,448 @@
+// Plays a session on standard input to the engine many times and counts what comes back, for its throughput: load COUNT READ.
+use base::be16_at;
+use base::copy_into;
+use engine::arrival;
+use engine::host;
+use engine::session;
+use libc::STDIN_FILENO;
+use lines::output::least;
+use lines::output::put;
+use lines::output::put_number;
+use lines::output::write;
+use lines::word::byte_at;
+use lines::word::number;
+use model::server::Body;
+use model::server::Engine;
+use model::server::Outcome;
+use model::server::Request;
+use model::server::Settings;
+use model::server::Took;
+use std::num::wrapping_add_usize;
+
+// The longest body of a Put, and the object's length.
+const LIMIT: u32 = 65536;
+
+const OBJECT: usize = 1048576;
+
+// More calls than any session has.
+const CALLS: usize = 1000000000000;
+
+// What the peer and the host have done, and what came back.
+struct Progress {
+    // How much of the stream is read, and what of the last read is not taken.
+    at: usize,
+    from: usize,
+    to: usize,
+    // How much of the object is left, and how much of it the next body read gives.
+    left: usize,
+    given: usize,
+    replies: usize,
+    bytes: usize,
+    records: usize,
+    // The last bytes of replies and bodies, so that none of them is left unmade.
+    sum: usize,
+}
+
+fn last_byte(s: &[u8], n: usize) -> usize {
+    if n == 0 {
+        return 0;
+    }
+    base::wide(byte_at(s, n - 1))
+}
+
+// ---- the peer
+
+// How long the next read is at most; 0: it ends where a packet does.
+fn longest_read(longest: usize, rest: &[u8]) -> usize {
+    if longest != 0 {
+        return longest;
+    }
+    if rest.len() < 3 {
+        return rest.len();
+    }
+    be16_at(rest, 1)
+}
+
+// The next read, where nothing is left of the last one.
+fn next_read(p: Progress, stream: &[u8], longest: usize, input: &mut [u8]) -> Progress {
+    if p.from < p.to {
+        return p;
+    }
+    let at = least(p.at, stream.len());
+    let n = least(longest_read(longest, &stream[at..]), stream.len() - at);
+    let m = least(n, input.len());
+    copy_into(input, 0, &stream[at..at + m]);
+    let mut q = p;
+    q.at = at + m;
+    q.from = 0;
+    q.to = m;
+    q
+}
+
+// Of the last read so much was taken.
+fn taken(p: Progress, n: usize) -> Progress {
+    let from = least(p.from, p.to);
+    let mut q = p;
+    q.from = from + least(n, p.to - from);
+    q
+}
+
+fn count_reply(p: Progress, n: usize, reply: &[u8]) -> Progress {
+    let mut q = p;
+    q.replies = wrapping_add_usize(p.replies, 1);
+    q.bytes = wrapping_add_usize(p.bytes, n);
+    q.sum = wrapping_add_usize(p.sum, last_byte(reply, n));
+    q
+}
+
+// ---- the host
+
+fn count_record(p: Progress, last: usize) -> Progress {
+    let mut q = p;
+    q.records = wrapping_add_usize(p.records, 1);
+    q.sum = wrapping_add_usize(p.sum, last);
+    q
+}
+
+fn last_of(b: Body, body: &[u8]) -> usize {
+    match b {
+        Body::Bytes(n) => last_byte(body, n),
+        Body::Missing => 0,
+    }
+}
+
+fn begin_object(p: Progress) -> Progress {
+    let mut q = p;
+    q.left = OBJECT;
+    q
+}
+
+fn read_object(p: Progress, room: usize) -> Progress {
+    let given = least(room, p.left);
+    let mut q = p;
+    q.left = p.left - given;
+    q.given = given;
+    q
+}
+
+fn asked(p: Progress, request: Request, body: &[u8]) -> Progress {
+    match request {
+        Request::Put { kept: _, body: b } => count_record(p, last_of(b, body)),
+        Request::Get { kept: _ } => begin_object(p),
+        Request::Read { room } => read_object(p, room),
+        _ => p,
+    }
+}
+
+// What is done before the call that follows an outcome.
+fn noted(
+    p: Progress,
+    outcome: Outcome,
+    stream: &[u8],
+    longest: usize,
+    input: &mut [u8],
+    body: &[u8],
+    reply: &[u8],
+) -> Progress {
+    match outcome {
+        Outcome::WantsBytes => next_read(p, stream, longest, input),
+        Outcome::Reply { length } => count_reply(p, length, reply),
+        Outcome::Request(request) => asked(p, request, body),
+        Outcome::End(_) => p,
+        Outcome::Refused(_) => p,
+    }
+}
+
+// Success for everything, the object for a Get.
+fn answer(
+    e: Engine,
+    request: Request,
+    chunk: &[u8],
+    packet: &mut [u8],
+    headers: &mut [u8],
+    body: &mut [u8],
+    reply: &mut [u8],
+) -> Took {
+    match request {
+        Request::Get { kept: _ } => host::object(
+            e,
+            &chunk[0..0],
+            true,
+            packet,
+            headers,
+            body,
+            reply,
+        ),
+        Request::Read { room: _ } => host::body(e, chunk, packet, headers, body, reply),
+        Request::Abort { length: _ } => host::acknowledge(e, packet, headers, body, reply),
+        _ => host::reply(e, 0x20, &chunk[0..0], packet, headers, body, reply),
+    }
+}
+
+// The call that follows an outcome.
+fn call(
+    e: Engine,
+    outcome: Outcome,
+    piece: &[u8],
+    chunk: &[u8],
+    packet: &mut [u8],
+    headers: &mut [u8],
+    body: &mut [u8],
+    reply: &mut [u8],
+) -> Took {
+    match outcome {
+        Outcome::Request(request) => answer(e, request, chunk, packet, headers, body, reply),
+        Outcome::Reply { length: _ } => arrival::reply_taken(e, packet, headers, body, reply),
+        _ => {
+            if piece.len() == 0 {
+                return session::end_of_stream(e, packet, headers, body, reply);
+            }
+            arrival::bytes(e, piece, packet, headers, body, reply)
+        }
+    }
+}
+
+// The same with what was read and what is given of the object.
+fn next(
+    e: Engine,
+    outcome: Outcome,
+    p: Progress,
+    zeros: &[u8],
+    input: &[u8],
+    packet: &mut [u8],
+    headers: &mut [u8],
+    body: &mut [u8],
+    reply: &mut [u8],
+) -> Took {
+    let to = least(p.to, input.len());
+    let from = least(p.from, to);
+    let given = least(p.given, zeros.len());
+    call(
+        e,
+        outcome,
+        &input[from..to],
+        &zeros[0..given],
+        packet,
+        headers,
+        body,
+        reply,
+    )
+}
+
+fn is_over(r: Took) -> bool {
+    let outcome = r.outcome;
+    match outcome {
+        Outcome::End(_) => true,
+        Outcome::Refused(_) => true,
+        _ => false,
+    }
+}
+
+fn settings() -> Settings {
+    Settings {
+        realm: [0u8; 254],
+        realm_length: 0,
+        max_object_size: LIMIT,
+        max_packet_length: 65535,
+        charset: 0,
+        has_realm: false,
+        srm_supported: false,
+        authentication: false,
+        user_id_required: false,
+        read_only: false,
+    }
+}
+
+// A session begins: what came back stays.
+fn begin(p: Progress) -> Progress {
+    let mut q = p;
+    q.at = 0;
+    q.from = 0;
+    q.to = 0;
+    q
+}
+
+// What the engine gave last, and how far the session is.
+struct State {
+    took: Took,
+    progress: Progress,
+}
+
+// What follows an outcome, with the call.
+fn turn(
+    s: State,
+    stream: &[u8],
+    longest: usize,
+    zeros: &[u8],
+    input: &mut [u8],
+    packet: &mut [u8],
+    headers: &mut [u8],
+    body: &mut [u8],
+    reply: &mut [u8],
+) -> State {
+    let r = s.took;
+    let outcome = r.outcome;
+    let p = noted(
+        s.progress,
+        outcome,
+        stream,
+        longest,
+        input,
+        &body[..],
+        &reply[..],
+    );
+    let took = next(
+        r.engine,
+        outcome,
+        p,
+        zeros,
+        &input[..],
+        packet,
+        headers,
+        body,
+        reply,
+    );
+    let progress = taken(p, took.taken);
+    State { took, progress }
+}
+
+// One session with an engine of its own.
+fn play(
+    p: Progress,
+    stream: &[u8],
+    longest: usize,
+    zeros: &[u8],
+    input: &mut [u8],
+    packet: &mut [u8],
+    headers: &mut [u8],
+    body: &mut [u8],
+    reply: &mut [u8],
+) -> Progress {
+    let progress = begin(p);
+    let took = session::start(settings(), packet, headers, body, reply);
+    let mut s = State { took, progress };
+    let mut left = CALLS;
+    while left > 0 {
+        if is_over(s.took) {
+            return s.progress;
+        }
+        s = turn(
+            s,
+            stream,
+            longest,
+            zeros,
+            input,
+            packet,
+            headers,
+            body,
+            reply,
+        );
+        left -= 1;
+    }
+    s.progress
+}
+
+// ---- the program
+
+fn argument(i: usize) -> usize {
+    let mut word = [0u8; 20];
+    let n = os::arg(i, &mut word);
+    number(&word[..n])
+}
+
+fn print(p: Progress) {
+    let mut out = [0u8; 160];
+    let a = put(&mut out, 0, b"replies ");
+    let b = put_number(&mut out, a, p.replies);
+    let d = put(&mut out, b, b" bytes ");
+    let e = put_number(&mut out, d, p.bytes);
+    let f = put(&mut out, e, b" records ");
+    let g = put_number(&mut out, f, p.records);
+    let h = put(&mut out, g, b" sum ");
+    let i = put_number(&mut out, h, p.sum);
+    let n = put(&mut out, i, b"\n");
+    write(&out, n);
+}
+
+// Plays the stream so often.
+fn repeat(
+    stream: &[u8],
+    count: usize,
+    longest: usize,
+    zeros: &[u8],
+    input: &mut [u8],
+    packet: &mut [u8],
+    headers: &mut [u8],
+    body: &mut [u8],
+    reply: &mut [u8],
+) -> Progress {
+    let mut p = Progress {
+        at: 0,
+        from: 0,
+        to: 0,
+        left: 0,
+        given: 0,
+        replies: 0,
+        bytes: 0,
+        records: 0,
+        sum: 0,
+    };
+    let mut i = 0;
+    while i < count {
+        p = play(
+            p,
+            stream,
+            longest,
+            zeros,
+            input,
+            packet,
+            headers,
+            body,
+            reply,
+        );
+        i += 1;
+    }
+    p
+}
+
+fn run(
+    stream: &mut [u8],
+    zeros: &[u8],
+    input: &mut [u8],
+    packet: &mut [u8],
+    headers: &mut [u8],
+    body: &mut [u8],
+    reply: &mut [u8],
+) {
+    let n = io::read_full(STDIN_FILENO, stream);
+    print(repeat(
+        &stream[..n],
+        argument(1),
+        argument(2),
+        zeros,
+        input,
+        packet,
+        headers,
+        body,
+        reply,
+    ));
+}
+
+fn main() {
+    let mut stream = [0u8; 1048576];
+    let zeros = [0u8; 65536];
+    let mut input = [0u8; 65536];
+    let mut packet = [0u8; 65535];
+    let mut headers = [0u8; 65535];
+    let mut body = [0u8; 65536];
+    let mut reply = [0u8; 65535];
+    run(
+        &mut stream,
+        &zeros,
+        &mut input,
+        &mut packet,
+        &mut headers,
+        &mut body,
+        &mut reply,
+    );
+}

@@ -1,0 +1,2 @@
+-- What a file's name may be.
+pub mod Name

@@ -1,0 +1,108 @@
+// What is done, in lines on standard error.
+use crate::file::Opened;
+use crate::file::front;
+use libc::STDERR_FILENO;
+use lines::output;
+use model::server::Request;
+use packet::response::FORBIDDEN;
+use packet::response::INTERNAL_SERVER_ERROR;
+use packet::response::NOT_FOUND;
+use packet::response::NOT_IMPLEMENTED;
+use packet::response::SUCCESS;
+use stream::name::put_name;
+
+fn write(out: &[u8], n: usize) {
+    io::write_all(STDERR_FILENO, front(out, n));
+}
+
+// A peer names its files, and no control character of theirs goes to a terminal. Behind 0xC2 stand U+0080 to U+009F.
+fn shown(before: u8, b: u8) -> u8 {
+    if b < 32 {
+        return b'?';
+    }
+    if b == 127 {
+        return b'?';
+    }
+    if before == 0xC2 {
+        if b < 0xA0 {
+            return b'?';
+        }
+    }
+    b
+}
+
+fn put_text(out: &mut [u8], n: usize, s: &[u8]) -> usize {
+    let mut at = n;
+    let mut before = 0;
+    let mut i = 0;
+    while i < s.len() {
+        let one = [shown(before, s[i])];
+        at = output::put(out, at, &one);
+        before = s[i];
+        i += 1;
+    }
+    at
+}
+
+// What became of it, by the code of the reply.
+fn put_code(out: &mut [u8], n: usize, code: u8) -> usize {
+    match code {
+        FORBIDDEN => output::put(out, n, b" refused 43"),
+        NOT_FOUND => output::put(out, n, b" not found 44"),
+        INTERNAL_SERVER_ERROR => output::put(out, n, b" failed 50"),
+        NOT_IMPLEMENTED => output::put(out, n, b" without a body 51"),
+        _ => n,
+    }
+}
+
+// The size of what was written.
+fn put_size(out: &mut [u8], n: usize, size: usize, code: u8) -> usize {
+    if code == SUCCESS {
+        let a = output::put(out, n, b" ");
+        let b = output::put_number(out, a, size);
+        return output::put(out, b, b" bytes");
+    }
+    n
+}
+
+pub fn put(name: &[u8], size: usize, code: u8) {
+    let mut out = [0u8; 400];
+    let a = output::put(&mut out, 0, b"put ");
+    let b = put_text(&mut out, a, name);
+    let c = put_size(&mut out, b, size, code);
+    let d = put_code(&mut out, c, code);
+    let n = output::put(&mut out, d, b"\n");
+    write(&out, n);
+}
+
+fn code_of(opened: Opened) -> u8 {
+    match opened {
+        Opened::File(_) => SUCCESS,
+        Opened::Code(code) => code,
+    }
+}
+
+pub fn get(name: &[u8], opened: Opened) {
+    let mut out = [0u8; 400];
+    let a = output::put(&mut out, 0, b"get ");
+    let b = put_text(&mut out, a, name);
+    let c = put_code(&mut out, b, code_of(opened));
+    let n = output::put(&mut out, c, b"\n");
+    write(&out, n);
+}
+
+// A request by its name alone.
+pub fn request(request: Request) {
+    let mut out = [0u8; 32];
+    let a = put_name(&mut out, 0, request);
+    let n = output::put(&mut out, a, b"\n");
+    write(&out, n);
+}
+
+pub fn end(number: u8) {
+    let mut out = [0u8; 16];
+    let a = output::put(&mut out, 0, b"end ");
+    let b = output::put_number(&mut out, a, base::wide(number));
+    let n = output::put(&mut out, b, b"\n");
+    write(&out, n);
+}

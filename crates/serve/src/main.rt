@@ -1,0 +1,123 @@
+// A server for a person: the peer's bytes come on standard input, and replies go to standard output. A Put writes a file of the
+// working folder, a Get reads one. What it does goes to standard error, a line an operation.
+mod file;
+mod host;
+mod log;
+mod name;
+
+use crate::file::front;
+use crate::host::Answered;
+use crate::host::answer;
+use engine::arrival;
+use engine::session;
+use libc::STDOUT_FILENO;
+use model::server::Outcome;
+use model::server::Settings;
+use stream::feed::Rest;
+use stream::feed::Step;
+use stream::feed::feed;
+use stream::feed::over;
+
+// The last step, and the file that is being sent, or -1.
+struct Serving {
+    step: Step,
+    file: i32,
+}
+
+fn settings() -> Settings {
+    Settings {
+        realm: [0; 254],
+        realm_length: 0,
+        max_object_size: 1048576,
+        max_packet_length: 65535,
+        charset: 0,
+        has_realm: false,
+        srm_supported: true,
+        authentication: false,
+        user_id_required: false,
+        read_only: false,
+    }
+}
+
+fn after_answer(a: Answered, rest: Rest) -> Serving {
+    let took = a.took;
+    Serving {
+        step: Step { took, rest },
+        file: a.file,
+    }
+}
+
+// One call: the one that the last call's outcome asks for.
+fn turn(
+    s: Serving,
+    input: &mut [u8],
+    packet: &mut [u8],
+    headers: &mut [u8],
+    body: &mut [u8],
+    reply: &mut [u8],
+) -> Serving {
+    let file = s.file;
+    let before = s.step;
+    let rest = before.rest;
+    let last = before.took;
+    let e = last.engine;
+    let outcome = last.outcome;
+    match outcome {
+        Outcome::WantsBytes => {
+            let step = feed(e, rest, input, packet, headers, body, reply);
+            Serving { step, file }
+        }
+        Outcome::Reply { length } => {
+            io::write_all(STDOUT_FILENO, front(reply, length));
+            let took = arrival::reply_taken(e, packet, headers, body, reply);
+            Serving {
+                step: Step { took, rest },
+                file,
+            }
+        }
+        Outcome::Request(request) => after_answer(
+            answer(e, request, file, packet, headers, body, reply),
+            rest,
+        ),
+        Outcome::End(_) => s,
+        Outcome::Refused(_) => s,
+    }
+}
+
+// A proved loop has to end, and nothing says that the input does. So the turns are counted down, from a number that no run uses up.
+fn serve(
+    input: &mut [u8],
+    packet: &mut [u8],
+    headers: &mut [u8],
+    body: &mut [u8],
+    reply: &mut [u8],
+) {
+    let took = session::start(settings(), packet, headers, body, reply);
+    let rest = Rest { at: 0, end: 0 };
+    let mut s = Serving {
+        step: Step { took, rest },
+        file: -1,
+    };
+    let mut left = u64::MAX;
+    while left > 0 {
+        let step = s.step;
+        let last = step.took;
+        let outcome = last.outcome;
+        let number = over(outcome);
+        if number != 0 {
+            log::end(number);
+            return;
+        }
+        s = turn(s, input, packet, headers, body, reply);
+        left -= 1;
+    }
+}
+
+fn main() {
+    let mut input = [0u8; 65536];
+    let mut packet = [0u8; 65535];
+    let mut headers = [0u8; 65535];
+    let mut body = [0u8; 1048576];
+    let mut reply = [0u8; 65535];
+    serve(&mut input, &mut packet, &mut headers, &mut body, &mut reply);
+}
