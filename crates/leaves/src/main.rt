@@ -1,10 +1,18 @@
 // Answers stored questions on the records below the engine, a line each, in the words of the original's `oracle leaf`.
 use base::wide;
+use check::same;
 use digest::md5;
 use digest::md5::Octets16;
 use digest::text;
-use libc::STDIN_FILENO;
 use libc::STDOUT_FILENO;
+use lines::input::keep;
+use lines::input::read;
+use lines::output::digits;
+use lines::output::pair;
+use lines::word::after;
+use lines::word::byte_at;
+use lines::word::find;
+use lines::word::unhex;
 use packet::action::permissions;
 use packet::auth;
 use packet::auth::DigestChallenge;
@@ -66,13 +74,6 @@ struct Piece {
     end: usize,
 }
 
-// How far hexadecimal digits are read: their place, how many bytes they gave, and where the last group starts.
-struct Scan {
-    at: usize,
-    n: usize,
-    unit: usize,
-}
-
 // ---- writing
 
 fn put(s: &[u8]) {
@@ -83,31 +84,9 @@ fn put_number(n: usize) {
     io::print_decimal(STDOUT_FILENO, n as u64);
 }
 
-fn digit(x: u8) -> u8
-    requires { ⌜ x < 16 ⌝ }
-{
-    if x < 10 { 48 + x } else { 87 + x }
-}
-
 fn put_byte(b: u8) {
-    let out = [digit(b / 16 % 16), digit(b % 16)];
-    put(&out);
-}
-
-// The digits of the bytes, as many as there is room for.
-fn digits(s: &[u8], out: &mut [u8]) -> usize
-    ensures { λ r. ⌜ r ≤ length (now (out .exit)) ⌝ }
-{
-    let mut n = 0;
-    while n < out.len() / 2 {
-        if s.len() <= n {
-            return 2 * n;
-        }
-        out[2 * n] = digit(s[n] / 16 % 16);
-        out[2 * n + 1] = digit(s[n] % 16);
-        n += 1;
-    }
-    2 * n
+    let two = pair(b);
+    put(&two);
 }
 
 fn put_octets(n: Octets16) {
@@ -172,220 +151,47 @@ fn put_name(op: Opcode) {
 
 // ---- reading
 
-// The place of a byte from another place on, or the end.
-fn find(s: &[u8], from: usize, byte: u8) -> usize
-    requires { ⌜ from ≤ length (now s) ⌝ }
-    ensures { λ r. ⌜ (from ≤ r) × (r ≤ length (now (s .entry))) ⌝ }
-{
-    let mut i = from;
-    while i < s.len() {
-        if s[i] == byte {
-            return i;
-        }
-        i += 1;
-    }
-    i
-}
-
-// The place after another, or the end.
-fn after(s: &[u8], end: usize) -> usize
-    requires { ⌜ end ≤ length (now s) ⌝ }
-    ensures { λ r. ⌜ (end ≤ r) × (r ≤ length (now (s .entry))) ⌝ }
-{
-    if end < s.len() { end + 1 } else { end }
-}
-
-fn byte_at(s: &[u8], at: usize) -> u8 {
-    if at < s.len() { s[at] } else { 0 }
-}
-
-fn is(s: &[u8], word: &[u8]) -> bool {
-    if s.len() != word.len() {
-        return false;
-    }
-    let mut i = 0;
-    while i < s.len() {
-        if byte_at(s, i) != byte_at(word, i) {
-            return false;
-        }
-        i += 1;
-    }
-    true
-}
-
-fn value(c: u8) -> u8
-    ensures { λ r. ⌜ r < 16 ⌝ }
-{
-    if c < 48 {
-        return 0;
-    }
-    if c < 58 {
-        return c - 48;
-    }
-    if c < 97 {
-        return 0;
-    }
-    if c < 103 { c - 87 } else { 0 }
-}
-
-// A digit more, up to the sixth.
-fn more(n: usize, c: u8) -> usize
-    requires { ⌜ n < 2000000 ⌝ }
-    ensures { λ r. ⌜ r < 2000000 ⌝ }
-{
-    if 100000 <= n {
-        return n;
-    }
-    n * 10 + wide(value(c))
-}
-
-// The decimal number from a place on, as far as six digits go.
-fn number(s: &[u8], from: usize) -> usize
-    requires { ⌜ from ≤ length (now s) ⌝ }
-{
-    let end = find(s, from, b')');
-    let mut n = 0;
-    let mut i = from;
-    while i < end {
-        n = more(n, byte_at(s, i));
-        i += 1;
-    }
-    n
-}
-
-// Copies what stands between two places behind it.
-fn again(out: &mut [u8], from: usize, to: usize, at: usize) -> usize {
-    let mut i = from;
-    let mut n = at;
-    while i < to {
-        if out.len() <= n {
-            return n;
-        }
-        if out.len() <= i {
-            return n;
-        }
-        out[n] = out[i];
-        i += 1;
-        n += 1;
-    }
-    n
-}
-
-fn repeat(out: &mut [u8], from: usize, to: usize, count: usize) -> usize {
-    let mut n = to;
-    let mut i = 1;
-    while i < count {
-        n = again(out, from, to, n);
-        i += 1;
-    }
-    n
-}
-
-// Stores a byte, where there is room.
-fn push(out: &mut [u8], n: usize, b: u8) -> usize {
-    if n < out.len() {
-        out[n] = b;
-        return n + 1;
-    }
-    n
-}
-
-// Two digits, or the end of a group of bytes and how often they stand there; any other sign is passed over.
-fn scan_one(s: &[u8], p: Scan, out: &mut [u8]) -> Scan
-    requires { ⌜ p .at < length (now s) ⌝ }
-    ensures { λ r. ⌜ (p .at < r .at) × (r .at ≤ length (now (s .entry))) ⌝ }
-{
-    let at = p.at;
-    let c = s[at];
-    if c == b'*' {
-        let n = repeat(out, p.unit, p.n, number(s, at + 1));
-        let end = find(s, at + 1, b')');
-        return Scan {
-            at: end,
-            n,
-            unit: n,
-        };
-    }
-    if c < 48 {
-        return Scan {
-            at: at + 1,
-            n: p.n,
-            unit: p.n,
-        };
-    }
-    if c == b':' {
-        return Scan {
-            at: at + 1,
-            n: p.n,
-            unit: p.n,
-        };
-    }
-    let next = after(s, at + 1);
-    let n = push(out, p.n, value(c) * 16 + value(byte_at(s, at + 1)));
-    Scan {
-        at: next,
-        n,
-        unit: p.unit,
-    }
-}
-
-// The bytes of a word in hexadecimal: pairs of digits and groups (HEX*COUNT). A dash stands for no bytes.
-fn unhex(s: &[u8], out: &mut [u8]) -> usize
-    ensures { λ r. ⌜ r ≤ length (now (out .exit)) ⌝ }
-{
-    let mut p = Scan {
-        at: 0,
-        n: 0,
-        unit: 0,
-    };
-    while p.at < s.len() {
-        p = scan_one(s, p, out);
-    }
-    let n = p.n;
-    if n <= out.len() { n } else { 0 }
-}
-
 fn question_of(w: &[u8]) -> Question {
-    if is(w, b"first") {
+    if same(w, b"first") {
         return Question::First;
     }
-    if is(w, b"code") {
+    if same(w, b"code") {
         return Question::Code;
     }
-    if is(w, b"length") {
+    if same(w, b"length") {
         return Question::Length;
     }
-    if is(w, b"tags") {
+    if same(w, b"tags") {
         return Question::Tags;
     }
-    if is(w, b"headers") {
+    if same(w, b"headers") {
         return Question::Headers;
     }
-    if is(w, b"packet") {
+    if same(w, b"packet") {
         return Question::Packet;
     }
-    if is(w, b"challenge") {
+    if same(w, b"challenge") {
         return Question::Challenge;
     }
-    if is(w, b"response-list") {
+    if same(w, b"response-list") {
         return Question::ResponseList;
     }
-    if is(w, b"verify") {
+    if same(w, b"verify") {
         return Question::Verify;
     }
-    if is(w, b"write-challenge") {
+    if same(w, b"write-challenge") {
         return Question::WriteChallenge;
     }
-    if is(w, b"respond") {
+    if same(w, b"respond") {
         return Question::Respond;
     }
-    if is(w, b"request") {
+    if same(w, b"request") {
         return Question::Request;
     }
-    if is(w, b"response") {
+    if same(w, b"response") {
         return Question::Response;
     }
-    if is(w, b"digest") {
+    if same(w, b"digest") {
         return Question::Digest;
     }
     Question::Unknown
@@ -1092,25 +898,25 @@ fn answer_one(q: Question, a: &[u8]) {
 fn answer(q: Question, w2: &[u8], w3: &[u8], w4: &[u8], a: &[u8], b: &[u8], c: &[u8], d: &[u8]) {
     match q {
         Question::Verify => verify(a, b, c),
-        Question::Respond => respond(a, !is(w2, b"nouser"), b, c),
+        Question::Respond => respond(a, !same(w2, b"nouser"), b, c),
         Question::WriteChallenge => write_challenge(
             a,
-            is(w2, b"1"),
-            is(w3, b"1"),
-            !is(w4, b"none"),
+            same(w2, b"1"),
+            same(w3, b"1"),
+            !same(w4, b"none"),
             d,
         ),
         Question::Digest => digest(a, b),
         Question::Request => request(
             byte_at(a, 0),
-            is(w2, b"final"),
-            fields_of(c, is(w3, b"default")),
+            same(w2, b"final"),
+            fields_of(c, same(w3, b"default")),
             d,
         ),
         Question::Response => reply(
             byte_at(a, 0),
-            parameters_of(c, is(w3, b"none")),
-            prefix(is(w3, b"none")),
+            parameters_of(c, same(w3, b"none")),
+            prefix(same(w3, b"none")),
             d,
         ),
         _ => answer_one(q, a),
@@ -1173,7 +979,7 @@ fn line(s: &[u8]) {
 }
 
 // Answers the whole lines, and gives where the rest starts.
-fn lines(s: &[u8]) -> usize
+fn lines_of(s: &[u8]) -> usize
     ensures { λ r. ⌜ r ≤ length (now (s .entry)) ⌝ }
 {
     let mut at = 0;
@@ -1188,26 +994,6 @@ fn lines(s: &[u8]) -> usize
     at
 }
 
-// Moves what stands between two places to the front.
-fn keep(s: &mut [u8], from: usize, to: usize) -> usize
-    requires { ⌜ (from ≤ to) × (to ≤ length (now s)) ⌝ }
-    ensures { λ r. ⌜ r ≤ length (now (s .exit)) ⌝ }
-{
-    let mut i = 0;
-    while i < to - from {
-        s[i] = s[from + i];
-        i += 1;
-    }
-    i
-}
-
-fn read(s: &mut [u8]) -> usize
-    ensures { λ r. ⌜ r ≤ length (now (s .exit)) ⌝ }
-{
-    let got = libc::read(STDIN_FILENO, s);
-    io::count(got, s)
-}
-
 // Reads on behind what stands in the store, answers, and gives how much is left; the store's length where there is no more.
 fn turn(s: &mut [u8], have: usize) -> usize
     requires { ⌜ have ≤ length (now s) ⌝ }
@@ -1218,7 +1004,7 @@ fn turn(s: &mut [u8], have: usize) -> usize
         return s.len();
     }
     let end = have + n;
-    let from = lines(&s[0..end]);
+    let from = lines_of(&s[0..end]);
     keep(s, from, end)
 }
 

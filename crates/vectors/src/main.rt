@@ -3,63 +3,13 @@ use digest::md5;
 use digest::text;
 use libc::STDIN_FILENO;
 use libc::STDOUT_FILENO;
-ghost use Prim.Native.Nat.{_≤_, _<_};
-ghost use lib.ListN.{length};
-
-// The place of a byte from another place on, or the end.
-fn find(s: &[u8], from: usize, byte: u8) -> usize
-    requires { ⌜ from ≤ length (now s) ⌝ }
-    ensures { λ r. ⌜ (from ≤ r) × (r ≤ length (now (s .entry))) ⌝ }
-{
-    let mut i = from;
-    while i < s.len() {
-        if s[i] == byte {
-            return i;
-        }
-        i += 1;
-    }
-    i
-}
-
-fn value(c: u8) -> u8
-    ensures { λ r. ⌜ r < 16 ⌝ }
-{
-    if c < 48 {
-        return 0;
-    }
-    if c < 58 {
-        return c - 48;
-    }
-    if c < 97 {
-        return 0;
-    }
-    if c < 103 { c - 87 } else { 0 }
-}
-
-fn digit(x: u8) -> u8
-    requires { ⌜ x < 16 ⌝ }
-{
-    if x < 10 { 48 + x } else { 87 + x }
-}
-
-// Pairs of digits to bytes, as many as there is room for. A dash stands for no bytes.
-fn unhex(s: &[u8], out: &mut [u8]) -> usize
-    ensures { λ r. ⌜ r ≤ length (now (out .exit)) ⌝ }
-{
-    let mut n = 0;
-    while n < out.len() {
-        if s.len() / 2 <= n {
-            return n;
-        }
-        out[n] = value(s[2 * n]) * 16 + value(s[2 * n + 1]);
-        n += 1;
-    }
-    n
-}
+use lines::output::pair;
+use lines::word::find;
+use lines::word::unhex;
 
 fn put_byte(b: u8) {
-    let out = [digit(b / 16 % 16), digit(b % 16)];
-    io::write_all(STDOUT_FILENO, &out);
+    let two = pair(b);
+    io::write_all(STDOUT_FILENO, &two);
 }
 
 // A line of bytes in hexadecimal, or a dash.
@@ -118,7 +68,7 @@ fn line(s: &[u8]) {
     }
 }
 
-fn lines(s: &[u8]) {
+fn lines_of(s: &[u8]) {
     let mut at = 0;
     while at < s.len() {
         let end = find(s, at, b'\n');
@@ -130,5 +80,5 @@ fn lines(s: &[u8]) {
 fn main() {
     let mut input = [0u8; 65536];
     let n = io::read_full(STDIN_FILENO, &mut input);
-    lines(&input[0..n]);
+    lines_of(&input[0..n]);
 }

@@ -1,7 +1,7 @@
--- lines::input::keep meets its contract. What is moved stands within the store.
+-- lines::input::keep meets its contract. What is moved stands within the store. Assumes nothing.
 use borrow.Author.Needs.{needs}
 use native.Mathlib.Omega.{arith}
-use Prim.Native.Nat.{ℕ, _+_, _-_, _*_, _≤_, _<_}
+use Prim.Native.Nat.{_-_, _≤_}
 use mathlib.Core.Path.{_≡_}
 use lib.ListN.{length, length-set}
 use Rattle.lines.proofs.input.keep.Statement.{statement}

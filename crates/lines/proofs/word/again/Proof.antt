@@ -1,7 +1,7 @@
--- lines::word::again meets its contract. What is copied stands within the store, by the tests before each step.
+-- lines::word::again meets its contract. What is copied stands within the store, by the tests before each step. Assumes nothing.
 use borrow.Author.Needs.{needs}
 use native.Mathlib.Omega.{arith}
-use Prim.Native.Nat.{ℕ, _+_, _-_, _*_, _≤_, _<_}
+use Prim.Native.Nat.{_-_}
 use mathlib.Core.Path.{_≡_}
 use lib.ListN.{length, length-set}
 use Rattle.lines.proofs.word.again.Statement.{statement}

@@ -1,9 +1,7 @@
--- lines::word::find meets its contract. The place stays within the slice.
+-- lines::word::find meets its contract. The place stays within the slice. Assumes nothing.
 use borrow.Author.Needs.{needs}
-use native.Mathlib.Omega.{arith}
-use Prim.Native.Nat.{ℕ, _+_, _-_, _*_, _≤_, _<_}
-use mathlib.Core.Path.{_≡_}
-use lib.ListN.{length, length-set}
+use Prim.Native.Nat.{_-_, _≤_}
+use lib.ListN.{length}
 use Rattle.lines.proofs.word.find.Statement.{statement}
 use Rattle.lines.proofs.word.find.Tie as tie
 

@@ -1,9 +1,8 @@
--- lines::word::unhex meets its contract. Each turn passes a sign.
+-- lines::word::unhex meets its contract. Each turn passes a sign. Assumes nothing.
 use borrow.Author.Needs.{needs}
-use native.Mathlib.Omega.{arith}
-use Prim.Native.Nat.{ℕ, _+_, _-_, _*_, _≤_, _<_}
+use Prim.Native.Nat.{_-_}
 use mathlib.Core.Path.{_≡_}
-use lib.ListN.{length, length-set}
+use lib.ListN.{length}
 use Rattle.lines.proofs.word.unhex.Statement.{statement}
 use Rattle.lines.proofs.word.unhex.Tie as tie
 

@@ -1,14 +1,14 @@
--- leaves::lines meets its contract. Each turn passes a line.
+-- `vectors::lines_of` goes on past each line. Assumes nothing.
 use borrow.Author.Needs.{needs}
 use native.Mathlib.Omega.{arith}
 use Prim.Native.Nat.{ℕ, _+_, _-_, _*_, _≤_, _<_}
 use mathlib.Core.Path.{_≡_}
 use lib.ListN.{length, length-set}
-use Rattle.leaves.proofs.lines.Statement.{statement}
-use Rattle.leaves.proofs.lines.Tie as tie
+use Rattle.vectors.proofs.lines_of.Statement.{statement}
+use Rattle.vectors.proofs.lines_of.Tie as tie
 
 abbrev Inv-loop : tie.InvT-loop
-Inv-loop s at₀ at = at ≤ length s
+Inv-loop s at₀ at = Unit {0}
 
 abbrev μ-loop : tie.MeasureT-loop
 μ-loop s at₀ at = length s - at
@@ -18,9 +18,6 @@ loop-holds c = search needs
 
 find-requires : tie.Need-find-requires Inv-loop μ-loop
 find-requires c κs = search needs
-
-returns : tie.Need-returns Inv-loop μ-loop
-returns c = search needs
 
 sub-line : tie.Need-sub-line Inv-loop μ-loop
 sub-line c = search needs
@@ -43,18 +40,17 @@ loop-less c = search needs
 loop-again : tie.Need-loop-again Inv-loop μ-loop
 loop-again c = search needs
 
-returns-2 : tie.Need-returns-2 Inv-loop μ-loop
-returns-2 c = search needs
+returns : tie.Need-returns Inv-loop μ-loop
+returns c = search needs
 
-pub lines-spec : {M : Type 1} → statement M
-lines-spec =
+pub lines-of-spec : {M : Type 1} → statement M
+lines-of-spec =
     tie.close
     (tie.spec
     Inv-loop
     μ-loop
     loop-holds
     find-requires
-    returns
     sub-line
     part-line-start
     part-line-end
@@ -62,4 +58,4 @@ lines-spec =
     add-at
     loop-less
     loop-again
-    returns-2)
+    returns)
