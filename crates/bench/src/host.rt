@@ -43,7 +43,7 @@ fn kind_of(request: Request) -> Kind {
     }
 }
 
-pub fn answer(
+pub(crate) fn answer(
     e: Engine,
     request: Request,
     packet: &mut [u8],

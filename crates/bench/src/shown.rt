@@ -24,7 +24,7 @@ fn put_counts(out: &mut [u8], n: usize, request: Request) -> usize {
 }
 
 // A request by the name of the handler's method.
-pub fn request(request: Request) {
+pub(crate) fn request(request: Request) {
     let mut out = [0u8; 64];
     let a = put_name(&mut out, 0, request);
     let b = put_counts(&mut out, a, request);
@@ -41,13 +41,13 @@ fn packet(s: &[u8]) {
 }
 
 // A reply, the first bytes of its store, in hexadecimal.
-pub fn reply(store: &[u8], length: usize) {
+pub(crate) fn reply(store: &[u8], length: usize) {
     if length <= store.len() {
         packet(&store[0..length]);
     }
 }
 
-pub fn end(number: u8) {
+pub(crate) fn end(number: u8) {
     let mut out = [0u8; 16];
     let a = output::put(&mut out, 0, b"end ");
     let b = output::put_number(&mut out, a, base::wide(number));

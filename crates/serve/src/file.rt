@@ -13,7 +13,7 @@ ghost use mathlib.Core.Bool.{true};
 ghost use Rattle.serve.specs.Name.{fileName};
 
 // The first n bytes, or all where there are fewer.
-pub fn front(s: &[u8], n: usize) -> &[u8] {
+pub(crate) fn front(s: &[u8], n: usize) -> &[u8] {
     if n <= s.len() { &s[0..n] } else { s }
 }
 
@@ -83,7 +83,7 @@ fn put(headers: &[u8], bytes: &[u8]) -> u8 {
 }
 
 // By convention a Put without a body asks for the file to be removed. That is not done here.
-pub fn put_body(headers: &[u8], content: Body, body: &[u8]) -> u8 {
+pub(crate) fn put_body(headers: &[u8], content: Body, body: &[u8]) -> u8 {
     match content {
         Body::Bytes(n) => put(headers, front(body, n)),
         Body::Missing => {
@@ -116,7 +116,7 @@ fn open_named(name: &[u8]) -> Opened {
 }
 
 // Opens the file of a Get's Name.
-pub fn get(headers: &[u8]) -> Opened {
+pub(crate) fn get(headers: &[u8]) -> Opened {
     let mut store = [0u8; 255];
     let n = name_in(headers, &mut store);
     let opened = open_named(&store[0..n]);
@@ -125,7 +125,7 @@ pub fn get(headers: &[u8]) -> Opened {
 }
 
 // Closes a file that is open.
-pub fn closed(fd: i32) -> i32 {
+pub(crate) fn closed(fd: i32) -> i32 {
     if fd >= 0 {
         libc::close(fd);
     }

@@ -163,7 +163,7 @@ fn plain(
     }
 }
 
-pub fn answer(
+pub(crate) fn answer(
     e: Engine,
     request: Request,
     file: i32,

@@ -65,7 +65,7 @@ fn put_size(out: &mut [u8], n: usize, size: usize, code: u8) -> usize {
     n
 }
 
-pub fn put(name: &[u8], size: usize, code: u8) {
+pub(crate) fn put(name: &[u8], size: usize, code: u8) {
     let mut out = [0u8; 400];
     let a = output::put(&mut out, 0, b"put ");
     let b = put_text(&mut out, a, name);
@@ -82,7 +82,7 @@ fn code_of(opened: Opened) -> u8 {
     }
 }
 
-pub fn get(name: &[u8], opened: Opened) {
+pub(crate) fn get(name: &[u8], opened: Opened) {
     let mut out = [0u8; 400];
     let a = output::put(&mut out, 0, b"get ");
     let b = put_text(&mut out, a, name);
@@ -92,14 +92,14 @@ pub fn get(name: &[u8], opened: Opened) {
 }
 
 // A request by its name alone.
-pub fn request(request: Request) {
+pub(crate) fn request(request: Request) {
     let mut out = [0u8; 32];
     let a = put_name(&mut out, 0, request);
     let n = output::put(&mut out, a, b"\n");
     write(&out, n);
 }
 
-pub fn end(number: u8) {
+pub(crate) fn end(number: u8) {
     let mut out = [0u8; 16];
     let a = output::put(&mut out, 0, b"end ");
     let b = output::put_number(&mut out, a, base::wide(number));

@@ -20,7 +20,7 @@ fn stored(done: text::Decoded, len: usize) -> usize
 }
 
 // The text of the first Name at the front of the store. None where it is missing, or longer than the store.
-pub fn name_in(headers: &[u8], store: &mut [u8]) -> usize
+pub(crate) fn name_in(headers: &[u8], store: &mut [u8]) -> usize
     ensures { λ r. ⌜ r ≤ length (now (store .exit)) ⌝ }
 {
     let Found::At { start, end } = first_header(headers, 0, NAME) else {
@@ -64,7 +64,7 @@ fn is_plain(s: &[u8]) -> bool
 }
 
 // Whether it may name a file here.
-pub fn is_file_name(s: &[u8]) -> bool
+pub(crate) fn is_file_name(s: &[u8]) -> bool
     ensures { λ r. ⌜ r ≡ fileName (now (s .entry)) ⌝ }
 {
     if s.len() == 0 {

@@ -5,8 +5,10 @@ use lines::input::read;
 use model::server::Engine;
 use model::server::Outcome;
 use model::server::Took;
+ghost use mathlib.Core.Path.{_≡_};
 ghost use Prim.Native.Nat.{_≤_};
 ghost use lib.ListN.{length};
+ghost use Rattle.stream.specs.Rest.{Within, endedBy};
 
 // The part of the input store that was read and is not taken yet.
 pub struct Rest {
@@ -21,7 +23,9 @@ pub struct Step {
 }
 
 // The number at which the session is over, or 0. A program that makes the calls that are awaited is never refused.
-pub fn over(outcome: Outcome) -> u8 {
+pub fn over(outcome: Outcome) -> u8
+    ensures { λ r. ⌜ r ≡ endedBy outcome ⌝ }
+{
     match outcome {
         Outcome::WantsBytes => 0,
         Outcome::Reply { length: _ } => 0,
@@ -33,7 +37,7 @@ pub fn over(outcome: Outcome) -> u8 {
 
 // Reads once where nothing is left. Nothing is left after that at the end of the stream only.
 fn refilled(rest: Rest, input: &mut [u8]) -> Rest
-    ensures { λ r. ⌜ (r .at ≤ r .end) × (r .end ≤ length (now (input .exit))) ⌝ }
+    ensures { λ r. ⌜ Within r (length (now (input .exit))) ⌝ }
 {
     if rest.at < rest.end {
         if rest.end <= input.len() {
@@ -45,10 +49,10 @@ fn refilled(rest: Rest, input: &mut [u8]) -> Rest
 }
 
 // A call never takes more than it was offered.
-fn without(rest: Rest, taken: usize) -> Rest {
-    if rest.end < rest.at {
-        return rest;
-    }
+fn without(rest: Rest, taken: usize, len: usize) -> Rest
+    requires { ⌜ Within rest len ⌝ }
+    ensures { λ r. ⌜ Within r len ⌝ }
+{
     if rest.end - rest.at < taken {
         return rest;
     }
@@ -67,7 +71,9 @@ pub fn feed(
     headers: &mut [u8],
     body: &mut [u8],
     reply: &mut [u8],
-) -> Step {
+) -> Step
+    ensures { λ r. ⌜ Within (r .rest) (length (now (input .exit))) ⌝ }
+{
     let r = refilled(rest, input);
     let at = r.at;
     let end = r.end;
@@ -76,6 +82,6 @@ pub fn feed(
         return Step { took, rest: r };
     }
     let took = arrival::bytes(e, &input[at..end], packet, headers, body, reply);
-    let left = without(r, took.taken);
+    let left = without(r, took.taken, input.len());
     Step { took, rest: left }
 }

@@ -1,9 +1,13 @@
 // Requests by name.
+ghost use Prim.Native.Nat.{_≤_};
+ghost use lib.ListN.{length};
 use lines::output::put;
 use model::server::Request;
 
 // The name of the handler's method behind the first n bytes. A nonce and a body read are no methods, and have none.
-pub fn put_name(out: &mut [u8], n: usize, request: Request) -> usize {
+pub fn put_name(out: &mut [u8], n: usize, request: Request) -> usize
+    ensures { λ r. ⌜ r ≤ length (now (out .exit)) ⌝ }
+{
     match request {
         Request::Connect { length: _ } => put(out, n, b"connect"),
         Request::Disconnect { length: _ } => put(out, n, b"disconnect"),
@@ -25,7 +29,7 @@ pub fn put_name(out: &mut [u8], n: usize, request: Request) -> usize {
             read_only: _,
             realm: _,
         } => put(out, n, b"credentials"),
-        Request::Nonce => n,
-        Request::Read { room: _ } => n,
+        Request::Nonce => put(out, n, b""),
+        Request::Read { room: _ } => put(out, n, b""),
     }
 }

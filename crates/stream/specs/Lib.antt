@@ -1,0 +1,2 @@
+-- What the programs over the engine know of their input.
+pub mod Rest
