@@ -6,6 +6,7 @@ test:
 
 # Proves what is needed and plays the example session through the bench.
 run:
+	@echo 'proving the bench and what it stands on, from nothing some ten minutes' >&2
 	@rt check bench >/dev/null
 	@target/bin/bench <crates/bench/stdin
 
