@@ -14,7 +14,6 @@ use stream::feed::over;
 // The original's, but for the Put limit.
 fn settings() -> Settings {
     Settings {
-        realm: [0; 254],
         realm_length: 0,
         max_object_size: 1024,
         max_packet_length: 65535,

@@ -23,8 +23,8 @@ options-are st = go (st .«user_id_required») (st .«read_only»)
     go false true = refl
     go false false = refl
 
-pub realm-is : (st : Settings) → given (st .«has_realm») (st .charset ∷ take (st .«realm_length») (st .realm)) ≡ realmOf st
-realm-is st = go (st .«has_realm») (st .charset ∷ take (st .«realm_length») (st .realm))
+pub realm-is : (st : Settings) (l : List ℕ) → given (st .«has_realm») (st .charset ∷ take (st .«realm_length») l) ≡ realmOf st l
+realm-is st l = go (st .«has_realm») (st .charset ∷ take (st .«realm_length») l)
   where
     go : (t : Bool) (v : List ℕ) → given t v ≡ pick t (some v) none
     go true v = refl

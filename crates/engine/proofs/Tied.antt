@@ -102,7 +102,7 @@ password-says κs a r x h = h
 
 pub nonce-says : (κs : Lfts 4) (a : ArgsD nonce.signature κs) (r : ResD nonce.signature κs) (x : AtExit (endedOf 4 nonce-kinds.ps nonce-kinds.r) κs)
     → nonce-reads.Learnt κs a r x
-    → Says (before (a .0) (stores (now (a .1 .1 .0)) (now (a .1 .1 .1 .0)) (now (a .1 .1 .1 .1 .0)) (now (a .1 .1 .1 .1 .1 .0)))) (nonceGiven (a .1 .0)) r (stores (now (x .1 .1 .0)) (now (x .1 .1 .1 .0)) (now (x .1 .1 .1 .1 .0)) (now (x .1 .1 .1 .1 .1 .0)))
+    → Says (before (a .0) (stores (now (a .1 .1 .1 .0)) (now (a .1 .1 .1 .1 .0)) (now (a .1 .1 .1 .1 .1 .0)) (now (a .1 .1 .1 .1 .1 .1 .0)))) (nonceGiven (a .1 .0) (a .1 .1 .0)) r (stores (now (x .1 .1 .1 .0)) (now (x .1 .1 .1 .1 .0)) (now (x .1 .1 .1 .1 .1 .0)) (now (x .1 .1 .1 .1 .1 .1 .0)))
 nonce-says κs a r x h = h
 
 pub reply-says : (κs : Lfts 5) (a : ArgsD reply.signature κs) (r : ResD reply.signature κs) (x : AtExit (endedOf 5 reply-kinds.ps reply-kinds.r) κs)

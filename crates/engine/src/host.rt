@@ -234,11 +234,16 @@ pub fn body(
 }
 
 // 0x41 with a challenge, by the settings.
-fn send_challenge(settings: Settings, remote: u16, nonce: Octets16, reply: &mut [u8]) -> Sent
+fn send_challenge(
+    settings: Settings,
+    realm: [u8; 254],
+    remote: u16,
+    nonce: Octets16,
+    reply: &mut [u8],
+) -> Sent
     requires { ⌜ (settings .«realm_length» ≤ 254) × (65535 ≤ length (now reply)) ⌝ }
-    ensures { λ r. ⌜ sending r (now (reply .exit)) ≡ sentInto (sendBytes remote 0x41 (fieldsOf (settings .«max_packet_length»)) (bytesOf (challengeHeader (octets16 nonce) (optionsOf settings) (realmOf settings)))) (now (reply .entry)) ⌝ }
+    ensures { λ r. ⌜ sending r (now (reply .exit)) ≡ sentInto (sendBytes remote 0x41 (fieldsOf (settings .«max_packet_length»)) (bytesOf (challengeHeader (octets16 nonce) (optionsOf settings) (realmOf settings realm)))) (now (reply .entry)) ⌝ }
 {
-    let realm = settings.realm;
     let n = settings.realm_length;
     challenge_reply(
         reply,
@@ -253,16 +258,17 @@ fn send_challenge(settings: Settings, remote: u16, nonce: Octets16, reply: &mut 
     )
 }
 
-// A nonce for a new challenge: the password is asked for with 0x41.
+// A nonce for a new challenge, and the realm's bytes, as many as the settings say: the password is asked for with 0x41.
 pub fn nonce(
     e: Engine,
     n: Octets16,
+    realm: [u8; 254],
     packet: &mut [u8],
     headers: &mut [u8],
     body: &mut [u8],
     reply: &mut [u8],
 ) -> Took
-    ensures { λ r. ⌜ stepped r (stores (now (packet .exit)) (now (headers .exit)) (now (body .exit)) (now (reply .exit))) ≡ nonceStep e n (stores (now (packet .entry)) (now (headers .entry)) (now (body .entry)) (now (reply .entry))) ⌝ }
+    ensures { λ r. ⌜ stepped r (stores (now (packet .exit)) (now (headers .exit)) (now (body .exit)) (now (reply .exit))) ≡ nonceStep e n realm (stores (now (packet .entry)) (now (headers .entry)) (now (body .entry)) (now (reply .entry))) ⌝ }
 {
     let number = refused(
         e,
@@ -277,7 +283,7 @@ pub fn nonce(
         return refuse(e, number);
     }
     let peer = challenged(e.peer, n);
-    let sent = send_challenge(e.settings, peer.remote_max_packet_length, n, reply);
+    let sent = send_challenge(e.settings, realm, peer.remote_max_packet_length, n, reply);
     took(sent_plan(e, peer, sent))
 }
 

@@ -4,7 +4,7 @@ ghost use lib.Dec.{eqb};
 ghost use Rattle.base.specs.Pick.{pick};
 ghost use Rattle.connection.specs.Peer.{freshPeer};
 ghost use Rattle.engine.specs.Guard.{startNumber};
-ghost use Rattle.model.specs.Model.{stepped, stores, endStep, startStep, engineWith};
+ghost use Rattle.model.specs.Model.{stepped, stores, endStep, startStep, engineWith, defaultSettings};
 use crate::carry::took;
 use crate::guard::is_short;
 use crate::guard::refuse;
@@ -19,6 +19,23 @@ use model::server::Operation;
 use model::server::Outcome;
 use model::server::Settings;
 use model::server::Took;
+
+// The source's settings, but for the Put limit.
+pub fn default_settings(max_object_size: u32) -> Settings
+    ensures { λ r. ⌜ r ≡ defaultSettings «max_object_size» ⌝ }
+{
+    Settings {
+        realm_length: 0,
+        max_object_size,
+        max_packet_length: 65535,
+        charset: 0,
+        has_realm: false,
+        srm_supported: false,
+        authentication: false,
+        user_id_required: false,
+        read_only: false,
+    }
+}
 
 // Nothing is open, the counter stands at 1, and the peer's limit is the smallest there is.
 fn fresh_peer() -> Peer

@@ -23,9 +23,9 @@ pub data Call : Type 0 where
   bodyFailed : Call
   -- an Abort is acknowledged
   abortAcknowledged : Call
-  -- the password, if there is one; 16 bytes for a challenge; credentials for the peer's challenge, if there are any
+  -- the password, if there is one; 16 bytes for a challenge, and its realm's bytes; credentials for the peer's challenge, if there are any
   passwordGiven : Option (List ℕ) → Call
-  nonceGiven : Octets16 → Call
+  nonceGiven : Octets16 → List ℕ → Call
   credentialsGiven : Option Credentials → Call
 
 -- a call is refused, changing nothing, with a number; or it goes

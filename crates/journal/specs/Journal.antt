@@ -328,7 +328,7 @@ journalCall j (bodyGiven d) b = unchanged j
 journalCall j bodyFailed b = unchanged j
 journalCall j abortAcknowledged b = unchanged j
 journalCall j (passwordGiven p) b = unchanged (stands j (passwordChecked (j .standing) (passes j p)))
-journalCall j (nonceGiven n) b = unchanged (stands j (challenged (j .standing) (octets16 n)))
+journalCall j (nonceGiven n l) b = unchanged (stands j (challenged (j .standing) (octets16 n)))
 journalCall j (credentialsGiven c) b = unchanged j
 
 -- refused or ended: no step
@@ -365,7 +365,7 @@ callReads j (bodyGiven d) = []
 callReads j bodyFailed = []
 callReads j abortAcknowledged = []
 callReads j (passwordGiven p) = []
-callReads j (nonceGiven n) = []
+callReads j (nonceGiven n l) = []
 callReads j (credentialsGiven c) = []
 
 abbrev pub fedReads : Journal → Call → Verdict → List Marked

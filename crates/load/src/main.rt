@@ -240,7 +240,6 @@ fn is_over(r: Took) -> bool {
 
 fn settings() -> Settings {
     Settings {
-        realm: [0u8; 254],
         realm_length: 0,
         max_object_size: LIMIT,
         max_packet_length: 65535,

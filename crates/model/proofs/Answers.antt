@@ -179,9 +179,9 @@ module _ (e : Engine) (s : Stores) (j : Journal) (o : Opcode) (w : AskedBy (e .s
           told-done e (e .peer) Nothing await.Nonce (outcome.Request request.Nonce) s (stands j _) []
           (still-asked (e .peer) (standingOf (e .peer)) refl) refl
 
-  pub nonce-told : (n : Octets16) → Told (nonceAnswer e n s) (unchanged (stands j (challenged (j .standing) (octets16 n))))
+  pub nonce-told : (n : Octets16) (l : List ℕ) → Told (nonceAnswer e n l s) (unchanged (stands j (challenged (j .standing) (octets16 n))))
   unfolding nonceAnswer
-  nonce-told n =
+  nonce-told n l =
       sends-connect-told e s (challengedPeer (e .peer) n) (stands j (challenged (j .standing) (octets16 n)))
       (held-stands s (challengedPeer (e .peer) n) _
       (ap (λ (x : Standing). challenged x (octets16 n)) (w .held .fixed .standing) ∙ sym (challenged-standing (e .peer) n)))

@@ -36,7 +36,7 @@ step-agrees w s h k (bodyGiven d) o = body-agrees w s h k d
 step-agrees w s h k bodyFailed o = body-failed-agrees w s h k
 step-agrees w s h k abortAcknowledged o = acknowledge-agrees w s h k
 step-agrees w s h k (passwordGiven p) o = password-agrees w s h k p
-step-agrees w s h k (nonceGiven n) o = nonce-agrees w s h k n
+step-agrees w s h k (nonceGiven n l) o = nonce-agrees w s h k n l
 step-agrees w s h k (credentialsGiven c) o = credentials-agree w s h k c
 
 -- ---- a list of calls

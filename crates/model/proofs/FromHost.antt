@@ -225,13 +225,13 @@ module _ (w : Waits) (s : State) (h : Sits (s .engine) (s .stores)) (k : w ≡ w
       (λ j x u. let y = coupled-at w s h k await.Password j (range-is (e .awaits) 8 r) x in
       entered (passwordGiven p) j _ (y .held .fixed .ended) (password-told e st j op.Connect y refl p)))
 
-  pub nonce-agrees : (n : Octets16) → Agrees w s (nonceGiven n)
+  pub nonce-agrees : (n : Octets16) (l : List ℕ) → Agrees w s (nonceGiven n l)
   unfolding bad
-  nonce-agrees n =
-      agrees w s h k (nonceGiven n)
-      (λ r. agree-goes w s h k (nonceGiven n) 0 _ (nonce-fine e st (h .base) n)
+  nonce-agrees n l =
+      agrees w s h k (nonceGiven n l)
+      (λ r. agree-goes w s h k (nonceGiven n l) 0 _ (nonce-fine e st (h .base) n l)
       (λ j x u. let y = coupled-at w s h k await.Nonce j (range-is (e .awaits) 9 r) x in
-      entered (nonceGiven n) j _ (y .held .fixed .ended) (nonce-told e st j op.Connect y n)))
+      entered (nonceGiven n l) j _ (y .held .fixed .ended) (nonce-told e st j op.Connect y n l)))
 
   credentials-at : (c : Option Credentials) → e .awaits ≡ await.Credentials → IsConnecting (e .operation)
       → Agree w s (credentialsGiven c) (pick (longUser c) (refused 8) goes) (credentialsWith (e .operation) e c st)

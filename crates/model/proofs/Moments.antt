@@ -35,7 +35,7 @@ fromOf (bodyGiven d) = 11
 fromOf bodyFailed = 11
 fromOf abortAcknowledged = 7
 fromOf (passwordGiven p) = 8
-fromOf (nonceGiven n) = 9
+fromOf (nonceGiven n l) = 9
 fromOf (credentialsGiven c) = 10
 
 abbrev pub toOf : Call → ℕ
@@ -48,7 +48,7 @@ toOf (bodyGiven d) = 11
 toOf bodyFailed = 11
 toOf abortAcknowledged = 7
 toOf (passwordGiven p) = 8
-toOf (nonceGiven n) = 9
+toOf (nonceGiven n l) = 9
 toOf (credentialsGiven c) = 10
 
 abbrev pub inRange : ℕ → ℕ → Await → Bool
@@ -65,7 +65,7 @@ fitting (objectGiven hs b) w = true
 fitting bodyFailed w = true
 fitting abortAcknowledged w = true
 fitting (passwordGiven p) w = true
-fitting (nonceGiven n) w = true
+fitting (nonceGiven n l) w = true
 fitting (credentialsGiven c) w = true
 
 -- whatever is awaited
@@ -99,7 +99,7 @@ moment (bodyGiven d) o a = each (Moment (bodyGiven d) o) refl refl refl refl ref
 moment bodyFailed o a = each (Moment bodyFailed o) refl refl refl refl refl refl refl refl refl refl refl refl refl a
 moment abortAcknowledged o a = each (Moment abortAcknowledged o) refl refl refl refl refl refl refl refl refl refl refl refl refl a
 moment (passwordGiven p) o a = each (Moment (passwordGiven p) o) refl refl refl refl refl refl refl refl refl refl refl refl refl a
-moment (nonceGiven n) o a = each (Moment (nonceGiven n) o) refl refl refl refl refl refl refl refl refl refl refl refl refl a
+moment (nonceGiven n l) o a = each (Moment (nonceGiven n l) o) refl refl refl refl refl refl refl refl refl refl refl refl refl a
 moment (credentialsGiven c) o a = each (Moment (credentialsGiven c) o) refl refl refl refl refl refl refl refl refl refl refl refl refl a
 
 -- what is awaited is told by its number
@@ -135,7 +135,7 @@ goFor s (bodyGiven d) = bodyFor (s .engine .operation) (s .engine) d (s .stores)
 goFor s bodyFailed = after 0 (repliesCode (s .engine) (s .engine .peer) Nothing 0x50 (s .stores))
 goFor s abortAcknowledged = after 0 (repliesCode (s .engine) (s .engine .peer) Nothing 0x20 (s .stores))
 goFor s (passwordGiven p) = after 0 (passwordAnswer (s .engine) p (s .stores))
-goFor s (nonceGiven n) = after 0 (nonceAnswer (s .engine) n (s .stores))
+goFor s (nonceGiven n l) = after 0 (nonceAnswer (s .engine) n l (s .stores))
 goFor s (credentialsGiven c) = credentialsWith (s .engine .operation) (s .engine) c (s .stores)
 
 step-is : (s : State) (c : Call) → stepOf s c ≡ guarded (fromOf c) (toOf c) (s .engine) (s .stores) (goFor s c)
@@ -149,7 +149,7 @@ step-is s (bodyGiven d) = refl
 step-is s bodyFailed = refl
 step-is s abortAcknowledged = refl
 step-is s (passwordGiven p) = refl
-step-is s (nonceGiven n) = refl
+step-is s (nonceGiven n l) = refl
 step-is s (credentialsGiven c) = refl
 
 -- ---- a call's result agrees with the verdict that is due and with the journal's entry

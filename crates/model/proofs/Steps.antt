@@ -287,9 +287,9 @@ module _ (e : Engine) (s : Stores) (h : Base e s) where
       (fine-asks e s h (verifiedPeer (e .peer)) await.Connect (request.Connect (e .length)) s (verified-fits (e .peer) (h .peer)) (h .room) refl refl)
       (fine-asks e s h (e .peer) await.Nonce request.Nonce s (h .peer) (h .room) refl refl)
 
-  pub nonce-fine : (n : Octets16) → Fine (nonceAnswer e n s)
+  pub nonce-fine : (n : Octets16) (l : List ℕ) → Fine (nonceAnswer e n l s)
   unfolding nonceAnswer
-  nonce-fine n = sends-connect-fine (challengedPeer (e .peer) n) 0x41 _ (challenged-fits (e .peer) n (h .peer))
+  nonce-fine n l = sends-connect-fine (challengedPeer (e .peer) n) 0x41 _ (challenged-fits (e .peer) n (h .peer))
 
   -- ---- a packet
 

@@ -12,32 +12,17 @@ use Rattle.packet.specs.declared.opcode.Opcode.the-variants as op
 use Rattle.journal.specs.Ids.{newId}
 use Rattle.journal.specs.Carried.{Carried}
 use Rattle.journal.specs.Calls.{Call, bytesOffered, replyTaken, objectGiven, bodyGiven}
-use Rattle.model.specs.Model.{Stores, Stepped, started}
+use Rattle.model.specs.Model.{Stores, Stepped, started, defaultSettings}
 use Rattle.model.specs.Runs.{State, stepOf, stateOf, records}
 use Rattle.model.specs.declared.server.Settings.{Settings}
 use Rattle.model.specs.declared.server.Outcome.{Outcome}
 use Rattle.model.specs.declared.server.Outcome.the-variants as outcome
 
--- a fresh engine with a Put limit, no password or SRM, and stores of zeros
-abbrev pub settingsWith : ℕ → Settings
-settingsWith limit =
-    record {
-      realm = replicate 254 0;
-      «realm_length» = 0;
-      «max_object_size» = limit;
-      «max_packet_length» = 65535;
-      charset = 0;
-      «has_realm» = false;
-      «srm_supported» = false;
-      authentication = false;
-      «user_id_required» = false;
-      «read_only» = false;
-    }
-
+-- a fresh engine with a Put limit and else the source's settings, and stores of zeros
 abbrev pub freshState : ℕ → State
 freshState limit =
     record {
-      engine = started (settingsWith limit);
+      engine = started (defaultSettings limit);
       stores = record { packet = replicate 65535 0; headers = replicate 65535 0; body = replicate limit 0; reply = replicate 65535 0 };
     }
 

@@ -347,13 +347,13 @@ bit true = 1
 abbrev pub optionsOf : Settings → ℕ
 optionsOf st = bit (st .«user_id_required») + 2 * bit (st .«read_only»)
 
-abbrev pub realmOf : Settings → Option (List ℕ)
-realmOf st = pick (st .«has_realm») (some (st .charset ∷ take (st .«realm_length») (st .realm))) none
+abbrev pub realmOf : Settings → List ℕ → Option (List ℕ)
+realmOf st l = pick (st .«has_realm») (some (st .charset ∷ take (st .«realm_length») l)) none
 
 -- a new challenge: 0x41 with Connect's fields
-unfoldable pub nonceAnswer : Engine → Octets16 → Stores → Done
-nonceAnswer e n s =
-    sendsConnect e (challengedPeer (e .peer) n) 0x41 (bytesOf (challengeHeader (octets16 n) (optionsOf (e .settings)) (realmOf (e .settings)))) s
+unfoldable pub nonceAnswer : Engine → Octets16 → List ℕ → Stores → Done
+nonceAnswer e n l s =
+    sendsConnect e (challengedPeer (e .peer) n) 0x41 (bytesOf (challengeHeader (octets16 n) (optionsOf (e .settings)) (realmOf (e .settings) l))) s
 
 -- ---- a packet between operations
 
@@ -612,8 +612,8 @@ acknowledgeStep e s = guarded 7 7 e s (after 0 (repliesCode e (e .peer) Nothing 
 unfoldable pub passwordStep : Engine → Option (List ℕ) → Stores → Stepped
 passwordStep e p s = guarded 8 8 e s (after 0 (passwordAnswer e p s))
 
-unfoldable pub nonceStep : Engine → Octets16 → Stores → Stepped
-nonceStep e n s = guarded 9 9 e s (after 0 (nonceAnswer e n s))
+unfoldable pub nonceStep : Engine → Octets16 → List ℕ → Stores → Stepped
+nonceStep e n l s = guarded 9 9 e s (after 0 (nonceAnswer e n l s))
 
 -- credentials: a user id over 255 bytes is 8
 abbrev pub longId : Option (List ℕ) → Bool
@@ -638,6 +638,21 @@ unfoldable pub credentialsStep : Engine → Option Credentials → Stores → St
 credentialsStep e c s = guarded 10 10 e s (credentialsWith (e .operation) e c s)
 
 -- ---- the start
+
+-- the source's settings, but for the Put limit
+abbrev pub defaultSettings : ℕ → Settings
+defaultSettings limit =
+    record {
+      «realm_length» = 0;
+      «max_object_size» = limit;
+      «max_packet_length» = 65535;
+      charset = 0;
+      «has_realm» = false;
+      «srm_supported» = false;
+      authentication = false;
+      «user_id_required» = false;
+      «read_only» = false;
+    }
 
 -- a fresh engine
 unfoldable pub started : Settings → Engine

@@ -79,7 +79,7 @@ fits (replyGiven code hs) w = pick (eqb (waiting w) 2) true (eqb (waiting w) 3)
 fits (objectGiven hs b) w = eqb (waiting w) 3
 fits abortAcknowledged w = eqb (waiting w) 4
 fits (passwordGiven p) w = eqb (waiting w) 5
-fits (nonceGiven n) w = eqb (waiting w) 6
+fits (nonceGiven n l) w = eqb (waiting w) 6
 fits (credentialsGiven c) w = eqb (waiting w) 7
 fits (bodyGiven d) w = pick (eqb (waiting w) 8) (leb (length d) (roomIn w)) false
 fits bodyFailed w = eqb (waiting w) 8
@@ -96,7 +96,7 @@ bad (bodyGiven d) = false
 bad bodyFailed = false
 bad abortAcknowledged = false
 bad (passwordGiven p) = false
-bad (nonceGiven n) = false
+bad (nonceGiven n l) = false
 
 -- 10 before 9, 9 before 8
 unfoldable pub verdict : Bool → Waits → Call → Verdict

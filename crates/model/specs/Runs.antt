@@ -32,7 +32,7 @@ stepOf s (bodyGiven d) = bodyStep (s .engine) d (s .stores)
 stepOf s bodyFailed = bodyFailedStep (s .engine) (s .stores)
 stepOf s abortAcknowledged = acknowledgeStep (s .engine) (s .stores)
 stepOf s (passwordGiven p) = passwordStep (s .engine) p (s .stores)
-stepOf s (nonceGiven n) = nonceStep (s .engine) n (s .stores)
+stepOf s (nonceGiven n l) = nonceStep (s .engine) n l (s .stores)
 stepOf s (credentialsGiven c) = credentialsStep (s .engine) c (s .stores)
 
 abbrev pub stateOf : Stepped → State
@@ -91,7 +91,7 @@ Octet (bodyGiven d) = Unit {0}
 Octet bodyFailed = Unit {0}
 Octet abortAcknowledged = Unit {0}
 Octet (passwordGiven p) = Unit {0}
-Octet (nonceGiven n) = Unit {0}
+Octet (nonceGiven n l) = Unit {0}
 Octet (credentialsGiven c) = Unit {0}
 
 abbrev pub AllOctets : List Call → Type 0

@@ -1,7 +1,6 @@
 // The settings at the start.
 pub struct Settings {
-    // The realm of challenges: a charset and up to 254 bytes.
-    pub realm: [u8; 254],
+    // The realm of challenges, if there is one: a charset and so many bytes, which are lent when a challenge is made.
     pub realm_length: usize,
     pub max_object_size: u32,
     pub max_packet_length: u16,

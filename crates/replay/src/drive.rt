@@ -21,6 +21,7 @@ use model::server::Took;
 
 // ---- the start
 
+// As many of a realm's bytes as the engine is lent.
 fn realm_of(s: &[u8]) -> [u8; 254] {
     let mut realm = [0u8; 254];
     let n = least(s.len(), 254);
@@ -28,11 +29,17 @@ fn realm_of(s: &[u8]) -> [u8; 254] {
     realm
 }
 
+// A start brings its own realm.
+fn realm_from(realm: [u8; 254], call: Call, s: &[u8]) -> [u8; 254] {
+    if let Call::Start(_) = call {
+        return realm_of(s);
+    }
+    realm
+}
+
 // The body store holds 1 MiB, so a limit above it is cut to that. A realm that is too long is told by its length.
-pub(crate) fn settings_of(o: Options, realm: &[u8]) -> Settings {
-    let bytes = realm_of(realm);
+pub(crate) fn settings_of(o: Options) -> Settings {
     Settings {
-        realm: bytes,
         realm_length: o.realm_length,
         max_object_size: least(o.max_object_size, 1048576) as u32,
         max_packet_length: (o.max_packet_length % 65536) as u16,
@@ -77,14 +84,13 @@ fn clear_stores(
 
 fn start(
     o: Options,
-    realm: &[u8],
     packet: &mut [u8],
     headers: &mut [u8],
     body: &mut [u8],
     reply: &mut [u8],
 ) -> Took {
     clear_stores(cleared(o), packet, headers, body, reply);
-    session::start(settings_of(o, realm), packet, headers, body, reply)
+    session::start(settings_of(o), packet, headers, body, reply)
 }
 
 // ---- one call
@@ -94,7 +100,6 @@ fn peer_call(
     e: Engine,
     call: Call,
     input: &[u8],
-    realm: &[u8],
     packet: &mut [u8],
     headers: &mut [u8],
     body: &mut [u8],
@@ -104,7 +109,7 @@ fn peer_call(
         Call::Bytes => arrival::bytes(e, input, packet, headers, body, reply),
         Call::EndOfStream => session::end_of_stream(e, packet, headers, body, reply),
         Call::Acknowledge => host::acknowledge(e, packet, headers, body, reply),
-        Call::Start(o) => start(o, realm, packet, headers, body, reply),
+        Call::Start(o) => start(o, packet, headers, body, reply),
         _ => arrival::reply_taken(e, packet, headers, body, reply),
     }
 }
@@ -112,6 +117,7 @@ fn peer_call(
 fn host_call(
     e: Engine,
     call: Call,
+    realm: &[u8; 254],
     input: &[u8],
     a: &[u8],
     b: &[u8],
@@ -121,7 +127,7 @@ fn host_call(
     reply: &mut [u8],
 ) -> Took {
     match call {
-        Call::Nonce(n) => host::nonce(e, n, packet, headers, body, reply),
+        Call::Nonce(n) => host::nonce(e, n, realm, packet, headers, body, reply),
         Call::Reply(code) => host::reply(e, code, b, packet, headers, body, reply),
         Call::Object(has_body) => host::object(e, a, has_body, packet, headers, body, reply),
         Call::Body => host::body(e, a, packet, headers, body, reply),
@@ -149,7 +155,7 @@ fn host_call(
             body,
             reply,
         ),
-        _ => peer_call(e, call, input, a, packet, headers, body, reply),
+        _ => peer_call(e, call, input, packet, headers, body, reply),
     }
 }
 
@@ -171,9 +177,11 @@ fn call_engine(
     let n2 = least(s.lent.headers, headers.len());
     let n3 = least(s.lent.body, body.len());
     let n4 = least(s.lent.reply, reply.len());
+    let realm = realm_from(s.realm, call, a);
     let took = host_call(
         s.engine,
         call,
+        &realm,
         &stream[from..to],
         a,
         b,
@@ -182,7 +190,7 @@ fn call_engine(
         &mut body[0..n3],
         &mut reply[0..n4],
     );
-    after_call(s, took)
+    after_call(s, realm, took)
 }
 
 // ---- what is printed

@@ -267,7 +267,7 @@ fn sessions(
     reply: &mut [u8; 65536],
     out: &mut [u8; 1048576],
 ) {
-    let settings = settings_of(default_options(), b"");
+    let settings = settings_of(default_options());
     let first = session::start(settings, packet, headers, body, reply);
     turns(
         begun(first),

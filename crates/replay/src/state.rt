@@ -28,6 +28,8 @@ pub struct Stream {
 
 pub struct Replay {
     pub engine: Engine,
+    // The realm's bytes, which the engine is lent with each nonce.
+    pub realm: [u8; 254],
     // What the last call gave.
     pub outcome: Outcome,
     pub stream: Stream,
@@ -62,6 +64,7 @@ pub(crate) fn begun(r: Took) -> Replay {
     let outcome = r.outcome;
     Replay {
         engine,
+        realm: [0; 254],
         outcome,
         stream: no_bytes(),
         lent: whole(),
@@ -89,13 +92,14 @@ fn moved(place: usize, end: usize, n: usize) -> usize {
 }
 
 // After a call.
-pub(crate) fn after_call(s: Replay, r: Took) -> Replay {
+pub(crate) fn after_call(s: Replay, realm: [u8; 254], r: Took) -> Replay {
     let engine = r.engine;
     let outcome = r.outcome;
     let stream = s.stream;
     let lent = s.lent;
     Replay {
         engine,
+        realm,
         outcome,
         stream: Stream {
             taken: moved(stream.taken, stream.read, r.taken),

@@ -26,7 +26,6 @@ struct Serving {
 
 fn settings() -> Settings {
     Settings {
-        realm: [0; 254],
         realm_length: 0,
         max_object_size: 1048576,
         max_packet_length: 65535,
