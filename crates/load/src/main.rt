@@ -4,6 +4,7 @@ use base::copy_into;
 use engine::arrival;
 use engine::host;
 use engine::session;
+use engine::session::default_settings;
 use libc::STDIN_FILENO;
 use lines::output::least;
 use lines::output::put;
@@ -15,7 +16,6 @@ use model::server::Body;
 use model::server::Engine;
 use model::server::Outcome;
 use model::server::Request;
-use model::server::Settings;
 use model::server::Took;
 use std::num::wrapping_add_usize;
 
@@ -229,26 +229,11 @@ fn next(
     )
 }
 
-fn is_over(r: Took) -> bool {
-    let outcome = r.outcome;
+fn is_over(outcome: Outcome) -> bool {
     match outcome {
         Outcome::End(_) => true,
         Outcome::Refused(_) => true,
         _ => false,
-    }
-}
-
-fn settings() -> Settings {
-    Settings {
-        realm_length: 0,
-        max_object_size: LIMIT,
-        max_packet_length: 65535,
-        charset: 0,
-        has_realm: false,
-        srm_supported: false,
-        authentication: false,
-        user_id_required: false,
-        read_only: false,
     }
 }
 
@@ -259,50 +244,6 @@ fn begin(p: Progress) -> Progress {
     q.from = 0;
     q.to = 0;
     q
-}
-
-// What the engine gave last, and how far the session is.
-struct State {
-    took: Took,
-    progress: Progress,
-}
-
-// What follows an outcome, with the call.
-fn turn(
-    s: State,
-    stream: &[u8],
-    longest: usize,
-    zeros: &[u8],
-    input: &mut [u8],
-    packet: &mut [u8],
-    headers: &mut [u8],
-    body: &mut [u8],
-    reply: &mut [u8],
-) -> State {
-    let r = s.took;
-    let outcome = r.outcome;
-    let p = noted(
-        s.progress,
-        outcome,
-        stream,
-        longest,
-        input,
-        &body[..],
-        &reply[..],
-    );
-    let took = next(
-        r.engine,
-        outcome,
-        p,
-        zeros,
-        &input[..],
-        packet,
-        headers,
-        body,
-        reply,
-    );
-    let progress = taken(p, took.taken);
-    State { took, progress }
 }
 
 // One session with an engine of its own.
@@ -317,18 +258,19 @@ fn play(
     body: &mut [u8],
     reply: &mut [u8],
 ) -> Progress {
-    let progress = begin(p);
-    let took = session::start(settings(), packet, headers, body, reply);
-    let mut s = State { took, progress };
+    let mut q = begin(p);
+    let mut took = session::start(default_settings(LIMIT), packet, headers, body, reply);
     let mut left = CALLS;
     while left > 0 {
-        if is_over(s.took) {
-            return s.progress;
+        let outcome = took.outcome;
+        if is_over(outcome) {
+            return q;
         }
-        s = turn(
-            s,
-            stream,
-            longest,
+        q = noted(q, outcome, stream, longest, input, body, reply);
+        took = next(
+            took.engine,
+            outcome,
+            q,
             zeros,
             input,
             packet,
@@ -336,9 +278,10 @@ fn play(
             body,
             reply,
         );
+        q = taken(q, took.taken);
         left -= 1;
     }
-    s.progress
+    q
 }
 
 // ---- the program

@@ -1,21 +1,24 @@
 -- `load::play` counts its calls down, and no call changes the length of a store. Assumes nothing.
 use borrow.Author.Needs.{needs}
+use native.Mathlib.Omega.{arith}
 use mathlib.Core.Path.{_≡_}
 use lib.ListN.{length}
 use Rattle.load.proofs.play.Statement.{statement}
 use Rattle.load.proofs.play.Tie as tie
 
 abbrev Inv-loop : tie.InvT-loop
-Inv-loop stream longest zeros input₀ packet₀ headers₀ body₀ reply₀ s₀ left₀ input packet headers body reply s left = (length input ≡ length input₀) × (length packet ≡ length packet₀) × (length headers ≡ length headers₀) × (length body ≡ length body₀) × (length reply ≡ length reply₀)
+Inv-loop stream longest zeros input₀ packet₀ headers₀ body₀ reply₀ q₀ took₀ left₀ input packet headers body reply q took left =
+    (length input ≡ length input₀) × (length packet ≡ length packet₀) × (length headers ≡ length headers₀) × (length body ≡ length body₀) × (length reply ≡ length reply₀)
 
 abbrev μ-loop : tie.MeasureT-loop
-μ-loop stream longest zeros input₀ packet₀ headers₀ body₀ reply₀ s₀ left₀ input packet headers body reply s left = left
+μ-loop stream longest zeros input₀ packet₀ headers₀ body₀ reply₀ q₀ took₀ left₀ input packet headers body reply q took left =
+    left
 
 begin-requires : tie.Need-begin-requires Inv-loop μ-loop
 begin-requires c κs = search needs
 
-settings-requires : tie.Need-settings-requires Inv-loop μ-loop
-settings-requires c κs = search needs
+default-settings-requires : tie.Need-default-settings-requires Inv-loop μ-loop
+default-settings-requires c κs = search needs
 
 start-requires : tie.Need-start-requires Inv-loop μ-loop
 start-requires c κs = search needs
@@ -44,17 +47,23 @@ same-length-5 c = search needs
 returns : tie.Need-returns Inv-loop μ-loop
 returns c = search needs
 
-turn-requires : tie.Need-turn-requires Inv-loop μ-loop
-turn-requires c κs = search needs
+noted-requires : tie.Need-noted-requires Inv-loop μ-loop
+noted-requires c κs = search needs
+
+next-requires : tie.Need-next-requires Inv-loop μ-loop
+next-requires c κs = search needs
+
+taken-requires : tie.Need-taken-requires Inv-loop μ-loop
+taken-requires c κs = search needs
 
 sub-left : tie.Need-sub-left Inv-loop μ-loop
-sub-left c = search needs
+sub-left c = omega (arith, c .before .before .before .before .before .before .before .before .before .before .before .before .before .before .before .before .before .before .before .before .before .before .before .loop-test .taken)
 
 loop-less : tie.Need-loop-less Inv-loop μ-loop
-loop-less c = search needs
+loop-less c = omega (arith, c .before .before .before .before .before .before .before .before .before .before .before .before .before .before .before .before .before .before .before .before .before .before .before .loop-test .taken)
 
 loop-again : tie.Need-loop-again Inv-loop μ-loop
-loop-again c = search needs
+loop-again c = let v = c .before .before .before .before .before .before .before .before .before .before .before .before .before .before .before .before .before .before .before .before .before .before .before .before .loop .inv in let n = c .before .before .before .before .before .before .before .before .before .before .before .before .before .before .before .before .before .noted .kept in let m = c .before .before .before .before .before .before .before .before .before .next .kept in (omega (arith, v .0, n .1 .1 .1 .1 .0), omega (arith, v .1, m .1 .1 .1 .1 .1 .0), omega (arith, v .2, m .1 .1 .1 .1 .1 .1 .0), omega (arith, v .3, m .1 .1 .1 .1 .1 .1 .1 .0), omega (arith, v .4, m .1 .1 .1 .1 .1 .1 .1 .1 .0))
 
 same-length-6 : tie.Need-same-length-6 Inv-loop μ-loop
 same-length-6 c = search needs
@@ -81,7 +90,7 @@ play-spec =
     Inv-loop
     μ-loop
     begin-requires
-    settings-requires
+    default-settings-requires
     start-requires
     loop-holds
     is-over-requires
@@ -91,7 +100,9 @@ play-spec =
     same-length-4
     same-length-5
     returns
-    turn-requires
+    noted-requires
+    next-requires
+    taken-requires
     sub-left
     loop-less
     loop-again
