@@ -1,30 +1,15 @@
 // Plays one session: the peer's bytes come on standard input, and what the engine does goes to standard output, a line each.
-mod host;
 mod shown;
 
 use engine::arrival;
 use engine::session;
+use engine::session::default_settings;
 use model::server::Outcome;
-use model::server::Settings;
 use stream::feed::Rest;
 use stream::feed::Step;
 use stream::feed::feed;
 use stream::feed::over;
-
-// The original's, but for the Put limit.
-fn settings() -> Settings {
-    Settings {
-        realm_length: 0,
-        max_object_size: 1024,
-        max_packet_length: 65535,
-        charset: 0,
-        has_realm: false,
-        srm_supported: false,
-        authentication: false,
-        user_id_required: false,
-        read_only: false,
-    }
-}
+use stream::host::answer;
 
 // One call: the one that the last call's outcome asks for.
 fn turn(
@@ -48,7 +33,7 @@ fn turn(
         }
         Outcome::Request(request) => {
             shown::request(request);
-            let took = host::answer(e, request, packet, headers, body, reply);
+            let took = answer(e, request, packet, headers, body, reply);
             Step { took, rest }
         }
         Outcome::End(_) => p,
@@ -64,7 +49,7 @@ fn play(
     body: &mut [u8],
     reply: &mut [u8],
 ) {
-    let took = session::start(settings(), packet, headers, body, reply);
+    let took = session::start(default_settings(1024), packet, headers, body, reply);
     let mut p = Step {
         took,
         rest: Rest { at: 0, end: 0 },

@@ -8,56 +8,12 @@ use model::server::Body;
 use model::server::Engine;
 use model::server::Request;
 use model::server::Took;
-use packet::response::NOT_IMPLEMENTED;
 use packet::response::SUCCESS;
 
 // What the answer's call gave, and the file that is being sent from then on.
 pub struct Answered {
     pub took: Took,
     pub file: i32,
-}
-
-// The call that answers a request.
-enum Kind {
-    Reply(u8),
-    Put { kept: usize, content: Body },
-    Get { kept: usize },
-    Read { room: usize },
-    // Also for a nonce, which only authentication asks for, and which is refused so.
-    Acknowledge,
-    NoPassword,
-    NoCredentials,
-}
-
-// SetPath is granted and does nothing: clients send it first, and there is one folder.
-fn kind_of(request: Request) -> Kind {
-    match request {
-        Request::Connect { length: _ } => Kind::Reply(SUCCESS),
-        Request::Disconnect { length: _ } => Kind::Reply(SUCCESS),
-        Request::SetPath {
-            length: _,
-            backup: _,
-            no_create: _,
-        } => Kind::Reply(SUCCESS),
-        Request::Abort { length: _ } => Kind::Acknowledge,
-        Request::Put { kept, body } => Kind::Put {
-            kept,
-            content: body,
-        },
-        Request::Get { kept } => Kind::Get { kept },
-        Request::Action { kept: _ } => Kind::Reply(NOT_IMPLEMENTED),
-        Request::Session { kept: _ } => Kind::Reply(NOT_IMPLEMENTED),
-        Request::UserDefined { opcode: _, kept: _ } => Kind::Reply(NOT_IMPLEMENTED),
-        Request::Password { user_id: _ } => Kind::NoPassword,
-        Request::Nonce => Kind::Acknowledge,
-        Request::Credentials {
-            nonce: _,
-            user_id_required: _,
-            read_only: _,
-            realm: _,
-        } => Kind::NoCredentials,
-        Request::Read { room } => Kind::Read { room },
-    }
 }
 
 fn put(
@@ -136,30 +92,23 @@ fn read(
     }
 }
 
-// The answers that need no file.
+// The answers that need no file. SetPath is granted and does nothing: clients send it first, and there is one folder.
 fn plain(
     e: Engine,
-    kind: Kind,
+    request: Request,
     packet: &mut [u8],
     headers: &mut [u8],
     body: &mut [u8],
     reply: &mut [u8],
 ) -> Took {
-    match kind {
-        Kind::Reply(code) => host::reply(e, code, b"", packet, headers, body, reply),
-        Kind::NoPassword => host::password(e, false, b"", packet, headers, body, reply),
-        Kind::NoCredentials => host::credentials(
-            e,
-            false,
-            false,
-            b"",
-            b"",
-            packet,
-            headers,
-            body,
-            reply,
-        ),
-        _ => host::acknowledge(e, packet, headers, body, reply),
+    log::request(request);
+    match request {
+        Request::SetPath {
+            length: _,
+            backup: _,
+            no_create: _,
+        } => host::reply(e, SUCCESS, b"", packet, headers, body, reply),
+        _ => stream::host::answer(e, request, packet, headers, body, reply),
     }
 }
 
@@ -172,17 +121,18 @@ pub(crate) fn answer(
     body: &mut [u8],
     reply: &mut [u8],
 ) -> Answered {
-    let kind = kind_of(request);
-    match kind {
-        Kind::Put { kept, content } => {
+    match request {
+        Request::Put {
+            kept,
+            body: content,
+        } => {
             let took = put(e, kept, content, packet, headers, body, reply);
             Answered { took, file }
         }
-        Kind::Get { kept } => get(e, kept, packet, headers, body, reply),
-        Kind::Read { room } => read(e, file, room, packet, headers, body, reply),
+        Request::Get { kept } => get(e, kept, packet, headers, body, reply),
+        Request::Read { room } => read(e, file, room, packet, headers, body, reply),
         _ => {
-            log::request(request);
-            let took = plain(e, kind, packet, headers, body, reply);
+            let took = plain(e, request, packet, headers, body, reply);
             Answered {
                 took,
                 file: file::closed(file),

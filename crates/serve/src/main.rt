@@ -10,6 +10,7 @@ use crate::host::Answered;
 use crate::host::answer;
 use engine::arrival;
 use engine::session;
+use engine::session::default_settings;
 use libc::STDOUT_FILENO;
 use model::server::Outcome;
 use model::server::Settings;
@@ -24,18 +25,11 @@ struct Serving {
     file: i32,
 }
 
+// The original's, with SRM, and records of 1 MiB at most.
 fn settings() -> Settings {
-    Settings {
-        realm_length: 0,
-        max_object_size: 1048576,
-        max_packet_length: 65535,
-        charset: 0,
-        has_realm: false,
-        srm_supported: true,
-        authentication: false,
-        user_id_required: false,
-        read_only: false,
-    }
+    let mut s = default_settings(1048576);
+    s.srm_supported = true;
+    s
 }
 
 fn after_answer(a: Answered, rest: Rest) -> Serving {

@@ -1,2 +1,3 @@
--- What the programs over the engine know of their input.
+-- What the programs over the engine know of their input and of their host.
+pub mod Host
 pub mod Rest

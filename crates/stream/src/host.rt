@@ -1,13 +1,16 @@
-// What this host answers: codes without headers, no password and no credentials.
+// A host that keeps nothing: codes without headers, no password and no credentials.
 use engine::host;
 use model::server::Engine;
 use model::server::Request;
 use model::server::Took;
 use packet::response::NOT_IMPLEMENTED;
 use packet::response::SUCCESS;
+ghost use mathlib.Core.Path.{_≡_};
+ghost use Rattle.model.specs.Model.{stepped, stores};
+ghost use Rattle.stream.specs.Host.{callFor, callBy, answered};
 
 // The call that answers a request.
-enum Kind {
+pub enum Kind {
     Reply(u8),
     Acknowledge,
     NoPassword,
@@ -16,7 +19,9 @@ enum Kind {
     Never,
 }
 
-fn kind_of(request: Request) -> Kind {
+fn kind_of(request: Request) -> Kind
+    ensures { λ r. ⌜ callBy r ≡ callFor request ⌝ }
+{
     match request {
         Request::Connect { length: _ } => Kind::Reply(SUCCESS),
         Request::Disconnect { length: _ } => Kind::Reply(SUCCESS),
@@ -43,14 +48,17 @@ fn kind_of(request: Request) -> Kind {
     }
 }
 
-pub(crate) fn answer(
+// The host's answer to a request.
+pub fn answer(
     e: Engine,
     request: Request,
     packet: &mut [u8],
     headers: &mut [u8],
     body: &mut [u8],
     reply: &mut [u8],
-) -> Took {
+) -> Took
+    ensures { λ r. ⌜ stepped r (stores (now (packet .exit)) (now (headers .exit)) (now (body .exit)) (now (reply .exit))) ≡ answered (callFor request) e (stores (now (packet .entry)) (now (headers .entry)) (now (body .entry)) (now (reply .entry))) ⌝ }
+{
     match kind_of(request) {
         Kind::Reply(code) => host::reply(e, code, b"", packet, headers, body, reply),
         Kind::Acknowledge => host::acknowledge(e, packet, headers, body, reply),
