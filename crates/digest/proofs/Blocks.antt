@@ -8,9 +8,8 @@ use native.Mathlib.Nat.{min-le-right}
 use native.Mathlib.Omega.{arith}
 use lib.Dec.{ltb}
 use borrow.Author.Tests.{ltb-true, ltb-false}
-use lib.ListN.{length, getD, take, drop, replicate, length-append, length-drop, length-replicate, getD-replicate, List·getD-append, List·getD-eq-default}
-use lib.Seq.{paste, length-take-le, length-paste, length-paste-head, getD-take, getD-drop, getD-append-add, drop-append-add, take-take}
-use Rattle.base.proofs.Store.{is-part}
+use lib.ListN.{length, getD, take, drop, replicate, length-append, length-take, length-drop, length-replicate, getD-replicate, List·getD-append, List·getD-eq-default}
+use lib.Seq.{paste, length-take-le, length-paste, length-paste-head, getD-take, getD-drop, ext-getD, getD-append-add, drop-append-add, take-take}
 use Rattle.digest.specs.declared.md5.Span.{Span}
 use Rattle.digest.specs.Md5.{zeros, padded}
 use Rattle.digest.specs.Turn.{spanOf, laid}
@@ -203,6 +202,14 @@ shows-zeros b w at z shown =
       size = shown .size;
       same = λ k h. shown .same k h ∙ sym (zeros-more w z (at + k));
     }
+
+-- a list that has p's elements from at on is that part of p
+is-part : (b p : List ℕ) (at : ℕ) → at + length b ≤ length p → ((k : ℕ) → k < length b → getD b k 0 ≡ getD p (at + k) 0)
+    → b ≡ take (length b) (drop at p)
+is-part b p at h same =
+    ext-getD 0 b (take (length b) (drop at p))
+    (omega (arith, length-take (length b) (drop at p), length-drop at p))
+    (λ k l. same k l ∙ sym (getD-take (length b) (drop at p) k 0 l ∙ getD-drop at p k 0))
 
 -- all of a block that the list has
 pub shows-all : (b w : List ℕ) (at : ℕ) → Shows b at w → at + 64 ≤ length w → b ≡ take 64 (drop at w)

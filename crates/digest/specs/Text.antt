@@ -1,4 +1,4 @@
--- The text of a header's bytes, and what a store gets.
+-- The text of a header's bytes (document 01, Header), and what a store gets: all of it, or nothing where it is too short (number 10).
 use mathlib.Core.List.{List, _++_}
 use Prim.Native.Nat.{ℕ}
 use lib.Dec.{ltb}

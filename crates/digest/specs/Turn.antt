@@ -1,4 +1,4 @@
--- What the code's own functions say of each other: one step's numbers, and a part of a message in a block.
+-- What md5.rt's own functions say of each other, beside the RFC's definitions in Md5: one step's numbers, and a part of a message in a block.
 use mathlib.Core.Path.{_≡_}
 use mathlib.Core.List.{List}
 use Prim.Native.Nat.{ℕ, _-_, _/_, _<_, min}

@@ -8,7 +8,7 @@ use native.Mathlib.Omega.{arith}
 use lib.ListN.{length, take}
 use lib.Dec.{eqb}
 use borrow.Author.Tests.{eqb-true}
-use Rattle.base.specs.Pick.{pick, both}
+use Rattle.base.specs.Pick.{pick}
 use Rattle.packet.specs.FirstByte.{sameOpcode, kindOf, valueOf}
 use Rattle.packet.specs.Header.{first, allBytes}
 use Rattle.packet.specs.Packet.{Request as Packet, requestOf, connectLimit, backup, noCreate}
@@ -66,11 +66,11 @@ same-is a b h =
     let v : valueOf a ≡ valueOf b = eqb-true _ _ (both-right (eqb (kindOf a) (kindOf b)) _ h) in
     sym (told-by a) ∙ ap₂ (λ (m n : ℕ). opcodeOf m n) k v ∙ told-by b
   where
-    both-left : (x y : Bool) → both x y ≡ true → x ≡ true
+    both-left : (x y : Bool) → (x && y) ≡ true → x ≡ true
     both-left true y e = refl
     both-left false y e = e
 
-    both-right : (x y : Bool) → both x y ≡ true → y ≡ true
+    both-right : (x y : Bool) → (x && y) ≡ true → y ≡ true
     both-right true y e = e
     both-right false y e = absurd (false≢true e)
 

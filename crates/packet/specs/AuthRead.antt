@@ -1,11 +1,11 @@
 -- What the readers of digest authentication give: the values of Auth as numbers, and the places of the bytes that stay where they are.
 use Prim.Native.Nat.{ℕ, _-_}
 use mathlib.Core.List.{List, [], _∷_}
-use mathlib.Core.Bool.{Bool, true, false}
+use mathlib.Core.Bool.{Bool, true, false, not, _&&_, _||_}
 use mathlib.Core.Option.{Option, none, some}
 use lib.ListN.{length, getD, take, drop}
 use lib.Dec.{eqb, ltb}
-use Rattle.base.specs.Pick.{pick, both, either, not}
+use Rattle.base.specs.Pick.{pick}
 use Rattle.digest.specs.Md5.{octets16, numbers16}
 use Rattle.digest.specs.declared.md5.Octets16.{Octets16}
 use Rattle.packet.specs.declared.tlv.Found.{Found}
@@ -51,9 +51,12 @@ readChallenge v = challengeRead (challengeOf v) (realmPlace v)
 -- ---- parts of them
 
 -- each tag 0 of the list, a response's digest or a challenge's nonce, is 16 bytes long
+abbrev pub sixteenOr : ℕ → ℕ → Bool
+sixteenOr t n = not (eqb t 0) || eqb n 16
+
 unfoldable pub allSixteen : List Tag → Bool
 allSixteen [] = true
-allSixteen (t ∷ ts) = both (either (not (eqb (t .tag) 0)) (eqb (length (t .value)) 16)) (allSixteen ts)
+allSixteen (t ∷ ts) = sixteenOr (t .tag) (length (t .value)) && allSixteen ts
 
 abbrev pub sixteenIn : Tags → Bool
 sixteenIn unreadable = false
