@@ -1,4 +1,4 @@
--- Choosing by a test.
+-- Choosing by a test. Tests are joined by the library's &&, || and not.
 use mathlib.Core.Bool.{Bool, true, false}
 
 -- the first where the test holds, else the second

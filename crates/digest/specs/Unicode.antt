@@ -86,7 +86,8 @@ high b = pick (eqb b 0xED) 0x9F (pick (eqb b 0xF4) 0x8F 0xBF)
 unfoldable pub inside : ℕ → ℕ → ℕ → Bool
 inside lo hi x = leb lo x && leb x hi
 
--- the piece that the bytes b, c, d, e start: a sequence of table 3-7, with the bits that table 3-6 gives it, or the maximal part of one (D93b)
+-- the piece that the bytes b, c, d, e start: a sequence of table 3-7, with the bits that table 3-6 gives it, or the maximal part of one
+-- (D93b)
 unfoldable pub first8 : ℕ → ℕ → ℕ → ℕ → Piece
 first8 b c d e =
     pick (eqb (need b) 0) (replaces 1)

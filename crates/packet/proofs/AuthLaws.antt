@@ -23,7 +23,7 @@ use Rattle.packet.specs.declared.auth.DigestChallenge.{DigestChallenge}
 use Rattle.packet.specs.declared.auth.DigestChallenge.the-variants as challenge
 use Rattle.packet.specs.Tags.{Tag, Tags, unreadable, tagList, push, tags, counts, lastValue, bytesAt, lastBytes, lastOf}
 use Rattle.packet.specs.Auth.{Response, Challenge, responseEnd, named16, responseFrom, responseIn, responseOf, challengeEnd, challengeFrom, challengeIn, challengeOf, realmPlace, userIdRequired, readOnly, same}
-use Rattle.packet.specs.AuthRead.{namedOf, responseRead, readResponse, challengeRead, readChallenge, sixteenOr, allSixteen, sixteenIn, sixteenAt, optionsAt}
+use Rattle.packet.specs.AuthRead.{namedOf, responseRead, readResponse, challengeRead, readChallenge, sixteenOr, allSixteen, sixteenIn, sixteenAt, tagZero, optionsAt}
 use Rattle.packet.proofs.SameBytes.{same-self, same-equal}
 use Rattle.packet.proofs.TagLaws.{Here, value-length}
 use Rattle.packet.proofs.TagWrites.{Within, last-within, last-under-bytes}
@@ -99,17 +99,21 @@ sixteen-last v want = sixteen-bytes v (lastValue v want) (within v want) ∙ ap 
 pub options-last : (v : List ℕ) → optionsAt v (lastValue v 1) ≡ optionsOf (lastOf 1 true (tags v))
 options-last v = options-bytes v (lastValue v 1) ∙ ap optionsOf (last-bytes v 1)
 
--- ---- the response
+-- ---- one more tag
 
--- one more tag, given what the rest reads as
-response-tag0 : (v : List ℕ) (ts : List Tag) (d u n : Option (List ℕ)) (x : Bool) → eqb (length v) 16 ≡ x
-    → ((d : Option (List ℕ)) → responseFrom ts (only16 d) u (only16 n) ≡ pick (allSixteen ts) (responseEnd (only16 (lastBytes 0 true d ts)) (lastBytes 1 true u ts) (only16 (lastBytes 2 true n ts))) none)
-    → pick x (responseFrom ts (some v) u (only16 n)) none
-    ≡ pick (x && allSixteen ts) (responseEnd (only16 (lastBytes 0 true (some v) ts)) (lastBytes 1 true u ts) (only16 (lastBytes 2 true n ts))) none
-response-tag0 v ts d u n false e on = refl
-response-tag0 v ts d u n true e on =
-    let k : only16 (some v) ≡ some v = rw e in
-    ap (λ (o : Option (List ℕ)). responseFrom ts o u (only16 n)) (sym k) ∙ on (some v)
+-- tag 0, given what the rest reads as: 16 bytes long, or the whole is unreadable
+tag0 : {A : Type 0} (v : List ℕ) (x all : Bool) (f g : Option (List ℕ) → Option A) → eqb (length v) 16 ≡ x
+    → ((o : Option (List ℕ)) → f (only16 o) ≡ pick all (g o) none) → pick x (f (some v)) none ≡ pick (x && all) (g (some v)) none
+tag0 v false all f g e on = refl
+tag0 v true all f g e on = let k : only16 (some v) ≡ some v = rw e in ap f (sym k) ∙ on (some v)
+
+-- a tag that no reader knows
+unknown : (k : ℕ) → let n = suc (suc (suc k)) in (eqb n 0 ≡ false) × (eqb n 1 ≡ false) × (eqb n 2 ≡ false)
+unknown k =
+    let n = suc (suc (suc k)) in
+    (ne-eqb n 0 (λ (q : n ≡ 0). omega arith), ne-eqb n 1 (λ (q : n ≡ 1). omega arith), ne-eqb n 2 (λ (q : n ≡ 2). omega arith))
+
+-- ---- the response
 
 response-tag : (k : ℕ) (v : List ℕ) (ts : List Tag) (d u n : Option (List ℕ))
     → ((d u n : Option (List ℕ)) → responseFrom ts (only16 d) u (only16 n) ≡ pick (allSixteen ts) (responseEnd (only16 (lastBytes 0 true d ts)) (lastBytes 1 true u ts) (only16 (lastBytes 2 true n ts))) none)
@@ -121,12 +125,12 @@ response-tag : (k : ℕ) (v : List ℕ) (ts : List Tag) (d u n : Option (List �
     (responseEnd (only16 (lastBytes 0 true (pick (counts 0 true k (length v)) (some v) d) ts))
     (lastBytes 1 true (pick (counts 1 true k (length v)) (some v) u) ts)
     (only16 (lastBytes 2 true (pick (counts 2 true k (length v)) (some v) n) ts))) none
-response-tag zero v ts d u n on = response-tag0 v ts d u n (eqb (length v) 16) refl (λ d. on d u n)
+response-tag zero v ts d u n on =
+    tag0 v (eqb (length v) 16) (allSixteen ts) (λ o. responseFrom ts o u (only16 n))
+    (λ o. responseEnd (only16 (lastBytes 0 true o ts)) (lastBytes 1 true u ts) (only16 (lastBytes 2 true n ts))) refl (λ o. on o u n)
 response-tag (suc zero) v ts d u n on = on d (some v) n
 response-tag (suc (suc zero)) v ts d u n on = on d u (some v)
-response-tag (suc (suc (suc k))) v ts d u n on =
-    let m = suc (suc (suc k)) in
-    rw (ne-eqb m 0 (λ (q : m ≡ 0). omega arith), ne-eqb m 1 (λ (q : m ≡ 1). omega arith), ne-eqb m 2 (λ (q : m ≡ 2). omega arith)) (on d u n)
+response-tag (suc (suc (suc k))) v ts d u n on = let w = unknown k in rw (w .0, w .1, w .2) (on d u n)
 
 -- the response of a list by its last values
 pub response-from : (ts : List Tag) (d u n : Option (List ℕ))
@@ -142,14 +146,14 @@ responseBy nonce.Missing u n = response.Unreadable
 responseBy (nonce.Nonce d) u n = response.Response d u n
 
 response-ends : (x : Bool) (d u n : Option (List ℕ)) (at : Found)
-    → responseRead (pick x (responseEnd d u n) none) at ≡ pick x (responseBy (namedOf d) at (namedOf n)) response.Unreadable
+    → responseRead (pick x (responseEnd d u n) none) at ≡ responseBy (pick x (namedOf d) nonce.Missing) at (namedOf n)
 response-ends false d u n at = refl
 response-ends true none u n at = refl
 response-ends true (some d) u n at = refl
 
 response-in : (r : Tags) (at : Found)
     → responseRead (responseIn r) at
-    ≡ pick (sixteenIn r) (responseBy (namedOf (only16 (lastOf 0 true r))) at (namedOf (only16 (lastOf 2 true r)))) response.Unreadable
+    ≡ responseBy (pick (sixteenIn r) (namedOf (only16 (lastOf 0 true r))) nonce.Missing) at (namedOf (only16 (lastOf 2 true r)))
 response-in unreadable at = refl
 response-in (tagList ts) at =
     ap (λ (o : Option Response). responseRead o at) (response-from ts none none none)
@@ -157,8 +161,8 @@ response-in (tagList ts) at =
 
 pub response-parts : (v : List ℕ)
     → readResponse v
-    ≡ pick (sixteenIn (tags v)) (responseBy (sixteenAt v (lastValue v 0)) (lastValue v 1) (sixteenAt v (lastValue v 2))) response.Unreadable
-unfolding readResponse responseOf
+    ≡ responseBy (tagZero v) (lastValue v 1) (sixteenAt v (lastValue v 2))
+unfolding readResponse responseOf tagZero
 response-parts v = rw (sixteen-last v 0, sixteen-last v 2) (response-in (tags v) (lastValue v 1))
 
 -- the user id's place holds the response's user id
@@ -179,15 +183,6 @@ user-place v a e = last-bytes v 1 ∙ sym (user-in (tags v) a e)
 
 -- ---- the challenge
 
-challenge-tag0 : (v : List ℕ) (ts : List Tag) (o r : Option (List ℕ)) (x : Bool) → eqb (length v) 16 ≡ x
-    → ((n : Option (List ℕ)) → challengeFrom ts (only16 n) (optionsOf o) r ≡ pick (allSixteen ts) (challengeEnd (only16 (lastBytes 0 true n ts)) (optionsOf (lastBytes 1 true o ts)) (lastBytes 2 false r ts)) none)
-    → pick x (challengeFrom ts (some v) (optionsOf o) r) none
-    ≡ pick (x && allSixteen ts) (challengeEnd (only16 (lastBytes 0 true (some v) ts)) (optionsOf (lastBytes 1 true o ts)) (lastBytes 2 false r ts)) none
-challenge-tag0 v ts o r false e on = refl
-challenge-tag0 v ts o r true e on =
-    let k : only16 (some v) ≡ some v = rw e in
-    ap (λ (n : Option (List ℕ)). challengeFrom ts n (optionsOf o) r) (sym k) ∙ on (some v)
-
 filled : (v : List ℕ) (r : Option (List ℕ)) → pick (eqb (length v) 0) r (some v) ≡ pick (ltb 0 (length v)) (some v) r
 filled [] r = refl
 filled (b ∷ v) r = rw (ne-eqb (suc (length v)) 0 (λ (q : suc (length v) ≡ 0). omega arith), lt-ltb 0 (suc (length v)) (omega arith))
@@ -200,13 +195,13 @@ challenge-tag : (k : ℕ) (v : List ℕ) (ts : List Tag) (n o r : Option (List �
     (challengeFrom ts (only16 n) (optionsOf o) r)))
     ≡ pick (sixteenOr k (length v) && allSixteen ts)
     (challengeEnd (only16 (lastBytes 0 true (pick (counts 0 true k (length v)) (some v) n) ts)) (optionsOf (lastBytes 1 true (pick (counts 1 true k (length v)) (some v) o) ts)) (lastBytes 2 false (pick (counts 2 false k (length v)) (some v) r) ts)) none
-challenge-tag zero v ts n o r on = challenge-tag0 v ts o r (eqb (length v) 16) refl (λ n. on n o r)
+challenge-tag zero v ts n o r on =
+    tag0 v (eqb (length v) 16) (allSixteen ts) (λ m. challengeFrom ts m (optionsOf o) r)
+    (λ m. challengeEnd (only16 (lastBytes 0 true m ts)) (optionsOf (lastBytes 1 true o ts)) (lastBytes 2 false r ts)) refl (λ m. on m o r)
 challenge-tag (suc zero) v ts n o r on = on n (some v) r
 challenge-tag (suc (suc zero)) v ts n o r on =
     ap (challengeFrom ts (only16 n) (optionsOf o)) (filled v r) ∙ on n o (pick (ltb 0 (length v)) (some v) r)
-challenge-tag (suc (suc (suc k))) v ts n o r on =
-    let m = suc (suc (suc k)) in
-    rw (ne-eqb m 0 (λ (q : m ≡ 0). omega arith), ne-eqb m 1 (λ (q : m ≡ 1). omega arith), ne-eqb m 2 (λ (q : m ≡ 2). omega arith)) (on n o r)
+challenge-tag (suc (suc (suc k))) v ts n o r on = let w = unknown k in rw (w .0, w .1, w .2) (on n o r)
 
 -- the challenge of a list by its last values
 challenge-from : (ts : List Tag) (n o r : Option (List ℕ))
@@ -222,14 +217,14 @@ challengeBy nonce.Missing o r = challenge.Unreadable
 challengeBy (nonce.Nonce n) o r = challenge.Challenge n (userIdRequired o) (readOnly o) r
 
 challenge-ends : (x : Bool) (n r : Option (List ℕ)) (o : ℕ) (at : Found)
-    → challengeRead (pick x (challengeEnd n o r) none) at ≡ pick x (challengeBy (namedOf n) o at) challenge.Unreadable
+    → challengeRead (pick x (challengeEnd n o r) none) at ≡ challengeBy (pick x (namedOf n) nonce.Missing) o at
 challenge-ends false n r o at = refl
 challenge-ends true none r o at = refl
 challenge-ends true (some n) r o at = refl
 
 challenge-in : (r : Tags) (at : Found)
     → challengeRead (challengeIn r) at
-    ≡ pick (sixteenIn r) (challengeBy (namedOf (only16 (lastOf 0 true r))) (optionsOf (lastOf 1 true r)) at) challenge.Unreadable
+    ≡ challengeBy (pick (sixteenIn r) (namedOf (only16 (lastOf 0 true r))) nonce.Missing) (optionsOf (lastOf 1 true r)) at
 challenge-in unreadable at = refl
 challenge-in (tagList ts) at =
     ap (λ (o : Option Challenge). challengeRead o at) (challenge-from ts none none none)
@@ -237,8 +232,8 @@ challenge-in (tagList ts) at =
 
 pub challenge-parts : (v : List ℕ)
     → readChallenge v
-    ≡ pick (sixteenIn (tags v)) (challengeBy (sixteenAt v (lastValue v 0)) (optionsAt v (lastValue v 1)) (realmPlace v)) challenge.Unreadable
-unfolding readChallenge challengeOf
+    ≡ challengeBy (tagZero v) (optionsAt v (lastValue v 1)) (realmPlace v)
+unfolding readChallenge challengeOf tagZero
 challenge-parts v = rw (sixteen-last v 0, options-last v) (challenge-in (tags v) (realmPlace v))
 
 -- the realm's place holds the challenge's realm

@@ -10,7 +10,7 @@ use lib.ListN.{length, getD, take, drop, length-append, length-drop}
 use lib.Seq.{getD-drop}
 use borrow.Author.Tests.{eq-eqb, ne-eqb, lt-ltb, le-ltb, ltb-true, ltb-false, eqb-true, eqb-false}
 use Rattle.base.specs.Pick.{pick}
-use Rattle.digest.specs.Unicode.{upToZero, codes, units, paired, pieces16, scalars16, wellFormed16, lossy, scalars8, wellFormed8, NoZero, text8}
+use Rattle.digest.specs.Unicode.{upToZero, codes, units, paired, pieces16, scalars16, wellFormed16, lossy, scalars8, wellFormed8, NoZero, text8, Octets}
 use Rattle.digest.specs.Text.{asciiText}
 use Rattle.digest.proofs.Back16.{scalars16-valid, scalars16-nonzero}
 use Rattle.digest.proofs.Back8.{lossy-valid, scalars8-valid, scalars8-nonzero, scalars8-text8, text8-scalars8}
@@ -20,7 +20,7 @@ use Rattle.packet.specs.Header.{Header, encodingOf, tagged, allowed, par
 use Rattle.packet.specs.Auth.{same}
 use Rattle.packet.specs.HeaderWriter.{header}
 use Rattle.packet.specs.Canonical.{terminated16, rewritten, rewrittenHeader, canonicalAs, canonical}
-use Rattle.packet.proofs.HeaderBytes.{Octets, header-bytes}
+use Rattle.packet.proofs.HeaderBytes.{header-bytes}
 use Rattle.packet.proofs.HeaderWrites.{Sized, AllShaped, read-written, all-read, read-shaped}
 use Rattle.packet.proofs.TextForms.{octets-take, scalars8-stop, scalars16-terminated, ended16, back16, ended8, back8, plain8}
 use Rattle.packet.proofs.SameBytes.{same-self, same-equal, same-is}

@@ -22,7 +22,7 @@ use Rattle.packet.specs.Tags.{Putting, putting}
 use Rattle.packet.specs.Placed.{laid}
 use Rattle.packet.specs.Header.{Header, encodingOf, leadOf, lengthField, bytesOf}
 use Rattle.packet.specs.HeaderWriter.{tooLong, putHeader, roomFor, leadBytes, startBy, startHeader}
-use Rattle.packet.proofs.HeaderBytes.{pick-no}
+use Rattle.packet.proofs.HeaderBytes.{pick-no, lead-some}
 use Rattle.packet.proofs.Laid.{sets-laid, written-not}
 
 -- ---- what stands before the value
@@ -42,12 +42,6 @@ lead-length Unicode id n = refl
 lead-length Bytes id n = refl
 lead-length U8 id n = refl
 lead-length U32 id n = refl
-
-pub lead-some : (e : HeaderEncoding) → 1 ≤ leadOf e
-lead-some Unicode = omega arith
-lead-some Bytes = omega arith
-lead-some U8 = omega arith
-lead-some U32 = omega arith
 
 -- the id alone
 pub lead-one : (e : HeaderEncoding) (id n : ℕ) → leadOf e ≡ 1 → leadBytes e id n ≡ id ∷ []

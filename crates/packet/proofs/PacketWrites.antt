@@ -11,6 +11,7 @@ use lib.Dec.{T, eqb}
 use borrow.Author.Tests.{le-ltb}
 use Rattle.base.specs.Pick.{pick}
 use Rattle.base.specs.Bytes.{be16, bytes16}
+use Rattle.digest.specs.Unicode.{Octets}
 use Rattle.packet.specs.declared.opcode.Opcode.{Opcode}
 use Rattle.packet.specs.declared.opcode.Opcode.the-variants.{Connect, Disconnect, Put, Get, SetPath, Action, Session, Abort, UserDefined}
 use Rattle.packet.specs.declared.packet.Fields.{Fields}
@@ -22,7 +23,7 @@ use Rattle.packet.specs.Packet.{fieldsOf, prefixOf, requestBy, requestOf
 use Rattle.packet.specs.Placed.{laid}
 use Rattle.packet.specs.PacketWrite.{connectBytes, setPathByte, fieldBytes, filled4, writePacket}
 use Rattle.packet.proofs.OpcodeLaws.{fair, read-back}
-use Rattle.packet.proofs.HeaderBytes.{Octets, header-bytes}
+use Rattle.packet.proofs.HeaderBytes.{header-bytes}
 use Rattle.packet.proofs.HeaderWrites.{read-written, read-shaped}
 use Rattle.packet.proofs.LowBits.{flags-read}
 use Rattle.packet.proofs.Laid.{length-laid, laid-append}

@@ -2,8 +2,9 @@
 use mathlib.Core.Path.{_≡_, refl, sym, ap, _∙_}
 use mathlib.Core.Bool.{Bool, true, false}
 use mathlib.Core.List.{List, [], _∷_, _++_, append-assoc, append-nil}
-use Prim.Native.Nat.{ℕ, _+_, _-_, _≤_, _<_}
+use Prim.Native.Nat.{ℕ, _+_, _-_, _≤_}
 use native.Mathlib.Omega.{arith}
+use native.Mathlib.Nat.{pos-of-ne-zero}
 use lib.Dec.{ltb}
 use lib.ListN.{length, set, take, drop, length-append, length-take, length-drop, drop-of-length-le}
 use lib.Seq.{drop-drop, take-length}
@@ -70,14 +71,7 @@ pub some16 : (t : List ℕ) → (length (unicodeBytes t) ≡ 0 → ⊥) → leng
 unfolding unicodeBytes
 some16 t h =
     let u = utf16be (lossy t) in
-    ap length (terminated-some (lossy t) (positive (length u) h)) ∙ length-append u (0 ∷ 0 ∷ [])
-  where
-    positive : (n : ℕ) → (n ≡ 0 → ⊥) → 0 < n
-    positive n h = by (ltb 0 n) refl
-      where
-        by : (x : Bool) → ltb 0 n ≡ x → 0 < n
-        by true e = ltb-true 0 n e
-        by false e = absurd (h (omega (arith, ltb-false 0 n e)))
+    ap length (terminated-some (lossy t) (pos-of-ne-zero h)) ∙ length-append u (0 ∷ 0 ∷ [])
 
 -- and no bytes change nothing
 pub none-pasted : (d v : List ℕ) (from : ℕ) → length v ≡ 0 → d ≡ laid d from v

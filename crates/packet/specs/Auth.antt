@@ -116,6 +116,7 @@ challengeTags nonce options realm = record { tag = 0; value = nonce } ∷ (recor
 abbrev pub userTag : Option (List ℕ) → List Tag
 userTag u = optionalTag 1 u
 
+-- its tags, whatever the digest
 abbrev pub answerTags : List ℕ → Option (List ℕ) → List ℕ → List Tag
 answerTags digest user nonce = record { tag = 0; value = digest } ∷ (userTag user ++ (record { tag = 2; value = nonce } ∷ []))
 

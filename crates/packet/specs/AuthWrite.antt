@@ -1,4 +1,5 @@
--- What the writers of digest authentication leave in a store. A value goes under one length byte, so it is at most 255 bytes long.
+-- What the writers of digest authentication leave in a store (document 01, Digest). A value goes under one length byte, so it is at most
+-- 255 bytes long.
 use Prim.Native.Nat.{ℕ}
 use mathlib.Core.List.{List}
 use mathlib.Core.Bool.{Bool, true, false}

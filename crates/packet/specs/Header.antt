@@ -86,7 +86,7 @@ walkFrom s End rest = some []
 walkFrom s Unreadable rest = none
 walkFrom s (At id e from to) rest = push (record { id = id; value = part s from to }) (rest to)
 
--- the headers from a place on; each takes two bytes at least, so a fuel of the length is enough
+-- the headers from a place on; each takes two bytes at least, so a fuel over the length is enough
 unfoldable pub walk : ℕ → List ℕ → ℕ → Option (List Header)
 walk zero s at = none
 walk (suc k) s at = walkFrom s (headerAt s at) (λ n. walk k s n)

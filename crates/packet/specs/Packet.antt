@@ -1,4 +1,5 @@
--- Packets (IrOBEX 1.5, section 3.1): a first byte, the 16-bit length of the whole, Connect's four bytes or SetPath's two, and headers to the end.
+-- Packets (IrOBEX 1.5, section 3.1): a first byte, the 16-bit length of the whole, Connect's four bytes or SetPath's two, and headers to
+-- the end.
 use Prim.Native.Nat.{ℕ, _+_, _/_, _%_}
 use mathlib.Core.List.{List, _∷_, _++_}
 use mathlib.Core.Bool.{Bool}

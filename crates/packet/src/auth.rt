@@ -12,7 +12,7 @@ ghost use Rattle.packet.specs.Auth.{realmPlace, same, answers, realmTag,
 ghost use Rattle.packet.specs.Placed.{laid};
 ghost use Rattle.packet.specs.Flags.{flagBits};
 ghost use Rattle.packet.specs.AuthWrite.{given, overlong, writeChallenge, writeDigestResponse};
-ghost use Rattle.packet.specs.AuthRead.{bytesNamed, sixteenOr, sixteenIn, sixteenAt, optionsAt, readResponse, readChallenge, verifies};
+ghost use Rattle.packet.specs.AuthRead.{bytesNamed, sixteenOr, sixteenIn, sixteenAt, tagZero, optionsAt, readResponse, readChallenge, verifies};
 use crate::flags::flag_bits;
 use crate::store::room;
 use crate::tlv::Found;
@@ -115,6 +115,16 @@ fn sixteen(v: &[u8], tag: u8) -> Named
     Named::Nonce(octets16_at(v, start))
 }
 
+// The value under tag 0, a response's digest or a challenge's nonce, where each is 16 bytes long.
+fn tag_zero(v: &[u8]) -> Named
+    ensures { λ r. ⌜ r ≡ tagZero (now (v .entry)) ⌝ }
+{
+    if !all_sixteen(v) {
+        return Named::Missing;
+    }
+    sixteen(v, RESPONSE_DIGEST_TAG)
+}
+
 // The options of a challenge.
 fn options(v: &[u8]) -> u8
     ensures { λ r. ⌜ r ≡ optionsAt (now (v .entry)) (lastValue (now (v .entry)) 1) ⌝ }
@@ -139,10 +149,7 @@ pub fn realm(v: &[u8]) -> Found
 pub fn read_response(v: &[u8]) -> DigestResponse
     ensures { λ r. ⌜ r ≡ readResponse (now (v .entry)) ⌝ }
 {
-    if !all_sixteen(v) {
-        return DigestResponse::Unreadable;
-    }
-    let Named::Nonce(digest) = sixteen(v, RESPONSE_DIGEST_TAG) else {
+    let Named::Nonce(digest) = tag_zero(v) else {
         return DigestResponse::Unreadable;
     };
     DigestResponse::Response {
@@ -155,10 +162,7 @@ pub fn read_response(v: &[u8]) -> DigestResponse
 pub fn read_challenge(v: &[u8]) -> DigestChallenge
     ensures { λ r. ⌜ r ≡ readChallenge (now (v .entry)) ⌝ }
 {
-    if !all_sixteen(v) {
-        return DigestChallenge::Unreadable;
-    }
-    let Named::Nonce(nonce) = sixteen(v, CHALLENGE_NONCE_TAG) else {
+    let Named::Nonce(nonce) = tag_zero(v) else {
         return DigestChallenge::Unreadable;
     };
     let bits = options(v);

@@ -117,6 +117,7 @@ pub fn last_under(s: &[u8], tag: u8, empty: bool) -> Found
     }
 }
 
+// The last value under a tag, an empty one too.
 pub fn last_value(s: &[u8], tag: u8) -> Found
     ensures { λ r. ⌜ r ≡ lastValue (now (s .entry)) tag ⌝ }
 {
