@@ -1,3 +1,2 @@
--- What several proofs cite.
-pub mod Table
-pub mod Store
+-- What several proofs cite, here and in the crates above.
+pub mod Below

@@ -18,7 +18,7 @@ use Rattle.packet.specs.Header.{Header, encodingOf, headerAt, part, bytesOf}
 use Rattle.packet.specs.HeaderWriter.{tooLong, putHeader}
 use Rattle.packet.specs.Tags.{Putting, putting, bytesAt, writeTags}
 use Rattle.packet.specs.Auth.{responseTags, challengeTags}
-use Rattle.packet.specs.AuthWrite.{given, overlong, writeResponse, writeChallenge}
+use Rattle.packet.specs.AuthWrite.{given, overlong, writeDigestResponse, writeChallenge}
 use Rattle.packet.specs.Placed.{laid, placed}
 use Rattle.packet.specs.declared.tlv.Put.{Put}
 use Rattle.packet.specs.declared.tlv.Found.{Found}
@@ -176,8 +176,8 @@ module _ (y user password : List ℕ) (at : ℕ) (n : Octets16) (has : Bool) (m 
   answer-room = (omega (arith, room .small, bytes), omega (arith, q), room .store)
 
   pub answer-puts : (z w : List ℕ) (r : Put) → overlong (given has user) ≡ false → z ≡ laid y at (leadBytes 0x4E (size - 3))
-      → putting r w ≡ writeResponse z (at + 3) n (given has user) password → Puts y at (answerBytes m (given has user) password) (at + size) w
-  unfolding writeResponse
+      → putting r w ≡ writeDigestResponse z (at + 3) n (given has user) password → Puts y at (answerBytes m (given has user) password) (at + size) w
+  unfolding writeDigestResponse
   answer-puts z w r o s p =
       let v = writeTags (responseTags (octets16 n) (given has user) password) in
       let l : length v ≡ size - 3 = omega (arith, response-length n has user password, q) in

@@ -1,6 +1,6 @@
 -- UTF-16 written and read again, and read and written again. Assumes nothing.
 use mathlib.Core.Path.{_≡_, refl, ap, _∙_}
-use mathlib.Core.Bool.{Bool, true, false}
+use mathlib.Core.Bool.{Bool, true, false, _&&_, and-eq-true-iff}
 use mathlib.Core.List.{List, [], _∷_, _++_}
 use Prim.Native.Nat.{ℕ, zero, suc, _+_, _-_, _*_, _/_, _%_, _≤_, _<_}
 use native.Mathlib.Omega.{arith}
@@ -8,20 +8,20 @@ use borrow.Author.Tests.{leb-true, leb-false, ltb-true, ltb-false, eqb-true, eq-
 use lib.Dec.{eqb, leb, ltb}
 use lib.ListN.{length, getD, take, drop, length-append, length-drop, take-append-drop}
 use lib.Seq.{getD-drop}
-use Rattle.base.specs.Pick.{pick, both}
+use Rattle.base.specs.Pick.{pick}
 use Rattle.digest.specs.declared.text.Piece.{Piece}
 use Rattle.digest.specs.Unicode.{upToZero, keeps, replaces, codes, allKept, sizes, whole, units, isPair, first16, paired, pieces16, scalars16, wellFormed16, Scalar, Each, Scalars, NoZero, Octets, utf16, joined, utf16be}
 use Rattle.digest.proofs.Widths.{utf16-1, utf16-2}
-use Rattle.digest.proofs.Pairs.{both-true, pair-range, first-pair, first-single, front, end16, Front, front16}
+use Rattle.digest.proofs.Pairs.{pair-range, first-pair, first-single, front, end16, Front, front16}
 
 -- ---- a unit that is no surrogate, and a pair
 
 module _ (c : ℕ) (s : Scalar c) where
-  plain-by : (t : Bool) (n : ℕ) → leb 0xD800 c ≡ t → n ≤ 0xE000 → both (leb 0xD800 c) (ltb c n) ≡ false
+  plain-by : (t : Bool) (n : ℕ) → leb 0xD800 c ≡ t → n ≤ 0xE000 → (leb 0xD800 c && ltb c n) ≡ false
   plain-by true n e h = let l = s .apart (leb-true 0xD800 c e) in rw (e, le-ltb c n (omega arith))
   plain-by false n e h = rw e
 
-  plain : (n : ℕ) → n ≤ 0xE000 → both (leb 0xD800 c) (ltb c n) ≡ false
+  plain : (n : ℕ) → n ≤ 0xE000 → (leb 0xD800 c && ltb c n) ≡ false
   plain n h = plain-by (leb 0xD800 c) n refl h
 
   no-pair : (v : ℕ) → isPair c v ≡ false
@@ -90,14 +90,14 @@ first-by u v true e h =
     rw (first-pair u v e) (record { small = omega arith; apart = λ (l : 0xD800 ≤ 0x10000 + (u - 0xD800) * 0x400 + (v - 0xDC00)). omega arith })
 first-by u v false e h = rw (first-single u v e) (by (leb 0xD800 u) (ltb u 0xE000) refl refl)
   where
-    by : (a b : Bool) → leb 0xD800 u ≡ a → ltb u 0xE000 ≡ b → Scalar (pick (both a b) (replaces 2) (keeps u 2) .code)
+    by : (a b : Bool) → leb 0xD800 u ≡ a → ltb u 0xE000 ≡ b → Scalar (pick (a && b) (replaces 2) (keeps u 2) .code)
     by true true p q = record { small = omega arith; apart = λ (l : 0xD800 ≤ 0xFFFD). omega arith }
     by true false p q = record { small = omega arith; apart = λ (l : 0xD800 ≤ u). ltb-false u 0xE000 q }
     by false b p q = let z = leb-false 0xD800 u p in record { small = omega arith; apart = λ (l : 0xD800 ≤ u). omega arith }
 
 nonzero-by : (u v : ℕ) (t : Bool) → isPair u v ≡ t → 0 < u → 0 < first16 u v .code
 nonzero-by u v true e h = rw (first-pair u v e) (omega arith)
-nonzero-by u v false e h = rw (first-single u v e) (by (both (leb 0xD800 u) (ltb u 0xE000)))
+nonzero-by u v false e h = rw (first-single u v e) (by (leb 0xD800 u && ltb u 0xE000))
   where
     by : (t : Bool) → 0 < pick t (replaces 2) (keeps u 2) .code
     by true = omega arith
@@ -138,8 +138,8 @@ scalars16-nonzero s =
 pub whole-first : (p : Piece) (ps : List Piece) (n : ℕ) → whole (p ∷ ps) n ≡ true → (p .kept ≡ true) × (whole ps (n - p .size) ≡ true)
 unfolding whole allKept sizes
 whole-first p ps n e =
-    let a = both-true (both (p .kept) (allKept ps)) (eqb (p .size + sizes ps) n) e in
-    let b = both-true (p .kept) (allKept ps) (a .0) in
+    let a = and-eq-true-iff (p .kept && allKept ps) (eqb (p .size + sizes ps) n) .0 e in
+    let b = and-eq-true-iff (p .kept) (allKept ps) .0 (a .0) in
     let c = eqb-true (p .size + sizes ps) n (a .1) in
     (b .0, rw (b .1) (eq-eqb (sizes ps) (n - p .size) (omega arith)))
 
@@ -182,7 +182,7 @@ kept-bytes : (a b : ℕ) (r : List ℕ) → a < 256 → b < 256 → Octets r →
     → utf16 (first16 (a * 256 + b) (getD (units r) 0 0) .code) ≡ take (first16 (a * 256 + b) (getD (units r) 0 0) .size) (a ∷ b ∷ r)
 kept-bytes a b r ha hb o true e k = pair-bytes a b r ha hb o e
 kept-bytes a b r ha hb o false e k =
-    single-bytes a b r ha hb (first16 (a * 256 + b) (getD (units r) 0 0)) (both (leb 0xD800 (a * 256 + b)) (ltb (a * 256 + b) 0xE000))
+    single-bytes a b r ha hb (first16 (a * 256 + b) (getD (units r) 0 0)) (leb 0xD800 (a * 256 + b) && ltb (a * 256 + b) 0xE000)
     (first-single (a * 256 + b) (getD (units r) 0 0) e) k
 
 octets-drop : (s : List ℕ) (n : ℕ) → Octets s → Octets (drop n s)
@@ -231,7 +231,7 @@ utf16be-scalars16 s o w = written (length s) s (omega arith) o w
 whole-more : (p : Piece) (ps : List Piece) (n : ℕ) → p .kept ≡ true → whole ps n ≡ true → whole (p ∷ ps) (p .size + n) ≡ true
 unfolding whole allKept sizes
 whole-more p ps n k w =
-    let a = both-true (allKept ps) (eqb (sizes ps) n) w in
+    let a = and-eq-true-iff (allKept ps) (eqb (sizes ps) n) .0 w in
     let e = eqb-true (sizes ps) n (a .1) in
     rw (k, a .0, e) (eq-eqb (p .size + n) (p .size + n) refl)
 

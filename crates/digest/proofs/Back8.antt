@@ -1,6 +1,6 @@
 -- UTF-8 written and read again, and read and written again. Assumes nothing.
 use mathlib.Core.Path.{_≡_, refl, sym, ap, _∙_}
-use mathlib.Core.Bool.{Bool, true, false}
+use mathlib.Core.Bool.{Bool, true, false, and-eq-true-iff}
 use mathlib.Core.List.{List, [], _∷_, _++_}
 use Prim.Native.Nat.{ℕ, zero, suc, _+_, _-_, _*_, _/_, _%_, _≤_, _<_}
 use native.Mathlib.Omega.{arith}
@@ -12,7 +12,7 @@ use Rattle.base.specs.Pick.{pick}
 use Rattle.digest.specs.declared.text.Piece.{Piece}
 use Rattle.digest.specs.Unicode.{upToZero, keeps, codes, allKept, sizes, need, low, high, inside, first8, split8, pieces8, lossy, scalars8, whole, wellFormed8, Scalar, Each, Scalars, NoZero, utf8, joined, text8}
 use Rattle.digest.proofs.Widths.{utf8-1, utf8-2, utf8-3, utf8-4}
-use Rattle.digest.proofs.Pairs.{both-true, up-some}
+use Rattle.digest.proofs.Pairs.{up-some}
 use Rattle.digest.proofs.Cut.{cut-take}
 use Rattle.digest.proofs.TextWhole.{sizes8}
 use Rattle.digest.proofs.Back16.{cut-nonzero}
@@ -395,7 +395,7 @@ written (suc n) (b ∷ r) h w =
     let s = b ∷ r in
     let p = start8 s in
     let t = drop (p .size) s in
-    let a = both-true (p .kept) (allKept (split8 n t)) w in
+    let a = and-eq-true-iff (p .kept) (allKept (split8 n t)) .0 w in
     let i = written n t (omega (arith, length-drop (p .size) s, start-sized s .some)) (a .1) in
     ap (λ (l : List ℕ). l ++ text8 (codes (split8 n t))) (start-bytes s (omega arith) (a .0))
     ∙ ap (λ (l : List ℕ). take (p .size) s ++ l) i ∙ take-append-drop (p .size) s
@@ -410,7 +410,7 @@ pub well-formed-up : (s : List ℕ) → wellFormed8 s ≡ true → (upToZero s �
 unfolding wellFormed8 whole
 well-formed-up s w =
     let ps = pieces8 (upToZero s) in
-    let a = both-true (allKept ps) (eqb (sizes ps) (length s)) w in
+    let a = and-eq-true-iff (allKept ps) (eqb (sizes ps) (length s)) .0 w in
     let n = eqb-true (sizes ps) (length s) (a .1) in
     let e : upToZero s ≡ s = sym (cut-take s) ∙ take-all (length (upToZero s)) s (omega (arith, sizes8 (upToZero s))) in
     (e, rw e at (a .0))

@@ -8,12 +8,11 @@ use native.Mathlib.Nat.{min-le-right}
 use native.Mathlib.Omega.{arith}
 use lib.Dec.{ltb}
 use borrow.Author.Tests.{ltb-true, ltb-false}
-use lib.ListN.{length, getD, take, drop, replicate, length-append, length-drop, length-replicate, getD-replicate, List·getD-append, List·getD-eq-default}
-use lib.Seq.{paste, length-take-le, length-paste, length-paste-head, getD-take, getD-drop, getD-append-add, drop-append-add, take-take}
-use Rattle.base.proofs.Store.{is-part}
+use lib.ListN.{length, getD, take, drop, replicate, length-append, length-take, length-drop, length-replicate, getD-replicate, List·getD-append, List·getD-eq-default}
+use lib.Seq.{paste, length-take-le, length-paste, length-paste-head, getD-take, getD-drop, ext-getD, getD-append-add, drop-append-add, take-take}
 use Rattle.digest.specs.declared.md5.Span.{Span}
 use Rattle.digest.specs.Md5.{zeros, padded}
-use Rattle.digest.specs.Turn.{spanOf, laid}
+use Rattle.digest.specs.Turn.{spanOf, partLaid}
 use Rattle.digest.proofs.Padded.{field, in-part}
 
 -- ---- an element of a paste: before what is pasted, in it, after it
@@ -135,8 +134,8 @@ module _ (b w part : List ℕ) (at from : ℕ) (shown : Shows b at w) (ends : le
   enough = omega (arith, span-within at from (length part), length-drop (spanOf at from (length part) .skip) part)
 
   -- before the part
-  more-before : (k : ℕ) → k < 64 → at + k < from → getD (laid b at part from) k 0 ≡ getD (w ++ part) (at + k) 0
-  unfolding laid p rest n
+  more-before : (k : ℕ) → k < 64 → at + k < from → getD (partLaid b at part from) k 0 ≡ getD (w ++ part) (at + k) 0
+  unfolding partLaid p rest n
   more-before k h l =
       getD-paste-before b p rest n fits enough k (span-before at from (length part) k h l)
       ∙ shown .same k h
@@ -149,29 +148,29 @@ module _ (b w part : List ℕ) (at from : ℕ) (shown : Shows b at w) (ends : le
         let i : at + k ≡ length w + j = omega arith in
         ap (λ (x : ℕ). getD (w ++ part) x 0) i ∙ getD-append-add w part j 0
 
-    more-in : j < length part → getD (laid b at part from) k 0 ≡ getD (w ++ part) (at + k) 0
-    unfolding laid p rest n
+    more-in : j < length part → getD (partLaid b at part from) k 0 ≡ getD (w ++ part) (at + k) 0
+    unfolding partLaid p rest n
     more-in l =
         let s = span-in at from (length part) k j h e l in
-        ap (λ (x : ℕ). getD (laid b at part from) x 0) (sym (s .1 .0))
+        ap (λ (x : ℕ). getD (partLaid b at part from) x 0) (sym (s .1 .0))
         ∙ getD-paste-in b p rest n fits enough (s .0) (s .1 .2)
         ∙ getD-drop (spanOf at from (length part) .skip) part (s .0) 0
         ∙ ap (λ (x : ℕ). getD part x 0) (s .1 .1)
         ∙ sym after
 
-    more-after : length part ≤ j → getD (laid b at part from) k 0 ≡ getD (w ++ part) (at + k) 0
-    unfolding laid p rest n
+    more-after : length part ≤ j → getD (partLaid b at part from) k 0 ≡ getD (w ++ part) (at + k) 0
+    unfolding partLaid p rest n
     more-after l =
         let s = span-after at from (length part) k j h e l in
-        ap (λ (x : ℕ). getD (laid b at part from) x 0) (sym (s .1))
+        ap (λ (x : ℕ). getD (partLaid b at part from) x 0) (sym (s .1))
         ∙ getD-paste-after b p rest n fits enough (s .0)
         ∙ ap (λ (x : ℕ). getD b x 0) (s .1)
         ∙ shown .same k h
         ∙ List·getD-eq-default w 0 (omega arith)
         ∙ sym (after ∙ List·getD-eq-default part 0 l)
 
-  pub shows-more : Shows (laid b at part from) at (w ++ part)
-  unfolding laid p rest n
+  pub shows-more : Shows (partLaid b at part from) at (w ++ part)
+  unfolding partLaid p rest n
   shows-more =
       record {
         size = length-paste b p rest n fits enough ∙ shown .size;
@@ -187,8 +186,8 @@ module _ (b w part : List ℕ) (at from : ℕ) (shown : Shows b at w) (ends : le
 -- the code's copy is the part laid
 pub laid-copy : (b part : List ℕ) (at from : ℕ) (s : Span) → s ≡ spanOf at from (length part) → s .skip + s .count ≤ length part
     → (let taken = take (s .skip + s .count - s .skip) (drop (s .skip) part) in paste b (s .place) taken (length taken))
-    ≡ laid b at part from
-unfolding laid
+    ≡ partLaid b at part from
+unfolding partLaid
 laid-copy b part at from s e h =
     let l = drop (s .skip) part in
     let r : s .skip + s .count - s .skip ≡ s .count = omega arith in
@@ -204,6 +203,14 @@ shows-zeros b w at z shown =
       same = λ k h. shown .same k h ∙ sym (zeros-more w z (at + k));
     }
 
+-- a list that has p's elements from at on is that part of p
+is-part : (b p : List ℕ) (at : ℕ) → at + length b ≤ length p → ((k : ℕ) → k < length b → getD b k 0 ≡ getD p (at + k) 0)
+    → b ≡ take (length b) (drop at p)
+is-part b p at h same =
+    ext-getD 0 b (take (length b) (drop at p))
+    (omega (arith, length-take (length b) (drop at p), length-drop at p))
+    (λ k l. same k l ∙ sym (getD-take (length b) (drop at p) k 0 l ∙ getD-drop at p k 0))
+
 -- all of a block that the list has
 pub shows-all : (b w : List ℕ) (at : ℕ) → Shows b at w → at + 64 ≤ length w → b ≡ take 64 (drop at w)
 shows-all b w at shown h =
@@ -215,7 +222,7 @@ shows-all b w at shown h =
 abbrev pub parts : List ℕ → List ℕ → ℕ → List ℕ
 parts prefix rest at =
     let n = length prefix + length rest in
-    laid (laid (laid (laid (replicate 64 0) at prefix 0) at rest (length prefix)) at (128 ∷ []) n) at (field (prefix ++ rest)) (n + 1 + zeros n)
+    partLaid (partLaid (partLaid (partLaid (replicate 64 0) at prefix 0) at rest (length prefix)) at (128 ∷ []) n) at (field (prefix ++ rest)) (n + 1 + zeros n)
 
 pub shows-padded : (prefix rest : List ℕ) (at : ℕ) → Shows (parts prefix rest at) at (padded (prefix ++ rest))
 unfolding padded

@@ -20,12 +20,6 @@ unfolding Bytes
 are-bytes [] h = tt
 are-bytes (b ∷ l) h = (h 0, are-bytes l (λ k. h (suc k)))
 
-pub a-byte : (l : List ℕ) → Bytes l → (k : ℕ) → getD l k 0 < 256
-unfolding Bytes
-a-byte [] h k = omega arith
-a-byte (b ∷ l) h zero = h .0
-a-byte (b ∷ l) h (suc k) = a-byte l (h .1) k
-
 bytes-take : (n : ℕ) (l : List ℕ) → Bytes l → Bytes (take n l)
 unfolding Bytes
 bytes-take zero l h = tt
@@ -135,9 +129,6 @@ unfolding digestOf outputOf
 output-bytes m =
     bytes-append (le 4 _) _ (bytes-le 4 _)
     (bytes-append (le 4 _) _ (bytes-le 4 _) (bytes-append (le 4 _) (le 4 _) (bytes-le 4 _) (bytes-le 4 _)))
-
-pub digest-bytes : (m : List ℕ) (k : ℕ) → getD (digestOf m) k 0 < 256
-digest-bytes m k = a-byte (digestOf m) (output-bytes m) k
 
 pub length-digest : (m : List ℕ) → length (digestOf m) ≡ 16
 unfolding digestOf outputOf

@@ -1,10 +1,10 @@
 -- What stands where in a padded message. Assumes nothing.
 use mathlib.Core.Path.{_≡_, ap, sym, _∙_}
 use mathlib.Core.List.{List, _∷_, _++_}
-use Prim.Native.Nat.{ℕ, suc, _+_, _-_, _*_, _/_, _%_, _^_, _≤_, _<_, max}
+use Prim.Native.Nat.{ℕ, _+_, _-_, _*_, _/_, _%_, _^_, _≤_, _<_, max}
 use native.Mathlib.Omega.{arith}
-use lib.ListN.{length, getD, take, drop, length-drop, replicate, length-append, length-replicate, getD-replicate, List·getD-append}
-use lib.Seq.{take-append-le, drop-append-le, getD-append-seam, getD-append-add}
+use lib.ListN.{length, take, drop, length-drop, replicate, length-append, length-replicate}
+use lib.Seq.{take-append-le, drop-append-le}
 use Rattle.digest.proofs.Octets.{length-le}
 use Rattle.digest.specs.Md5.{zeros, le, padded}
 
@@ -21,37 +21,6 @@ length-padded m =
     let a = length-append m (128 ∷ tail m) in
     let b = length-append (replicate (zeros (length m)) 0) (field m) in
     omega (arith, a, b, length-replicate {A = ℕ} (zeros (length m)) 0, length-le 8 (8 * length m % 2 ^ 64))
-
--- the message, the byte 128, and zeros
-pub in-message : (m : List ℕ) (i : ℕ) → i < length m → getD (padded m) i 0 ≡ getD m i 0
-unfolding padded
-in-message m i h = List·getD-append m (128 ∷ tail m) 0 i h
-
-pub at-end : (m : List ℕ) → getD (padded m) (length m) 0 ≡ 128
-unfolding padded
-at-end m = getD-append-seam m 128 (tail m) 0
-
-past : (m : List ℕ) (j : ℕ) → getD (padded m) (length m + suc j) 0 ≡ getD (tail m) j 0
-unfolding padded
-past m j = getD-append-add m (128 ∷ tail m) (suc j) 0
-
-pub in-zeros : (m : List ℕ) (i : ℕ) → length m < i → i < length m + 1 + zeros (length m) → getD (padded m) i 0 ≡ 0
-in-zeros m i l h =
-    let z = replicate {A = ℕ} (zeros (length m)) 0 in
-    let j = i - length m - 1 in
-    let e : i ≡ length m + suc j = omega arith in
-    let b : j < zeros (length m) = omega arith in
-    let b′ : j < length z = omega (arith, length-replicate {A = ℕ} (zeros (length m)) 0) in
-    ap (λ (n : ℕ). getD (padded m) n 0) e ∙ past m j ∙ List·getD-append z (field m) 0 j b′
-    ∙ getD-replicate (zeros (length m)) j 0 0 b
-
--- the length field's byte k
-pub in-field : (m : List ℕ) (k : ℕ) → getD (padded m) (length m + 1 + zeros (length m) + k) 0 ≡ getD (le 8 (8 * length m % 2 ^ 64)) k 0
-in-field m k =
-    let z = replicate {A = ℕ} (zeros (length m)) 0 in
-    let l = length-replicate {A = ℕ} (zeros (length m)) 0 in
-    let e : length m + 1 + zeros (length m) + k ≡ length m + suc (length z + k) = omega arith in
-    ap (λ (n : ℕ). getD (padded m) n 0) e ∙ past m (length z + k) ∙ getD-append-add z (field m) k 0
 
 -- a part of the message is that part of the padded message
 pub in-part : (m : List ℕ) (at n : ℕ) → at + n ≤ length m → take n (drop at (padded m)) ≡ take n (drop at m)

@@ -1,6 +1,6 @@
 -- UTF-16: what the unit at a place starts, and the pieces after it. Assumes nothing.
 use mathlib.Core.Path.{_≡_, refl, sym, ap, _∙_}
-use mathlib.Core.Bool.{Bool, true, false}
+use mathlib.Core.Bool.{Bool, true, false, _&&_, and-eq-true-iff, and-false}
 use mathlib.Core.List.{List, [], _∷_}
 use Prim.Native.Nat.{ℕ, zero, suc, _+_, _-_, _*_, _≤_, _<_}
 use native.Mathlib.Numerals.{add-one}
@@ -9,7 +9,7 @@ use borrow.Author.Tests.{leb-true, ltb-true}
 use lib.Dec.{leb, ltb}
 use lib.ListN.{length, getD, drop, length-drop}
 use lib.Seq.{drop-cons, drop-drop}
-use Rattle.base.specs.Pick.{pick, both}
+use Rattle.base.specs.Pick.{pick}
 use Rattle.digest.specs.declared.text.Piece.{Piece}
 use Rattle.digest.specs.declared.text.Form.the-variants.{Utf16}
 use Rattle.digest.specs.Unicode.{upToZero, keeps, replaces, units, isPair, first16, paired, pieces16}
@@ -40,32 +40,24 @@ units-rest (a ∷ b ∷ r) = refl
 
 -- ---- pairs
 
-pub both-true : (a b : Bool) → both a b ≡ true → (a ≡ true) × (b ≡ true)
-both-true true b e = (refl, e)
-both-true false b e = let z : _≡_ {A = ℕ} 0 1 = cc in absurd (omega arith)
-
 pub pair-range : (u v : ℕ) → isPair u v ≡ true → (0xD800 ≤ u) × (u < 0xDC00) × (0xDC00 ≤ v) × (v < 0xE000)
 unfolding isPair
 pair-range u v e =
-    let p = both-true (both (leb 0xD800 u) (ltb u 0xDC00)) (both (leb 0xDC00 v) (ltb v 0xE000)) e in
-    let a = both-true (leb 0xD800 u) (ltb u 0xDC00) (p .0) in
-    let b = both-true (leb 0xDC00 v) (ltb v 0xE000) (p .1) in
+    let p = and-eq-true-iff (leb 0xD800 u && ltb u 0xDC00) (leb 0xDC00 v && ltb v 0xE000) .0 e in
+    let a = and-eq-true-iff (leb 0xD800 u) (ltb u 0xDC00) .0 (p .0) in
+    let b = and-eq-true-iff (leb 0xDC00 v) (ltb v 0xE000) .0 (p .1) in
     (leb-true 0xD800 u (a .0), ltb-true u 0xDC00 (a .1), leb-true 0xDC00 v (b .0), ltb-true v 0xE000 (b .1))
-
-pub both-none : (a : Bool) → both a false ≡ false
-both-none true = refl
-both-none false = refl
 
 pub no-pair : (u : ℕ) → isPair u 0 ≡ false
 unfolding isPair
-no-pair u = both-none (both (leb 0xD800 u) (ltb u 0xDC00))
+no-pair u = and-false (leb 0xD800 u && ltb u 0xDC00)
 
 -- what a unit starts, by whether it is in a pair
 pub first-pair : (u v : ℕ) → isPair u v ≡ true → first16 u v ≡ keeps (0x10000 + (u - 0xD800) * 0x400 + (v - 0xDC00)) 4
 unfolding first16
 first-pair u v e = rw e
 
-pub first-single : (u v : ℕ) → isPair u v ≡ false → first16 u v ≡ pick (both (leb 0xD800 u) (ltb u 0xE000)) (replaces 2) (keeps u 2)
+pub first-single : (u v : ℕ) → isPair u v ≡ false → first16 u v ≡ pick (leb 0xD800 u && ltb u 0xE000) (replaces 2) (keeps u 2)
 unfolding first16
 first-single u v e = rw e
 
@@ -134,7 +126,7 @@ front-by a b r nz low true e =
 front-by a b r nz low false e =
     let u = a * 256 + b in
     let f = first-single u (getD (units r) 0 0) e in
-    let s = both (leb 0xD800 u) (ltb u 0xE000) in
+    let s = leb 0xD800 u && ltb u 0xE000 in
     let z : first16 u (getD (units r) 0 0) .size ≡ 2 = ap (λ (p : Piece). p .size) f ∙ single-size s u in
     record {
       first = front a b r nz ∙ rw (e, z);

@@ -1,6 +1,6 @@
 -- UTF-8: what the bytes at a place start, by the ranges of table 3-7, and the pieces after it. Assumes nothing.
 use mathlib.Core.Path.{_≡_, refl, ap, _∙_}
-use mathlib.Core.Bool.{Bool, true, false}
+use mathlib.Core.Bool.{Bool, true, false, not, and-eq-true-iff}
 use mathlib.Core.List.{List, [], _∷_}
 use Prim.Native.Nat.{ℕ, zero, suc, _+_, _*_, _%_, _≤_, _<_}
 use native.Mathlib.Omega.{arith}
@@ -8,12 +8,11 @@ use borrow.Author.Tests.{leb-true, ltb-true, ltb-false, eqb-true, eqb-false}
 use lib.Dec.{eqb, leb, ltb}
 use lib.ListN.{length, getD, drop, length-drop}
 use lib.Seq.{drop-drop, getD-drop}
-use Rattle.base.specs.Pick.{pick, not}
+use Rattle.base.specs.Pick.{pick}
 use Rattle.digest.specs.declared.text.Piece.{Piece}
 use Rattle.digest.specs.declared.text.Form.the-variants.{Utf8}
 use Rattle.digest.specs.Unicode.{keeps, replaces, need, low, high, inside, first8, split8, pieces8}
 use Rattle.digest.specs.Pieces.{ReadsOne}
-use Rattle.digest.proofs.Pairs.{both-true}
 
 -- ---- the first byte
 
@@ -63,7 +62,7 @@ high-by b c false false e₁ e₂ h =
 
 inside-range : (lo hi x : ℕ) → inside lo hi x ≡ true → (lo ≤ x) × (x ≤ hi)
 unfolding inside
-inside-range lo hi x e = let p = both-true (leb lo x) (leb x hi) e in (leb-true lo x (p .0), leb-true x hi (p .1))
+inside-range lo hi x e = let p = and-eq-true-iff (leb lo x) (leb x hi) .0 e in (leb-true lo x (p .0), leb-true x hi (p .1))
 
 second : (b c : ℕ) → inside (low b) (high b) c ≡ true → Second b c
 unfolding low high

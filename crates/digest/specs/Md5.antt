@@ -1,4 +1,5 @@
--- MD5 as RFC 1321 gives it. A word is a number below 2 ^ 32, a message a list of bytes.
+-- MD5 as RFC 1321 gives it, whose sections the comments name, and OBEX's request digest (document 01, Digest).
+-- A word is a number below 2 ^ 32, a message a list of bytes.
 use mathlib.Core.List.{List, [], _∷_, _++_, reverse}
 use Prim.Native.Nat.{ℕ, zero, suc, _+_, _-_, _*_, _/_, _%_, _^_}
 use lib.ListN.{length, getD, take, drop, replicate}
@@ -23,14 +24,14 @@ mixOf (suc zero) x y z = bitOr (bitAnd x z) (bitAnd y (not32 z))
 mixOf (suc (suc zero)) x y z = bitXor (bitXor x y) z
 mixOf (suc (suc (suc r))) x y z = bitXor y (bitOr x (not32 z))
 
--- the message word that step i of round r takes
+-- 3.4: the message word that step i of round r takes
 abbrev pub wordAt : ℕ → ℕ → ℕ
 wordAt zero i = i
 wordAt (suc zero) i = (5 * i + 1) % 16
 wordAt (suc (suc zero)) i = (3 * i + 5) % 16
 wordAt (suc (suc (suc r))) i = 7 * i % 16
 
--- the shifts of the 64 steps
+-- 3.4: the shifts of the 64 steps
 abbrev pub shifts : List ℕ
 shifts =
     7 ∷ 12 ∷ 17 ∷ 22 ∷ 7 ∷ 12 ∷ 17 ∷ 22 ∷ 7 ∷ 12 ∷ 17 ∷ 22 ∷ 7 ∷ 12 ∷ 17 ∷ 22 ∷
@@ -38,7 +39,7 @@ shifts =
     4 ∷ 11 ∷ 16 ∷ 23 ∷ 4 ∷ 11 ∷ 16 ∷ 23 ∷ 4 ∷ 11 ∷ 16 ∷ 23 ∷ 4 ∷ 11 ∷ 16 ∷ 23 ∷
     6 ∷ 10 ∷ 15 ∷ 21 ∷ 6 ∷ 10 ∷ 15 ∷ 21 ∷ 6 ∷ 10 ∷ 15 ∷ 21 ∷ 6 ∷ 10 ∷ 15 ∷ 21 ∷ []
 
--- the table T: the whole part of 4294967296 times abs (sin (i + 1))
+-- 3.4: the table T: the whole part of 4294967296 times abs (sin (i + 1))
 abbrev pub table : List ℕ
 table =
     0xd76aa478 ∷ 0xe8c7b756 ∷ 0x242070db ∷ 0xc1bdceee ∷ 0xf57c0faf ∷ 0x4787c62a ∷ 0xa8304613 ∷ 0xfd469501 ∷
@@ -50,7 +51,7 @@ table =
     0xf4292244 ∷ 0x432aff97 ∷ 0xab9423a7 ∷ 0xfc93a039 ∷ 0x655b59c3 ∷ 0x8f0ccc92 ∷ 0xffeff47d ∷ 0x85845dd1 ∷
     0x6fa87e4f ∷ 0xfe2ce6e0 ∷ 0xa3014314 ∷ 0x4e0811a1 ∷ 0xf7537e82 ∷ 0xbd3af235 ∷ 0x2ad7d2bb ∷ 0xeb86d391 ∷ []
 
--- step i on the word x: a = b + ((a + f(b, c, d) + X[k] + T[i]) <<< s), and the registers change places
+-- 3.4: step i on the word x: a = b + ((a + f(b, c, d) + X[k] + T[i]) <<< s), and the registers change places
 unfoldable pub stepOf : Regs → ℕ → ℕ → Regs
 stepOf s i x =
     record {
@@ -60,7 +61,7 @@ stepOf s i x =
       d = s .c;
     }
 
--- word k of a block: four bytes, the low-order one first
+-- 2: word k of a block: four bytes, the low-order one first
 unfoldable pub word : List ℕ → ℕ → ℕ
 word p k = getD p (4 * k) 0 + 256 * getD p (4 * k + 1) 0 + 65536 * getD p (4 * k + 2) 0 + 16777216 * getD p (4 * k + 3) 0
 
@@ -69,7 +70,7 @@ unfoldable pub steps : List ℕ → ℕ → Regs → Regs
 steps p zero s = s
 steps p (suc n) s = stepOf (steps p n s) n (word p (wordAt (n / 16) n))
 
--- one block: the 64 steps, added to the registers from before
+-- 3.4: one block: the 64 steps, added to the registers from before
 abbrev pub plus : Regs → Regs → Regs
 plus s t = record { a = add32 (s .a) (t .a); b = add32 (s .b) (t .b); c = add32 (s .c) (t .c); d = add32 (s .d) (t .d) }
 
@@ -105,24 +106,26 @@ digestOf m = outputOf (blocks (padded m) (length (padded m) / 64))
 
 -- ---- sixteen bytes as two numbers
 
--- the k bytes of a number, and the number of some bytes, the high-order byte first
+-- the number that some bytes are, the low-order byte first
 unfoldable pub leValue : List ℕ → ℕ
 leValue [] = 0
 leValue (b ∷ l) = b + 256 * leValue l
 
+-- with the high-order byte first: the k bytes of a number, and the number that some bytes are
 unfoldable pub be : ℕ → ℕ → List ℕ
 be k x = reverse (le k x)
 
 unfoldable pub beValue : List ℕ → ℕ
 beValue l = leValue (reverse l)
 
--- the bytes of a value, and the value of bytes
+-- the bytes of the two numbers, and the two numbers of sixteen bytes
 unfoldable pub octets16 : Octets16 → List ℕ
 octets16 n = be 8 (n .first) ++ be 8 (n .second)
 
 unfoldable pub numbers16 : List ℕ → Octets16
 numbers16 l = record { first = beValue (take 8 l); second = beValue (take 8 (drop 8 l)) }
 
--- ---- OBEX's request digest: H(nonce ":" password)
+-- ---- the request digest: H(nonce ":" password)
+
 unfoldable pub requestDigest : List ℕ → List ℕ → List ℕ
 requestDigest nonce password = digestOf (nonce ++ (0x3A ∷ password))

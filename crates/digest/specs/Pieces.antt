@@ -1,4 +1,4 @@
--- What reading a piece promises, by cases.
+-- What the reader of text promises of the piece at a place (Unicode has the pieces), by cases.
 use mathlib.Core.Path.{_≡_}
 use mathlib.Core.List.{List, [], _∷_}
 use Prim.Native.Nat.{ℕ, _+_, _<_, _≤_}

@@ -1,4 +1,4 @@
--- The text of a header's bytes, and what a store gets.
+-- The text of a header's bytes (document 01, Header), and what a store gets: all of it, or nothing where it is too short (number 10).
 use mathlib.Core.List.{List, _++_}
 use Prim.Native.Nat.{ℕ}
 use lib.Dec.{ltb}
@@ -11,7 +11,8 @@ use Rattle.digest.specs.declared.text.Decoded.{Decoded}
 use Rattle.digest.specs.declared.text.Decoded.the-variants.{Written, Short}
 use Rattle.digest.specs.Unicode.{codes, pieces16, scalars16, pieces8, lossy, scalars8, utf8, utf16, joined, text8, utf16be}
 
--- ids 00: UTF-16 read. Type and Time: UTF-8 read. Both as UTF-8. And UTF-8 text as the UTF-16 that is written, without the zero unit at its end.
+-- ids 00: UTF-16 read. Type and Time: UTF-8 read. Both as UTF-8. And UTF-8 text as the UTF-16 that is written, without the zero unit at
+-- its end.
 unfoldable pub unicodeText : List ℕ → List ℕ
 unicodeText s = text8 (scalars16 s)
 

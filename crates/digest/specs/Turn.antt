@@ -1,4 +1,5 @@
--- What the code's own functions say of each other: one step's numbers, and a part of a message in a block.
+-- What md5.rt's own functions say of each other, beside the RFC's definitions in Md5: one step's numbers, and a part of a message in a
+-- block.
 use mathlib.Core.Path.{_≡_}
 use mathlib.Core.List.{List}
 use Prim.Native.Nat.{ℕ, _-_, _/_, _<_, min}
@@ -20,7 +21,8 @@ pub record Turn (p : List ℕ) (s t : Regs) (r i w k n : ℕ) : Type 0 where
   pub some : 0 < n
   pub short : n < 32
 
--- the block at at of a longer list, and a part of n elements at from: where those that fall into the block go, the first of them, and how many
+-- the block at at of a longer list, and a part of n elements at from: where those that fall into the block go, the first of them, and how
+-- many
 unfoldable pub spanOf : ℕ → ℕ → ℕ → Span
 spanOf at from n =
     let p = min (from - at) 64 in
@@ -28,7 +30,7 @@ spanOf at from n =
     record { place = p; skip = s; count = min (64 - p) (n - s) }
 
 -- the block with that part
-unfoldable pub laid : List ℕ → ℕ → List ℕ → ℕ → List ℕ
-laid b at part from =
+unfoldable pub partLaid : List ℕ → ℕ → List ℕ → ℕ → List ℕ
+partLaid b at part from =
     let s = spanOf at from (length part) in
     paste b (s .place) (drop (s .skip) part) (s .count)

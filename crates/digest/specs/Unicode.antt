@@ -1,10 +1,10 @@
 -- Unicode 3.9: text in UTF-16 and UTF-8 as a list of scalar values, and back. What is ill-formed becomes U+FFFD.
-use mathlib.Core.Bool.{Bool, true, false}
+use mathlib.Core.Bool.{Bool, true, false, not, _&&_}
 use mathlib.Core.List.{List, [], _∷_, _++_}
 use Prim.Native.Nat.{ℕ, zero, suc, _+_, _-_, _*_, _/_, _%_, _≤_, _<_}
 use lib.Dec.{eqb, leb, ltb}
 use lib.ListN.{length, getD, drop}
-use Rattle.base.specs.Pick.{pick, both, not}
+use Rattle.base.specs.Pick.{pick}
 use Rattle.base.specs.Bytes.{bytes16}
 use Rattle.digest.specs.declared.text.Piece.{Piece}
 
@@ -28,14 +28,14 @@ codes (p ∷ ps) = p .code ∷ codes ps
 -- all bytes are said by kept pieces: none is replaced, and together they are n
 unfoldable pub allKept : List Piece → Bool
 allKept [] = true
-allKept (p ∷ ps) = both (p .kept) (allKept ps)
+allKept (p ∷ ps) = p .kept && allKept ps
 
 unfoldable pub sizes : List Piece → ℕ
 sizes [] = 0
 sizes (p ∷ ps) = p .size + sizes ps
 
 unfoldable pub whole : List Piece → ℕ → Bool
-whole ps n = both (allKept ps) (eqb (sizes ps) n)
+whole ps n = allKept ps && eqb (sizes ps) n
 
 -- ---- UTF-16 (table 3-5), the high-order byte of a unit first
 
@@ -47,13 +47,13 @@ units (a ∷ b ∷ r) = (a * 256 + b) ∷ units r
 
 -- a high surrogate and the low one after it
 unfoldable pub isPair : ℕ → ℕ → Bool
-isPair u v = both (both (leb 0xD800 u) (ltb u 0xDC00)) (both (leb 0xDC00 v) (ltb v 0xE000))
+isPair u v = (leb 0xD800 u && ltb u 0xDC00) && (leb 0xDC00 v && ltb v 0xE000)
 
 -- the piece that u starts, before v: a pair, an unpaired surrogate, any other unit
 unfoldable pub first16 : ℕ → ℕ → Piece
 first16 u v =
     pick (isPair u v) (keeps (0x10000 + (u - 0xD800) * 0x400 + (v - 0xDC00)) 4)
-    (pick (both (leb 0xD800 u) (ltb u 0xE000)) (replaces 2) (keeps u 2))
+    (pick (leb 0xD800 u && ltb u 0xE000) (replaces 2) (keeps u 2))
 
 -- the pieces of some units; after the last stands 0, which is in no pair
 unfoldable pub paired : List ℕ → List Piece
@@ -84,9 +84,10 @@ unfoldable pub high : ℕ → ℕ
 high b = pick (eqb b 0xED) 0x9F (pick (eqb b 0xF4) 0x8F 0xBF)
 
 unfoldable pub inside : ℕ → ℕ → ℕ → Bool
-inside lo hi x = both (leb lo x) (leb x hi)
+inside lo hi x = leb lo x && leb x hi
 
--- the piece that the bytes b, c, d, e start: a sequence of table 3-7, with the bits that table 3-6 gives it, or the maximal part of one (D93b)
+-- the piece that the bytes b, c, d, e start: a sequence of table 3-7, with the bits that table 3-6 gives it, or the maximal part of one
+-- (D93b)
 unfoldable pub first8 : ℕ → ℕ → ℕ → ℕ → Piece
 first8 b c d e =
     pick (eqb (need b) 0) (replaces 1)

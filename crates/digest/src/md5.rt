@@ -5,7 +5,7 @@ ghost use Prim.Native.Nat.{_+_, _-_, _*_, _/_, _%_, _^_, _<_, _≤_, min, max};
 ghost use lib.ListN.{length, take, drop};
 ghost use lib.Seq.{paste};
 ghost use Rattle.digest.specs.Md5.{mixOf, rotl, word, steps, blockOf, le, zeros, padded, blocks, digestOf, beValue, octets16, numbers16, outputOf, requestDigest};
-ghost use Rattle.digest.specs.Turn.{Turn, spanOf, laid};
+ghost use Rattle.digest.specs.Turn.{Turn, spanOf, partLaid};
 
 struct Regs {
     pub a: u32,
@@ -410,7 +410,7 @@ fn span_in(at: usize, from: usize, n: usize) -> Span
 // A part of the padded message stands at from: those of its bytes that fall into the block at at are stored there.
 fn put_part(b: &mut [u8], at: usize, part: &[u8], from: usize)
     requires { ⌜ length (now b) ≡ 64 ⌝ }
-    ensures { λ r. ⌜ now (b .exit) ≡ laid (now (b .entry)) at (now (part .entry)) from ⌝ }
+    ensures { λ r. ⌜ now (b .exit) ≡ partLaid (now (b .entry)) at (now (part .entry)) from ⌝ }
 {
     let s = span_in(at, from, part.len());
     let skip = s.skip;

@@ -11,7 +11,7 @@ use borrow.Author.Tests.{eq-eqb, ne-eqb, leb-true}
 use native.Mathlib.Omega.{arith}
 use lib.ListN.{length, take, length-take}
 use lib.Dec.{eqb, ltb}
-use Rattle.base.specs.Pick.{pick, both}
+use Rattle.base.specs.Pick.{pick}
 use Rattle.packet.specs.Codes.{isCode, isSuccess}
 use Rattle.packet.specs.Header.{Header, readHeaders, first, firstPlace, allBytes}
 use Rattle.packet.specs.Auth.{Challenge as PeerChallenge}
@@ -258,10 +258,10 @@ module _ (has named m : Bool) (is : m ≡ has && named) (user password : List �
   abbrev told : Option Credentials
   told = credentialsOf has (given named user) password
 
-  long-is : both m (ltb 255 (length user)) ≡ longUser told
-  long-is = ap (λ (x : Bool). both x (ltb 255 (length user))) is ∙ go has named
+  long-is : (m && ltb 255 (length user)) ≡ longUser told
+  long-is = ap (λ (x : Bool). x && ltb 255 (length user)) is ∙ go has named
     where
-      go : (a b : Bool) → both (a && b) (ltb 255 (length user)) ≡ longUser (credentialsOf a (given b user) password)
+      go : (a b : Bool) → (a && b && ltb 255 (length user)) ≡ longUser (credentialsOf a (given b user) password)
       go true true = refl
       go true false = refl
       go false b = refl
@@ -273,14 +273,14 @@ module _ (has named m : Bool) (is : m ≡ has && named) (user password : List �
       go true = refl
       go false = refl
 
-  pub user-fits : (t : Bool) → t ≡ both m (ltb 255 (length user)) → t ≡ false → overlong (given m user) ≡ false
+  pub user-fits : (t : Bool) → t ≡ (m && ltb 255 (length user)) → t ≡ false → overlong (given m user) ≡ false
   user-fits t h k = go m (sym h ∙ k)
     where
-      go : (a : Bool) → both a (ltb 255 (length user)) ≡ false → overlong (given a user) ≡ false
+      go : (a : Bool) → (a && ltb 255 (length user)) ≡ false → overlong (given a user) ≡ false
       go true z = z
       go false z = refl
 
-  module _ (o : Operation) (code : ℕ) (f : ConnectionId) (n : ℕ) (waits : o ≡ Connecting code f n) (e : Engine) (s : Stores) (t : Bool) (long : t ≡ both m (ltb 255 (length user))) where
+  module _ (o : Operation) (code : ℕ) (f : ConnectionId) (n : ℕ) (waits : o ≡ Connecting code f n) (e : Engine) (s : Stores) (t : Bool) (long : t ≡ (m && ltb 255 (length user))) where
     pub credentials-long : t ≡ true → (r : Took) → r ≡ refusal 8 e → stepped r s ≡ credentialsWith o e told s
     credentials-long k r h = ap (λ (r : Took). stepped r s) h ∙ sym (simp (waits, sym long-is ∙ sym long ∙ k))
 

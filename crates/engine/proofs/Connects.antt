@@ -16,7 +16,8 @@ use Rattle.packet.specs.declared.auth.DigestResponse.the-variants as response
 use Rattle.packet.specs.declared.tlv.Found.{Found}
 use Rattle.packet.specs.declared.tlv.Found.the-variants as place
 use Rattle.packet.proofs.HeaderLaws.{first-agrees}
-use Rattle.packet.proofs.AuthLaws.{Within, within}
+use Rattle.packet.proofs.AuthLaws.{within}
+use Rattle.packet.proofs.TagWrites.{Within}
 use Rattle.model.specs.Model.{headersIn, responseIn, userIn, placedAt}
 use Rattle.engine.specs.Route.{answeredAs, answeredBy, Below}
 use Rattle.engine.specs.declared.connecting.Answered.the-variants.{Missing, User}

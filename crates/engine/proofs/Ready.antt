@@ -29,7 +29,7 @@ use Rattle.engine.specs.declared.route.Route.{Route}
 use Rattle.engine.specs.declared.route.Route.the-variants.{Plain, Connect, Gather, Send}
 use Rattle.engine.specs.declared.route.Admission.{Admission}
 use Rattle.engine.specs.declared.route.Admission.the-variants.{Admits, Rejects}
-use Rattle.model.proofs.Dispatch.{same-is}
+use Rattle.packet.proofs.OpcodeLaws.{same-equal}
 
 -- the headers of a request are those after its fields, and its bytes are the packet
 pub record Parts (q : List ℕ) (r : Packet) : Type 0 where
@@ -90,7 +90,7 @@ module _ (e : Engine) (q : List ℕ) (r : Packet) where
   module _ (k : readHeaders q (prefixOf (r .opcode)) ≡ some (r .headers)) where
     -- from where the open operation's headers start
     from-open : (o : Opcode) → sameOpcode (r .opcode) o ≡ true → readHeaders q (prefixOf o) ≡ some (r .headers)
-    from-open o h = subst (λ (x : Opcode). readHeaders q (prefixOf x) ≡ some (r .headers)) (same-is (r .opcode) o h) k
+    from-open o h = subst (λ (x : Opcode). readHeaders q (prefixOf x) ≡ some (r .headers)) (same-equal (r .opcode) o h) k
 
     admitted-ready : (x : Admission) → Ready (admittedRoute x e (headingOf r)) e q (r .headers)
     admitted-ready Admits = dispatch-ready (r .opcode) k

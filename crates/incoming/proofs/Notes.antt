@@ -2,14 +2,14 @@
 -- Assumes nothing.
 use mathlib.Core.Path.{_≡_, refl, ap, _∙_}
 use mathlib.Core.List.{List, [], _∷_}
-use mathlib.Core.Bool.{Bool, true, false}
+use mathlib.Core.Bool.{Bool, true, false, _||_}
 use mathlib.Core.Option.{Option, none, some}
 use Prim.Native.Nat.{ℕ, _+_, _-_}
 use native.Mathlib.Omega.{arith}
 use lib.ListN.{length, getD}
 use lib.Dec.{eqb}
 use borrow.Author.Tests.{eq-eqb, ne-eqb, eqb-true, eqb-false}
-use Rattle.base.specs.Pick.{pick, either}
+use Rattle.base.specs.Pick.{pick}
 use Rattle.base.specs.Bytes.{be32}
 use Rattle.packet.specs.declared.header.HeaderEncoding.{HeaderEncoding}
 use Rattle.packet.specs.Header.{Header, encodingOf, leadOf, sizeAt, part, push, first}
@@ -71,7 +71,7 @@ abbrev left : Noted → Option (List ℕ) → Option (List ℕ) → Option (List
 left n i m p =
     record {
       id = pick (n .«has_id») (n .id) (reading (λ (v : List ℕ). be32 v 0) (n .id) i);
-      «has_id» = either (n .«has_id») (present i);
+      «has_id» = n .«has_id» || present i;
       readable = true;
       enable = pick (n .«has_mode») (n .enable) (reading (λ (v : List ℕ). eqb (getD v 0 0) 1) (n .enable) m);
       additional = pick (n .«has_parameter») (n .additional) (reading (λ (v : List ℕ). modes.additional (getD v 0 0)) (n .additional) p);
@@ -160,7 +160,7 @@ pick-same {ℓ} : {A : Type ℓ} (t : Bool) (x : A) → pick t x x ≡ x
 pick-same true x = refl
 pick-same false x = refl
 
-either-false : (t : Bool) → either t false ≡ t
+either-false : (t : Bool) → (t || false) ≡ t
 either-false true = refl
 either-false false = refl
 

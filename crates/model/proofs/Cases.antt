@@ -6,10 +6,10 @@ use Rattle.digest.specs.Md5.{stepOf, word, steps, blockOf, le, padded, blocks, 
 use Rattle.packet.specs.FirstByte.{named, firstByte, byteOf, sameOpcode}
 use Rattle.packet.specs.Codes.{isCode, isSuccess}
 use Rattle.packet.specs.Modes.{isMode, isParameter, additional, wait, isAction}
-use Rattle.packet.specs.Tags.{tagsBy, tags, tagAt, lastFrom, lastValue, lastBytes, writeTags, putTag}
+use Rattle.packet.specs.Tags.{tagsBy, tags, tagAt, lastFrom, lastUnder, lastValue, lastBytes, writeTags, putTag}
 use Rattle.packet.specs.Header.{encodingOf, tagged, allowed, encodedAt, headerAt, walk, readHeaders, first, firstFrom, firstPlace, bytesOf, allBytes}
 use Rattle.packet.specs.Packet.{requestOf, requestAt, connectLimit, backup, noCreate, packetBytes}
-use Rattle.packet.specs.Auth.{responseFrom, responseOf, challengeFrom, challengeOf, realmFrom, realmPlace, userIdRequired, readOnly, same, verified, challengeTags, responseTags}
+use Rattle.packet.specs.Auth.{responseFrom, responseOf, challengeFrom, challengeOf, realmPlace, userIdRequired, readOnly, same, verified, challengeTags, responseTags}
 use Rattle.packet.specs.Canonical.{rewritten, canonical}
 use Rattle.journal.specs.Carried.{isBody, isSrm, carriedOne, carriedBy, keptByGet}
 use Rattle.journal.specs.Ids.{without, firstFree}
@@ -24,5 +24,5 @@ use Rattle.model.specs.Model.{engineWith, sends, sendsConnect, lastPacke
 use Rattle.model.specs.Cases.{comesOf, evaluated, Row, table}
 
 pub cases : map evaluated table ≡ table
-unfolding upToZero codes allKept sizes whole units isPair first16 paired pieces16 scalars16 wellFormed16 need low high inside first8 split8 pieces8 lossy scalars8 wellFormed8 utf8 utf16 joined stepOf word steps blockOf le padded blocks outputOf digestOf leValue be beValue octets16 numbers16 requestDigest named firstByte byteOf sameOpcode isCode isSuccess isMode isParameter additional wait isAction tagsBy tags tagAt lastFrom lastValue lastBytes writeTags putTag encodingOf tagged allowed encodedAt headerAt walk readHeaders first firstFrom firstPlace bytesOf allBytes requestOf requestAt connectLimit backup noCreate packetBytes responseFrom responseOf challengeFrom challengeOf realmFrom realmPlace userIdRequired readOnly same verified challengeTags responseTags rewritten canonical isBody isSrm carriedOne carriedBy keptByGet without firstFree frameEnd framed surveyOf keepBytes storeBytes gatherOne gatherAll fill fillPacket fullChunk nextPacket bodyGiven sendBytes peerWith opened disconnectedPeer challenges answeredChallenge connectHeaders challengeHeader engineWith sends sendsConnect lastPacket lastHeaders putPacket getPacket headersPacket sendsNext clientResponse userPlace connectPacket connectSends connectAnswer passwordAnswer nonceAnswer rejection dispatch packetDone short sound bytesStep endStep takenStep badHeaders badReply replyAnswer replyStep objectStep bodyStep bodyFailedStep acknowledgeStep passwordStep nonceStep credentialsStep started startStep comesOf evaluated
+unfolding upToZero codes allKept sizes whole units isPair first16 paired pieces16 scalars16 wellFormed16 need low high inside first8 split8 pieces8 lossy scalars8 wellFormed8 utf8 utf16 joined stepOf word steps blockOf le padded blocks outputOf digestOf leValue be beValue octets16 numbers16 requestDigest named firstByte byteOf sameOpcode isCode isSuccess isMode isParameter additional wait isAction tagsBy tags tagAt lastFrom lastUnder lastValue lastBytes writeTags putTag encodingOf tagged allowed encodedAt headerAt walk readHeaders first firstFrom firstPlace bytesOf allBytes requestOf requestAt connectLimit backup noCreate packetBytes responseFrom responseOf challengeFrom challengeOf realmPlace userIdRequired readOnly same verified challengeTags responseTags rewritten canonical isBody isSrm carriedOne carriedBy keptByGet without firstFree frameEnd framed surveyOf keepBytes storeBytes gatherOne gatherAll fill fillPacket fullChunk nextPacket bodyGiven sendBytes peerWith opened disconnectedPeer challenges answeredChallenge connectHeaders challengeHeader engineWith sends sendsConnect lastPacket lastHeaders putPacket getPacket headersPacket sendsNext clientResponse userPlace connectPacket connectSends connectAnswer passwordAnswer nonceAnswer rejection dispatch packetDone short sound bytesStep endStep takenStep badHeaders badReply replyAnswer replyStep objectStep bodyStep bodyFailedStep acknowledgeStep passwordStep nonceStep credentialsStep started startStep comesOf evaluated
 cases = refl

@@ -1,15 +1,13 @@
 -- A packet between operations: what the engine makes of it is what the journal does. Assumes nothing.
 use mathlib.Core.Path.{_≡_, refl, sym, ap, ap₂, _∙_, subst}
 use mathlib.Core.List.{List, []}
-use mathlib.Core.Bool.{Bool, true, false, _&&_, _||_, not, and-false, false≢true, true≢false}
+use mathlib.Core.Bool.{Bool, true, false, _&&_, _||_, not, and-false, true≢false}
 use mathlib.Core.Option.{Option, none, some}
 use Prim.Native.Nat.{ℕ, _≤_}
 use native.Mathlib.Omega.{arith}
 use lib.ListN.{length, take}
-use lib.Dec.{eqb}
-use borrow.Author.Tests.{eqb-true}
-use Rattle.base.specs.Pick.{pick, both}
-use Rattle.packet.specs.FirstByte.{sameOpcode, kindOf, valueOf}
+use Rattle.base.specs.Pick.{pick}
+use Rattle.packet.specs.FirstByte.{sameOpcode}
 use Rattle.packet.specs.Header.{first, allBytes}
 use Rattle.packet.specs.Packet.{Request as Packet, requestOf, connectLimit, backup, noCreate}
 use Rattle.packet.specs.Auth.{Response}
@@ -39,40 +37,6 @@ use Rattle.incoming.proofs.Gathers.{KeptAgrees, put-begins, carried-headers, ke
 use Rattle.model.proofs.Fit.{Base}
 use Rattle.model.proofs.Coupling.{Plain, Fixed, AskedBy, CoupledAt, Told, told-pick, told-done, told-wants, told-code}
 use Rattle.model.proofs.Gathers.{held-after, still-after, put-packet, get-packet, headers-packet}
-
--- ---- opcodes
-
--- an opcode is told by its kind and value
-abbrev opcodeOf : ℕ → ℕ → Opcode
-opcodeOf k n =
-    pick (eqb k 1) (op.UserDefined n) (pick (eqb n 0) op.Connect (pick (eqb n 1) op.Disconnect (pick (eqb n 2) op.Put (pick (eqb n 3) op.Get
-    (pick (eqb n 5) op.SetPath (pick (eqb n 6) op.Action (pick (eqb n 7) op.Session op.Abort)))))))
-
-told-by : (o : Opcode) → opcodeOf (kindOf o) (valueOf o) ≡ o
-told-by op.Connect = refl
-told-by op.Disconnect = refl
-told-by op.Put = refl
-told-by op.Get = refl
-told-by op.SetPath = refl
-told-by op.Action = refl
-told-by op.Session = refl
-told-by op.Abort = refl
-told-by (op.UserDefined x) = refl
-
-pub same-is : (a b : Opcode) → sameOpcode a b ≡ true → a ≡ b
-unfolding sameOpcode
-same-is a b h =
-    let k : kindOf a ≡ kindOf b = eqb-true _ _ (both-left (eqb (kindOf a) (kindOf b)) _ h) in
-    let v : valueOf a ≡ valueOf b = eqb-true _ _ (both-right (eqb (kindOf a) (kindOf b)) _ h) in
-    sym (told-by a) ∙ ap₂ (λ (m n : ℕ). opcodeOf m n) k v ∙ told-by b
-  where
-    both-left : (x y : Bool) → both x y ≡ true → x ≡ true
-    both-left true y e = refl
-    both-left false y e = e
-
-    both-right : (x y : Bool) → both x y ≡ true → y ≡ true
-    both-right true y e = e
-    both-right false y e = absurd (false≢true e)
 
 -- ---- admission
 

@@ -13,6 +13,7 @@ use Rattle.packet.specs.Header.{allBytes}
 use Rattle.packet.specs.Packet.{Request as Packet, requestOf, packetBytes}
 use Rattle.packet.specs.declared.opcode.Opcode.{Opcode}
 use Rattle.packet.specs.declared.opcode.Opcode.the-variants as op
+use Rattle.packet.proofs.OpcodeLaws.{same-equal}
 use Rattle.journal.specs.Carried.{joined, carriedBy, keptByGet}
 use Rattle.journal.specs.Journal.{Opened, nothing, sending, draining, busy as busyOpened, Journal, Entry, unchanged, after, end, putRead, dropped, stopped, requestRead, packetRead, keptWith, keptRead}
 use Rattle.incoming.specs.Survey.{surveyOf}
@@ -32,7 +33,7 @@ use Rattle.model.proofs.Fit.{Base}
 use Rattle.model.proofs.Steps.{outgoing-within}
 use Rattle.model.proofs.Coupling.{OpenedAt, Fixed, Told, told-done, told-ends, told-wants, told-code}
 use Rattle.model.proofs.Gathers.{held-after, put-packet, get-packet, headers-packet, next-told}
-use Rattle.model.proofs.Dispatch.{same-is, dispatch-told}
+use Rattle.model.proofs.Dispatch.{dispatch-told}
 
 -- ---- what is open is open for both
 
@@ -64,7 +65,7 @@ module _ (e : Engine) (s : Stores) (j : Journal) (f : Fixed (e .settings) (e .pe
     goes-on o d y k l w = go (sameOpcode (r .opcode) o) refl l
       where
         go : (t : Bool) → sameOpcode (r .opcode) o ≡ t → length (pick t k []) ≤ 65535 → Told (pick t d (interrupts e s)) (pick t y (stopped j))
-        go true i l = w l (same-is (r .opcode) o i)
+        go true i l = w l (same-equal (r .opcode) o i)
         go false i l = interrupts-told
 
     srm-stays : (m : Bool) → pick m true false ≡ m

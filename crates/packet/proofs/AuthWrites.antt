@@ -1,7 +1,7 @@
 -- The writers of digest authentication: what each of their steps leaves in the store, and that what is written reads back.
 -- Assumes nothing.
-use mathlib.Core.Path.{_≡_, refl, sym, ap, ap₂, _∙_}
-use mathlib.Core.Bool.{Bool, true, false}
+use mathlib.Core.Path.{_≡_, refl, sym, ap, _∙_}
+use mathlib.Core.Bool.{Bool, true, false, _&&_}
 use mathlib.Core.List.{List, [], _∷_, _++_, append-nil, append-assoc}
 use mathlib.Core.Option.{Option, none, some}
 use Prim.Native.Nat.{ℕ, suc, _+_, _≤_, _<_, _^_}
@@ -10,7 +10,7 @@ use lib.ListN.{length, set, length-append}
 use lib.Dec.{ltb}
 use borrow.Author.Tests.{ltb-false, eq-eqb, ne-eqb}
 use native.Mathlib.Numerals.{add-one}
-use Rattle.base.specs.Pick.{pick, both}
+use Rattle.base.specs.Pick.{pick}
 use Rattle.digest.specs.Md5.{octets16, requestDigest}
 use Rattle.digest.specs.declared.md5.Octets16.{Octets16}
 use Rattle.digest.proofs.Octets.{length-octets16, numbers-octets}
@@ -18,84 +18,68 @@ use Rattle.packet.specs.declared.auth.DigestResponse.{DigestResponse}
 use Rattle.packet.specs.declared.auth.DigestResponse.the-variants.{Response, Unreadable}
 use Rattle.packet.specs.declared.tlv.Put.{Put}
 use Rattle.packet.specs.Tags.{writeTag, writeTags, putTag, putting}
-use Rattle.packet.specs.Auth.{realmTag, userTag, challengeTags, responseTags, responseFrom, responseOf, challengeFrom, challengeOf, userIdRequired, readOnly, verified}
+use Rattle.packet.specs.Auth.{optionalTag, realmTag, userTag, challengeTags, answerTags, responseTags, responseFrom, responseOf, challengeFrom, challengeOf, userIdRequired, readOnly, verified}
 use Rattle.packet.specs.Placed.{laid}
 use Rattle.packet.specs.Flags.{flagBits}
 use Rattle.packet.specs.AuthRead.{readResponse, verifies}
-use Rattle.packet.specs.AuthWrite.{given, overlong, answerTags}
+use Rattle.packet.specs.AuthWrite.{given, overlong}
 use Rattle.packet.proofs.SameBytes.{same-self}
+use Rattle.packet.proofs.LowBits.{flags-read}
 use Rattle.packet.proofs.TagWrites.{write-read}
 use Rattle.packet.proofs.AuthLaws.{octets-request, length-request}
 use Rattle.packet.proofs.Laid.{length-laid, laid-append, laid-nothing, three-laid, put-laid}
 
--- ---- the realm
+-- ---- a tag that may be there
 
-pub realm-short : (there : Bool) (v : List ℕ) (charset : ℕ) → there ≡ true → overlong (given there (charset ∷ v)) ≡ false → length v ≤ 254
-realm-short true v charset t e = let h = ltb-false 255 (suc (length v)) e in omega arith
-realm-short false v charset t e = let z : _≡_ {A = ℕ} 0 1 = cc in absurd (omega arith)
+pub tag-short : (there : Bool) (v : List ℕ) → there ≡ true → overlong (given there v) ≡ false → length v ≤ 255
+tag-short true v e h = ltb-false 255 (length v) h
+tag-short false v e h = let z : _≡_ {A = ℕ} 0 1 = cc in absurd (omega arith)
 
-pub realm-fits : (there : Bool) (v : List ℕ) (charset at n : ℕ) → there ≡ true → at + length (writeTags (realmTag (given there (charset ∷ v)))) ≤ n → at + 3 + length v ≤ n
+pub tag-none : (t : ℕ) (there : Bool) (d v : List ℕ) (at : ℕ) → there ≡ false → d ≡ laid d at (writeTags (optionalTag t (given there v)))
 unfolding writeTags
-realm-fits true v charset at n t h = omega (arith, ap length (append-nil v))
-realm-fits false v charset at n t h = let z : _≡_ {A = ℕ} 0 1 = cc in absurd (omega arith)
+tag-none t true d v at e = let z : _≡_ {A = ℕ} 0 1 = cc in absurd (omega arith)
+tag-none t false d v at e = sym (laid-nothing d at)
 
-pub realm-none : (there : Bool) (d l : List ℕ) (at : ℕ) → there ≡ false → d ≡ laid d at (writeTags (realmTag (given there l)))
+pub tag-there : (t : ℕ) (there : Bool) (d v : List ℕ) (at : ℕ) → there ≡ true
+    → laid d at (t ∷ length v ∷ v) ≡ laid d at (writeTags (optionalTag t (given there v)))
 unfolding writeTags
-realm-none true d l at t = let z : _≡_ {A = ℕ} 0 1 = cc in absurd (omega arith)
-realm-none false d l at t = sym (laid-nothing d at)
+tag-there t true d v at e = ap (λ (l : List ℕ). laid d at (t ∷ length v ∷ l)) (sym (append-nil v))
+tag-there t false d v at e = let z : _≡_ {A = ℕ} 0 1 = cc in absurd (omega arith)
+
+-- its length, and a value that is too long, as the code has them
+pub tag-size : (t : ℕ) (there : Bool) (v : List ℕ) → length (writeTags (optionalTag t (given there v))) ≡ pick there (2 + length v) 0
+unfolding writeTags
+tag-size t true v = omega (arith, ap length (append-nil v))
+tag-size t false v = refl
+
+pub tag-fits : (t : ℕ) (there : Bool) (v : List ℕ) (at n : ℕ) → there ≡ true → at + length (writeTags (optionalTag t (given there v))) ≤ n
+    → at + 2 + length v ≤ n
+tag-fits t there v at n e h =
+    let s : length (writeTags (optionalTag t (given there v))) ≡ 2 + length v = tag-size t there v ∙ ap (λ (b : Bool). pick b (2 + length v) 0) e in
+    omega arith
+
+pub tag-long : (there : Bool) (v : List ℕ) → (there && ltb 255 (length v)) ≡ overlong (given there v)
+tag-long true v = refl
+tag-long false v = refl
+
+pub user-length : (there : Bool) (v : List ℕ) → length (writeTags (userTag (given there v))) ≡ pick there (2 + length v) 0
+user-length there v = tag-size 1 there v
+
+-- the realm has its charset in front
+pub realm-length : (there : Bool) (v : List ℕ) (charset : ℕ) → length (writeTags (realmTag (given there (charset ∷ v)))) ≡ pick there (2 + (length v + 1)) 0
+realm-length there v charset = tag-size 2 there (charset ∷ v) ∙ ap (λ (n : ℕ). pick there (2 + n) 0) (sym (add-one (length v)))
+
+pub realm-long : (there : Bool) (v : List ℕ) (charset : ℕ) → (there && ltb 255 (length v + 1)) ≡ overlong (given there (charset ∷ v))
+realm-long there v charset = ap (λ (n : ℕ). there && ltb 255 n) (add-one (length v)) ∙ tag-long there (charset ∷ v)
 
 pub realm-laid : (there : Bool) (d v : List ℕ) (charset at : ℕ) → there ≡ true → at + 3 + length v ≤ length d
     → laid (set (set (set d at 2) (at + 1) (length v + 1)) (at + 2) charset) (at + 3) v ≡ laid d at (writeTags (realmTag (given there (charset ∷ v))))
-unfolding writeTags
-realm-laid false d v charset at t h = let z : _≡_ {A = ℕ} 0 1 = cc in absurd (omega arith)
-realm-laid true d v charset at t h =
+realm-laid there d v charset at e h =
     let n = length v + 1 in
-    let m : suc (length v) ≡ n = omega arith in
     ap (λ (l : List ℕ). laid l (at + 3) v) (three-laid d at 2 n charset (omega arith))
     ∙ laid-append d (2 ∷ n ∷ charset ∷ []) v at (at + 3) (omega arith) (omega arith)
-    ∙ ap₂ (λ (k : ℕ) (l : List ℕ). laid d at (2 ∷ k ∷ charset ∷ l)) (sym m) (sym (append-nil v))
-
--- ---- the user id
-
-pub user-short : (there : Bool) (v : List ℕ) → there ≡ true → overlong (given there v) ≡ false → length v ≤ 255
-user-short true v t e = ltb-false 255 (length v) e
-user-short false v t e = let z : _≡_ {A = ℕ} 0 1 = cc in absurd (omega arith)
-
-pub user-fits : (there : Bool) (v : List ℕ) (at n : ℕ) → there ≡ true → at + length (writeTags (userTag (given there v))) ≤ n → at + 2 + length v ≤ n
-unfolding writeTags
-user-fits true v at n t h = omega (arith, ap length (append-nil v))
-user-fits false v at n t h = let z : _≡_ {A = ℕ} 0 1 = cc in absurd (omega arith)
-
-pub user-laid : (there : Bool) (d v : List ℕ) (at : ℕ) → there ≡ true
-    → laid d at (writeTag (record { tag = 1; value = v })) ≡ laid d at (writeTags (userTag (given there v)))
-unfolding writeTags
-user-laid true d v at t = ap (λ (l : List ℕ). laid d at (1 ∷ length v ∷ l)) (sym (append-nil v))
-user-laid false d v at t = let z : _≡_ {A = ℕ} 0 1 = cc in absurd (omega arith)
-
-pub user-none : (there : Bool) (d v : List ℕ) (at : ℕ) → there ≡ false → d ≡ laid d at (writeTags (userTag (given there v)))
-unfolding writeTags
-user-none true d v at t = let z : _≡_ {A = ℕ} 0 1 = cc in absurd (omega arith)
-user-none false d v at t = sym (laid-nothing d at)
-
--- ---- lengths, and values that are too long, as the code has them
-
-pub realm-length : (there : Bool) (v : List ℕ) (charset : ℕ) → length (writeTags (realmTag (given there (charset ∷ v)))) ≡ pick there (2 + (length v + 1)) 0
-unfolding writeTags
-realm-length true v charset = omega (arith, ap length (append-nil v))
-realm-length false v charset = refl
-
-pub realm-long : (there : Bool) (v : List ℕ) (charset : ℕ) → both there (ltb 255 (length v + 1)) ≡ overlong (given there (charset ∷ v))
-realm-long true v charset = rw add-one
-realm-long false v charset = refl
-
-pub user-length : (there : Bool) (v : List ℕ) → length (writeTags (userTag (given there v))) ≡ pick there (2 + length v) 0
-unfolding writeTags
-user-length true v = omega (arith, ap length (append-nil v))
-user-length false v = refl
-
-pub user-long : (there : Bool) (v : List ℕ) → both there (ltb 255 (length v)) ≡ overlong (given there v)
-user-long true v = refl
-user-long false v = refl
+    ∙ ap (λ (k : ℕ). laid d at (2 ∷ k ∷ charset ∷ v)) (add-one (length v))
+    ∙ tag-there 2 there d (charset ∷ v) at e
 
 pub at-most : (x : Bool) (n : ℕ) → pick x n 0 ≤ n
 at-most true n = omega arith
@@ -179,11 +163,8 @@ challenge-back n o true charset v e =
     rw (write-read (challengeTags n o (some (charset ∷ v))), eq-eqb (length n) 16 e, ne-eqb (suc (length v)) 0 (λ (q : suc (length v) ≡ 0). omega arith))
 
 pub options-back : (a b : Bool) → (userIdRequired (flagBits a b) ≡ a) × (readOnly (flagBits a b) ≡ b)
-unfolding userIdRequired readOnly flagBits
-options-back true true = (refl, refl)
-options-back true false = (refl, refl)
-options-back false true = (refl, refl)
-options-back false false = (refl, refl)
+unfolding userIdRequired readOnly
+options-back a b = flags-read a b
 
 -- what a reader's answer is worth for a nonce and a password
 abbrev pub accepts : Octets16 → List ℕ → DigestResponse → Bool

@@ -1,6 +1,6 @@
 -- Canonical headers: those of which each value is as the writer gives it. Assumes nothing.
 use mathlib.Core.Path.{_≡_, refl, sym, ap, _∙_, subst}
-use mathlib.Core.Bool.{Bool, true, false}
+use mathlib.Core.Bool.{Bool, true, false, _&&_, and-eq-true-iff, and-false}
 use mathlib.Core.List.{List, [], _∷_, _++_, map}
 use mathlib.Core.Option.{Option, none, some}
 use Prim.Native.Nat.{ℕ, _+_, _-_, _≤_, _<_}
@@ -9,8 +9,8 @@ use lib.Dec.{ltb, eqb}
 use lib.ListN.{length, getD, take, drop, length-append, length-drop}
 use lib.Seq.{getD-drop}
 use borrow.Author.Tests.{eq-eqb, ne-eqb, lt-ltb, le-ltb, ltb-true, ltb-false, eqb-true, eqb-false}
-use Rattle.base.specs.Pick.{pick, both}
-use Rattle.digest.specs.Unicode.{upToZero, codes, units, paired, pieces16, scalars16, wellFormed16, lossy, scalars8, wellFormed8, NoZero, text8}
+use Rattle.base.specs.Pick.{pick}
+use Rattle.digest.specs.Unicode.{upToZero, codes, units, paired, pieces16, scalars16, wellFormed16, lossy, scalars8, wellFormed8, NoZero, text8, Octets}
 use Rattle.digest.specs.Text.{asciiText}
 use Rattle.digest.proofs.Back16.{scalars16-valid, scalars16-nonzero}
 use Rattle.digest.proofs.Back8.{lossy-valid, scalars8-valid, scalars8-nonzero, scalars8-text8, text8-scalars8}
@@ -20,7 +20,7 @@ use Rattle.packet.specs.Header.{Header, encodingOf, tagged, allowed, par
 use Rattle.packet.specs.Auth.{same}
 use Rattle.packet.specs.HeaderWriter.{header}
 use Rattle.packet.specs.Canonical.{terminated16, rewritten, rewrittenHeader, canonicalAs, canonical}
-use Rattle.packet.proofs.HeaderBytes.{Octets, header-bytes}
+use Rattle.packet.proofs.HeaderBytes.{header-bytes}
 use Rattle.packet.proofs.HeaderWrites.{Sized, AllShaped, read-written, all-read, read-shaped}
 use Rattle.packet.proofs.TextForms.{octets-take, scalars8-stop, scalars16-terminated, ended16, back16, ended8, back8, plain8}
 use Rattle.packet.proofs.SameBytes.{same-self, same-equal, same-is}
@@ -179,21 +179,17 @@ rewritten-read s from hs e = read-written (map rewrittenHeader hs) (allBytes (ma
 
 unfoldable pub asWritten : List Header → Bool
 asWritten [] = true
-asWritten (h ∷ hs) = both (same (rewritten (h .id) (h .value)) (h .value)) (asWritten hs)
+asWritten (h ∷ hs) = same (rewritten (h .id) (h .value)) (h .value) && asWritten hs
 
 abbrev pub allWritten : Option (List Header) → Bool
 allWritten none = false
 allWritten (some hs) = asWritten hs
 
-both-yes : (a b : Bool) → both a b ≡ true → (a ≡ true) × (b ≡ true)
-both-yes true b e = (refl, e)
-both-yes false b e = let z : _≡_ {A = ℕ} 0 1 = cc in absurd (omega arith)
-
 unchanged : (hs : List Header) → asWritten hs ≡ true → map rewrittenHeader hs ≡ hs
 unfolding asWritten
 unchanged [] e = refl
 unchanged (h ∷ hs) e =
-    let a = both-yes (same (rewritten (h .id) (h .value)) (h .value)) (asWritten hs) e in
+    let a = and-eq-true-iff (same (rewritten (h .id) (h .value)) (h .value)) (asWritten hs) .0 e in
     let v = same-equal (rewritten (h .id) (h .value)) (h .value) (a .0) in
     ap (λ (v : List ℕ). header (h .id) v ∷ map rewrittenHeader hs) v ∙ ap (λ (l : List Header). h ∷ l) (unchanged hs (a .1))
 
@@ -227,13 +223,9 @@ canonical-list s o = by (readHeaders s 0) refl
         (back hs q)))
 
 pub push-written : (h : Header) (r : Option (List Header)) → allWritten (push h r)
-    ≡ both (same (rewritten (h .id) (h .value)) (h .value)) (allWritten r)
+    ≡ (same (rewritten (h .id) (h .value)) (h .value) && allWritten r)
 unfolding asWritten
-push-written h none = by (same (rewritten (h .id) (h .value)) (h .value))
-  where
-    by : (x : Bool) → false ≡ both x false
-    by true = refl
-    by false = refl
+push-written h none = sym (and-false (same (rewritten (h .id) (h .value)) (h .value)))
 push-written h (some hs) = refl
 
 -- ---- what the writer wrote is canonical

@@ -5,7 +5,7 @@ use Prim.Native.Nat.{ℕ, _+_, _<_, _≤_}
 use native.Mathlib.Omega.{arith}
 use lib.ListN.{length}
 use Rattle.packet.specs.Codes.{codes, isCode, sentCode}
-use Rattle.packet.proofs.Below.{run}
+use Rattle.base.proofs.Below.{run}
 
 how-many : length codes ≡ 38
 unfolding codes

@@ -13,6 +13,7 @@ use lib.Dec.{ltb, leb}
 use borrow.Author.Tests.{leb-true, leb-false, ltb-false}
 use Rattle.base.specs.Pick.{pick}
 use Rattle.base.specs.Bytes.{be16, bytes16}
+pub use Rattle.digest.specs.Unicode.{Octets}
 use Rattle.packet.specs.declared.header.HeaderEncoding.{HeaderEncoding}
 use Rattle.packet.specs.declared.header.HeaderEncoding.the-variants.{Unicode, Bytes, U8, U32}
 use Rattle.packet.specs.declared.header.HeaderAt.{HeaderAt}
@@ -23,10 +24,6 @@ use Rattle.packet.specs.declared.opcode.FirstByte.the-variants.{Known, U
 use Rattle.packet.specs.FirstByte.{firstByte}
 use Rattle.packet.specs.Header.{encodingOf, leadOf, sizeAt, allowed, part, encodedAt, headerAt, Header, push, walkFrom, walk, readHeaders, lengthField, bytesOf, allBytes}
 use Rattle.packet.specs.Packet.{Request, prefixOf, requestWith, requestBy, requestOf}
-
--- all are bytes
-abbrev pub Octets : List ℕ → Type 0
-Octets l = (k : ℕ) → getD l k 0 < 256
 
 -- a `pick` that is not its first case is its second, and its test is false
 pub pick-no {ℓ} : {A : Type ℓ} (t : Bool) (x y z : A) → pick t x y ≡ z → (x ≡ z → ⊥) → (t ≡ false) × (y ≡ z)
@@ -134,16 +131,16 @@ header-at-bytes s at id e from to o h =
     rw (← w .encoding) (encoded-bytes s at id e from to o w)
 
 -- it takes at least one byte, and ends within the packet
-lead : (e : HeaderEncoding) → 1 ≤ leadOf e
-lead Unicode = omega arith
-lead Bytes = omega arith
-lead U8 = omega arith
-lead U32 = omega arith
+pub lead-some : (e : HeaderEncoding) → 1 ≤ leadOf e
+lead-some Unicode = omega arith
+lead-some Bytes = omega arith
+lead-some U8 = omega arith
+lead-some U32 = omega arith
 
 pub header-at-within : (s : List ℕ) (at id : ℕ) (e : HeaderEncoding) (from to : ℕ) → headerAt s at ≡ At id e from to → (at < to) × (to ≤ length s)
 header-at-within s at id e from to h =
     let w = stands s at id e from to h in
-    (omega (arith, lead e), w .fits)
+    (omega (arith, lead-some e), w .fits)
 
 -- where no header starts, the packet ends
 pub header-at-end : (s : List ℕ) (at : ℕ) → headerAt s at ≡ End → length s ≤ at

@@ -6,11 +6,10 @@ use Prim.Native.Nat.{ℕ}
 use Rattle.digest.specs.Unicode.{upToZero, codes, units, isPair, first16, paired, pieces16, scalars16, need, low, high, inside, first8, split8, pieces8, lossy, scalars8, utf8, utf16, joined}
 use Rattle.base.specs.Bytes.{bytes32}
 use Rattle.digest.specs.Text.{asciiText}
-use Rattle.packet.specs.Codes.{member}
 use Rattle.packet.specs.Modes.{isMode, isParameter, isAction}
 use Rattle.packet.specs.Tags.{tagsBy, tags}
 use Rattle.packet.specs.Auth.{same}
-use Rattle.packet.specs.Header.{encodingOf, tagged, allowed, encodedAt, headerAt, Header, walk, readHeaders, bytesOf, allBytes}
+use Rattle.packet.specs.Header.{encodingOf, tagged, allowed, encodedAt, headerAt, walk, readHeaders, bytesOf, allBytes}
 use Rattle.packet.specs.HeaderWriter.{header}
 use Rattle.packet.specs.Canonical.{terminated16, rewritten, canonical}
 
@@ -56,7 +55,7 @@ rows =
     ∷ []
 
 canonical-rows : map (λ (r : Row). row (r .bytes) (canonical (r .bytes))) rows ≡ rows
-unfolding row rows canonical readHeaders walk headerAt encodedAt encodingOf allowed tagged isMode isParameter isAction member tags tagsBy same bytesOf allBytes rewritten upToZero codes units isPair first16 paired pieces16 scalars16 need low high inside first8 split8 pieces8 lossy scalars8 utf8 utf16 joined
+unfolding row rows canonical readHeaders walk headerAt encodedAt encodingOf allowed tagged isMode isParameter isAction tags tagsBy same bytesOf allBytes rewritten upToZero codes units isPair first16 paired pieces16 scalars16 need low high inside first8 split8 pieces8 lossy scalars8 utf8 utf16 joined
 canonical-rows = refl
 
 -- the source's examples of writing: Name "ab", an empty Name, Type "pdf", ConnectionID 0x01020304

@@ -1,14 +1,13 @@
--- A header in a store: what stands before the value, and then the value, are one paste; the answer goes by numbers alone.
+-- A header in a store: what stands before the value, and then the value, are laid at once; the answer goes by numbers alone.
 -- Assumes nothing.
 use mathlib.Core.Path.{_≡_, refl, sym, ap, _∙_, subst}
 use mathlib.Core.Bool.{Bool, true, false}
-use mathlib.Core.List.{List, [], _∷_, _++_, append-assoc}
+use mathlib.Core.List.{List, [], _∷_, _++_}
 use Prim.Native.Nat.{ℕ, _+_, _-_, _^_, _≤_, _<_, min}
 use native.Mathlib.Omega.{arith}
 use lib.Dec.{ltb}
-use lib.ListN.{length, take, drop, length-append}
-use lib.Seq.{sets, sets-eq, paste, length-paste, take-paste, drop-paste, length-take-le, take-at, drop-at, drop-drop, take-length}
-use mathlib.Core.Logic.{inl, inr}
+use lib.ListN.{length, length-append}
+use lib.Seq.{sets}
 use denote.Enum.Declared.{tagOf}
 use types.Run.{OneOf}
 use borrow.Author.Tests.{lt-ltb, ltb-true, ltb-false}
@@ -20,41 +19,11 @@ use Rattle.packet.proofs.tlv.Put.{the-type}
 use Rattle.packet.specs.declared.tlv.Put.{Put}
 use Rattle.packet.specs.declared.tlv.Put.the-variants.{Written, TooLong, Short}
 use Rattle.packet.specs.Tags.{Putting, putting}
+use Rattle.packet.specs.Placed.{laid}
 use Rattle.packet.specs.Header.{Header, encodingOf, leadOf, lengthField, bytesOf}
-use Rattle.packet.specs.HeaderWriter.{tooLong, pasteAt, putHeader, roomFor, leadBytes, startBy, startHeader}
-use Rattle.packet.proofs.HeaderBytes.{pick-no}
-
--- ---- one paste
-
--- bytes stored one by one, and others copied after them (of general use)
-pub sets-paste : (d xs v : List ℕ) (at n : ℕ) → n ≡ at + length xs → n + length v ≤ length d
-    → paste (sets d at xs) n v (length v) ≡ paste d at (xs ++ v) (length (xs ++ v))
-sets-paste d xs v at n e h =
-    let r = drop (at + length xs) d in
-    let p : sets d at xs ≡ take at d ++ xs ++ r = sets-eq xs d at (omega arith) in
-    let k : length (take at d ++ xs) ≡ n = omega (arith, length-append (take at d) xs, length-take-le at d (omega arith)) in
-    let t : take n (sets d at xs) ≡ take at d ++ xs = ap (take n) p ∙ take-at (take at d ++ xs) r n k in
-    let f : drop n (sets d at xs) ≡ drop n d = ap (drop n) p ∙ drop-at (take at d ++ xs) r n k ∙ ap (λ (m : ℕ). drop m d) (sym e) in
-    let g : drop (n + length v) (sets d at xs) ≡ drop (n + length v) d =
-    sym (drop-drop (length v) n (sets d at xs)) ∙ ap (drop (length v)) f ∙ drop-drop (length v) n d in
-    let m : at + length (xs ++ v) ≡ n + length v = omega (arith, length-append xs v) in
-    rw (t, g, m, take-length v, take-length (xs ++ v), append-assoc (take at d) xs v)
-
--- bytes copied, and others stored after them one by one (of general use)
-pub paste-sets : (d t zs : List ℕ) (at n : ℕ) → n ≡ at + length t → n + length zs ≤ length d
-    → sets (paste d at t (length t)) n zs ≡ paste d at (t ++ zs) (length (t ++ zs))
-paste-sets d t zs at n e h =
-    let p = paste d at t (length t) in
-    let k : length p ≡ length d = length-paste d at t (length t) (omega arith) (omega arith) in
-    let f : take n p ≡ take at d ++ t =
-    ap (λ (m : ℕ). take m p) e ∙ take-paste d at t (length t) (omega arith) (omega arith)
-    ∙ ap (λ (l : List ℕ). take at d ++ l) (take-length t) in
-    let g : drop n p ≡ drop n d =
-    ap (λ (m : ℕ). drop m p) e ∙ drop-paste d at t (length t) (omega arith) (omega arith) ∙ ap (λ (m : ℕ). drop m d) (sym e) in
-    let j : drop (n + length zs) p ≡ drop (n + length zs) d =
-    sym (drop-drop (length zs) n p) ∙ ap (drop (length zs)) g ∙ drop-drop (length zs) n d in
-    let m : at + length (t ++ zs) ≡ n + length zs = omega (arith, length-append t zs) in
-    sets-eq zs p n (omega arith) ∙ rw (f, j, m, take-length (t ++ zs), append-assoc (take at d) t zs)
+use Rattle.packet.specs.HeaderWriter.{tooLong, putHeader, roomFor, leadBytes, startBy, startHeader}
+use Rattle.packet.proofs.HeaderBytes.{pick-no, lead-some}
+use Rattle.packet.proofs.Laid.{sets-laid, written-not}
 
 -- ---- what stands before the value
 
@@ -73,12 +42,6 @@ lead-length Unicode id n = refl
 lead-length Bytes id n = refl
 lead-length U8 id n = refl
 lead-length U32 id n = refl
-
-pub lead-some : (e : HeaderEncoding) → 1 ≤ leadOf e
-lead-some Unicode = omega arith
-lead-some Bytes = omega arith
-lead-some U8 = omega arith
-lead-some U32 = omega arith
 
 -- the id alone
 pub lead-one : (e : HeaderEncoding) (id n : ℕ) → leadOf e ≡ 1 → leadBytes e id n ≡ id ∷ []
@@ -110,12 +73,12 @@ bytes-length h =
 
 -- what becomes of the store, by the answer
 abbrev pub putBy : Put → List ℕ → ℕ → List ℕ → Putting
-putBy (Written n) d at bytes = putting (Written n) (paste d at bytes (length bytes))
+putBy (Written n) d at bytes = putting (Written n) (laid d at bytes)
 putBy TooLong d at bytes = putting TooLong d
 putBy Short d at bytes = putting Short d
 
 pick-put : (x y : Bool) (n : ℕ) (d : List ℕ) (at : ℕ) (bytes : List ℕ)
-    → pick x (putting TooLong d) (pick y (putting Short d) (putting (Written n) (paste d at bytes (length bytes))))
+    → pick x (putting TooLong d) (pick y (putting Short d) (putting (Written n) (laid d at bytes)))
     ≡ putBy (pick x TooLong (pick y Short (Written n))) d at bytes
 pick-put true y n d at bytes = refl
 pick-put false true n d at bytes = refl
@@ -128,7 +91,7 @@ put-room d at h =
     let e = encodingOf (h .id) in
     let n : at + length (bytesOf h) ≡ at + leadOf e + length (h .value) = omega (arith, bytes-length h) in
     ap (λ (m : ℕ). pick (tooLong e (length (h .value))) (putting TooLong d)
-    (pick (ltb (length d) m) (putting Short d) (putting (Written m) (paste d at (bytesOf h) (length (bytesOf h)))))) n
+    (pick (ltb (length d) m) (putting Short d) (putting (Written m) (laid d at (bytesOf h))))) n
     ∙ pick-put (tooLong e (length (h .value))) (ltb (length d) (at + leadOf e + length (h .value)))
     (at + leadOf e + length (h .value)) d at (bytesOf h)
 
@@ -173,8 +136,7 @@ room-most e len at n h = by (ltb (2 ^ 64 - 1) n) refl
 
 pub refused-start : (d : List ℕ) (at : ℕ) (lead : List ℕ) (a r : Put) → OneOf (1 ∷ 2 ∷ []) (tagOf the-type r) → a ≡ r
     → putting r d ≡ startBy a d at lead
-refused-start d at lead a (Written end) (inl k) q = absurd (omega arith)
-refused-start d at lead a (Written end) (inr k) q = absurd (omega arith)
+refused-start d at lead a (Written end) k q = absurd (written-not end k)
 refused-start d at lead a TooLong k q = rw q refl
 refused-start d at lead a Short k q = rw q refl
 
@@ -223,10 +185,6 @@ module _ (d d₁ : List ℕ) (at : ℕ) (h : Header) (n : ℕ) (r : Put) (s : pu
       e : HeaderEncoding
       e = encodingOf (h .id)
 
-      written-not : (end : ℕ) → OneOf (1 ∷ 2 ∷ []) (tagOf the-type (Written end)) → ⊥
-      written-not end (inl k) = omega arith
-      written-not end (inr k) = omega arith
-
       refused : (a : Put) → roomFor e (length d) at n ≡ a → putting r d₁ ≡ putBy a d at (bytesOf h) → putting r d₁ ≡ putHeader d at h
       refused a w q = q ∙ sym (put-room d at h ∙ ap (λ (r : Put). putBy r d at (bytesOf h)) (sym room-same ∙ w))
 
@@ -237,15 +195,15 @@ module _ (d d₁ : List ℕ) (at : ℕ) (h : Header) (n : ℕ) (r : Put) (s : pu
       by Short w x y = refused Short w (rw (x, y) refl)
 
 -- a header that is written: the value after what stands before it
-pub put-written : (d d₁ d₂ : List ℕ) (at : ℕ) (h : Header) (n end : ℕ) → Started d d₁ at h n end → d₂ ≡ pasteAt d₁ (end - n) (h .value)
+pub put-written : (d d₁ d₂ : List ℕ) (at : ℕ) (h : Header) (n end : ℕ) → Started d d₁ at h n end → d₂ ≡ laid d₁ (end - n) (h .value)
     → putting (Written end) d₂ ≡ putHeader d at h
 put-written d d₁ d₂ at h n end w s =
     let e = encodingOf (h .id) in
     let v = h .value in
     let l = leadBytes e (h .id) (length v) in
-    let k : end - n ≡ at + length l = omega (arith, w .ends, w .size, lead-length e (h .id) (length v)) in
-    let p : d₂ ≡ pasteAt d at (bytesOf h) =
-    s ∙ ap (λ (d : List ℕ). pasteAt d (end - n) v) (w .store-is)
-    ∙ sets-paste d l v at (end - n) k (omega (arith, w .ends, w .size, w .fits))
-    ∙ ap (pasteAt d at) (sym (bytes-lead h)) in
+    let k : at + length l ≡ end - n = omega (arith, w .ends, w .size, lead-length e (h .id) (length v)) in
+    let p : d₂ ≡ laid d at (bytesOf h) =
+    s ∙ ap (λ (d : List ℕ). laid d (end - n) v) (w .store-is)
+    ∙ sets-laid d l v at (end - n) k (omega (arith, w .ends, w .size, w .fits))
+    ∙ ap (laid d at) (sym (bytes-lead h)) in
     ap (putting (Written end)) p ∙ sym (put-room d at h ∙ ap (λ (r : Put). putBy r d at (bytesOf h)) (w .room-is))

@@ -10,6 +10,7 @@ use lib.Seq.{drop-drop, getD-drop, take-append-seam, drop-append-seam}
 use borrow.Author.Tests.{le-leb, lt-leb}
 use Rattle.base.specs.Pick.{pick}
 use Rattle.base.specs.Bytes.{be16, bytes16}
+use Rattle.digest.specs.Unicode.{Octets}
 use Rattle.packet.specs.declared.header.HeaderEncoding.{HeaderEncoding}
 use Rattle.packet.specs.declared.header.HeaderEncoding.the-variants.{Unicode, Bytes, U8, U32}
 use Rattle.packet.specs.declared.header.HeaderAt.{HeaderAt}
@@ -17,7 +18,7 @@ use Rattle.packet.specs.declared.header.HeaderAt.the-variants.{At, Unrea
 use Rattle.packet.specs.Header.{encodingOf, leadOf, sizeAt, allowed, part, encodedAt, headerAt, Header, push, readHeaders, lengthField, bytesOf, allBytes}
 use Rattle.packet.specs.HeaderList.{Fits, Writable, AllWritable}
 use Rattle.packet.proofs.TextForms.{octets-take}
-use Rattle.packet.proofs.HeaderBytes.{Octets, Stands, stands, header-at-within, pick-yes, part-length}
+use Rattle.packet.proofs.HeaderBytes.{Stands, stands, header-at-within, pick-yes, part-length}
 use Rattle.packet.proofs.HeaderLaws.{whole-at, by-cursor, first-of}
 
 -- ---- headers that read back: a value as long as the encoding says, where it says, and that the id allows
@@ -72,20 +73,20 @@ says s v r at id q =
     let l : getD s (at + 2) 0 ≡ n % 256 = byte-at s _ at 2 q in
     rw (t, h, l) (omega arith)
 
-record Laid (e : HeaderEncoding) (v r s : List ℕ) (at : ℕ) : Type 0 where
+record Follows (e : HeaderEncoding) (v r s : List ℕ) (at : ℕ) : Type 0 where
   size : sizeAt e s at ≡ leadOf e + length v
   after : drop (at + leadOf e) s ≡ v ++ r
   room : leadOf e + length v ≤ length s - at
 
-laid : (id : ℕ) (e : HeaderEncoding) (v r s : List ℕ) (at : ℕ) → Sized e (length v) → drop at s ≡ id ∷ (lengthField e v ++ v ++ r)
-    → Laid e v r s at
-laid id Unicode v r s at f q =
+follows : (id : ℕ) (e : HeaderEncoding) (v r s : List ℕ) (at : ℕ) → Sized e (length v) → drop at s ≡ id ∷ (lengthField e v ++ v ++ r)
+    → Follows e v r s at
+follows id Unicode v r s at f q =
     record { size = says s v r at id q; after = skip s _ at 3 q; room = omega (arith, ap length q, length-drop at s, length-append v r) }
-laid id Bytes v r s at f q =
+follows id Bytes v r s at f q =
     record { size = says s v r at id q; after = skip s _ at 3 q; room = omega (arith, ap length q, length-drop at s, length-append v r) }
-laid id U8 v r s at f q =
+follows id U8 v r s at f q =
     record { size = omega arith; after = skip s _ at 1 q; room = omega (arith, ap length q, length-drop at s, length-append v r) }
-laid id U32 v r s at f q =
+follows id U32 v r s at f q =
     record { size = omega arith; after = skip s _ at 1 q; room = omega (arith, ap length q, length-drop at s, length-append v r) }
 
 -- what the cursor finds where the bytes of a header stand
@@ -110,7 +111,7 @@ written h r s at w q =
     let id = h .id in
     let v = h .value in
     let e = encodingOf id in
-    let k = laid id e v r s at (w .sized) q in
+    let k = follows id e v r s at (w .sized) q in
     let to = at + sizeAt e s at in
     let t : to ≡ at + leadOf e + length v = omega (arith, k .size) in
     let z : at + 0 ≡ at = omega arith in

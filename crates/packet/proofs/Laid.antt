@@ -1,15 +1,19 @@
--- Bytes laid into a store one after the other are laid at once. Of general use. Assumes nothing.
-use mathlib.Core.Path.{_≡_, refl, sym, ap, ap₂, _∙_}
+-- Bytes laid into a store one after the other are laid at once; what is refused leaves it as it was. Assumes nothing.
+use mathlib.Core.Path.{_≡_, refl, sym, ap, ap₂, subst, _∙_}
+use mathlib.Core.Logic.{inl, inr}
 use mathlib.Core.Bool.{Bool, true, false}
 use mathlib.Core.List.{List, [], _∷_, _++_, append-assoc}
 use Prim.Native.Nat.{ℕ, _+_, _≤_, _<_}
 use native.Mathlib.Omega.{arith}
 use native.Mathlib.Numerals.{add-one}
 use lib.ListN.{length, take, drop, set, length-append}
-use lib.Seq.{paste-zero, length-paste, take-paste, drop-paste, take-length, drop-drop, set-split}
+use lib.Seq.{sets, sets-eq, paste-zero, length-paste, take-paste, drop-paste, take-length, drop-drop, set-split}
 use lib.Dec.{ltb}
+use denote.Enum.Declared.{tagOf}
+use types.Run.{OneOf}
 use borrow.Author.Tests.{le-ltb, ltb-false}
 use Rattle.base.specs.Pick.{pick}
+use Rattle.packet.proofs.tlv.Put.{the-type}
 use Rattle.packet.specs.declared.tlv.Put.{Put}
 use Rattle.packet.specs.declared.tlv.Put.the-variants.{Written, TooLong, Short}
 use Rattle.packet.specs.Tags.{Putting, putting, writeTag, putTag}
@@ -38,6 +42,13 @@ laid-append d a b at next e h =
     ∙ ap (λ (l : List ℕ). take at d ++ a ++ l ++ x) (take-length b)
     ∙ simp (n, take-length (a ++ b), append-assoc)
 
+-- bytes set one by one, and others laid behind them
+pub sets-laid : (d a b : List ℕ) (at next : ℕ) → at + length a ≡ next → next + length b ≤ length d → laid (sets d at a) next b ≡ laid d at (a ++ b)
+sets-laid d a b at next e h =
+    let s : sets d at a ≡ laid d at a =
+    sets-eq a d at (omega arith) ∙ ap (λ (l : List ℕ). take at d ++ l ++ drop (at + length a) d) (sym (take-length a)) in
+    ap (λ (l : List ℕ). laid l next b) s ∙ laid-append d a b at next e h
+
 -- one byte
 pub set-laid : (d : List ℕ) (at x : ℕ) → at < length d → set d at x ≡ laid d at (x ∷ [])
 set-laid d at x h = set-split d at x h ∙ simp (append-assoc, add-one)
@@ -65,7 +76,12 @@ pub granted : (len at need next : ℕ) (forbidden : Bool) → Written next ≡ r
 unfolding roomOf
 granted len at need next f e = granted-by len at need next f (ltb len (at + need)) refl e
 
--- the three answers
+-- a refused answer is none that says what was written
+pub written-not : (end : ℕ) → OneOf (1 ∷ 2 ∷ []) (tagOf the-type (Written end)) → ⊥
+written-not end (inl k) = omega arith
+written-not end (inr k) = omega arith
+
+-- the answers
 placed-as : (store bytes : List ℕ) (at next : ℕ) (forbidden : Bool) → Written next ≡ roomOf (length store) at (length bytes) forbidden
     → putting (Written next) (laid store at bytes) ≡ placed store at forbidden bytes
 unfolding placed
@@ -73,29 +89,23 @@ placed-as store bytes at next f e =
     let g = granted (length store) at (length bytes) next f e in
     rw (le-ltb (length store) (at + length bytes) (g .fits), g .allowed, g .next-is)
 
-refused-by : (store bytes : List ℕ) (at : ℕ) (x y : Bool)
-    → (r : Put) → ((n : ℕ) → r ≡ Written n → ⊥) → r ≡ pick x Short (pick y TooLong (Written (at + length bytes)))
+refused-by : (store bytes : List ℕ) (at : ℕ) (x y : Bool) (r : Put) → OneOf (1 ∷ 2 ∷ []) (tagOf the-type r)
+    → r ≡ pick x Short (pick y TooLong (Written (at + length bytes)))
     → putting r store ≡ pick x (putting Short store) (pick y (putting TooLong store) (putting (Written (at + length bytes)) (laid store at bytes)))
-refused-by store bytes at true y r n e = ap (λ (r : Put). putting r store) e
-refused-by store bytes at false true r n e = ap (λ (r : Put). putting r store) e
-refused-by store bytes at false false r n e = absurd (n (at + length bytes) e)
+refused-by store bytes at true y r k e = ap (λ (r : Put). putting r store) e
+refused-by store bytes at false true r k e = ap (λ (r : Put). putting r store) e
+refused-by store bytes at false false r k e =
+    absurd (written-not (at + length bytes) (subst (λ (r : Put). OneOf (1 ∷ 2 ∷ []) (tagOf the-type r)) e k))
 
 -- as the code says them, which has the length and the test as values of its own
 pub placed-written : (store bytes after : List ℕ) (at need next : ℕ) (f g : Bool) → length bytes ≡ need → g ≡ f
     → Written next ≡ roomOf (length store) at need g → after ≡ laid store at bytes → putting (Written next) after ≡ placed store at f bytes
 placed-written store bytes after at need next f g n q e a = ap (putting (Written next)) a ∙ placed-as store bytes at next f (rw (n, ← q) e)
 
-pub placed-too-long : (store bytes : List ℕ) (at need : ℕ) (f g : Bool) → length bytes ≡ need → g ≡ f
-    → TooLong ≡ roomOf (length store) at need g → putting TooLong store ≡ placed store at f bytes
+pub placed-refused : (store bytes : List ℕ) (at need : ℕ) (f g : Bool) (r : Put) → OneOf (1 ∷ 2 ∷ []) (tagOf the-type r) → length bytes ≡ need → g ≡ f
+    → r ≡ roomOf (length store) at need g → putting r store ≡ placed store at f bytes
 unfolding placed roomOf
-placed-too-long store bytes at need f g n q e =
-    refused-by store bytes at (ltb (length store) (at + length bytes)) f TooLong (λ m p. let z : _≡_ {A = ℕ} 0 1 = cc in omega arith) (rw (n, ← q) e)
-
-pub placed-short : (store bytes : List ℕ) (at need : ℕ) (f g : Bool) → length bytes ≡ need → g ≡ f
-    → Short ≡ roomOf (length store) at need g → putting Short store ≡ placed store at f bytes
-unfolding placed roomOf
-placed-short store bytes at need f g n q e =
-    refused-by store bytes at (ltb (length store) (at + length bytes)) f Short (λ m p. let z : _≡_ {A = ℕ} 0 1 = cc in omega arith) (rw (n, ← q) e)
+placed-refused store bytes at need f g r k n q e = refused-by store bytes at (ltb (length store) (at + length bytes)) f r k (rw (n, ← q) e)
 
 -- one byte behind what was laid
 pub set-more : (d l : List ℕ) (at next x : ℕ) → at + length l ≡ next → next < length d → set (laid d at l) next x ≡ laid d at (l ++ (x ∷ []))

@@ -1,5 +1,4 @@
 -- What several proofs cite, here and in the crates above.
-pub mod Below
 pub mod TopBit
 pub mod OpcodeLaws
 pub mod CodeLaws

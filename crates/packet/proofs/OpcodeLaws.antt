@@ -1,18 +1,18 @@
 -- The laws of first bytes and opcodes: what is written reads back, and `same` is equality. Assumes nothing.
 use mathlib.Core.Path.{_≡_, refl, sym, ap, _∙_, subst}
-use mathlib.Core.Bool.{Bool, true, false}
+use mathlib.Core.Bool.{Bool, true, false, _&&_, _||_, and-eq-true-iff}
 use Prim.Native.Nat.{ℕ, zero, suc, _%_, _≤_, _<_}
 use native.Mathlib.Omega.{arith}
 use borrow.Author.Tests.{ne-eqb, eq-eqb, eqb-true, le-leb, lt-leb}
 use lib.Dec.{T, eqb, leb, leb→le}
-use Rattle.base.specs.Pick.{pick, both, either}
-use Rattle.base.proofs.Table.{both-left, both-right}
+use Rattle.base.specs.Pick.{pick}
+use Rattle.base.proofs.Below.{and-left, and-right}
 use Rattle.packet.specs.declared.opcode.FirstByte.{FirstByte}
 use Rattle.packet.specs.declared.opcode.FirstByte.the-variants.{Known, Unknown}
 use Rattle.packet.specs.declared.opcode.Opcode.{Opcode}
 use Rattle.packet.specs.declared.opcode.Opcode.the-variants.{Connect, Disconnect, Put, Get, SetPath, Action, Session, Abort, UserDefined}
 use Rattle.packet.specs.FirstByte.{named, firstByte, valueOf, alwaysFinal, topBit, byteOf, kindOf, sameOpcode}
-use Rattle.packet.proofs.Below.{at-each}
+use Rattle.base.proofs.Below.{at-each}
 
 -- ---- document 01, P1 and P2
 
@@ -40,7 +40,7 @@ p2-user = refl
 
 -- a UserDefined's value is from 0x10 to 0x1F
 abbrev pub fair : Opcode → Bool
-fair o = either (eqb (kindOf o) 0) (both (leb 0x10 (valueOf o)) (leb (valueOf o) 0x1F))
+fair o = eqb (kindOf o) 0 || (leb 0x10 (valueOf o) && leb (valueOf o) 0x1F)
 
 abbrev fairIn : FirstByte → Bool
 fairIn (Known o final) = fair o
@@ -73,13 +73,13 @@ user-read x b e l h =
     rw (e, ne-eqb x 0x7F (λ (q : x ≡ 0x7F). omega arith), m, user-named x (leb 0x80 b) l h)
 
 user-back : (x : ℕ) (final : Bool) → 0x10 ≤ x → x ≤ 0x1F
-    → firstByte (byteOf (UserDefined x) final) ≡ Known (UserDefined x) (either final false)
+    → firstByte (byteOf (UserDefined x) final) ≡ Known (UserDefined x) (final || false)
 unfolding byteOf
 user-back x true l h = user-read x (topBit x) (omega arith) l h ∙ ap (Known (UserDefined x)) (le-leb 0x80 (topBit x) (omega arith))
 user-back x false l h = user-read x x (omega arith) l h ∙ ap (Known (UserDefined x)) (lt-leb 0x80 x (omega arith))
 
 -- what was written reads as the opcode, final where it was written so or is always so
-pub read-back : (o : Opcode) (final : Bool) → T (fair o) → firstByte (byteOf o final) ≡ Known o (either final (alwaysFinal o))
+pub read-back : (o : Opcode) (final : Bool) → T (fair o) → firstByte (byteOf o final) ≡ Known o (final || alwaysFinal o)
 unfolding firstByte named byteOf
 read-back Connect true t = refl
 read-back Connect false t = refl
@@ -98,7 +98,7 @@ read-back Session false t = refl
 read-back Abort true t = refl
 read-back Abort false t = refl
 read-back (UserDefined x) final t =
-    user-back x final (leb→le 0x10 x (both-left (leb 0x10 x) (leb x 0x1F) t)) (leb→le x 0x1F (both-right (leb 0x10 x) (leb x 0x1F) t))
+    user-back x final (leb→le 0x10 x (and-left (leb 0x10 x) (leb x 0x1F) t)) (leb→le x 0x1F (and-right (leb 0x10 x) (leb x 0x1F) t))
 
 -- ---- the same opcode
 
@@ -126,15 +126,11 @@ of-its-own Session = refl
 of-its-own Abort = refl
 of-its-own (UserDefined x) = refl
 
-both-true : (a b : Bool) → both a b ≡ true → (a ≡ true) × (b ≡ true)
-both-true true b e = (refl, e)
-both-true false b e = let z : _≡_ {A = ℕ} 0 1 = cc in absurd (omega arith)
-
 -- `same` holds of equal opcodes alone
 pub same-equal : (a b : Opcode) → sameOpcode a b ≡ true → a ≡ b
 unfolding sameOpcode
 same-equal a b e =
-    let h = both-true (eqb (kindOf a) (kindOf b)) (eqb (valueOf a) (valueOf b)) e in
+    let h = and-eq-true-iff (eqb (kindOf a) (kindOf b)) (eqb (valueOf a) (valueOf b)) .0 e in
     sym (of-its-own a)
     ∙ ap (λ (k : ℕ). opcodeOf k (valueOf a)) (eqb-true (kindOf a) (kindOf b) (h .0))
     ∙ ap (opcodeOf (kindOf b)) (eqb-true (valueOf a) (valueOf b) (h .1))

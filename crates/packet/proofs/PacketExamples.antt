@@ -20,8 +20,8 @@ use Rattle.packet.specs.Codes.{sentCode}
 use Rattle.packet.specs.Header.{encodingOf, tagged, allowed, encodedAt, headerAt, walk, readHeaders}
 use Rattle.packet.specs.Packet.{requestOf, requestAt, backup, noCreate, packetBytes}
 use Rattle.packet.specs.Flags.{flagBits}
-use Rattle.packet.specs.Tags.{tagsBy, tags, lastFrom, lastValue, writeTags}
-use Rattle.packet.specs.Auth.{responseFrom, responseOf, challengeFrom, challengeOf, realmFrom, realmPlace, userIdRequired, readOnly, challengeTags}
+use Rattle.packet.specs.Tags.{tagsBy, tags, lastFrom, lastUnder, lastValue, writeTags}
+use Rattle.packet.specs.Auth.{responseFrom, responseOf, challengeFrom, challengeOf, realmPlace, userIdRequired, readOnly, challengeTags}
 use Rattle.packet.specs.AuthRead.{readResponse, readChallenge}
 use Rattle.packet.specs.PacketRead.{packetLength, parsePacket, parseFront, flagsOf}
 use Rattle.packet.specs.PacketWrite.{fieldBytes, parameterBytes}
@@ -101,31 +101,31 @@ twos = replicate 16 2
 -- digest, user id, a nonce: the last of each holds
 last-holds : readResponse (0 ∷ 16 ∷ ones ++ (1 ∷ 1 ∷ 0x61 ∷ 2 ∷ 16 ∷ ones) ++ (0 ∷ 16 ∷ twos) ++ (1 ∷ 2 ∷ 0x62 ∷ 0x63 ∷ []) ++ (2 ∷ 16 ∷ twos))
     ≡ response.Response (numbers16 twos) (place.At 59 61) (nonce.Nonce (numbers16 twos))
-unfolding readResponse responseOf tags tagsBy responseFrom lastValue lastFrom numbers16 beValue leValue
+unfolding readResponse responseOf tags tagsBy responseFrom lastValue lastUnder lastFrom numbers16 beValue leValue
 last-holds = refl
 
 -- a nonce that is not 16 bytes long, after a good one: not named
 bad-nonce : readResponse (0 ∷ 16 ∷ ones ++ (2 ∷ 16 ∷ ones) ++ (2 ∷ 1 ∷ 7 ∷ [])) ≡ response.Response (numbers16 ones) place.Missing nonce.Missing
-unfolding readResponse responseOf tags tagsBy responseFrom lastValue lastFrom numbers16 beValue leValue
+unfolding readResponse responseOf tags tagsBy responseFrom lastValue lastUnder lastFrom numbers16 beValue leValue
 bad-nonce = refl
 
 -- a digest of 15 bytes before a good one; and no digest
 bad-digest : readResponse (0 ∷ 15 ∷ replicate 15 1 ++ (0 ∷ 16 ∷ ones)) ≡ response.Unreadable
-unfolding readResponse responseOf tags tagsBy responseFrom lastValue lastFrom
+unfolding readResponse responseOf tags tagsBy responseFrom lastValue lastUnder lastFrom
 bad-digest = refl
 
 no-digest : readResponse (2 ∷ 16 ∷ ones) ≡ response.Unreadable
-unfolding readResponse responseOf tags tagsBy responseFrom lastValue lastFrom
+unfolding readResponse responseOf tags tagsBy responseFrom lastValue lastUnder lastFrom
 no-digest = refl
 
 -- a realm, and an empty one after it, which is passed over; options 3, an unknown tag
 empty-realm : readChallenge (0 ∷ 16 ∷ ones ++ (1 ∷ 1 ∷ 3 ∷ 9 ∷ 0 ∷ 2 ∷ 2 ∷ 0 ∷ 0x72 ∷ 2 ∷ 0 ∷ [])) ≡ challenge.Challenge (numbers16 ones) true true (place.At 25 27)
-unfolding readChallenge challengeOf tags tagsBy challengeFrom realmPlace realmFrom userIdRequired readOnly numbers16 beValue leValue
+unfolding readChallenge challengeOf tags tagsBy challengeFrom realmPlace lastUnder lastFrom userIdRequired readOnly numbers16 beValue leValue
 empty-realm = refl
 
 -- empty options are 0
 empty-options : readChallenge (0 ∷ 16 ∷ ones ++ (1 ∷ 1 ∷ 3 ∷ 1 ∷ 0 ∷ [])) ≡ challenge.Challenge (numbers16 ones) false false place.Missing
-unfolding readChallenge challengeOf tags tagsBy challengeFrom realmPlace realmFrom userIdRequired readOnly numbers16 beValue leValue
+unfolding readChallenge challengeOf tags tagsBy challengeFrom realmPlace lastUnder lastFrom userIdRequired readOnly numbers16 beValue leValue
 empty-options = refl
 
 -- 3.6.4: without a realm a challenge takes 24 bytes, 3 of them the header's

@@ -1,6 +1,6 @@
 -- The writers of packets: what each step leaves in the store, and that what is written reads back. Assumes nothing.
-use mathlib.Core.Path.{_≡_, refl, sym, ap, _∙_}
-use mathlib.Core.Bool.{Bool, true, false}
+use mathlib.Core.Path.{_≡_, refl, sym, ap, ap₂, _∙_}
+use mathlib.Core.Bool.{Bool, _||_}
 use mathlib.Core.List.{List, [], _∷_, _++_}
 use mathlib.Core.Option.{some}
 use Prim.Native.Nat.{ℕ, _+_, _-_, _≤_}
@@ -9,22 +9,23 @@ use lib.ListN.{length, getD, take, drop, replicate, length-append}
 use lib.Seq.{take-at, drop-at, take-append-seam}
 use lib.Dec.{T, eqb}
 use borrow.Author.Tests.{le-ltb}
-use Rattle.base.specs.Pick.{pick, either}
+use Rattle.base.specs.Pick.{pick}
 use Rattle.base.specs.Bytes.{be16, bytes16}
+use Rattle.digest.specs.Unicode.{Octets}
 use Rattle.packet.specs.declared.opcode.Opcode.{Opcode}
 use Rattle.packet.specs.declared.opcode.Opcode.the-variants.{Connect, Disconnect, Put, Get, SetPath, Action, Session, Abort, UserDefined}
 use Rattle.packet.specs.declared.packet.Fields.{Fields}
 use Rattle.packet.specs.declared.packet.Fields.the-variants as fields
 use Rattle.packet.specs.declared.opcode.FirstByte.{FirstByte}
 use Rattle.packet.specs.FirstByte.{firstByte, alwaysFinal, byteOf}
-use Rattle.packet.specs.Flags.{flagBits}
 use Rattle.packet.specs.Header.{Header, readHeaders}
 use Rattle.packet.specs.Packet.{fieldsOf, prefixOf, requestBy, requestOf, requestAt, connectLimit, backup, noCreate, packetBytes}
 use Rattle.packet.specs.Placed.{laid}
-use Rattle.packet.specs.PacketWrite.{connectBytes, setPathByte, fieldBytes, filled4}
+use Rattle.packet.specs.PacketWrite.{connectBytes, setPathByte, fieldBytes, filled4, writePacket}
 use Rattle.packet.proofs.OpcodeLaws.{fair, read-back}
-use Rattle.packet.proofs.HeaderBytes.{Octets, header-bytes}
+use Rattle.packet.proofs.HeaderBytes.{header-bytes}
 use Rattle.packet.proofs.HeaderWrites.{read-written, read-shaped}
+use Rattle.packet.proofs.LowBits.{flags-read}
 use Rattle.packet.proofs.Laid.{length-laid, laid-append}
 
 -- ---- the store
@@ -82,8 +83,14 @@ fields-length Abort f = refl
 fields-length (UserDefined x) f = refl
 
 -- the fields stand in front of the zeros
-pub front : (l bytes : List ℕ) (n : ℕ) → bytes ≡ filled4 l → n ≡ length l → take n bytes ≡ l
+front : (l bytes : List ℕ) (n : ℕ) → bytes ≡ filled4 l → n ≡ length l → take n bytes ≡ l
 front l bytes n e q = ap (take n) e ∙ take-at l (replicate (4 - length l) 0) n (sym q)
+
+-- so a packet with these taken from there has them as its fields
+pub writes-front : (store headers l bytes : List ℕ) (a b n : ℕ) → a ≡ b → bytes ≡ filled4 l → n ≡ length l
+    → writePacket store (packetBytes a (take n bytes) headers) ≡ writePacket store (packetBytes b l headers)
+writes-front store headers l bytes a b n e f q =
+    ap₂ (λ (x : ℕ) (y : List ℕ). writePacket store (packetBytes x y headers)) e (front l bytes n f q)
 
 -- ---- what is written reads back
 
@@ -113,7 +120,7 @@ first-back b g h = refl
 -- the whole packet
 packet-back : (o : Opcode) (final : Bool) (f : Fields) (h : List ℕ) (hs : List Header) → T (fair o) → Octets h → readHeaders h 0 ≡ some hs
     → let p = packetBytes (byteOf o final) (fieldBytes o f) h in
-    requestOf p ≡ some (record { opcode = o; final = either final (alwaysFinal o); bytes = p; headers = hs })
+    requestOf p ≡ some (record { opcode = o; final = final || alwaysFinal o; bytes = p; headers = hs })
 unfolding requestOf
 packet-back o final f h hs t oct e =
     let p = packetBytes (byteOf o final) (fieldBytes o f) h in
@@ -126,7 +133,7 @@ packet-back o final f h hs t oct e =
 -- a request that was written, whatever follows it, reads as the request: final where that was given or the opcode is always so
 pub request-back : (o : Opcode) (final : Bool) (f : Fields) (h rest : List ℕ) (hs : List Header) → T (fair o) → Octets h → readHeaders h 0 ≡ some hs
     → let p = packetBytes (byteOf o final) (fieldBytes o f) h in
-    requestAt (p ++ rest) ≡ some (record { opcode = o; final = either final (alwaysFinal o); bytes = p; headers = hs })
+    requestAt (p ++ rest) ≡ some (record { opcode = o; final = final || alwaysFinal o; bytes = p; headers = hs })
 unfolding requestAt
 request-back o final f h rest hs t oct e =
     let b = byteOf o final in
@@ -150,8 +157,5 @@ unfolding connectLimit packetBytes
 limit-back b v g m h = omega arith
 
 pub flags-back : (b : ℕ) (x y : Bool) (h : List ℕ) → let p = packetBytes b (fieldBytes SetPath (fields.SetPath x y)) h in (backup p ≡ x) × (noCreate p ≡ y)
-unfolding backup noCreate packetBytes flagBits
-flags-back b true true h = (refl, refl)
-flags-back b true false h = (refl, refl)
-flags-back b false true h = (refl, refl)
-flags-back b false false h = (refl, refl)
+unfolding backup noCreate packetBytes
+flags-back b x y h = flags-read x y

@@ -1,20 +1,22 @@
 -- The laws of tag lists: `tags` by what the bytes are, and by what the cursor finds. Assumes nothing.
 use mathlib.Core.Path.{_≡_, refl, sym, ap, _∙_, subst}
 use mathlib.Core.Bool.{Bool, true, false}
-use mathlib.Core.List.{List, [], _∷_, _++_, append-assoc}
+use mathlib.Core.List.{List, [], _∷_}
 use Prim.Native.Nat.{ℕ, zero, suc, _+_, _-_, _≤_, _<_}
 use native.Mathlib.Omega.{arith}
 use native.Mathlib.Numerals.{add-one}
-use lib.ListN.{length, getD, set, take, drop, length-set, length-drop, length-take, drop-of-length-le}
-use lib.Seq.{drop-cons, drop-drop, paste, take-suc-set, drop-set-lt, take-length}
-use lib.Dec.{eqb, leb, ltb}
+use lib.ListN.{length, getD, set, take, drop, length-drop, drop-of-length-le}
+use lib.Seq.{drop-cons, drop-drop, length-take-le}
+use lib.Dec.{leb, ltb}
 use borrow.Author.Tests.{leb-true, leb-false, ltb-true, ltb-false, le-leb, lt-leb}
 use Rattle.base.specs.Pick.{pick}
 use Rattle.packet.specs.declared.tlv.TagAt.{TagAt}
 use Rattle.packet.specs.declared.tlv.TagAt.the-variants.{At, Bad, End}
 use Rattle.packet.specs.declared.tlv.Found.{Found}
 use Rattle.packet.specs.declared.tlv.Found.the-variants as found
-use Rattle.packet.specs.Tags.{Tag, Tags, unreadable, tagList, push, tagsBy, tags, isReadable, tagAt, lastFrom, lastIn}
+use Rattle.packet.specs.Tags.{Tag, Tags, unreadable, tagList, push, tagsBy, tags, isReadable, tagAt, counts, lastFrom, lastIn}
+use Rattle.packet.specs.Placed.{laid}
+use Rattle.packet.proofs.Laid.{set-laid, set-more, laid-append}
 
 -- any fuel over the length gives the same
 enough : (f g : ℕ) (s : List ℕ) → length s < f → length s < g → tagsBy f s ≡ tagsBy g s
@@ -116,36 +118,34 @@ push-readable t (tagList ts) = refl
 
 -- ---- the last value under a tag
 
-last-push : (want at : ℕ) (before : Found) (t : Tag) (r : Tags)
-    → lastIn want at before (push t r)
-    ≡ lastIn want (at + 2 + length (t .value)) (pick (eqb (t .tag) want) (found.At (at + 2) (at + 2 + length (t .value))) before) r
+pub value-length : (s : List ℕ) (at t b n : ℕ) → Here s at t b n → length (take (n - b) (drop b s)) ≡ n - b
+value-length s at t b n h = length-take-le (n - b) (drop b s) (omega (arith, length-drop b s, h .past, h .fits))
+
+last-push : (want : ℕ) (empty : Bool) (at : ℕ) (before : Found) (t : Tag) (r : Tags)
+    → lastIn want empty at before (push t r)
+    ≡ lastIn want empty (at + 2 + length (t .value))
+    (pick (counts want empty (t .tag) (length (t .value))) (found.At (at + 2) (at + 2 + length (t .value))) before) r
 unfolding lastFrom
-last-push want at before t unreadable = refl
-last-push want at before t (tagList ts) = refl
+last-push want empty at before t unreadable = refl
+last-push want empty at before t (tagList ts) = refl
 
 -- a step of the cursor
-pub last-here : (s : List ℕ) (at t b n want : ℕ) (before : Found) → Here s at t b n
-    → lastIn want at before (tags (drop at s)) ≡ lastIn want n (pick (eqb t want) (found.At b n) before) (tags (drop n s))
-last-here s at t b n want before h =
+pub last-here : (s : List ℕ) (at t b n want : ℕ) (empty : Bool) (before : Found) → Here s at t b n
+    → lastIn want empty at before (tags (drop at s)) ≡ lastIn want empty n (pick (counts want empty t (n - b)) (found.At b n) before) (tags (drop n s))
+last-here s at t b n want empty before h =
     let v = take (n - b) (drop b s) in
-    let e : at + 2 + length v ≡ n = omega (arith, length-take (n - b) (drop b s), length-drop b s, h .start, h .past, h .fits) in
-    ap (lastIn want at before) (h .list)
-    ∙ last-push want at before (record { tag = t; value = v }) (tags (drop n s))
-    ∙ simp (e, ← h .start)
+    let e : b + (n - b) ≡ n = omega (arith, h .past) in
+    ap (lastIn want empty at before) (h .list)
+    ∙ last-push want empty at before (record { tag = t; value = v }) (tags (drop n s))
+    ∙ simp (value-length s at t b n h, ← h .start, e)
 
 -- ---- the writer
 
--- the two bytes and the value, stored one after the other, are one paste
-pub one-paste : (d v : List ℕ) (at t : ℕ) → at + 2 + length v ≤ length d
-    → paste (set (set d at t) (at + 1) (length v)) (at + 2) v (length v) ≡ paste d at (t ∷ length v ∷ v) (suc (suc (length v)))
-one-paste d v at t h =
+-- the two bytes and the value, stored one after the other, are laid at once
+pub tag-laid : (d v : List ℕ) (at t : ℕ) → at + 2 + length v ≤ length d
+    → laid (set (set d at t) (at + 1) (length v)) (at + 2) v ≡ laid d at (t ∷ length v ∷ v)
+tag-laid d v at t h =
     let n = length v in
-    let d₁ = set d at t in
-    let e₁ : take (at + 1) d₁ ≡ take at d ++ (t ∷ []) = ap (λ (m : ℕ). take m d₁) (add-one at) ∙ take-suc-set d at t (omega arith) in
-    let p : at + 2 ≡ suc (at + 1) = omega arith in
-    let q : at + suc (suc n) ≡ at + 2 + n = omega arith in
-    let e₂ : take (at + 2) (set d₁ (at + 1) n) ≡ take at d ++ (t ∷ []) ++ (n ∷ []) =
-    ap (λ (m : ℕ). take m (set d₁ (at + 1) n)) p ∙ take-suc-set d₁ (at + 1) n (simp length-set (omega arith)) ∙ ap (λ (l : List ℕ). l ++ (n ∷ [])) e₁ in
-    let e₃ : drop (at + 2 + n) (set d₁ (at + 1) n) ≡ drop (at + 2 + n) d =
-    drop-set-lt (at + 2 + n) d₁ (at + 1) n (omega arith) ∙ drop-set-lt (at + 2 + n) d at t (omega arith) in
-    simp (e₂, e₃, q, take-length v, append-assoc)
+    ap (λ (l : List ℕ). laid (set l (at + 1) n) (at + 2) v) (set-laid d at t (omega arith))
+    ∙ ap (λ (l : List ℕ). laid l (at + 2) v) (set-more d (t ∷ []) at (at + 1) n (omega arith) (omega arith))
+    ∙ laid-append d (t ∷ n ∷ []) v at (at + 2) (omega arith) h

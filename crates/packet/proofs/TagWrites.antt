@@ -8,7 +8,7 @@ use Prim.Native.Nat.{ℕ, zero, suc, _+_, _-_, _≤_, _<_}
 use native.Mathlib.Omega.{arith}
 use lib.ListN.{length, take, drop, length-append, take-append-drop}
 use lib.Seq.{paste, length-take-le, take-append-seam, drop-append-seam, take-paste, take-length, drop-drop}
-use lib.Dec.{eqb, leb, ltb}
+use lib.Dec.{leb, ltb}
 use borrow.Author.Tests.{leb-true, ltb-false, le-leb}
 use Rattle.base.specs.Pick.{pick}
 use Rattle.packet.specs.declared.tlv.TagAt.{TagAt}
@@ -16,7 +16,7 @@ use Rattle.packet.specs.declared.tlv.TagAt.the-variants.{At, Bad, End}
 use Rattle.packet.specs.declared.tlv.Found.{Found}
 use Rattle.packet.specs.declared.tlv.Found.the-variants as found
 use Rattle.packet.specs.declared.tlv.Put.the-variants.{Written, TooLong, Short}
-use Rattle.packet.specs.Tags.{Tag, Tags, unreadable, tagList, push, tagsBy, tags, tagAt, lastFrom, lastIn, lastValue, bytesAt, lastBytes, lastOf, writeTag, writeTags, Putting, putting, putTag}
+use Rattle.packet.specs.Tags.{Tag, Tags, unreadable, tagList, push, tagsBy, tags, tagAt, counts, lastFrom, lastIn, lastUnder, bytesAt, lastBytes, lastOf, writeTag, writeTags, Putting, putting, putTag}
 use Rattle.packet.proofs.TagLaws.{by-cursor, tags-end, tags-cons}
 
 -- ---- there and back
@@ -103,11 +103,11 @@ pick-bytes : (s v : List ℕ) (b e : ℕ) (before : Found) (x : Bool) → take (
 pick-bytes s v b e before true q = ap some q
 pick-bytes s v b e before false q = refl
 
-tied-by : (s : List ℕ) (want : ℕ) (ts : List Tag) (at : ℕ) (before : Found) → drop at s ≡ writeTags ts
-    → bytesAt s (lastFrom want at before ts) ≡ lastBytes want (bytesAt s before) ts
+tied-by : (s : List ℕ) (want : ℕ) (empty : Bool) (ts : List Tag) (at : ℕ) (before : Found) → drop at s ≡ writeTags ts
+    → bytesAt s (lastFrom want empty at before ts) ≡ lastBytes want empty (bytesAt s before) ts
 unfolding lastFrom lastBytes writeTags
-tied-by s want [] at before e = refl
-tied-by s want (t ∷ ts) at before e =
+tied-by s want empty [] at before e = refl
+tied-by s want empty (t ∷ ts) at before e =
     let v = t .value in
     let n = at + 2 + length v in
     let w = writeTags ts in
@@ -115,17 +115,47 @@ tied-by s want (t ∷ ts) at before e =
     let e₃ : drop n s ≡ w = sym (drop-drop (length v) (at + 2) s) ∙ ap (drop (length v)) e₂ ∙ drop-append-seam v w in
     let m : n - (at + 2) ≡ length v = omega arith in
     let e₄ : take (n - (at + 2)) (drop (at + 2) s) ≡ v = rw (m, e₂) (take-append-seam v w) in
-    tied-by s want ts n (pick (eqb (t .tag) want) (found.At (at + 2) n) before) e₃
-    ∙ ap (λ (o : Option (List ℕ)). lastBytes want o ts) (pick-bytes s v (at + 2) n before (eqb (t .tag) want) e₄)
+    let x = counts want empty (t .tag) (length v) in
+    tied-by s want empty ts n (pick x (found.At (at + 2) n) before) e₃
+    ∙ ap (λ (o : Option (List ℕ)). lastBytes want empty o ts) (pick-bytes s v (at + 2) n before x e₄)
 
-last-by : (s : List ℕ) (want : ℕ) (r : Tags) → tags s ≡ r → bytesAt s (lastIn want 0 found.Missing r) ≡ lastOf want r
-last-by s want unreadable e = refl
-last-by s want (tagList ts) e = tied-by s want ts 0 found.Missing (sym (read-write s ts e))
+last-by : (s : List ℕ) (want : ℕ) (empty : Bool) (r : Tags) → tags s ≡ r
+    → bytesAt s (lastIn want empty 0 found.Missing r) ≡ lastOf want empty r
+last-by s want empty unreadable e = refl
+last-by s want empty (tagList ts) e = tied-by s want empty ts 0 found.Missing (sym (read-write s ts e))
 
--- the place that `lastValue` gives holds the value of the list's last tag of that number
-pub last-value-bytes : (s : List ℕ) (want : ℕ) → bytesAt s (lastValue s want) ≡ lastOf want (tags s)
-unfolding lastValue
-last-value-bytes s want = last-by s want (tags s) refl
+-- the place that `lastUnder` gives holds the value of the list's last tag that counts
+pub last-under-bytes : (s : List ℕ) (want : ℕ) (empty : Bool) → bytesAt s (lastUnder s want empty) ≡ lastOf want empty (tags s)
+unfolding lastUnder
+last-under-bytes s want empty = last-by s want empty (tags s) refl
+
+-- ---- and its place lies within the list
+
+abbrev pub Within : List ℕ → Found → Type 0
+Within s (found.At b e) = (b ≤ e) × (e ≤ length s)
+Within s found.Missing = Unit {0}
+
+pick-within : (s : List ℕ) (x : Bool) (b e : ℕ) (before : Found) → b ≤ e → e ≤ length s → Within s before → Within s (pick x (found.At b e) before)
+pick-within s true b e before l h w = (l, h)
+pick-within s false b e before l h w = w
+
+within-from : (s : List ℕ) (want : ℕ) (empty : Bool) (ts : List Tag) (at : ℕ) (before : Found) → at + length (writeTags ts) ≡ length s
+    → Within s before → Within s (lastFrom want empty at before ts)
+unfolding lastFrom writeTags
+within-from s want empty [] at before e w = w
+within-from s want empty (t ∷ ts) at before e w =
+    let v = t .value in
+    let l = length-append v (writeTags ts) in
+    within-from s want empty ts (at + 2 + length v) _ (omega arith)
+    (pick-within s (counts want empty (t .tag) (length v)) (at + 2) (at + 2 + length v) before (omega arith) (omega arith) w)
+
+within-by : (s : List ℕ) (want : ℕ) (empty : Bool) (r : Tags) → tags s ≡ r → Within s (lastIn want empty 0 found.Missing r)
+within-by s want empty unreadable e = tt
+within-by s want empty (tagList ts) e = within-from s want empty ts 0 found.Missing (let l = ap length (read-write s ts e) in omega arith) tt
+
+pub last-within : (s : List ℕ) (want : ℕ) (empty : Bool) → Within s (lastUnder s want empty)
+unfolding lastUnder
+last-within s want empty = within-by s want empty (tags s) refl
 
 -- ---- a tag written
 

@@ -1,26 +1,26 @@
--- Text in a store: written into a part that it fills, with zeros stored after it, it is one paste. Assumes nothing.
+-- Text in a store: written into a part that it fills, with zeros stored after it, it is laid at once. Assumes nothing.
 use mathlib.Core.Path.{_≡_, refl, sym, ap, _∙_}
 use mathlib.Core.Bool.{Bool, true, false}
 use mathlib.Core.List.{List, [], _∷_, _++_, append-assoc, append-nil}
-use Prim.Native.Nat.{ℕ, _+_, _-_, _≤_, _<_}
+use Prim.Native.Nat.{ℕ, _+_, _-_, _≤_}
 use native.Mathlib.Omega.{arith}
-use native.Mathlib.Numerals.{add-one}
+use native.Mathlib.Nat.{pos-of-ne-zero}
 use lib.Dec.{ltb}
 use lib.ListN.{length, set, take, drop, length-append, length-take, length-drop, drop-of-length-le}
-use lib.Seq.{paste-zero, drop-drop, take-length}
+use lib.Seq.{drop-drop, take-length}
 use borrow.Author.Tests.{le-ltb, ltb-true, ltb-false}
 use Rattle.digest.specs.Unicode.{lossy, utf16be}
 use Rattle.digest.specs.Text.{unicodeBytes, Stored, stored, storeText}
 use Rattle.digest.specs.declared.text.Decoded.{Decoded}
 use Rattle.digest.specs.declared.text.Decoded.the-variants.{Written}
 use Rattle.packet.specs.Canonical.{terminated16}
-use Rattle.packet.specs.HeaderWriter.{pasteAt}
-use Rattle.packet.proofs.HeaderStore.{paste-sets}
+use Rattle.packet.specs.Placed.{laid}
+use Rattle.packet.proofs.Laid.{laid-nothing, set-more}
 use Rattle.packet.proofs.TextForms.{terminated-none, terminated-some}
 
 -- a part of the store that the text fills
 pub part-text : (d t p : List ℕ) (from end : ℕ) (r : Decoded) → from + length t ≡ end → end ≤ length d
-    → stored r p ≡ storeText t (take (end - from) (drop from d)) → take from d ++ (p ++ drop (end - from) (drop from d)) ≡ pasteAt d from t
+    → stored r p ≡ storeText t (take (end - from) (drop from d)) → take from d ++ (p ++ drop (end - from) (drop from d)) ≡ laid d from t
 unfolding storeText
 part-text d t p from end r h l q =
     let m = take (end - from) (drop from d) in
@@ -32,16 +32,16 @@ part-text d t p from end r h l q =
     rw (w, drop-drop (end - from) from d, e, take-length t) (sym (append-assoc (take from d) t (drop (from + length t) d)))
 
 -- a zero after it
-pub zero-after : (d d₁ t : List ℕ) (from n : ℕ) → n ≡ from + length t → n + 1 ≤ length d → d₁ ≡ pasteAt d from t
-    → set d₁ n 0 ≡ pasteAt d from (t ++ (0 ∷ []))
-zero-after d d₁ t from n e h q = ap (λ (d : List ℕ). set d n 0) q ∙ paste-sets d t (0 ∷ []) from n e h
+pub zero-after : (d d₁ t : List ℕ) (from n : ℕ) → n ≡ from + length t → n + 1 ≤ length d → d₁ ≡ laid d from t
+    → set d₁ n 0 ≡ laid d from (t ++ (0 ∷ []))
+zero-after d d₁ t from n e h q = ap (λ (d : List ℕ). set d n 0) q ∙ set-more d t from n 0 (sym e) (omega arith)
 
-pub zeros-after : (d d₁ t : List ℕ) (from n : ℕ) → n ≡ from + length t → n + 2 ≤ length d → d₁ ≡ pasteAt d from t
-    → set (set d₁ n 0) (n + 1) 0 ≡ pasteAt d from (t ++ (0 ∷ 0 ∷ []))
+pub zeros-after : (d d₁ t : List ℕ) (from n : ℕ) → n ≡ from + length t → n + 2 ≤ length d → d₁ ≡ laid d from t
+    → set (set d₁ n 0) (n + 1) 0 ≡ laid d from (t ++ (0 ∷ 0 ∷ []))
 zeros-after d d₁ t from n e h q =
-    ap (λ (d : List ℕ). set (set d n 0) (n + 1) 0) q
-    ∙ ap (λ (m : ℕ). set (set (pasteAt d from t) n 0) m 0) (add-one n)
-    ∙ paste-sets d t (0 ∷ 0 ∷ []) from n e h
+    ap (λ (d : List ℕ). set d (n + 1) 0) (zero-after d d₁ t from n e (omega arith) q)
+    ∙ set-more d (t ++ (0 ∷ [])) from (n + 1) 0 (omega (arith, length-append t (0 ∷ []))) (omega arith)
+    ∙ ap (laid d from) (append-assoc t (0 ∷ []) (0 ∷ []))
 
 -- UTF-16 with its zero unit: no bytes, or two more than the text's
 pub record Unit16 (t : List ℕ) (from end : ℕ) : Type 0 where
@@ -71,16 +71,9 @@ pub some16 : (t : List ℕ) → (length (unicodeBytes t) ≡ 0 → ⊥) → leng
 unfolding unicodeBytes
 some16 t h =
     let u = utf16be (lossy t) in
-    ap length (terminated-some (lossy t) (positive (length u) h)) ∙ length-append u (0 ∷ 0 ∷ [])
-  where
-    positive : (n : ℕ) → (n ≡ 0 → ⊥) → 0 < n
-    positive n h = by (ltb 0 n) refl
-      where
-        by : (x : Bool) → ltb 0 n ≡ x → 0 < n
-        by true e = ltb-true 0 n e
-        by false e = absurd (h (omega (arith, ltb-false 0 n e)))
+    ap length (terminated-some (lossy t) (pos-of-ne-zero h)) ∙ length-append u (0 ∷ 0 ∷ [])
 
 -- and no bytes change nothing
-pub none-pasted : (d v : List ℕ) (from : ℕ) → length v ≡ 0 → d ≡ pasteAt d from v
-none-pasted d [] from h = paste-zero d from []
+pub none-pasted : (d v : List ℕ) (from : ℕ) → length v ≡ 0 → d ≡ laid d from v
+none-pasted d [] from h = sym (laid-nothing d from)
 none-pasted d (x ∷ v) from h = absurd (omega arith)

@@ -5,7 +5,7 @@ use Prim.Native.Nat.{ℕ, _<_}
 use lib.Bits.{bitAnd, bitOr}
 use lib.Dec.{eqb, leb}
 use Rattle.packet.specs.FirstByte.{topBit}
-use Rattle.packet.proofs.Below.{numbers-agree, tests-agree}
+use Rattle.base.proofs.Below.{numbers-agree, tests-agree}
 
 pub top-set : (x : ℕ) → x < 256 → not (eqb (bitAnd x 128) 0) ≡ leb 0x80 x
 top-set x h = tests-agree (λ x. not (eqb (bitAnd x 128) 0)) (λ x. leb 0x80 x) 256 tt x h

@@ -5,12 +5,11 @@ use mathlib.Core.List.{List, [], _∷_, _++_}
 use mathlib.Core.Bool.{Bool, true, false, _&&_}
 use mathlib.Core.Option.{Option, none, some}
 use lib.ListN.{length, getD}
-use lib.Dec.{eqb, ltb}
+use lib.Dec.{eqb}
 use Rattle.base.specs.Pick.{pick}
 use Rattle.digest.specs.Md5.{requestDigest}
 use Rattle.packet.specs.declared.tlv.Found.{Found}
-use Rattle.packet.specs.declared.tlv.Found.the-variants as place
-use Rattle.packet.specs.Tags.{Tag, Tags, unreadable, tagList, tags}
+use Rattle.packet.specs.Tags.{Tag, Tags, unreadable, tagList, tags, lastUnder}
 
 -- ---- the response: tag 0 the request digest, 1 the user id, 2 the nonce that it answers
 
@@ -71,18 +70,8 @@ unfoldable pub challengeOf : List ℕ → Option Challenge
 challengeOf v = challengeIn (tags v)
 
 -- where the realm stands in the list, its charset byte included
-unfoldable pub realmFrom : ℕ → Found → List Tag → Found
-realmFrom at before [] = before
-realmFrom at before (t ∷ ts) =
-    realmFrom (at + 2 + length (t .value))
-    (pick (eqb (t .tag) 2 && ltb 0 (length (t .value))) (place.At (at + 2) (at + 2 + length (t .value))) before) ts
-
-abbrev pub realmIn : Tags → Found
-realmIn unreadable = place.Missing
-realmIn (tagList ts) = realmFrom 0 place.Missing ts
-
 unfoldable pub realmPlace : List ℕ → Found
-realmPlace v = realmIn (tags v)
+realmPlace v = lastUnder v 2 false
 
 -- option bits: 0 a user id is required, 1 access is read only
 unfoldable pub userIdRequired : ℕ → Bool
@@ -111,19 +100,25 @@ verified nonce r password = answers nonce (r .nonce) && same (requestDigest nonc
 
 -- ---- what is written
 
+-- a tag, where there is a value for it
+abbrev pub optionalTag : ℕ → Option (List ℕ) → List Tag
+optionalTag t none = []
+optionalTag t (some v) = record { tag = t; value = v } ∷ []
+
 -- the challenge: nonce, options, and the realm with its charset in front, where there is one
 abbrev pub realmTag : Option (List ℕ) → List Tag
-realmTag none = []
-realmTag (some r) = record { tag = 2; value = r } ∷ []
+realmTag r = optionalTag 2 r
 
 unfoldable pub challengeTags : List ℕ → ℕ → Option (List ℕ) → List Tag
 challengeTags nonce options realm = record { tag = 0; value = nonce } ∷ (record { tag = 1; value = options ∷ [] } ∷ realmTag realm)
 
 -- the response to a challenge: the digest, the user id where there is one, and the nonce
 abbrev pub userTag : Option (List ℕ) → List Tag
-userTag none = []
-userTag (some u) = record { tag = 1; value = u } ∷ []
+userTag u = optionalTag 1 u
+
+-- its tags, whatever the digest
+abbrev pub answerTags : List ℕ → Option (List ℕ) → List ℕ → List Tag
+answerTags digest user nonce = record { tag = 0; value = digest } ∷ (userTag user ++ (record { tag = 2; value = nonce } ∷ []))
 
 unfoldable pub responseTags : List ℕ → Option (List ℕ) → List ℕ → List Tag
-responseTags nonce user password =
-    record { tag = 0; value = requestDigest nonce password } ∷ (userTag user ++ (record { tag = 2; value = nonce } ∷ []))
+responseTags nonce user password = answerTags (requestDigest nonce password) user nonce

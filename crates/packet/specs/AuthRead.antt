@@ -1,11 +1,12 @@
--- What the readers of digest authentication give: the values of Auth as numbers, and the places of the bytes that stay where they are.
+-- What the readers of digest authentication give (document 01, Digest): the values of Auth as numbers, and the places of the bytes that
+-- stay where they are.
 use Prim.Native.Nat.{ℕ, _-_}
 use mathlib.Core.List.{List, [], _∷_}
-use mathlib.Core.Bool.{Bool, true, false}
+use mathlib.Core.Bool.{Bool, true, false, not, _&&_, _||_}
 use mathlib.Core.Option.{Option, none, some}
 use lib.ListN.{length, getD, take, drop}
 use lib.Dec.{eqb, ltb}
-use Rattle.base.specs.Pick.{pick, both, either, not}
+use Rattle.base.specs.Pick.{pick}
 use Rattle.digest.specs.Md5.{octets16, numbers16}
 use Rattle.digest.specs.declared.md5.Octets16.{Octets16}
 use Rattle.packet.specs.declared.tlv.Found.{Found}
@@ -16,7 +17,7 @@ use Rattle.packet.specs.declared.auth.DigestResponse.{DigestResponse}
 use Rattle.packet.specs.declared.auth.DigestResponse.the-variants as response
 use Rattle.packet.specs.declared.auth.DigestChallenge.{DigestChallenge}
 use Rattle.packet.specs.declared.auth.DigestChallenge.the-variants as challenge
-use Rattle.packet.specs.Tags.{Tag, Tags, unreadable, tagList, lastValue}
+use Rattle.packet.specs.Tags.{Tag, Tags, unreadable, tagList, tags, lastValue}
 use Rattle.packet.specs.Auth.{Response, Challenge, responseOf, challengeOf, realmPlace, userIdRequired, readOnly, verified}
 
 -- ---- the response
@@ -50,10 +51,14 @@ readChallenge v = challengeRead (challengeOf v) (realmPlace v)
 
 -- ---- parts of them
 
+-- a tag with a value of n bytes is not tag 0, or n is 16
+abbrev pub sixteenOr : ℕ → ℕ → Bool
+sixteenOr t n = not (eqb t 0) || eqb n 16
+
 -- each tag 0 of the list, a response's digest or a challenge's nonce, is 16 bytes long
 unfoldable pub allSixteen : List Tag → Bool
 allSixteen [] = true
-allSixteen (t ∷ ts) = both (either (not (eqb (t .tag) 0)) (eqb (length (t .value)) 16)) (allSixteen ts)
+allSixteen (t ∷ ts) = sixteenOr (t .tag) (length (t .value)) && allSixteen ts
 
 abbrev pub sixteenIn : Tags → Bool
 sixteenIn unreadable = false
@@ -63,6 +68,10 @@ sixteenIn (tagList ts) = allSixteen ts
 abbrev pub sixteenAt : List ℕ → Found → Named
 sixteenAt v place.Missing = nonce.Missing
 sixteenAt v (place.At b e) = pick (eqb (e - b) 16) (nonce.Nonce (numbers16 (take 16 (drop b v)))) nonce.Missing
+
+-- the value under tag 0, a response's digest or a challenge's nonce: the last, where each is 16 bytes long
+unfoldable pub tagZero : List ℕ → Named
+tagZero v = pick (sixteenIn (tags v)) (sixteenAt v (lastValue v 0)) nonce.Missing
 
 -- the first byte of the value at a place; empty options are 0
 abbrev pub optionsAt : List ℕ → Found → ℕ

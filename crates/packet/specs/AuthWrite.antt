@@ -1,14 +1,15 @@
--- What the writers of digest authentication leave in a store. A value goes under one length byte, so it is at most 255 bytes long.
-use Prim.Native.Nat.{ℕ, _+_}
-use mathlib.Core.List.{List, [], _∷_, _++_}
+-- What the writers of digest authentication leave in a store (document 01, Digest). A value goes under one length byte, so it is at most
+-- 255 bytes long.
+use Prim.Native.Nat.{ℕ}
+use mathlib.Core.List.{List}
 use mathlib.Core.Bool.{Bool, true, false}
 use mathlib.Core.Option.{Option, none, some}
 use lib.ListN.{length}
 use lib.Dec.{ltb}
 use Rattle.digest.specs.Md5.{octets16}
 use Rattle.digest.specs.declared.md5.Octets16.{Octets16}
-use Rattle.packet.specs.Tags.{Tag, writeTags, Putting}
-use Rattle.packet.specs.Auth.{challengeTags, userTag, responseTags}
+use Rattle.packet.specs.Tags.{writeTags, Putting}
+use Rattle.packet.specs.Auth.{challengeTags, responseTags}
 use Rattle.packet.specs.Placed.{placed}
 
 -- what a flag says is there
@@ -26,9 +27,5 @@ unfoldable pub writeChallenge : List ℕ → ℕ → Octets16 → ℕ → Option
 writeChallenge store at nonce options realm = placed store at (overlong realm) (writeTags (challengeTags (octets16 nonce) options realm))
 
 -- digest, the user id where there is one, and the nonce
-unfoldable pub writeResponse : List ℕ → ℕ → Octets16 → Option (List ℕ) → List ℕ → Putting
-writeResponse store at nonce user password = placed store at (overlong user) (writeTags (responseTags (octets16 nonce) user password))
-
--- the tags of a response, whatever its digest
-abbrev pub answerTags : List ℕ → Option (List ℕ) → List ℕ → List Tag
-answerTags digest user nonce = record { tag = 0; value = digest } ∷ (userTag user ++ (record { tag = 2; value = nonce } ∷ []))
+unfoldable pub writeDigestResponse : List ℕ → ℕ → Octets16 → Option (List ℕ) → List ℕ → Putting
+writeDigestResponse store at nonce user password = placed store at (overlong user) (writeTags (responseTags (octets16 nonce) user password))

@@ -1,15 +1,14 @@
 -- Document 01, Reply codes; IrOBEX 1.5, 3.2.1: the table of response codes, without the Final bit.
-use mathlib.Core.Bool.{Bool, false}
+use mathlib.Core.Bool.{Bool, false, _&&_, _||_}
 use mathlib.Core.List.{List, [], _∷_}
 use Prim.Native.Nat.{ℕ}
 use lib.Dec.{eqb, leb}
-use Rattle.base.specs.Pick.{both, either}
 use Rattle.packet.specs.FirstByte.{topBit}
 
 -- the number is in the list
 abbrev pub member : ℕ → List ℕ → Bool
 member x [] = false
-member x (y ∷ ys) = either (eqb x y) (member x ys)
+member x (y ∷ ys) = eqb x y || member x ys
 
 unfoldable pub codes : List ℕ
 codes =
@@ -59,7 +58,7 @@ isCode b = member b codes
 
 -- the 2xx family, as the source tests it: 0x27 to 0x2F are in the range and are no codes
 unfoldable pub isSuccess : ℕ → Bool
-isSuccess b = both (leb 0x20 b) (leb b 0x2F)
+isSuccess b = leb 0x20 b && leb b 0x2F
 
 -- the byte sent: the code plus 0x80; of a number from 0x80 on, which is no code, that byte itself
 abbrev pub sentCode : ℕ → ℕ

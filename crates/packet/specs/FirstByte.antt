@@ -1,8 +1,8 @@
 -- Document 01, First byte: top bit set, final; low seven bits all ones, Abort; else the low five bits name the opcode.
-use mathlib.Core.Bool.{Bool, true, false}
+use mathlib.Core.Bool.{Bool, true, false, _&&_, _||_}
 use Prim.Native.Nat.{ℕ, _+_, _%_}
 use lib.Dec.{eqb, leb}
-use Rattle.base.specs.Pick.{pick, both, either}
+use Rattle.base.specs.Pick.{pick}
 use Rattle.packet.specs.declared.opcode.Opcode.{Opcode}
 use Rattle.packet.specs.declared.opcode.Opcode.the-variants.{Connect, Disconnect, Put, Get, SetPath, Action, Session, Abort, UserDefined}
 use Rattle.packet.specs.declared.opcode.FirstByte.{FirstByte}
@@ -18,7 +18,7 @@ named x final =
     (pick (eqb x 0x05) (Known SetPath final)
     (pick (eqb x 0x06) (Known Action final)
     (pick (eqb x 0x07) (Known Session final)
-    (pick (both (leb 0x10 x) (leb x 0x1F)) (Known (UserDefined x) final)
+    (pick (leb 0x10 x && leb x 0x1F) (Known (UserDefined x) final)
     Unknown)))))))
 
 -- the first byte of a request: top bit set, final; low seven bits all ones, Abort; else the low five bits
@@ -55,7 +55,7 @@ topBit n = n % 128 + 0x80
 
 -- the byte sent: the number, with the top bit where final or always final
 unfoldable pub byteOf : Opcode → Bool → ℕ
-byteOf o final = pick (either final (alwaysFinal o)) (topBit (valueOf o)) (valueOf o)
+byteOf o final = pick (final || alwaysFinal o) (topBit (valueOf o)) (valueOf o)
 
 -- a UserDefined, or one of the named
 abbrev pub kindOf : Opcode → ℕ
@@ -71,4 +71,4 @@ kindOf (UserDefined x) = 1
 
 -- the same opcode, a UserDefined by its value
 unfoldable pub sameOpcode : Opcode → Opcode → Bool
-sameOpcode a b = both (eqb (kindOf a) (kindOf b)) (eqb (valueOf a) (valueOf b))
+sameOpcode a b = eqb (kindOf a) (kindOf b) && eqb (valueOf a) (valueOf b)

@@ -2,7 +2,7 @@
 -- three bytes, and the value. Some known ids have rules of their own; unknown ids are kept.
 use Prim.Native.Nat.{ℕ, zero, suc, _+_, _-_}
 use mathlib.Core.List.{List, [], _∷_, _++_}
-use mathlib.Core.Bool.{Bool, true, false, _||_}
+use mathlib.Core.Bool.{Bool, true, _||_}
 use mathlib.Core.Option.{Option, none, some}
 use lib.ListN.{length, getD, take, drop}
 use lib.Dec.{ltb, leb, eqb}
@@ -86,7 +86,7 @@ walkFrom s End rest = some []
 walkFrom s Unreadable rest = none
 walkFrom s (At id e from to) rest = push (record { id = id; value = part s from to }) (rest to)
 
--- the headers from a place on; each takes two bytes at least, so a fuel of the length is enough
+-- the headers from a place on; each takes two bytes at least, so a fuel over the length is enough
 unfoldable pub walk : ℕ → List ℕ → ℕ → Option (List Header)
 walk zero s at = none
 walk (suc k) s at = walkFrom s (headerAt s at) (λ n. walk k s n)

@@ -1,4 +1,4 @@
--- Lists of headers: those that a packet reads as, and those that it can hold.
+-- Lists of headers (document 01, Header): those that a packet reads as, and those that it can hold.
 use mathlib.Core.Path.{_≡_}
 use mathlib.Core.Bool.{Bool, true, false}
 use mathlib.Core.List.{List, [], _∷_}

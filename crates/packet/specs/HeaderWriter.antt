@@ -4,7 +4,7 @@ use mathlib.Core.List.{List, [], _∷_, _++_}
 use Prim.Native.Nat.{ℕ, _+_}
 use lib.Dec.{ltb}
 use lib.ListN.{length}
-use lib.Seq.{paste, sets}
+use lib.Seq.{sets}
 use Rattle.base.specs.Pick.{pick}
 use Rattle.base.specs.Bytes.{bytes16}
 use Rattle.digest.specs.Unicode.{lossy}
@@ -16,6 +16,7 @@ use Rattle.packet.specs.declared.header.TextForm.the-variants.{Wide, End
 use Rattle.packet.specs.declared.tlv.Put.{Put}
 use Rattle.packet.specs.declared.tlv.Put.the-variants.{Written, TooLong, Short}
 use Rattle.packet.specs.Tags.{Putting, putting}
+use Rattle.packet.specs.Placed.{laid}
 use Rattle.packet.specs.Canonical.{terminated16}
 use Rattle.packet.specs.Header.{Header, encodingOf, leadOf, bytesOf}
 
@@ -26,17 +27,13 @@ tooLong Bytes n = ltb 65535 (3 + n)
 tooLong U8 n = false
 tooLong U32 n = false
 
--- bytes at a place of a store
-abbrev pub pasteAt : List ℕ → ℕ → List ℕ → List ℕ
-pasteAt store at bytes = paste store at bytes (length bytes)
-
 -- a header at a place of a store. Its bytes follow the id's own encoding, whatever the value is
 unfoldable pub putHeader : List ℕ → ℕ → Header → Putting
 putHeader store at h =
     let bytes = bytesOf h in
     pick (tooLong (encodingOf (h .id)) (length (h .value))) (putting TooLong store)
     (pick (ltb (length store) (at + length bytes)) (putting Short store)
-    (putting (Written (at + length bytes)) (pasteAt store at bytes)))
+    (putting (Written (at + length bytes)) (laid store at bytes)))
 
 -- the number of an answer: 7 a header over 65,535 bytes, 10 a store too short, none (0) where the header is written
 abbrev pub putNumber : Put → ℕ

@@ -1,9 +1,8 @@
 -- Document 01, Modes: the one-byte values of the Single Response Mode headers and of Action Id, and the Permissions.
-use mathlib.Core.Bool.{Bool}
+use mathlib.Core.Bool.{Bool, _&&_, _||_}
 use mathlib.Core.List.{[], _∷_}
 use Prim.Native.Nat.{ℕ, _%_, _^_}
 use lib.Dec.{leb}
-use Rattle.base.specs.Pick.{both, either}
 use Rattle.packet.specs.Codes.{member}
 
 -- Single Response Mode: 0 Disable, 1 Enable, 2 Supported
@@ -22,7 +21,7 @@ wait b = member b (1 ∷ 2 ∷ [])
 
 -- Action Id: 0 Copy, 1 Move or Rename, 2 Set Permissions, 0x80 to 0xFF vendor specific
 unfoldable pub isAction : ℕ → Bool
-isAction b = either (member b (0 ∷ 1 ∷ 2 ∷ [])) (both (leb 0x80 b) (leb b 0xFF))
+isAction b = member b (0 ∷ 1 ∷ 2 ∷ []) || (leb 0x80 b && leb b 0xFF)
 
 -- Permissions: user, group, other in the low three bytes; the top byte is dropped when read, and written 0
 abbrev pub permissionsOf : ℕ → ℕ

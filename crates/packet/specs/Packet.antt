@@ -1,13 +1,14 @@
--- Packets (IrOBEX 1.5, section 3.1): a first byte, the 16-bit length of the whole, Connect's four bytes or SetPath's two, and headers to the end.
+-- Packets (IrOBEX 1.5, section 3.1): a first byte, the 16-bit length of the whole, Connect's four bytes or SetPath's two, and headers to
+-- the end.
 use Prim.Native.Nat.{ℕ, _+_, _/_, _%_}
-use mathlib.Core.List.{List, [], _∷_, _++_}
-use mathlib.Core.Bool.{Bool, true, false}
+use mathlib.Core.List.{List, _∷_, _++_}
+use mathlib.Core.Bool.{Bool}
 use mathlib.Core.Option.{Option, none, some}
 use lib.ListN.{length, getD, take}
 use lib.Dec.{ltb, eqb}
 use Rattle.base.specs.Pick.{pick}
 use Rattle.base.specs.Bytes.{be16, bytes16}
-use Rattle.packet.specs.FirstByte.{firstByte, byteOf}
+use Rattle.packet.specs.FirstByte.{firstByte}
 use Rattle.packet.specs.Header.{Header, readHeaders}
 use Rattle.packet.specs.declared.opcode.Opcode.{Opcode}
 use Rattle.packet.specs.declared.opcode.Opcode.the-variants.{Connect, Disconnect, Put, Get, SetPath, Action, Session, Abort, UserDefined}

@@ -1,4 +1,4 @@
--- What the readers of packets give: the operation, and where its headers stand.
+-- What the readers of packets give (document 01, Packet): the operation, and where its headers stand.
 use Prim.Native.Nat.{ℕ}
 use mathlib.Core.List.{List}
 use mathlib.Core.Option.{Option, none, some}

@@ -1,4 +1,5 @@
--- What the writers of packets leave at the front of a store. A packet over 65,535 bytes has no length field (number 7).
+-- What the writers of packets leave at the front of a store (document 01, Packet). A packet over 65,535 bytes has no length field
+-- (number 7).
 use Prim.Native.Nat.{ℕ, _-_}
 use mathlib.Core.List.{List, [], _∷_, _++_}
 use mathlib.Core.Bool.{Bool}

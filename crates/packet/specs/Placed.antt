@@ -1,4 +1,4 @@
--- Bytes written into a lent store: whole, or refused with the store as it was.
+-- Bytes written into a lent store (document 01, Refusals): whole, or refused with the store as it was.
 use Prim.Native.Nat.{ℕ, _+_}
 use mathlib.Core.List.{List}
 use mathlib.Core.Bool.{Bool}
@@ -14,7 +14,7 @@ use Rattle.packet.specs.Tags.{Putting, putting}
 abbrev pub laid : List ℕ → ℕ → List ℕ → List ℕ
 laid d at l = paste d at l (length l)
 
--- whether need bytes go to a place of a store of len bytes: number 10 comes before what else forbids them (document 01, Refusals)
+-- whether need bytes go to a place of a store of len bytes: number 10 comes before what else forbids them
 unfoldable pub roomOf : ℕ → ℕ → ℕ → Bool → Put
 roomOf len at need forbidden = pick (ltb len (at + need)) Short (pick forbidden TooLong (Written (at + need)))
 

@@ -1,5 +1,5 @@
 -- Document 01, Tag lists: tag, length, that many bytes, filling the payload.
-use mathlib.Core.Bool.{Bool, true, false}
+use mathlib.Core.Bool.{Bool, true, false, _&&_, _||_}
 use mathlib.Core.List.{List, [], _∷_, _++_}
 use mathlib.Core.Option.{Option, none, some}
 use Prim.Native.Nat.{ℕ, zero, suc, _+_, _-_}
@@ -62,34 +62,43 @@ tagAt s at =
 
 -- ---- the last value under a tag
 
--- where the last value under a tag stands among the tags that start at a place, or what was found before them
-unfoldable pub lastFrom : ℕ → ℕ → Found → List Tag → Found
-lastFrom want at before [] = before
-lastFrom want at before (t ∷ ts) =
-    lastFrom want (at + 2 + length (t .value))
-    (pick (eqb (t .tag) want) (found.At (at + 2) (at + 2 + length (t .value))) before) ts
+-- a tag with a value of n bytes is one of those looked for: by its number, and the value is not empty, or an empty one counts too
+abbrev pub counts : ℕ → Bool → ℕ → ℕ → Bool
+counts want empty t n = eqb t want && (empty || ltb 0 n)
+
+-- where the value of the last that counts stands among the tags that start at a place, or what was found before them
+unfoldable pub lastFrom : ℕ → Bool → ℕ → Found → List Tag → Found
+lastFrom want empty at before [] = before
+lastFrom want empty at before (t ∷ ts) =
+    lastFrom want empty (at + 2 + length (t .value))
+    (pick (counts want empty (t .tag) (length (t .value))) (found.At (at + 2) (at + 2 + length (t .value))) before) ts
 
 -- nothing is found in what is unreadable
-abbrev pub lastIn : ℕ → ℕ → Found → Tags → Found
-lastIn want at before unreadable = found.Missing
-lastIn want at before (tagList ts) = lastFrom want at before ts
+abbrev pub lastIn : ℕ → Bool → ℕ → Found → Tags → Found
+lastIn want empty at before unreadable = found.Missing
+lastIn want empty at before (tagList ts) = lastFrom want empty at before ts
 
+unfoldable pub lastUnder : List ℕ → ℕ → Bool → Found
+lastUnder s want empty = lastIn want empty 0 found.Missing (tags s)
+
+-- the last value under a tag, an empty one too
 unfoldable pub lastValue : List ℕ → ℕ → Found
-lastValue s want = lastIn want 0 found.Missing (tags s)
+lastValue s want = lastUnder s want true
 
 -- the bytes that stand there
 abbrev pub bytesAt : List ℕ → Found → Option (List ℕ)
 bytesAt s (found.At b e) = some (take (e - b) (drop b s))
 bytesAt s found.Missing = none
 
--- the same over the list alone: the value of the last tag that has the number, or what was before the list
-unfoldable pub lastBytes : ℕ → Option (List ℕ) → List Tag → Option (List ℕ)
-lastBytes want before [] = before
-lastBytes want before (t ∷ ts) = lastBytes want (pick (eqb (t .tag) want) (some (t .value)) before) ts
+-- the same over the list alone: the value of the last tag that counts, or what was before the list
+unfoldable pub lastBytes : ℕ → Bool → Option (List ℕ) → List Tag → Option (List ℕ)
+lastBytes want empty before [] = before
+lastBytes want empty before (t ∷ ts) =
+    lastBytes want empty (pick (counts want empty (t .tag) (length (t .value))) (some (t .value)) before) ts
 
-abbrev pub lastOf : ℕ → Tags → Option (List ℕ)
-lastOf want unreadable = none
-lastOf want (tagList ts) = lastBytes want none ts
+abbrev pub lastOf : ℕ → Bool → Tags → Option (List ℕ)
+lastOf want empty unreadable = none
+lastOf want empty (tagList ts) = lastBytes want empty none ts
 
 -- ---- the writer
 

@@ -1,23 +1,24 @@
 // Digest authentication over a tag list's payload (01, Digest; the source's auth.rs). Places are relative to the payload.
 ghost use mathlib.Core.Path.{_≡_};
-ghost use mathlib.Core.Bool.{false};
+ghost use mathlib.Core.Bool.{false, _&&_};
 ghost use mathlib.Core.List.{_∷_};
 ghost use Prim.Native.Nat.{_+_, _≤_, _<_, _^_};
 ghost use lib.ListN.{length};
 ghost use lib.Dec.{ltb};
-ghost use Rattle.base.specs.Pick.{pick, both};
+ghost use Rattle.base.specs.Pick.{pick};
 ghost use Rattle.digest.specs.Md5.{octets16};
 ghost use Rattle.packet.specs.Tags.{tags, lastValue, writeTags, putting};
-ghost use Rattle.packet.specs.Auth.{realmPlace, same, answers, realmTag, userTag, challengeTags};
+ghost use Rattle.packet.specs.Auth.{realmPlace, same, answers, realmTag, userTag, challengeTags, answerTags};
 ghost use Rattle.packet.specs.Placed.{laid};
 ghost use Rattle.packet.specs.Flags.{flagBits};
-ghost use Rattle.packet.specs.AuthWrite.{given, overlong, writeChallenge, writeResponse, answerTags};
-ghost use Rattle.packet.specs.AuthRead.{bytesNamed, sixteenIn, sixteenAt, optionsAt, readResponse, readChallenge, verifies};
+ghost use Rattle.packet.specs.AuthWrite.{given, overlong, writeChallenge, writeDigestResponse};
+ghost use Rattle.packet.specs.AuthRead.{bytesNamed, sixteenOr, sixteenIn, sixteenAt, tagZero, optionsAt, readResponse, readChallenge, verifies};
 use crate::flags::flag_bits;
 use crate::store::room;
 use crate::tlv::Found;
 use crate::tlv::Put;
 use crate::tlv::TagAt;
+use crate::tlv::last_under;
 use crate::tlv::last_value;
 use crate::tlv::put_tag;
 use crate::tlv::tag_at;
@@ -68,6 +69,16 @@ pub enum DigestChallenge {
     Unreadable,
 }
 
+// Whether a tag with a value of n bytes is not tag 0, or n is 16.
+fn is_sixteen(tag: u8, n: usize) -> bool
+    ensures { λ r. ⌜ r ≡ sixteenOr tag n ⌝ }
+{
+    if tag != RESPONSE_DIGEST_TAG {
+        return true;
+    }
+    n == 16
+}
+
 // Whether tags fill the payload and each tag 0, a digest or a challenge's nonce, is 16 bytes long.
 fn all_sixteen(v: &[u8]) -> bool
     ensures { λ r. ⌜ r ≡ sixteenIn (tags (now (v .entry))) ⌝ }
@@ -76,10 +87,8 @@ fn all_sixteen(v: &[u8]) -> bool
     loop {
         match tag_at(v, at) {
             TagAt::At { tag, start, next } => {
-                if tag == RESPONSE_DIGEST_TAG {
-                    if next - start != 16 {
-                        return false;
-                    }
+                if !is_sixteen(tag, next - start) {
+                    return false;
                 }
                 at = next;
             }
@@ -106,6 +115,16 @@ fn sixteen(v: &[u8], tag: u8) -> Named
     Named::Nonce(octets16_at(v, start))
 }
 
+// The value under tag 0, a response's digest or a challenge's nonce, where each is 16 bytes long.
+fn tag_zero(v: &[u8]) -> Named
+    ensures { λ r. ⌜ r ≡ tagZero (now (v .entry)) ⌝ }
+{
+    if !all_sixteen(v) {
+        return Named::Missing;
+    }
+    sixteen(v, RESPONSE_DIGEST_TAG)
+}
+
 // The options of a challenge.
 fn options(v: &[u8]) -> u8
     ensures { λ r. ⌜ r ≡ optionsAt (now (v .entry)) (lastValue (now (v .entry)) 1) ⌝ }
@@ -123,36 +142,14 @@ fn options(v: &[u8]) -> u8
 pub fn realm(v: &[u8]) -> Found
     ensures { λ r. ⌜ r ≡ realmPlace (now (v .entry)) ⌝ }
 {
-    let mut at = 0;
-    let mut found = Found::Missing;
-    loop {
-        match tag_at(v, at) {
-            TagAt::At { tag, start, next } => {
-                if tag == CHALLENGE_REALM_TAG {
-                    if start < next {
-                        found = Found::At { start, end: next };
-                    }
-                }
-                at = next;
-            }
-            TagAt::Bad => {
-                return Found::Missing;
-            }
-            TagAt::End => {
-                return found;
-            }
-        }
-    }
+    last_under(v, CHALLENGE_REALM_TAG, false)
 }
 
 // Repeated tags: the last holds.
 pub fn read_response(v: &[u8]) -> DigestResponse
     ensures { λ r. ⌜ r ≡ readResponse (now (v .entry)) ⌝ }
 {
-    if !all_sixteen(v) {
-        return DigestResponse::Unreadable;
-    }
-    let Named::Nonce(digest) = sixteen(v, RESPONSE_DIGEST_TAG) else {
+    let Named::Nonce(digest) = tag_zero(v) else {
         return DigestResponse::Unreadable;
     };
     DigestResponse::Response {
@@ -165,10 +162,7 @@ pub fn read_response(v: &[u8]) -> DigestResponse
 pub fn read_challenge(v: &[u8]) -> DigestChallenge
     ensures { λ r. ⌜ r ≡ readChallenge (now (v .entry)) ⌝ }
 {
-    if !all_sixteen(v) {
-        return DigestChallenge::Unreadable;
-    }
-    let Named::Nonce(nonce) = sixteen(v, CHALLENGE_NONCE_TAG) else {
+    let Named::Nonce(nonce) = tag_zero(v) else {
         return DigestChallenge::Unreadable;
     };
     let bits = options(v);
@@ -222,7 +216,7 @@ fn tag_len(there: bool, n: usize) -> usize
 
 // Whether a value of n bytes, where it is there, is too long for its length byte.
 pub fn is_long(there: bool, n: usize) -> bool
-    ensures { λ r. ⌜ r ≡ both there (ltb 255 n) ⌝ }
+    ensures { λ r. ⌜ r ≡ (there && ltb 255 n) ⌝ }
 {
     if !there {
         return false;
@@ -289,15 +283,13 @@ pub fn write_challenge(
 {
     let n = value.len() + 1;
     let need = 21 + tag_len(has_realm, n);
-    match room(store.len(), at, need, is_long(has_realm, n)) {
-        Put::Written(next) => {
-            let bits = flag_bits(user_id_required, read_only);
-            put_challenge(store, at, nonce, bits, has_realm, charset, value);
-            Put::Written(next)
-        }
-        Put::TooLong => Put::TooLong,
-        Put::Short => Put::Short,
-    }
+    let answer = room(store.len(), at, need, is_long(has_realm, n));
+    let Put::Written(next) = answer else {
+        return answer;
+    };
+    let bits = flag_bits(user_id_required, read_only);
+    put_challenge(store, at, nonce, bits, has_realm, charset, value);
+    Put::Written(next)
 }
 
 // The tags of a response, which fit.
@@ -333,22 +325,14 @@ pub fn respond(
     user: &[u8],
     password: &[u8],
 ) -> Put
-    ensures { λ r. ⌜ putting r (now (store .exit)) ≡ writeResponse (now (store .entry)) at nonce (given «has_user» (now (user .entry))) (now (password .entry)) ⌝ }
+    ensures { λ r. ⌜ putting r (now (store .exit)) ≡ writeDigestResponse (now (store .entry)) at nonce (given «has_user» (now (user .entry))) (now (password .entry)) ⌝ }
 {
     let need = 36 + tag_len(has_user, user.len());
-    match room(store.len(), at, need, is_long(has_user, user.len())) {
-        Put::Written(next) => {
-            put_response(
-                store,
-                at,
-                request_digest(nonce, password),
-                has_user,
-                user,
-                nonce,
-            );
-            Put::Written(next)
-        }
-        Put::TooLong => Put::TooLong,
-        Put::Short => Put::Short,
-    }
+    let answer = room(store.len(), at, need, is_long(has_user, user.len()));
+    let Put::Written(next) = answer else {
+        return answer;
+    };
+    let digest = request_digest(nonce, password);
+    put_response(store, at, digest, has_user, user, nonce);
+    Put::Written(next)
 }

@@ -12,7 +12,8 @@ ghost use Rattle.packet.specs.Auth.{same};
 ghost use Rattle.packet.specs.Canonical.{terminated16, rewritten, canonical};
 ghost use Rattle.packet.specs.Header.{encodingOf, leadOf, sizeAt, tagged, allowed, encodedAt, headerAt, firstPlace};
 ghost use Rattle.packet.specs.HeaderList.{readableFrom};
-ghost use Rattle.packet.specs.HeaderWriter.{tooLong, putHeader, pasteAt, roomFor, leadBytes, header, startHeader, textValue};
+ghost use Rattle.packet.specs.HeaderWriter.{tooLong, putHeader, roomFor, leadBytes, header, startHeader, textValue};
+ghost use Rattle.packet.specs.Placed.{laid};
 ghost use Rattle.packet.specs.Tags.{putting};
 use crate::action::is_action;
 use crate::srm::is_mode;
@@ -389,14 +390,14 @@ fn text_size(text: &[u8], form: TextForm) -> usize
 
 fn write_units(store: &mut [u8], from: usize, end: usize, text: &[u8])
     requires { ⌜ (from + length (unicodeBytes (now text)) ≡ end) × (end ≤ length (now store)) ⌝ }
-    ensures { λ r. ⌜ now (store .exit) ≡ pasteAt (now (store .entry)) from (unicodeBytes (now (text .entry))) ⌝ }
+    ensures { λ r. ⌜ now (store .exit) ≡ laid (now (store .entry)) from (unicodeBytes (now (text .entry))) ⌝ }
 {
     encode_unicode(text, &mut store[from..end]);
 }
 
 fn write_wide(store: &mut [u8], from: usize, end: usize, text: &[u8])
     requires { ⌜ (from + length (terminated16 (lossy (now text))) ≡ end) × (end ≤ length (now store)) ⌝ }
-    ensures { λ r. ⌜ now (store .exit) ≡ pasteAt (now (store .entry)) from (terminated16 (lossy (now (text .entry)))) ⌝ }
+    ensures { λ r. ⌜ now (store .exit) ≡ laid (now (store .entry)) from (terminated16 (lossy (now (text .entry)))) ⌝ }
 {
     if from == end {
         return;
@@ -409,14 +410,14 @@ fn write_wide(store: &mut [u8], from: usize, end: usize, text: &[u8])
 
 fn write_bare(store: &mut [u8], from: usize, end: usize, text: &[u8])
     requires { ⌜ (from + length (asciiText (now text)) ≡ end) × (end ≤ length (now store)) ⌝ }
-    ensures { λ r. ⌜ now (store .exit) ≡ pasteAt (now (store .entry)) from (asciiText (now (text .entry))) ⌝ }
+    ensures { λ r. ⌜ now (store .exit) ≡ laid (now (store .entry)) from (asciiText (now (text .entry))) ⌝ }
 {
     decode_ascii(text, &mut store[from..end]);
 }
 
 fn write_ended(store: &mut [u8], from: usize, end: usize, text: &[u8])
     requires { ⌜ (from + length (asciiText (now text) ++ (0 ∷ [])) ≡ end) × (end ≤ length (now store)) ⌝ }
-    ensures { λ r. ⌜ now (store .exit) ≡ pasteAt (now (store .entry)) from (asciiText (now (text .entry)) ++ (0 ∷ [])) ⌝ }
+    ensures { λ r. ⌜ now (store .exit) ≡ laid (now (store .entry)) from (asciiText (now (text .entry)) ++ (0 ∷ [])) ⌝ }
 {
     let n = end - 1;
     write_bare(store, from, n, text);
@@ -426,7 +427,7 @@ fn write_ended(store: &mut [u8], from: usize, end: usize, text: &[u8])
 // A text, from a place up to its end.
 fn write_text(store: &mut [u8], from: usize, end: usize, text: &[u8], form: TextForm)
     requires { ⌜ (from + length (textValue form (now text)) ≡ end) × (end ≤ length (now store)) ⌝ }
-    ensures { λ r. ⌜ now (store .exit) ≡ pasteAt (now (store .entry)) from (textValue form (now (text .entry))) ⌝ }
+    ensures { λ r. ⌜ now (store .exit) ≡ laid (now (store .entry)) from (textValue form (now (text .entry))) ⌝ }
 {
     match form {
         TextForm::Wide => write_wide(store, from, end, text),

@@ -3,7 +3,7 @@
 ghost use mathlib.Core.Path.{_≡_};
 ghost use mathlib.Core.List.{_∷_};
 ghost use Prim.Native.Nat.{_+_, _≤_, _<_};
-ghost use lib.ListN.{length, getD};
+ghost use lib.ListN.{length, getD, take};
 ghost use Rattle.base.specs.Bytes.{bytes16};
 ghost use Rattle.packet.specs.Tags.{putting};
 ghost use Rattle.packet.specs.Placed.{laid};
@@ -210,20 +210,18 @@ fn put_packet(store: &mut [u8], byte: u8, fields: &[u8], headers: &[u8])
     copy_into(store, n, headers);
 }
 
-// A packet at the front of the store.
-fn write_packet(store: &mut [u8], byte: u8, fields: &[u8], headers: &[u8]) -> Put
-    requires { ⌜ length (now fields) ≤ 4 ⌝ }
-    ensures { λ r. ⌜ putting r (now (store .exit)) ≡ writePacket (now (store .entry)) (packetBytes byte (now (fields .entry)) (now (headers .entry))) ⌝ }
+// A packet at the front of the store. Its fields are the first n of four bytes.
+fn write_packet(store: &mut [u8], byte: u8, fields: [u8; 4], n: usize, headers: &[u8]) -> Put
+    requires { ⌜ (length fields ≡ 4) × (n ≤ 4) ⌝ }
+    ensures { λ r. ⌜ putting r (now (store .exit)) ≡ writePacket (now (store .entry)) (packetBytes byte (take n fields) (now (headers .entry))) ⌝ }
 {
-    let need = PACKET_PREFIX_LENGTH + fields.len() + headers.len();
-    match room(store.len(), 0, need, MAXIMUM_PACKET_LENGTH < need) {
-        Put::Written(next) => {
-            put_packet(store, byte, fields, headers);
-            Put::Written(next)
-        }
-        Put::TooLong => Put::TooLong,
-        Put::Short => Put::Short,
-    }
+    let need = PACKET_PREFIX_LENGTH + n + headers.len();
+    let answer = room(store.len(), 0, need, MAXIMUM_PACKET_LENGTH < need);
+    let Put::Written(next) = answer else {
+        return answer;
+    };
+    put_packet(store, byte, &fields[..n], headers);
+    Put::Written(next)
 }
 
 fn encode_connect(version: u8, flags: u8, limit: u16) -> [u8; 4]
@@ -289,9 +287,9 @@ pub fn write_request(
 ) -> Put
     ensures { λ r. ⌜ putting r (now (store .exit)) ≡ writeRequest (now (store .entry)) opcode «is_final» fields (now (headers .entry)) ⌝ }
 {
+    let byte = to_byte(opcode, is_final);
     let bytes = field_bytes(opcode, fields);
-    let n = fields_len(opcode);
-    write_packet(store, to_byte(opcode, is_final), &bytes[..n], headers)
+    write_packet(store, byte, bytes, fields_len(opcode), headers)
 }
 
 // The four bytes of a response to a Connect; four zeros, of which none is written, for any other.
@@ -325,7 +323,7 @@ fn parameters_len(connect: ConnectParameters) -> usize
 pub fn write_response(store: &mut [u8], code: u8, connect: ConnectParameters, headers: &[u8]) -> Put
     ensures { λ r. ⌜ putting r (now (store .exit)) ≡ writeResponse (now (store .entry)) code connect (now (headers .entry)) ⌝ }
 {
+    let byte = response::to_byte(code);
     let bytes = parameter_bytes(connect);
-    let n = parameters_len(connect);
-    write_packet(store, response::to_byte(code), &bytes[..n], headers)
+    write_packet(store, byte, bytes, parameters_len(connect), headers)
 }

@@ -1,7 +1,7 @@
 // Tag lists: tag, length, that many bytes, filling the payload (01, Tag lists). The reader is a cursor: a slice and a place in,
 // an enum out. The writer appends one tag to a lent store.
 ghost use mathlib.Core.Path.{_≡_};
-ghost use Rattle.packet.specs.Tags.{tagAt, isTagList, lastValue, putTag, putting};
+ghost use Rattle.packet.specs.Tags.{tagAt, isTagList, counts, lastUnder, lastValue, putTag, putting};
 use base::copy_into;
 use base::wide;
 
@@ -76,9 +76,22 @@ pub fn is_tag_list(s: &[u8]) -> bool
     }
 }
 
-// The last value under a tag. It is missing too where the payload is no tag list.
-pub fn last_value(s: &[u8], tag: u8) -> Found
-    ensures { λ r. ⌜ r ≡ lastValue (now (s .entry)) tag ⌝ }
+// Whether a tag t with a value of n bytes is one of those looked for; empty says whether an empty value is.
+fn is_wanted(tag: u8, empty: bool, t: u8, n: usize) -> bool
+    ensures { λ r. ⌜ r ≡ counts tag empty t n ⌝ }
+{
+    if t != tag {
+        return false;
+    }
+    if empty {
+        return true;
+    }
+    0 < n
+}
+
+// The last value under a tag; empty says whether an empty one counts. It is missing too where the payload is no tag list.
+pub fn last_under(s: &[u8], tag: u8, empty: bool) -> Found
+    ensures { λ r. ⌜ r ≡ lastUnder (now (s .entry)) tag empty ⌝ }
 {
     let mut at = 0;
     let mut found = Found::Missing;
@@ -89,7 +102,7 @@ pub fn last_value(s: &[u8], tag: u8) -> Found
                 start,
                 next,
             } => {
-                if t == tag {
+                if is_wanted(tag, empty, t, next - start) {
                     found = Found::At { start, end: next };
                 }
                 at = next;
@@ -102,6 +115,13 @@ pub fn last_value(s: &[u8], tag: u8) -> Found
             }
         }
     }
+}
+
+// The last value under a tag, an empty one too.
+pub fn last_value(s: &[u8], tag: u8) -> Found
+    ensures { λ r. ⌜ r ≡ lastValue (now (s .entry)) tag ⌝ }
+{
+    last_under(s, tag, true)
 }
 
 // Writes a tag at a place of the store. What is refused changes nothing.

@@ -1,5 +1,5 @@
--- The walk over a packet's headers (01, 'What changes shape'): it holds the packet's bytes and its place. What its functions give, and the list
--- of headers that they give from a place to the end; the same list by the cursor, which is passed the bytes each time.
+-- The walk over a packet's headers (document 01, What changes shape): it holds the packet's bytes and its place. What its functions give,
+-- and the list of headers that they give from a place to the end; the same list by the cursor, which is passed the bytes each time.
 use Prim.Native.Nat.{ℕ, zero, suc, _+_}
 use mathlib.Core.List.{List}
 use mathlib.Core.Option.{Option, none, some}
@@ -32,8 +32,8 @@ countOf r = countFrom 0 r
 
 -- ---- the list
 
--- the headers from where the walk stands: what `next` gives, and on from where `moved` stands behind it. Each takes a byte at least, so a fuel
--- over the packet's length is enough
+-- the headers from where the walk stands: what `next` gives, and on from where `moved` stands behind it. Each takes a byte at least, so a
+-- fuel over the packet's length is enough
 unfoldable pub walkedFor : ℕ → Walk → Option (List Header)
 walkedFor zero w = none
 walkedFor (suc k) w = walkFrom (now (w .packet)) (headerAt (now (w .packet)) (w .at)) (λ n. walkedFor k (movedTo w n))

@@ -1,5 +1,5 @@
-// The walk over headers, as a struct that holds the packet's bytes and its place (01, 'Once the core is in place'). The work is header_at's,
-// the cursor form, which takes a plain slice; each function here takes the struct apart or makes it.
+// The walk over headers, as a struct that holds the packet's bytes and its place (01, 'Once the core is in place'). The work is
+// header_at's, the cursor form, which takes a plain slice; each function here takes the struct apart or makes it.
 ghost use mathlib.Core.Path.{_≡_};
 ghost use Rattle.packet.specs.Header.{headerAt, readHeaders};
 ghost use Rattle.walk.specs.Walk.{walkAt, movedTo, countOf};

@@ -1,4 +1,5 @@
 -- `digest::md5::all_blocks` meets its contract. The blocks that touch the prefix, those in rest, and those that touch the padding follow one another.
+-- Assumes nothing.
 use mathlib.Core.Path.{refl}
 use mathlib.Core.List.{_++_}
 use native.Mathlib.Omega.{arith}

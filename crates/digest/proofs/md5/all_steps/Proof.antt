@@ -1,4 +1,4 @@
--- `digest::md5::all_steps` meets its contract. The four rounds follow one another.
+-- `digest::md5::all_steps` meets its contract. The four rounds follow one another. Assumes nothing.
 use mathlib.Core.Path.{refl}
 use Rattle.digest.specs.Md5.{steps}
 use borrow.Author.Needs.{needs}

@@ -1,4 +1,4 @@
--- `digest::md5::block` meets its contract. The 64 steps, and four sums.
+-- `digest::md5::block` meets its contract. The 64 steps, and four sums. Assumes nothing.
 use Rattle.digest.specs.Md5.{blockOf}
 use borrow.Author.Needs.{needs}
 use Rattle.digest.proofs.md5.block.Statement.{statement}

@@ -1,4 +1,4 @@
--- `digest::md5::digest` meets its contract. The message has no prefix, and the bytes of the digest's value are the digest.
+-- `digest::md5::digest` meets its contract. The message has no prefix, and the bytes of the digest's value are the digest. Assumes nothing.
 use mathlib.Core.Path.{_∙_, ap}
 use denote.Ref.{now}
 use Rattle.digest.specs.Md5.{digestOf, octets16, numbers16, outputOf}

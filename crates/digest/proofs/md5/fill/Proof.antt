@@ -1,4 +1,5 @@
 -- `digest::md5::fill` meets its contract. The four parts of the padded message that are not zeros are laid one after the other.
+-- Assumes nothing.
 use mathlib.Core.Path.{_≡_, sym}
 use mathlib.Core.List.{_++_}
 use Prim.Native.Nat.{_+_, _*_, _%_, _^_}

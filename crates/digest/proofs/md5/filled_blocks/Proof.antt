@@ -1,4 +1,4 @@
--- `digest::md5::filled_blocks` meets its contract. The invariant: s is the registers after k blocks.
+-- `digest::md5::filled_blocks` meets its contract. The invariant: s is the registers after k blocks. Assumes nothing.
 use mathlib.Core.Path.{_≡_, sym}
 use mathlib.Core.List.{_++_}
 use Prim.Native.Nat.{_-_, _≤_}

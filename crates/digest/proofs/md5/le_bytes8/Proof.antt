@@ -1,4 +1,4 @@
--- `digest::md5::le_bytes8` meets its contract. Dividing by 256 again and again is dividing by its powers.
+-- `digest::md5::le_bytes8` meets its contract. Dividing by 256 again and again is dividing by its powers. Assumes nothing.
 use mathlib.Core.Path.{_≡_}
 use Prim.Native.Nat.{_/_}
 use native.Mathlib.Omega.{arith}

@@ -1,4 +1,5 @@
 -- `digest::md5::number_at` meets its contract. The invariant: x is the number of the first i bytes, and they leave room for the next.
+-- Assumes nothing.
 use mathlib.Core.Path.{_≡_, refl, sym}
 use mathlib.Core.List.{List}
 use Prim.Native.Nat.{ℕ, _+_, _-_, _*_, _^_, _≤_, _<_}

@@ -1,4 +1,4 @@
--- `digest::md5::octets` meets its contract. The bytes of each number, low-order first, are read from the back.
+-- `digest::md5::octets` meets its contract. The bytes of each number, low-order first, are read from the back. Assumes nothing.
 use Rattle.digest.specs.Md5.{le, be, octets16}
 use borrow.Author.Needs.{needs}
 use Rattle.digest.proofs.md5.octets.Statement.{statement}

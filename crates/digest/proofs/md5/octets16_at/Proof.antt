@@ -1,4 +1,4 @@
--- `digest::md5::octets16_at` meets its contract. The halves of 16 bytes are the 8 bytes at the place and the 8 after them.
+-- `digest::md5::octets16_at` meets its contract. The halves of 16 bytes are the 8 bytes at the place and the 8 after them. Assumes nothing.
 use denote.Ref.{now}
 use Rattle.digest.proofs.Octets.{numbers-at}
 use borrow.Author.Needs.{needs}

@@ -1,4 +1,4 @@
--- `digest::md5::output` meets its contract. Two registers in a row are one number (`numbers-output`).
+-- `digest::md5::output` meets its contract. Two registers in a row are one number (`numbers-output`). Assumes nothing.
 use Rattle.digest.proofs.Octets.{numbers-output}
 use borrow.Author.Needs.{needs}
 use Rattle.digest.proofs.md5.output.Statement.{statement}

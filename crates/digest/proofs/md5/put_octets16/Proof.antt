@@ -1,4 +1,4 @@
--- `digest::md5::put_octets16` meets its contract. It is a copy of the 16 bytes.
+-- `digest::md5::put_octets16` meets its contract. It is a copy of the 16 bytes. Assumes nothing.
 use Rattle.digest.proofs.Octets.{length-octets16}
 use borrow.Author.Needs.{needs}
 use Rattle.digest.proofs.md5.put_octets16.Statement.{statement}

@@ -1,4 +1,4 @@
--- `digest::md5::put_part` meets its contract. One copy of the part's bytes that fall into the block.
+-- `digest::md5::put_part` meets its contract. One copy of the part's bytes that fall into the block. Assumes nothing.
 use mathlib.Core.Path.{_∙_}
 use denote.Ref.{now}
 use Rattle.digest.proofs.Blocks.{laid-copy}

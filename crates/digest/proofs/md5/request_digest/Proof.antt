@@ -1,4 +1,4 @@
--- `digest::md5::request_digest` meets its contract. The prefix is the nonce and the colon.
+-- `digest::md5::request_digest` meets its contract. The prefix is the nonce and the colon. Assumes nothing.
 use mathlib.Core.Path.{_∙_, ap}
 use mathlib.Core.List.{List, [], _∷_, _++_, append-assoc}
 use Prim.Native.Nat.{ℕ}

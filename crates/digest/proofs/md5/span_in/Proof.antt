@@ -1,4 +1,4 @@
--- `digest::md5::span_in` meets its contract. The code is the definition, and the bounds are `span-fits` and `span-within`.
+-- `digest::md5::span_in` meets its contract. The code is the definition, and the bounds are `span-fits` and `span-within`. Assumes nothing.
 use mathlib.Core.Path.{_≡_, sym, subst}
 use Prim.Native.Nat.{_+_, _≤_}
 use Rattle.digest.specs.declared.md5.Span.{Span}

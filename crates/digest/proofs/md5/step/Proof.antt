@@ -1,4 +1,4 @@
--- `digest::md5::step` meets its contract. The step's numbers are the caller's, and are those of the definition.
+-- `digest::md5::step` meets its contract. The step's numbers are the caller's, and are those of the definition. Assumes nothing.
 use mathlib.Core.Path.{sym}
 use native.Mathlib.Numerals.{add-one}
 use Rattle.digest.specs.Md5.{steps, stepOf}

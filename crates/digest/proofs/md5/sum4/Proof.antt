@@ -1,4 +1,4 @@
--- `digest::md5::sum4` meets its contract. Wrapping after each addition or once is the same, in any order.
+-- `digest::md5::sum4` meets its contract. Wrapping after each addition or once is the same, in any order. Assumes nothing.
 use mathlib.Core.Path.{_≡_, ap}
 use Prim.Native.Nat.{ℕ, _+_, _%_, _^_}
 use native.Mathlib.Nat.{mod-add-mod}

@@ -1,4 +1,4 @@
--- `digest::md5::swapped` meets its contract. A word is the sum of its four bytes.
+-- `digest::md5::swapped` meets its contract. A word is the sum of its four bytes. Assumes nothing.
 use native.Mathlib.Omega.{arith}
 use mathlib.Core.Path.{_≡_, sym}
 use Prim.Native.Nat.{_/_, _%_}

@@ -1,4 +1,4 @@
--- `digest::md5::word_at` meets its contract. Four bytes, each below 256, and their sum.
+-- `digest::md5::word_at` meets its contract. Four bytes, each below 256, and their sum. Assumes nothing.
 use Rattle.digest.specs.Md5.{word}
 use borrow.Author.Needs.{needs}
 use Rattle.digest.proofs.md5.word_at.Statement.{statement}

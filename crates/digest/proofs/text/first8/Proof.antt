@@ -1,11 +1,11 @@
 -- `digest::text::first8` meets its contract. The tests are those of the definition, in its order. Assumes nothing.
 use mathlib.Core.Path.{_≡_, sym, _∙_}
-use mathlib.Core.Bool.{true, false}
+use mathlib.Core.Bool.{true, false, not}
 use borrow.Author.Needs.{needs}
 use borrow.Author.Tests.{eq-eqb, ne-eqb, not-true, not-false}
 use Prim.Native.Nat.{_+_, _*_, _%_}
 use lib.Dec.{eqb}
-use Rattle.base.specs.Pick.{pick, not}
+use Rattle.base.specs.Pick.{pick}
 use Rattle.digest.specs.Unicode.{keeps, replaces, need, low, high, inside, first8}
 use Rattle.digest.proofs.text.first8.Statement.{statement}
 use Rattle.digest.proofs.text.first8.Tie as tie

@@ -1,16 +1,14 @@
 -- `digest::text::next16` meets its contract: the unit at a place is 0 where the units end, else it starts a piece. Assumes nothing.
-use mathlib.Core.Path.{_≡_, sym, _∙_}
-use Prim.Native.Nat.{ℕ, _<_}
+use mathlib.Core.Path.{sym, _∙_}
+use Prim.Native.Nat.{_<_}
 use native.Mathlib.Omega.{arith}
+use native.Mathlib.Nat.{pos-of-ne-zero}
 use lib.ListN.{getD, drop, length-drop}
 use Rattle.digest.specs.Unicode.{units}
 use Rattle.digest.proofs.Pairs.{unit-there, end16, reads16}
 use borrow.Author.Needs.{needs}
 use Rattle.digest.proofs.text.next16.Statement.{statement}
 use Rattle.digest.proofs.text.next16.Tie as tie
-
-positive : (u : ℕ) → (u ≡ 0 → ⊥) → 0 < u
-positive u h = omega arith
 
 unit-at-requires : tie.Need-unit-at-requires
 unit-at-requires c κs = search needs
@@ -23,7 +21,7 @@ add-unit-at : tie.Need-add-unit-at
 add-unit-at c =
     let x = c .before .before .before .args in
     let u = c .before .unit-at in
-    let h : 0 < getD (units (drop (x .at) (x .s .now))) 0 0 = rw (u .ensures .0) at (positive (u .result) (c .if1 .left)) in
+    let h : 0 < getD (units (drop (x .at) (x .s .now))) 0 0 = rw (u .ensures .0) at (pos-of-ne-zero (c .if1 .left)) in
     omega (arith, unit-there (drop (x .at) (x .s .now)) h, length-drop (x .at) (x .s .now))
 
 unit-at-requires-2 : tie.Need-unit-at-requires-2

@@ -1,15 +1,14 @@
 -- `packet::auth::all_sixteen` meets its contract. The invariant: the answer is that of what is left of the list. Assumes nothing.
+use mathlib.Core.Bool.{_&&_}
 use borrow.Author.Needs.{needs}
-use borrow.Author.Tests.{eq-eqb, ne-eqb}
+use borrow.Author.Tests.{not-true, not-false}
 use native.Mathlib.Omega.{arith}
 use Prim.Native.Nat.{_-_}
 use mathlib.Core.Path.{_≡_, refl, sym, ap, _∙_}
 use lib.ListN.{length, drop}
-use lib.Dec.{eqb}
-use Rattle.base.specs.Pick.{both, either, not}
 use Rattle.packet.specs.declared.tlv.TagAt.the-variants.{Bad, End}
 use Rattle.packet.specs.Tags.{tags}
-use Rattle.packet.specs.AuthRead.{allSixteen, sixteenIn}
+use Rattle.packet.specs.AuthRead.{sixteenOr, allSixteen, sixteenIn}
 use Rattle.packet.proofs.TagLaws.{Here, by-cursor}
 use Rattle.packet.proofs.AuthLaws.{sixteen-here}
 use Rattle.packet.proofs.auth.all_sixteen.Statement.{statement}
@@ -38,26 +37,23 @@ here c = by-cursor _ _ _ (sym (c .before .before .before .tag-at .ensures) ∙ c
 -- what is left after it
 onward : (c : tie.After-known-told Inv-loop μ-loop) → let g = c .before .tag .given .0 in
     let s = c .before .before .before .before .before .before .args .v .now in
-    sixteenIn (tags s) ≡ both (either (not (eqb (g .0) 0)) (eqb (g .1 .1 .0 - g .1 .0) 16)) (sixteenIn (tags (drop (g .1 .1 .0) s)))
+    sixteenIn (tags s) ≡ (sixteenOr (g .0) (g .1 .1 .0 - g .1 .0) && sixteenIn (tags (drop (g .1 .1 .0) s)))
 onward c = c .before .before .before .before .loop .inv ∙ sixteen-here _ _ _ _ _ (here c)
 
-sub-if2 : tie.Need-sub-if2 Inv-loop μ-loop
-sub-if2 c = here (c .before) .past
+sub-is-sixteen : tie.Need-sub-is-sixteen Inv-loop μ-loop
+sub-is-sixteen c = here c .past
+
+is-sixteen-requires : tie.Need-is-sixteen-requires Inv-loop μ-loop
+is-sixteen-requires c κs = search needs
 
 returns : tie.Need-returns Inv-loop μ-loop
-returns c = sym (rw (eq-eqb _ _ (c .before .if1 .taken), ne-eqb _ _ (c .if2 .taken)) at (onward (c .before .before)))
+returns c = sym (rw (sym (c .before .is-sixteen .ensures) ∙ not-true _ (c .if1 .taken)) at (onward (c .before .before)))
 
 loop-less : tie.Need-loop-less Inv-loop μ-loop
 loop-less c = let h = here (c .before .before) in omega arith
 
 loop-again : tie.Need-loop-again Inv-loop μ-loop
-loop-again c = rw (eq-eqb _ _ (c .before .if1 .taken), eq-eqb _ _ (c .if2 .left)) at (onward (c .before .before))
-
-loop-less-2 : tie.Need-loop-less-2 Inv-loop μ-loop
-loop-less-2 c = let h = here (c .before) in omega arith
-
-loop-again-2 : tie.Need-loop-again-2 Inv-loop μ-loop
-loop-again-2 c = rw (ne-eqb _ _ (c .if1 .left)) at (onward (c .before))
+loop-again c = rw (sym (c .before .is-sixteen .ensures) ∙ not-false _ (c .if1 .left)) at (onward (c .before .before))
 
 enum-told : tie.Need-enum-told Inv-loop μ-loop
 enum-told c = search needs
@@ -85,12 +81,11 @@ all-sixteen-spec =
     loop-holds
     tag-at-requires
     enum-known-tag
-    sub-if2
+    sub-is-sixteen
+    is-sixteen-requires
     returns
     loop-less
     loop-again
-    loop-less-2
-    loop-again-2
     enum-told
     returns-2
     enum-told-2

@@ -6,21 +6,21 @@ use Prim.Native.Nat.{_+_, _≤_}
 use mathlib.Core.Path.{_∙_}
 use mathlib.Core.List.{_∷_}
 use lib.ListN.{length, length-set}
-use Rattle.packet.proofs.AuthWrites.{realm-short, realm-fits, realm-none, realm-laid}
+use Rattle.packet.proofs.AuthWrites.{tag-short, tag-none, tag-fits, realm-laid}
 use Rattle.packet.proofs.auth.put_realm.Statement.{statement}
 use Rattle.packet.proofs.auth.put_realm.Tie as tie
 
 returns : tie.Need-returns
-returns c = let x = c .before .before .before .args in realm-none (x .there) (x .store .now) (x .charset ∷ x .value .now) (x .at) (not-true _ (c .if1 .taken))
+returns c = let x = c .before .before .before .args in tag-none 2 (x .there) (x .store .now) (x .charset ∷ x .value .now) (x .at) (not-true _ (c .if1 .taken))
 
 -- where there is a realm, it is short enough and fits
 short : (c : tie.Else1) → length (c .before .before .before .args .value .now) ≤ 254
-short c = let k = c .before .before .before in realm-short (k .args .there) _ (k .args .charset) (not-false _ (c .if1 .left)) (k .pre .0)
+short c = let k = c .before .before .before in omega (arith, tag-short (k .args .there) (k .args .charset ∷ k .args .value .now) (not-false _ (c .if1 .left)) (k .pre .0))
 
 room : (c : tie.Else1) → let x = c .before .before .before .args in x .at + 3 + length (x .value .now) ≤ length (x .store .now)
 room c =
     let k = c .before .before .before in
-    realm-fits (k .args .there) (k .args .value .now) (k .args .charset) (k .args .at) _ (not-false _ (c .if1 .left)) (k .pre .1)
+    omega (arith, tag-fits 2 (k .args .there) (k .args .charset ∷ k .args .value .now) (k .args .at) _ (not-false _ (c .if1 .left)) (k .pre .1))
 
 slice-write-store : tie.Need-slice-write-store
 slice-write-store c = omega (arith, room c)

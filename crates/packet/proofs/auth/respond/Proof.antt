@@ -8,12 +8,12 @@ use lib.ListN.{length}
 use Rattle.digest.specs.Md5.{octets16, requestDigest}
 use Rattle.digest.proofs.Octets.{length-octets16}
 use Rattle.packet.specs.Tags.{writeTags}
-use Rattle.packet.specs.Auth.{responseTags}
+use Rattle.packet.specs.Auth.{answerTags, responseTags}
 use Rattle.packet.specs.Placed.{laid}
-use Rattle.packet.specs.AuthWrite.{given, overlong, writeResponse, answerTags}
-use Rattle.packet.proofs.Laid.{granted, placed-written, placed-too-long, placed-short}
+use Rattle.packet.specs.AuthWrite.{given, overlong, writeDigestResponse}
+use Rattle.packet.proofs.Laid.{granted, placed-written, placed-refused}
 use Rattle.packet.proofs.AuthLaws.{octets-request, length-request}
-use Rattle.packet.proofs.AuthWrites.{at-most, user-length, user-long, answer-length}
+use Rattle.packet.proofs.AuthWrites.{at-most, user-length, tag-long, answer-length}
 use borrow.Author.Needs.{needs}
 use Rattle.packet.proofs.auth.respond.Statement.{statement}
 use Rattle.packet.proofs.auth.respond.Tie as tie
@@ -37,7 +37,7 @@ size c d e =
 -- and is too long where the code says so
 long : (c : tie.After-is-long) → let x = c .before .before .before .before .before .args in
     c .is-long .result ≡ overlong (given (x .has-user) (x .user .now))
-long c = let x = c .before .before .before .before .before .args in c .is-long .ensures ∙ user-long (x .has-user) (x .user .now)
+long c = let x = c .before .before .before .before .before .args in c .is-long .ensures ∙ tag-long (x .has-user) (x .user .now)
 
 is-long-requires : tie.Need-is-long-requires
 is-long-requires c κs = search needs
@@ -45,8 +45,18 @@ is-long-requires c κs = search needs
 room-requires : tie.Need-room-requires
 room-requires c κs = search needs
 
-enum-known-next : tie.Need-enum-known-next
-enum-known-next c = search needs
+enum-known-answer : tie.Need-enum-known-answer
+enum-known-answer c = search needs
+
+returns : tie.Need-returns
+unfolding writeDigestResponse responseTags
+returns c =
+    let r = c .before in
+    let l = r .before in
+    let x = l .before .before .before .before .before .args in
+    let user = given (x .has-user) (x .user .now) in
+    placed-refused (x .store .now) (writeTags (responseTags (octets16 (x .nonce)) user (x .password .now))) (x .at) _ (overlong user) _ _ (c .match .keys2)
+    (size (l .before) _ (length-request (octets16 (x .nonce)) (x .password .now))) (long l) (r .room .ensures)
 
 request-digest-requires : tie.Need-request-digest-requires
 request-digest-requires c κs = search needs
@@ -55,56 +65,29 @@ put-response-requires : tie.Need-put-response-requires
 put-response-requires c κs =
     let r = c .before .before .before .before .before in
     let l = r .before in
-    let d = c .request-digest .result in
-    let g = granted _ _ _ _ _ (sym (c .before .before .before .next .given .1) ∙ r .room .ensures) in
+    let d = c .before .request-digest .result in
+    let g = granted _ _ _ _ _ (sym (c .before .before .before .answer .given .1) ∙ r .room .ensures) in
     (sym (long l) ∙ g .allowed, omega (arith, size (l .before) (octets16 d) (length-octets16 d), g .fits))
-
-enum-told : tie.Need-enum-told
-enum-told c = search needs
-
-enum-told-2 : tie.Need-enum-told-2
-enum-told-2 c = search needs
 
 same-length : tie.Need-same-length
 same-length c = search needs
 
-returns : tie.Need-returns
-unfolding writeResponse responseTags
-returns c =
-    let d = c .before .before .before in
-    let r = d .before .before .before .before .before in
+returns-2 : tie.Need-returns-2
+unfolding writeDigestResponse responseTags
+returns-2 c =
+    let d = c .before .before .before .before in
+    let a = d .before .before in
+    let r = a .before .before in
     let l = r .before in
     let x = l .before .before .before .before .before .args in
     let user = given (x .has-user) (x .user .now) in
     let digest = requestDigest (octets16 (x .nonce)) (x .password .now) in
     placed-written (x .store .now) (writeTags (responseTags (octets16 (x .nonce)) user (x .password .now))) _ (x .at) _ _ (overlong user) _
     (size (l .before) digest (length-request (octets16 (x .nonce)) (x .password .now))) (long l)
-    (sym (d .before .before .before .next .given .1) ∙ r .room .ensures)
+    (sym (a .answer .given .1) ∙ r .room .ensures)
     (c .before .before .put-response .ensures
     ∙ ap (λ (v : List ℕ). laid (x .store .now) (x .at) (writeTags (answerTags v user (octets16 (x .nonce)))))
     (ap octets16 (d .request-digest .ensures) ∙ octets-request (octets16 (x .nonce)) (x .password .now)))
-
-returns-2 : tie.Need-returns-2
-unfolding writeResponse responseTags
-returns-2 c =
-    let r = c .before .before in
-    let l = r .before in
-    let x = l .before .before .before .before .before .args in
-    let user = given (x .has-user) (x .user .now) in
-    placed-too-long (x .store .now) (writeTags (responseTags (octets16 (x .nonce)) user (x .password .now))) (x .at) _ (overlong user) _
-    (size (l .before) _ (length-request (octets16 (x .nonce)) (x .password .now))) (long l)
-    (sym (c .enum-told .given .1) ∙ r .room .ensures)
-
-returns-3 : tie.Need-returns-3
-unfolding writeResponse responseTags
-returns-3 c =
-    let r = c .before .before in
-    let l = r .before in
-    let x = l .before .before .before .before .before .args in
-    let user = given (x .has-user) (x .user .now) in
-    placed-short (x .store .now) (writeTags (responseTags (octets16 (x .nonce)) user (x .password .now))) (x .at) _ (overlong user) _
-    (size (l .before) _ (length-request (octets16 (x .nonce)) (x .password .now))) (long l)
-    (sym (c .enum-told2 .given .1) ∙ r .room .ensures)
 
 pub respond-spec : {M : Type 1} → statement M
 respond-spec =
@@ -114,12 +97,9 @@ respond-spec =
     add-need
     is-long-requires
     room-requires
-    enum-known-next
+    enum-known-answer
+    returns
     request-digest-requires
     put-response-requires
-    enum-told
-    enum-told-2
     same-length
-    returns
-    returns-2
-    returns-3)
+    returns-2)

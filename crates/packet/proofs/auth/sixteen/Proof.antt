@@ -4,7 +4,8 @@ use borrow.Author.Tests.{eq-eqb, ne-eqb}
 use native.Mathlib.Omega.{arith}
 use mathlib.Core.Path.{sym, subst, _∙_}
 use Rattle.packet.specs.declared.tlv.Found.{Found}
-use Rattle.packet.proofs.AuthLaws.{Within, within}
+use Rattle.packet.proofs.AuthLaws.{within}
+use Rattle.packet.proofs.TagWrites.{Within}
 use Rattle.packet.proofs.auth.sixteen.Statement.{statement}
 use Rattle.packet.proofs.auth.sixteen.Tie as tie
 

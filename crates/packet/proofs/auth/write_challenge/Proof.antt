@@ -12,7 +12,7 @@ use Rattle.packet.specs.Auth.{challengeTags}
 use Rattle.packet.specs.Placed.{laid}
 use Rattle.packet.specs.AuthWrite.{given, overlong, writeChallenge}
 use Rattle.packet.specs.Flags.{flagBits}
-use Rattle.packet.proofs.Laid.{granted, placed-written, placed-too-long, placed-short}
+use Rattle.packet.proofs.Laid.{granted, placed-written, placed-refused}
 use Rattle.packet.proofs.AuthWrites.{at-most, realm-length, realm-long, challenge-length}
 use borrow.Author.Needs.{needs}
 use Rattle.packet.proofs.auth.write_challenge.Statement.{statement}
@@ -48,8 +48,19 @@ is-long-requires c κs = search needs
 room-requires : tie.Need-room-requires
 room-requires c κs = search needs
 
-enum-known-next : tie.Need-enum-known-next
-enum-known-next c = search needs
+enum-known-answer : tie.Need-enum-known-answer
+enum-known-answer c = search needs
+
+returns : tie.Need-returns
+unfolding writeChallenge
+returns c =
+    let r = c .before in
+    let l = r .before in
+    let x = l .before .before .before .before .args in
+    let bits = flagBits (x .user-id-required) (x .read-only) in
+    let realm = given (x .has-realm) (x .charset ∷ x .value .now) in
+    placed-refused (x .store .now) (writeTags (challengeTags (octets16 (x .nonce)) bits realm)) (x .at) _ (overlong realm) _ _ (c .match .keys2)
+    (size (l .before) bits) (long l) (r .room .ensures)
 
 flag-bits-requires : tie.Need-flag-bits-requires
 flag-bits-requires c κs = search needs
@@ -58,53 +69,26 @@ put-challenge-requires : tie.Need-put-challenge-requires
 put-challenge-requires c κs =
     let r = c .before .before .before .before .before in
     let l = r .before in
-    let g = granted _ _ _ _ _ (sym (c .before .before .before .next .given .1) ∙ r .room .ensures) in
+    let g = granted _ _ _ _ _ (sym (c .before .before .before .answer .given .1) ∙ r .room .ensures) in
     (sym (long l) ∙ g .allowed, omega (arith, size (l .before) (c .before .flag-bits .result), g .fits))
-
-enum-told : tie.Need-enum-told
-enum-told c = search needs
-
-enum-told-2 : tie.Need-enum-told-2
-enum-told-2 c = search needs
 
 same-length : tie.Need-same-length
 same-length c = search needs
 
-returns : tie.Need-returns
+returns-2 : tie.Need-returns-2
 unfolding writeChallenge
-returns c =
+returns-2 c =
     let o = c .before .before .before .before in
-    let r = o .before .before .before .before in
+    let a = o .before .before in
+    let r = a .before .before in
     let l = r .before in
     let x = l .before .before .before .before .args in
     let bits = flagBits (x .user-id-required) (x .read-only) in
     let realm = given (x .has-realm) (x .charset ∷ x .value .now) in
     placed-written (x .store .now) (writeTags (challengeTags (octets16 (x .nonce)) bits realm)) _ (x .at) _ _ (overlong realm) _ (size (l .before) bits) (long l)
-    (sym (o .before .before .next .given .1) ∙ r .room .ensures)
+    (sym (a .answer .given .1) ∙ r .room .ensures)
     (c .before .before .put-challenge .ensures
     ∙ ap (λ (n : ℕ). laid (x .store .now) (x .at) (writeTags (challengeTags (octets16 (x .nonce)) n realm))) (o .flag-bits .ensures))
-
-returns-2 : tie.Need-returns-2
-unfolding writeChallenge
-returns-2 c =
-    let r = c .before .before in
-    let l = r .before in
-    let x = l .before .before .before .before .args in
-    let bits = flagBits (x .user-id-required) (x .read-only) in
-    let realm = given (x .has-realm) (x .charset ∷ x .value .now) in
-    placed-too-long (x .store .now) (writeTags (challengeTags (octets16 (x .nonce)) bits realm)) (x .at) _ (overlong realm) _ (size (l .before) bits) (long l)
-    (sym (c .enum-told .given .1) ∙ r .room .ensures)
-
-returns-3 : tie.Need-returns-3
-unfolding writeChallenge
-returns-3 c =
-    let r = c .before .before in
-    let l = r .before in
-    let x = l .before .before .before .before .args in
-    let bits = flagBits (x .user-id-required) (x .read-only) in
-    let realm = given (x .has-realm) (x .charset ∷ x .value .now) in
-    placed-short (x .store .now) (writeTags (challengeTags (octets16 (x .nonce)) bits realm)) (x .at) _ (overlong realm) _ (size (l .before) bits) (long l)
-    (sym (c .enum-told2 .given .1) ∙ r .room .ensures)
 
 pub write-challenge-spec : {M : Type 1} → statement M
 write-challenge-spec =
@@ -115,12 +99,9 @@ write-challenge-spec =
     add-need
     is-long-requires
     room-requires
-    enum-known-next
+    enum-known-answer
+    returns
     flag-bits-requires
     put-challenge-requires
-    enum-told
-    enum-told-2
     same-length
-    returns
-    returns-2
-    returns-3)
+    returns-2)

@@ -1,10 +1,10 @@
 -- `packet::header::is_canonical` meets its contract. The invariant: the answer is that of what is left. Assumes nothing.
+use mathlib.Core.Bool.{_&&_}
 use borrow.Author.Needs.{needs}
 use native.Mathlib.Omega.{arith}
 use Prim.Native.Nat.{_-_}
 use mathlib.Core.Path.{_≡_, sym, ap, _∙_}
 use lib.ListN.{length}
-use Rattle.base.specs.Pick.{both}
 use Rattle.packet.specs.declared.header.HeaderAt.the-variants.{Unreadable, End}
 use Rattle.packet.specs.Auth.{same}
 use Rattle.packet.specs.Canonical.{rewritten, canonical}
@@ -40,7 +40,7 @@ onward : (c : tie.After-known-told Inv-loop μ-loop) → let v = c .before .id .
     let l = c .before .before .before .before in
     let s = l .before .before .args .s .now in
     let value = part s (v .1 .1 .0) (v .1 .1 .1 .0) in
-    canonical s ≡ both (same (rewritten (v .0) value) value) (allWritten (readHeaders s (v .1 .1 .1 .0)))
+    canonical s ≡ (same (rewritten (v .0) value) value && allWritten (readHeaders s (v .1 .1 .1 .0)))
 onward c =
     let l = c .before .before .before .before in
     l .loop .inv

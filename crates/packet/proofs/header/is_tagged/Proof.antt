@@ -5,7 +5,7 @@ use mathlib.Core.Bool.{true, false}
 use Prim.Native.Nat.{ℕ}
 use borrow.Author.Tests.{ne-eqb}
 use Rattle.packet.specs.Header.{tagged}
-use Rattle.packet.proofs.Below.{run}
+use Rattle.base.proofs.Below.{run}
 use Rattle.packet.proofs.header.is_tagged.Statement.{statement}
 use Rattle.packet.proofs.header.is_tagged.Tie as tie
 

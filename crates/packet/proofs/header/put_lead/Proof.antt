@@ -3,7 +3,8 @@ use native.Mathlib.Omega.{arith}
 use mathlib.Core.Path.{_≡_, sym, _∙_}
 use Prim.Native.Nat.{suc, _+_}
 use lib.ListN.{length-set}
-use Rattle.packet.proofs.HeaderStore.{lead-some, lead-one, Three, lead-three}
+use Rattle.packet.proofs.HeaderStore.{lead-one, Three, lead-three}
+use Rattle.packet.proofs.HeaderBytes.{lead-some}
 use borrow.Author.Needs.{needs}
 use Rattle.packet.proofs.header.put_lead.Statement.{statement}
 use Rattle.packet.proofs.header.put_lead.Tie as tie

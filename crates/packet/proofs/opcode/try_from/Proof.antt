@@ -1,10 +1,11 @@
 -- `packet::opcode::try_from` meets its contract: at a key both sides compute, and the other arms pass all seven tests.
 -- Assumes nothing.
+use mathlib.Core.Bool.{_&&_}
 use mathlib.Core.Path.{_≡_}
 use native.Mathlib.Omega.{arith}
 use borrow.Author.Tests.{ne-eqb, le-leb, lt-leb}
 use lib.Dec.{leb}
-use Rattle.base.specs.Pick.{pick, both}
+use Rattle.base.specs.Pick.{pick}
 use Rattle.packet.specs.declared.opcode.FirstByte.the-variants.{Known, Unknown}
 use Rattle.packet.specs.declared.opcode.Opcode.the-variants.{UserDefined}
 use Rattle.packet.specs.FirstByte.{named}
@@ -14,7 +15,7 @@ use Rattle.packet.proofs.opcode.try_from.Tie as tie
 -- a value that is none of the seven
 others : (k : tie.At-match-rest) → let x = k .before .args .value in
     named x (k .before .args .is-final)
-    ≡ pick (both (leb 0x10 x) (leb x 0x1F)) (Known (UserDefined x) (k .before .args .is-final)) Unknown
+    ≡ pick (leb 0x10 x && leb x 0x1F) (Known (UserDefined x) (k .before .args .is-final)) Unknown
 unfolding named
 others k =
     let x = k .before .args .value in

@@ -7,7 +7,7 @@ use borrow.Author.Tests.{ne-eqb}
 use lib.Dec.{eqb}
 use Rattle.base.specs.Pick.{pick}
 use Rattle.packet.specs.Codes.{codes, isCode}
-use Rattle.packet.proofs.Below.{run}
+use Rattle.base.proofs.Below.{run}
 use Rattle.packet.proofs.response.is_code.Statement.{statement}
 use Rattle.packet.proofs.response.is_code.Tie as tie
 

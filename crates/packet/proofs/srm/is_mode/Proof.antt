@@ -3,7 +3,7 @@ use mathlib.Core.Bool.{true, false}
 use mathlib.Core.Path.{sym}
 use native.Mathlib.Omega.{arith}
 use Rattle.packet.specs.Modes.{isMode}
-use Rattle.packet.proofs.Below.{run}
+use Rattle.base.proofs.Below.{run}
 use Rattle.packet.proofs.srm.is_mode.Statement.{statement}
 use Rattle.packet.proofs.srm.is_mode.Tie as tie
 

@@ -1,4 +1,4 @@
--- `packet::tlv::put_tag` meets its contract: the tests are those of `putTag`, and the two bytes and the copy are one paste.
+-- `packet::tlv::put_tag` meets its contract: the tests are those of `putTag`, and the two bytes and the copy are laid at once.
 -- Assumes nothing.
 use borrow.Author.Needs.{needs}
 use borrow.Author.Tests.{lt-ltb, le-ltb}
@@ -7,7 +7,7 @@ use Prim.Native.Nat.{_+_}
 use mathlib.Core.Path.{ap, _∙_}
 use lib.ListN.{length, length-set}
 use Rattle.packet.specs.Tags.{putTag, putting}
-use Rattle.packet.proofs.TagLaws.{one-paste}
+use Rattle.packet.proofs.TagLaws.{tag-laid}
 use Rattle.packet.proofs.tlv.put_tag.Statement.{statement}
 use Rattle.packet.proofs.tlv.put_tag.Tie as tie
 
@@ -68,7 +68,7 @@ returns-4 c =
     simp (
       le-ltb _ _ (k .before .before .if1 .left),
       le-ltb (length (x .store .now)) (x .at + 2 + length (x .value .now)) (omega arith),
-      ← one-paste (x .store .now) (x .value .now) (x .at) (x .tag) (omega arith),
+      ← tag-laid (x .store .now) (x .value .now) (x .at) (x .tag) (omega arith),
     ) (ap (putting _) (c .before .before .copy-into .ensures))
 
 pub put-tag-spec : {M : Type 1} → statement M

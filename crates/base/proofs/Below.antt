@@ -1,23 +1,28 @@
--- A rule for all numbers below a bound, proved by one test that antt computes, one number after the other. Of general use.
--- Assumes nothing.
+-- A rule for all numbers below a bound, proved by one test that antt computes, one number after the other. Assumes nothing.
 use mathlib.Core.Path.{_≡_, refl, subst}
-use mathlib.Core.Bool.{Bool, true, false}
+use mathlib.Core.Bool.{Bool, true, false, not, _&&_}
 use Prim.Native.Nat.{ℕ, zero, suc, _+_, _-_, _≤_, _<_}
 use native.Mathlib.Omega.{arith}
 use native.Mathlib.Nat.{le-of-suc-le-suc, not-suc-le-zero}
 use lib.Dec.{T, eqb, eqb→eq}
-use Rattle.base.specs.Pick.{both, not}
-use Rattle.base.proofs.Table.{both-left, both-right}
+
+pub and-left : (a b : Bool) → T (a && b) → T a
+and-left true b t = tt
+and-left false b t = t
+
+pub and-right : (a b : Bool) → T (a && b) → T b
+and-right true b t = t
+and-right false b t = absurd t
 
 -- the test passes at each number below n
 abbrev pub below : (ℕ → Bool) → ℕ → Bool
 below f zero = true
-below f (suc n) = both (f zero) (below (λ k. f (suc k)) n)
+below f (suc n) = f zero && below (λ k. f (suc k)) n
 
 pub at-each : (f : ℕ → Bool) (n : ℕ) → T (below f n) → (k : ℕ) → k < n → T (f k)
 at-each f zero t k h = absurd (not-suc-le-zero h)
-at-each f (suc n) t zero h = both-left (f zero) (below (λ k. f (suc k)) n) t
-at-each f (suc n) t (suc k) h = at-each (λ k. f (suc k)) n (both-right (f zero) (below (λ k. f (suc k)) n) t) k (le-of-suc-le-suc h)
+at-each f (suc n) t zero h = and-left (f zero) (below (λ k. f (suc k)) n) t
+at-each f (suc n) t (suc k) h = at-each (λ k. f (suc k)) n (and-right (f zero) (below (λ k. f (suc k)) n) t) k (le-of-suc-le-suc h)
 
 -- two numbers that a test calls equal at each place
 pub numbers-agree : (f g : ℕ → ℕ) (n : ℕ) → T (below (λ k. eqb (f k) (g k)) n) → (k : ℕ) → k < n → f k ≡ g k
