@@ -8,6 +8,7 @@ use Rattle.base.specs.Bytes.{be32}
 use Rattle.packet.specs.Header.{Header}
 use Rattle.packet.specs.Modes as modes
 use Rattle.incoming.specs.declared.survey.Noted.{Noted}
+use Rattle.incoming.specs.declared.survey.Survey.{Survey}
 
 abbrev pub nothing : Noted
 nothing =
@@ -58,3 +59,8 @@ noteOne n h =
     (pick (eqb (h .id) 0x97) (noteMode n (getD (h .value) 0 0))
     (pick (eqb (h .id) 0x98) (noteParameter n (getD (h .value) 0 0))
     n))
+
+-- what is noted of all headers
+abbrev pub surveyNoted : Noted → Survey
+surveyNoted n =
+    record { id = n .id; «has_id» = n .«has_id»; readable = true; enable = n .enable; additional = n .additional; wait = n .wait }

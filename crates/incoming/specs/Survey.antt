@@ -35,6 +35,9 @@ surveyList hs =
     }
 
 -- of unreadable headers nothing is asked
+abbrev pub unreadableSurvey : Survey
+unreadableSurvey = record { id = 0; «has_id» = false; readable = false; enable = false; additional = false; wait = false }
+
 unfoldable pub surveyOf : Option (List Header) → Survey
-surveyOf none = record { id = 0; «has_id» = false; readable = false; enable = false; additional = false; wait = false }
+surveyOf none = unreadableSurvey
 surveyOf (some hs) = surveyList hs

@@ -164,37 +164,18 @@ pub fn gather(
 {
     let mut g = begun;
     let mut at = from;
-    loop {
-        match header_at(p, at) {
-            HeaderAt::At {
-                id,
-                encoding: _,
-                start,
-                end,
-            } => {
-                if g.full {
-                    return g;
-                }
-                g = gather_one(
-                    p,
-                    at,
-                    start,
-                    end,
-                    id,
-                    keep,
-                    limit,
-                    g,
-                    &mut headers[..],
-                    &mut body[..],
-                );
-                at = end;
-            }
-            HeaderAt::Unreadable => {
-                return g;
-            }
-            HeaderAt::End => {
-                return g;
-            }
-        }
+    while !g.full {
+        let HeaderAt::At {
+            id,
+            encoding: _,
+            start,
+            end,
+        } = header_at(p, at)
+        else {
+            return g;
+        };
+        g = gather_one(p, at, start, end, id, keep, limit, g, headers, body);
+        at = end;
     }
+    g
 }
