@@ -50,14 +50,16 @@ abbrev pub limited : Peer → ℕ → Peer
 limited p n =
     peerWith (p .connections) (p .count) (p .«next_connection_id») (atLeast255 n) (p .«srm_enabled») (p .authenticated) (p .challenge)
 
--- a right password; and a new challenge
+-- authentication from now on: a right password; and a new challenge
+abbrev pub authenticatedPeer : Peer → Bool → Challenge → Peer
+authenticatedPeer p auth ch =
+    peerWith (p .connections) (p .count) (p .«next_connection_id») (p .«remote_max_packet_length») (p .«srm_enabled») auth ch
+
 abbrev pub verifiedPeer : Peer → Peer
-verifiedPeer p =
-    peerWith (p .connections) (p .count) (p .«next_connection_id») (p .«remote_max_packet_length») (p .«srm_enabled») true Absent
+verifiedPeer p = authenticatedPeer p true Absent
 
 abbrev pub challengedPeer : Peer → Octets16 → Peer
-challengedPeer p n =
-    peerWith (p .connections) (p .count) (p .«next_connection_id») (p .«remote_max_packet_length») (p .«srm_enabled») false (Stored n)
+challengedPeer p n = authenticatedPeer p false (Stored n)
 
 -- SRM from now on; and one id more, with a counter
 abbrev pub srmPeer : Peer → Bool → Peer
