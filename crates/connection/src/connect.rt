@@ -18,10 +18,8 @@ use crate::challenge::AUTHENTICATE_CHALLENGE;
 use crate::challenge::first_in;
 use crate::challenge::nonce_for;
 use crate::peer::ConnectionId;
-use crate::send::Fit;
 use crate::send::Sent;
-use crate::send::fits;
-use crate::send::put_connect_prefix;
+use crate::send::begin_connect;
 use base::copy_into;
 use digest::md5::Octets16;
 use packet::auth::Named;
@@ -33,9 +31,7 @@ use packet::header::is_readable;
 use packet::header::put_bytes;
 use packet::header::put_u8;
 use packet::header::put_u32;
-use packet::response::INTERNAL_SERVER_ERROR;
 use packet::response::UNAUTHORIZED;
-use packet::response::to_byte;
 use packet::tlv::Found;
 
 const TARGET: u8 = 0x46;
@@ -265,7 +261,7 @@ fn put_added(
     }
 }
 
-// Those pieces, behind Connect's fields. Number 7 comes before the peer's limit.
+// Those pieces, behind Connect's fields.
 fn send_pieces(
     reply: &mut [u8],
     remote: usize,
@@ -285,21 +281,12 @@ fn send_pieces(
     ensures { λ r. ⌜ sending r (now (reply .exit)) ≡ sentInto (sendBytes remote code (fieldsOf limit) (namedBytes front (bytesAt (now (packet .entry)) who) (now (headers .entry)) ++ addedBytes nonce (given «has_user» (now (user .entry))) (now (password .entry)) srm)) (now (reply .entry)) ⌝ }
 {
     let size = connect_size(front, who, headers.len(), nonce, has_user, user.len(), srm);
-    match fits(remote, 7, size) {
-        Fit::TooLarge => {
-            return Sent::TooLarge;
-        }
-        Fit::Replaced => {
-            put_connect_prefix(reply, to_byte(INTERNAL_SERVER_ERROR), 7, limit);
-            return Sent::Reply(7);
-        }
-        Fit::Whole => {
-            put_connect_prefix(reply, to_byte(code), 7 + size, limit);
-            let next = put_named(reply, 7, front, who, packet, headers);
-            put_added(reply, next, nonce, has_user, user, password, srm);
-            return Sent::Reply(7 + size);
-        }
+    let begun = begin_connect(reply, remote, code, limit, size);
+    if begun.whole {
+        let next = put_named(reply, 7, front, who, packet, headers);
+        put_added(reply, next, nonce, has_user, user, password, srm);
     }
+    begun.sent
 }
 
 // The reply to a Connect that the host accepted: by the id put in front, the packet whose headers start at a place, the host's headers
@@ -361,28 +348,19 @@ pub fn challenge_reply(
     ensures { λ r. ⌜ sending r (now (reply .exit)) ≡ sentInto (sendBytes remote 0x41 (fieldsOf limit) (bytesOf (challengeHeader (octets16 nonce) (flagBits «user_id_required» «read_only») (given «has_realm» (charset ∷ now (realm .entry)))))) (now (reply .entry)) ⌝ }
 {
     let size = challenge_size(has_realm, realm.len());
-    match fits(remote, 7, size) {
-        Fit::TooLarge => {
-            return Sent::TooLarge;
-        }
-        Fit::Replaced => {
-            put_connect_prefix(reply, to_byte(INTERNAL_SERVER_ERROR), 7, limit);
-            return Sent::Reply(7);
-        }
-        Fit::Whole => {
-            put_connect_prefix(reply, to_byte(UNAUTHORIZED), 7 + size, limit);
-            put_lead(reply, 7, AUTHENTICATE_CHALLENGE, size - 3);
-            write_challenge(
-                reply,
-                10,
-                nonce,
-                user_id_required,
-                read_only,
-                has_realm,
-                charset,
-                realm,
-            );
-            return Sent::Reply(7 + size);
-        }
+    let begun = begin_connect(reply, remote, UNAUTHORIZED, limit, size);
+    if begun.whole {
+        put_lead(reply, 7, AUTHENTICATE_CHALLENGE, size - 3);
+        write_challenge(
+            reply,
+            10,
+            nonce,
+            user_id_required,
+            read_only,
+            has_realm,
+            charset,
+            realm,
+        );
     }
+    begun.sent
 }
