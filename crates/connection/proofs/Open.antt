@@ -111,10 +111,3 @@ pub new-free : (xs : List ℕ) (c : ℕ) → length xs ≤ 64 → c < 2 ^ 32 →
 new-free xs c l h =
     let e : (c + 0) % 2 ^ 32 ≡ c = omega arith in
     rw e at (free-from 66 0 xs c refl l (λ i k. absurd (omega arith)))
-
-pub new-not-open : (xs : List ℕ) (c : ℕ) → length xs ≤ 64 → c < 2 ^ 32 → member (newId xs c) xs ≡ false
-new-not-open xs c l h = go (eqb (newId xs c) 0xFFFFFFFF) (member (newId xs c) xs) (new-free xs c l h)
-  where
-    go : (t u : Bool) → (t || u) ≡ false → u ≡ false
-    go true u e = absurd (let z : _≡_ {A = ℕ} 0 1 = cc in omega arith)
-    go false u e = e

@@ -2,15 +2,14 @@
 use mathlib.Core.Path.{_≡_, refl, sym, ap, _∙_}
 use mathlib.Core.Bool.{Bool, true, false}
 use mathlib.Core.List.{List, [], _∷_, _++_, append-nil}
-use mathlib.Core.Option.{Option, none, some}
-use Prim.Native.Nat.{ℕ, _+_, _-_, _≤_, _<_}
+use mathlib.Core.Option.{Option}
+use Prim.Native.Nat.{ℕ, _+_, _-_, _≤_}
 use native.Mathlib.Omega.{arith}
 use borrow.Author.Tests.{le-ltb, ltb-false}
 use lib.Dec.{ltb}
-use lib.ListN.{length, set, take, drop, length-append, length-take, length-drop}
-use lib.Seq.{sets-eq, take-length, length-take-le}
+use lib.ListN.{length, set, drop, length-append, length-take, length-drop}
 use Rattle.base.specs.Pick.{pick}
-use Rattle.base.specs.Bytes.{bytes16, bytes32}
+use Rattle.base.specs.Bytes.{bytes32}
 use Rattle.digest.specs.Md5.{octets16}
 use Rattle.digest.specs.declared.md5.Octets16.{Octets16}
 use Rattle.digest.proofs.Octets.{length-octets16}

@@ -45,10 +45,6 @@ pub record PeerFits (p : Peer) : Type 0 where
 
 -- ---- the operations
 
-pub fresh-standing : standingOf freshPeer ≡ record { authenticated = false; challenge = none; ids = []; next = 1; srm = false }
-unfolding peerWith
-fresh-standing = refl
-
 pub limited-standing : (p : Peer) (n : ℕ) → standingOf (limited p n) ≡ standingOf p
 unfolding peerWith
 limited-standing p n = refl

@@ -4,7 +4,7 @@ use mathlib.Core.List.{List, [], _∷_, _++_}
 use mathlib.Core.Bool.{Bool, true, false}
 use mathlib.Core.Option.{Option, none, some}
 use lib.ListN.{length, take, drop, set}
-use lib.Dec.{leb, ltb, eqb}
+use lib.Dec.{leb, ltb}
 use Rattle.base.specs.Pick.{pick}
 use Rattle.base.specs.Bytes.{be32}
 use Rattle.digest.specs.declared.md5.Octets16.{Octets16}

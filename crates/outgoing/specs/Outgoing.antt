@@ -1,11 +1,11 @@
 -- The outgoing object (document 01, Outgoing object; engine/body.rs): headers in order while they fit, then the body in chunks, the last as
 -- EndOfBody. One byte is read ahead to tell which is the last.
 use Prim.Native.Nat.{ℕ, zero, suc, _+_, _-_, _/_, _%_}
-use mathlib.Core.List.{List, [], _∷_, _++_}
+use mathlib.Core.List.{List, _∷_}
 use mathlib.Core.Bool.{Bool, true, false}
 use lib.ListN.{length, getD, take, drop, set}
 use lib.Seq.{paste}
-use lib.Dec.{ltb, leb, eqb}
+use lib.Dec.{ltb, eqb}
 use Rattle.base.specs.Pick.{pick}
 use Rattle.base.specs.Bytes.{bytes16}
 use Rattle.packet.specs.Header.{headerAt, part}
@@ -13,7 +13,6 @@ use Rattle.packet.specs.declared.header.HeaderAt.{HeaderAt}
 use Rattle.packet.specs.declared.header.HeaderAt.the-variants.{At, Unreadable, End}
 use Rattle.outgoing.specs.declared.body.Outgoing.{Outgoing}
 use Rattle.outgoing.specs.declared.body.Chunk.{Chunk}
-use Rattle.outgoing.specs.declared.body.Next.{Next}
 use Rattle.outgoing.specs.declared.body.Next.the-variants.{Send, Read, TooLarge}
 use Rattle.outgoing.specs.declared.body.Packet.{Packet}
 

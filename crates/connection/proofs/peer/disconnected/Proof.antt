@@ -1,5 +1,5 @@
 -- `connection::peer::disconnected` meets its contract. Where no id is left, or none is named, all is cleared; else the ids left stand in front. Assumes nothing.
-use mathlib.Core.Path.{_≡_, _∙_, sym}
+use mathlib.Core.Path.{_≡_, _∙_}
 use native.Mathlib.Omega.{arith}
 use lib.ListN.{length}
 use Rattle.connection.specs.Peer.{peerWith}

@@ -1,5 +1,5 @@
 -- `connection::send::begin_connect` meets its contract. It goes by what the length leads to, and each case has its prefix. Assumes nothing.
-use mathlib.Core.Path.{_≡_, sym, _∙_}
+use mathlib.Core.Path.{sym, _∙_}
 use Prim.Native.Nat.{_+_, _≤_}
 use native.Mathlib.Omega.{arith}
 use Rattle.connection.proofs.Replies.{whole-bound}

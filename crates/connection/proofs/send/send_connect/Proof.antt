@@ -2,7 +2,6 @@
 use mathlib.Core.Path.{_≡_, refl}
 use mathlib.Core.Bool.{true}
 use native.Mathlib.Omega.{arith}
-use lib.ListN.{length}
 use Rattle.connection.specs.Pieces.{Room}
 use Rattle.connection.proofs.Replies.{begun-sent, begun-room, begun-whole}
 use borrow.Author.Needs.{needs}
