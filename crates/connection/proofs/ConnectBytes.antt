@@ -9,6 +9,7 @@ use lib.ListN.{length, take, drop, length-drop, take-append-drop}
 use lib.Seq.{take-all, take-length}
 use Rattle.base.specs.Pick.{pick}
 use Rattle.base.specs.Bytes.{bytes32}
+use Rattle.packet.specs.HeaderWriter.{header}
 use Rattle.packet.specs.Header.{Header, headerAt, part, push, readHeaders, walk, first, firstPlace, bytesOf, allBytes}
 use Rattle.packet.specs.HeaderList.{isRead, readableFrom}
 use Rattle.packet.specs.Tags.{bytesAt, writeTags}
@@ -25,7 +26,7 @@ use Rattle.packet.proofs.HeaderLaws.{by-cursor, first-found}
 use Rattle.journal.specs.Journal.{listOf}
 use Rattle.connection.specs.declared.peer.ConnectionId.{ConnectionId}
 use Rattle.connection.specs.declared.peer.ConnectionId.the-variants.{Id, Missing}
-use Rattle.connection.specs.Connect.{header, second, withId, whoFor, answerWith, grant, answeredChallenge, connectHeaders}
+use Rattle.connection.specs.Connect.{second, withId, whoFor, answerWith, grant, answeredChallenge, connectHeaders}
 use Rattle.connection.specs.Pieces.{headersFrom, firstIn, answeredIn, realmOf, nonceOf, nonceFor, whoPlace, endOf, readable, whoBytes, answerBytes, grantBytes, namedBytes, addedBytes, Inside, credentialsOf, idGiven}
 use Rattle.connection.proofs.Challenges.{first-in-bytes}
 use Rattle.connection.proofs.Nonces.{answered-nonce}

@@ -7,14 +7,14 @@ use Prim.Native.Nat.{ℕ, _+_, _-_, _≤_}
 use native.Mathlib.Omega.{arith}
 use borrow.Author.Tests.{le-ltb, ltb-false}
 use lib.Dec.{ltb}
-use lib.ListN.{length, set, drop, length-append, length-take, length-drop}
+use lib.ListN.{length, drop, length-append, length-take, length-drop}
 use Rattle.base.specs.Pick.{pick}
 use Rattle.base.specs.Bytes.{bytes32}
 use Rattle.digest.specs.Md5.{octets16}
 use Rattle.digest.specs.declared.md5.Octets16.{Octets16}
 use Rattle.digest.proofs.Octets.{length-octets16}
 use Rattle.packet.specs.Header.{Header, encodingOf, headerAt, part, bytesOf}
-use Rattle.packet.specs.HeaderWriter.{tooLong, putHeader}
+use Rattle.packet.specs.HeaderWriter.{tooLong, leadBytes, header, putHeader}
 use Rattle.packet.specs.Tags.{Putting, putting, bytesAt, writeTags}
 use Rattle.packet.specs.Auth.{responseTags, challengeTags}
 use Rattle.packet.specs.AuthWrite.{given, overlong, writeResponse, writeChallenge}
@@ -24,16 +24,17 @@ use Rattle.packet.specs.declared.tlv.Found.{Found}
 use Rattle.packet.specs.declared.tlv.Found.the-variants as place
 use Rattle.packet.specs.declared.auth.Named.{Named}
 use Rattle.packet.specs.declared.auth.Named.the-variants as nonce
-use Rattle.packet.proofs.Laid.{length-laid, laid-nothing, laid-append, set-laid, set-more}
+use Rattle.packet.specs.declared.header.HeaderEncoding.the-variants.{Bytes}
+use Rattle.packet.proofs.Laid.{length-laid, laid-nothing, laid-append}
 use Rattle.packet.proofs.AuthLaws.{length-request}
 use Rattle.packet.proofs.AuthWrites.{answer-length, user-length, challenge-length, realm-length}
-use Rattle.connection.specs.Connect.{header, challengeHeader}
+use Rattle.connection.specs.Connect.{challengeHeader}
 use Rattle.packet.specs.declared.header.HeaderAt.{HeaderAt}
 use Rattle.packet.specs.declared.header.HeaderAt.the-variants.{At, Unreadable, End}
 use Rattle.packet.proofs.HeaderBytes.{header-at-within}
 use Rattle.connection.specs.declared.peer.ConnectionId.{ConnectionId}
 use Rattle.connection.specs.declared.peer.ConnectionId.the-variants.{Id, Missing}
-use Rattle.connection.specs.Pieces.{leadBytes, idBytes, whoBytes, answerBytes, grantBytes, endOf, cutAt, namedBytes, addedBytes, idSize, whoSize, answerSize, sizeOf, Inside, Ordered, Room, Puts}
+use Rattle.connection.specs.Pieces.{idBytes, whoBytes, answerBytes, grantBytes, endOf, cutAt, namedBytes, addedBytes, idSize, whoSize, answerSize, sizeOf, Inside, Ordered, Room, Puts}
 
 -- ---- one behind the other
 
@@ -59,13 +60,6 @@ puts-more y z w a b at n m r p q =
 pub puts-nothing : (y : List ℕ) (at : ℕ) → Puts y at [] at y
 puts-nothing y at = record { next-is = omega arith; store = sym (laid-nothing y at) }
 
--- three bytes
-pub three-laid : (d : List ℕ) (at x y z : ℕ) → at + 3 ≤ length d → set (set (set d at x) (at + 1) y) (at + 2) z ≡ laid d at (x ∷ y ∷ z ∷ [])
-three-laid d at x y z h =
-    ap (λ (l : List ℕ). set (set l (at + 1) y) (at + 2) z) (set-laid d at x (omega arith))
-    ∙ ap (λ (l : List ℕ). set l (at + 2) z) (set-more d (x ∷ []) at (at + 1) y (omega arith) (omega arith))
-    ∙ set-more d (x ∷ y ∷ []) at (at + 2) z (omega arith) (omega arith)
-
 -- ---- a header by the packet's writer
 
 -- a header that fits is laid there
@@ -80,7 +74,7 @@ pub bytes-length : (id : ℕ) (v : List ℕ) → ltb id 64 ≡ false → ltb id 
 unfolding bytesOf encodingOf
 bytes-length id v a b = rw (a, b) (omega arith)
 
-pub bytes-lead : (id : ℕ) (v : List ℕ) → ltb id 64 ≡ false → ltb id 128 ≡ true → bytesOf (header id v) ≡ leadBytes id (length v) ++ v
+pub bytes-lead : (id : ℕ) (v : List ℕ) → ltb id 64 ≡ false → ltb id 128 ≡ true → bytesOf (header id v) ≡ leadBytes Bytes id (length v) ++ v
 unfolding bytesOf encodingOf
 bytes-lead id v a b = rw (a, b)
 
@@ -129,12 +123,12 @@ placed-laid d z bytes at r f o h e = ap (λ (p : Putting). p .store) (rw (o, le-
 
 -- a header of tags: what stands before them, and then they
 pub tags-laid : (y z w v : List ℕ) (at id size : ℕ) (r : Put) (forbidden : Bool) → ltb id 64 ≡ false → ltb id 128 ≡ true → length v ≡ size - 3 → at + 3 + length v ≤ length y
-    → z ≡ laid y at (leadBytes id (size - 3)) → forbidden ≡ false → putting r w ≡ placed z (at + 3) forbidden v → w ≡ laid y at (bytesOf (header id v))
+    → z ≡ laid y at (leadBytes Bytes id (size - 3)) → forbidden ≡ false → putting r w ≡ placed z (at + 3) forbidden v → w ≡ laid y at (bytesOf (header id v))
 tags-laid y z w v at id size r forbidden a b l h s o p =
-    let lz : length z ≡ length y = ap length s ∙ length-laid y (leadBytes id (size - 3)) at (omega arith) in
+    let lz : length z ≡ length y = ap length s ∙ length-laid y (leadBytes Bytes id (size - 3)) at (omega arith) in
     placed-laid z w v (at + 3) r forbidden o (omega arith) p
     ∙ ap (λ (d : List ℕ). laid d (at + 3) v) s
-    ∙ laid-append y (leadBytes id (size - 3)) v at (at + 3) refl h
+    ∙ laid-append y (leadBytes Bytes id (size - 3)) v at (at + 3) refl h
     ∙ rw (← l, bytes-lead id v a b)
 
 -- ---- each piece
@@ -174,7 +168,7 @@ module _ (y user password : List ℕ) (at : ℕ) (n : Octets16) (has : Bool) (m 
   pub answer-room : (at + size ≤ 65535) × (39 ≤ size) × (65535 ≤ length y)
   answer-room = (omega (arith, room .small, bytes), omega (arith, q), room .store)
 
-  pub answer-puts : (z w : List ℕ) (r : Put) → overlong (given has user) ≡ false → z ≡ laid y at (leadBytes 0x4E (size - 3))
+  pub answer-puts : (z w : List ℕ) (r : Put) → overlong (given has user) ≡ false → z ≡ laid y at (leadBytes Bytes 0x4E (size - 3))
       → putting r w ≡ writeResponse z (at + 3) n (given has user) password → Puts y at (answerBytes m (given has user) password) (at + size) w
   unfolding writeResponse
   answer-puts z w r o s p =
@@ -324,7 +318,7 @@ challenge-bytes-length n o has charset realm =
 
 pub challenge-laid : (y z w : List ℕ) (n : Octets16) (o : ℕ) (has : Bool) (charset : ℕ) (realm : List ℕ) (size : ℕ) (r : Put)
     → overlong (given has (charset ∷ realm)) ≡ false → size ≡ 24 + pick has (2 + (length realm + 1)) 0
-    → Room y 7 (bytesOf (challengeHeader (octets16 n) o (given has (charset ∷ realm)))) → z ≡ laid y 7 (leadBytes 0x4D (size - 3))
+    → Room y 7 (bytesOf (challengeHeader (octets16 n) o (given has (charset ∷ realm)))) → z ≡ laid y 7 (leadBytes Bytes 0x4D (size - 3))
     → putting r w ≡ writeChallenge z 10 n o (given has (charset ∷ realm)) → w ≡ laid y 7 (bytesOf (challengeHeader (octets16 n) o (given has (charset ∷ realm))))
 unfolding challengeHeader writeChallenge
 challenge-laid y z w n o has charset realm size r f q room s p =

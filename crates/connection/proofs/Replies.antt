@@ -7,12 +7,13 @@ use Prim.Native.Nat.{ℕ, _+_, _≤_, _<_}
 use native.Mathlib.Omega.{arith}
 use borrow.Author.Tests.{ltb-false, lt-ltb, le-ltb}
 use lib.Dec.{ltb}
-use lib.ListN.{length, set, length-append}
+use lib.ListN.{length, set}
 use lib.Seq.{paste, sets}
 use Rattle.base.specs.Pick.{pick}
 use Rattle.base.specs.Bytes.{bytes16}
 use Rattle.packet.specs.Codes.{sentCode}
 use Rattle.packet.specs.Packet.{packetBytes}
+use Rattle.packet.proofs.PacketWrites.{packet-length}
 use Rattle.connection.specs.declared.send.Begun.{Begun}
 use Rattle.connection.specs.declared.send.Fit.{Fit}
 use Rattle.connection.specs.declared.send.Fit.the-variants.{Whole, Replaced, TooLarge}
@@ -21,10 +22,6 @@ use Rattle.connection.specs.Send.{fieldsOf, startBytes, sendBytes, fitOf
 use Rattle.connection.proofs.Front.{front-length, front-sets, front-paste}
 use Rattle.packet.specs.Placed.{laid}
 use Rattle.connection.specs.Pieces.{Room}
-
-pub packet-length : (b : ℕ) (fields hs : List ℕ) → length (packetBytes b fields hs) ≡ 3 + length fields + length hs
-unfolding packetBytes
-packet-length b fields hs = omega (arith, length-append fields hs)
 
 -- ---- what a length leads to
 

@@ -8,10 +8,11 @@ use mathlib.Core.Option.{Option, none, some}
 use lib.ListN.{length}
 use lib.Dec.{eqb}
 use Rattle.base.specs.Pick.{pick}
-use Rattle.base.specs.Bytes.{bytes16, bytes32}
+use Rattle.base.specs.Bytes.{bytes32}
 use Rattle.digest.specs.Md5.{octets16}
 use Rattle.packet.specs.Header.{Header, headerAt, readHeaders, first, firstPlace, part, bytesOf}
 use Rattle.packet.specs.HeaderList.{readableFrom}
+use Rattle.packet.specs.HeaderWriter.{header}
 use Rattle.packet.specs.Tags.{writeTags}
 use Rattle.packet.specs.Placed.{laid}
 use Rattle.packet.specs.Auth.{Challenge as PeerChallenge, realmPlace, responseTags}
@@ -32,7 +33,7 @@ use Rattle.connection.specs.declared.peer.Challenge.{Challenge}
 use Rattle.connection.specs.declared.peer.Challenge.the-variants.{Stored, Absent}
 use Rattle.connection.specs.declared.peer.ConnectionId.{ConnectionId}
 use Rattle.connection.specs.declared.peer.ConnectionId.the-variants.{Id, Missing}
-use Rattle.connection.specs.Connect.{header, challenges, answeredChallenge}
+use Rattle.connection.specs.Connect.{challenges, answeredChallenge}
 
 -- ---- what is read
 
@@ -100,9 +101,6 @@ checkOf (Stored n) (response.Response d u m) none = false
 checkOf (Stored n) (response.Response d u m) (some p) = verifies n d m p
 
 -- ---- the bytes
-
-abbrev pub leadBytes : ℕ → ℕ → List ℕ
-leadBytes id n = id ∷ bytes16 (3 + n)
 
 abbrev pub idBytes : ConnectionId → List ℕ
 idBytes Missing = []

@@ -7,13 +7,15 @@ ghost use lib.ListN.{length};
 ghost use Rattle.base.specs.Pick.{pick};
 ghost use Rattle.digest.specs.Md5.{octets16};
 ghost use Rattle.packet.specs.Header.{part, bytesOf, allBytes};
+ghost use Rattle.packet.specs.declared.header.HeaderEncoding.the-variants.{Bytes};
+ghost use Rattle.packet.specs.HeaderWriter.{leadBytes};
 ghost use Rattle.packet.specs.Tags.{bytesAt};
 ghost use Rattle.packet.specs.Flags.{flagBits};
 ghost use Rattle.packet.specs.AuthWrite.{given, overlong};
 ghost use Rattle.packet.specs.Placed.{laid};
 ghost use Rattle.connection.specs.Send.{fieldsOf, sendBytes, sending, sentInto};
 ghost use Rattle.connection.specs.Connect.{connectHeaders, challengeHeader};
-ghost use Rattle.connection.specs.Pieces.{headersFrom, firstIn, whoPlace, cutAt, readable, leadBytes, idBytes, whoBytes, answerBytes, namedBytes, addedBytes, idSize, whoSize, answerSize, sizeOf, Inside, Ordered, Room, Puts, credentialsOf, idGiven};
+ghost use Rattle.connection.specs.Pieces.{headersFrom, firstIn, whoPlace, cutAt, readable, idBytes, whoBytes, answerBytes, namedBytes, addedBytes, idSize, whoSize, answerSize, sizeOf, Inside, Ordered, Room, Puts, credentialsOf, idGiven};
 use crate::challenge::AUTHENTICATE_CHALLENGE;
 use crate::challenge::first_in;
 use crate::challenge::nonce_for;
@@ -164,7 +166,7 @@ fn connect_size(
 // What stands before the n bytes of a header's value.
 fn put_lead(reply: &mut [u8], at: usize, id: u8, n: usize)
     requires { ⌜ (at + 3 ≤ length (now reply)) × (n ≤ 65532) ⌝ }
-    ensures { λ r. ⌜ now (reply .exit) ≡ laid (now (reply .entry)) at (leadBytes id n) ⌝ }
+    ensures { λ r. ⌜ now (reply .exit) ≡ laid (now (reply .entry)) at (leadBytes Bytes id n) ⌝ }
 {
     reply[at] = id;
     reply[at + 1] = ((3 + n) / 256) as u8;

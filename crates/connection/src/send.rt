@@ -1,12 +1,12 @@
 // Replies (the source's send): over 65,535 bytes a reply is number 7, over the peer's limit it becomes Internal Server Error.
 ghost use mathlib.Core.Path.{_≡_};
-ghost use mathlib.Core.List.{[], _∷_};
+ghost use mathlib.Core.List.{[]};
 ghost use Prim.Native.Nat.{_+_, _≤_, _<_};
 ghost use lib.ListN.{length};
-ghost use Rattle.base.specs.Bytes.{bytes16};
 ghost use Rattle.packet.specs.Packet.{packetBytes};
 ghost use Rattle.connection.specs.Send.{fieldsOf, startBytes, sendBytes, front, continueBytes, sending, sentInto, fitOf, beginning, beginsBy};
 use base::copy_into;
+use packet::packet::put_prefix;
 use packet::response::INTERNAL_SERVER_ERROR;
 use packet::response::to_byte;
 
@@ -41,16 +41,6 @@ pub fn fits(remote: usize, lead: usize, headers: usize) -> Fit
         return Fit::Replaced;
     }
     Fit::Whole
-}
-
-// A packet's first byte, and the length of the whole.
-pub fn put_prefix(reply: &mut [u8], byte: u8, n: usize)
-    requires { ⌜ (n < 65536) × (3 ≤ length (now reply)) ⌝ }
-    ensures { λ r. ⌜ now (reply .exit) ≡ front (byte ∷ bytes16 n) (now (reply .entry)) ⌝ }
-{
-    reply[0] = byte;
-    reply[1] = (n / 256) as u8;
-    reply[2] = (n % 256) as u8;
 }
 
 // The three bytes of a reply without headers.
