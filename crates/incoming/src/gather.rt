@@ -57,23 +57,15 @@ fn keep_bytes(bytes: &[u8], g: Gathered, headers: &mut [u8]) -> Gathered
     ensures model { λ r. ⌜ ((b : List ℕ) → gathering r (now (headers .exit)) b ≡ keepBytes (gathering g (now (headers .entry)) b) (now (bytes .entry))) ⌝ }
 {
     let kept = g.kept;
+    let mut r = g;
     if 65535 - kept < bytes.len() {
-        return Gathered {
-            kept,
-            body: g.body,
-            came: g.came,
-            over: g.over,
-            full: true,
-        };
+        r.full = true;
+        return r;
     }
     copy_into(headers, kept, bytes);
-    Gathered {
-        kept: kept + bytes.len(),
-        body: g.body,
-        came: g.came,
-        over: g.over,
-        full: false,
-    }
+    r.kept = kept + bytes.len();
+    r.full = false;
+    r
 }
 
 // A body header's bytes to the body store, where they do not pass the limit.
@@ -82,23 +74,16 @@ fn store_bytes(bytes: &[u8], g: Gathered, limit: usize, body: &mut [u8]) -> Gath
     ensures model { λ r. ⌜ ((h : List ℕ) → gathering r h (now (body .exit)) ≡ storeBytes limit (gathering g h (now (body .entry))) (now (bytes .entry))) ⌝ }
 {
     let stored = g.body;
+    let mut r = g;
+    r.came = true;
+    r.full = false;
     if limit - stored < bytes.len() {
-        return Gathered {
-            kept: g.kept,
-            body: stored,
-            came: true,
-            over: true,
-            full: false,
-        };
+        r.over = true;
+        return r;
     }
     copy_into(body, stored, bytes);
-    Gathered {
-        kept: g.kept,
-        body: stored + bytes.len(),
-        came: true,
-        over: g.over,
-        full: false,
-    }
+    r.body = stored + bytes.len();
+    r
 }
 
 // Whether a header's value is stored as body bytes.

@@ -10,8 +10,7 @@ use borrow.Author.Tests.{eq-eqb, ne-eqb, lt-ltb, le-ltb}
 use Rattle.base.specs.Bytes.{bytes16}
 use Rattle.outgoing.specs.declared.body.Outgoing.{Outgoing}
 use Rattle.outgoing.specs.declared.body.Packet.{Packet}
-use Rattle.outgoing.specs.Outgoing.{made, sending, prefixed, aheadNone, fullChunk, beginChunk, bodyAfter}
-use Rattle.outgoing.specs.Steps.{codeOf, reading}
+use Rattle.outgoing.specs.Outgoing.{made, sending, prefixed, aheadNone, fullChunk, beginChunk, bodyAfter, codeOf, reading}
 
 -- the first three bytes are a paste at the front
 pub prefix-pasted : (last : Bool) (n b : ℕ) (y : List ℕ) → b ≡ codeOf last → paste y 0 (b ∷ bytes16 n) 3 ≡ prefixed last n y

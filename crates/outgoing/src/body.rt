@@ -6,8 +6,8 @@ ghost use lib.ListN.{length};
 ghost use lib.Seq.{paste};
 ghost use Rattle.base.specs.Bytes.{bytes16};
 ghost use Rattle.packet.specs.Header.{headerAt};
-ghost use Rattle.outgoing.specs.Outgoing.{fill, leadAt, leadStore, made, sending, sentTo, aheadWith, aheadNone, lastChunk, fullChunk, beginChunk, bodyAfter, nextFilled, nextPacket, bodyGiven};
-ghost use Rattle.outgoing.specs.Steps.{fitOf, whyOf, fillingOf, codeOf, reading, refusing};
+ghost use Rattle.outgoing.specs.Outgoing.{fill, leadAt, leadStore, made, sending, sentTo, aheadWith, aheadNone, lastChunk, fullChunk, beginChunk, bodyAfter, nextFilled, nextPacket, bodyGiven, codeOf, reading, refusing};
+ghost use Rattle.outgoing.specs.Steps.{fitOf, whyOf, fillingOf};
 use base::copy_into;
 use packet::header::HeaderAt;
 use packet::header::header_at;
@@ -151,42 +151,30 @@ fn put_head(store: &mut [u8], at: usize, first: u8, n: usize)
 fn sent_to(o: Outgoing, sent: usize) -> Outgoing
     ensures { λ r. ⌜ r ≡ sentTo o sent ⌝ }
 {
-    Outgoing {
-        total: o.total,
-        sent,
-        lead: false,
-        has_body: o.has_body,
-        has_pending: o.has_pending,
-        pending: o.pending,
-    }
+    let mut r = o;
+    r.sent = sent;
+    r.lead = false;
+    r
 }
 
 // The object with a byte read ahead.
 fn ahead_with(o: Outgoing, pending: u8) -> Outgoing
     ensures { λ r. ⌜ r ≡ aheadWith o pending ⌝ }
 {
-    Outgoing {
-        total: o.total,
-        sent: o.sent,
-        lead: o.lead,
-        has_body: o.has_body,
-        has_pending: true,
-        pending,
-    }
+    let mut r = o;
+    r.has_pending = true;
+    r.pending = pending;
+    r
 }
 
 // And with none.
 fn ahead_none(o: Outgoing) -> Outgoing
     ensures { λ r. ⌜ r ≡ aheadNone o ⌝ }
 {
-    Outgoing {
-        total: o.total,
-        sent: o.sent,
-        lead: o.lead,
-        has_body: o.has_body,
-        has_pending: false,
-        pending: 0,
-    }
+    let mut r = o;
+    r.has_pending = false;
+    r.pending = 0;
+    r
 }
 
 // The code of a packet: Success on the last one, Continue on others.
