@@ -34,7 +34,8 @@ use Rattle.packet.specs.declared.header.HeaderAt.the-variants.{At, Unreadable, 
 use Rattle.packet.proofs.HeaderBytes.{header-at-within}
 use Rattle.connection.specs.declared.peer.ConnectionId.{ConnectionId}
 use Rattle.connection.specs.declared.peer.ConnectionId.the-variants.{Id, Missing}
-use Rattle.connection.specs.Pieces.{idBytes, whoBytes, answerBytes, grantBytes, endOf, cutAt, namedBytes, addedBytes, idSize, whoSize, answerSize, sizeOf, Inside, Ordered, Room, Puts}
+use Rattle.connection.specs.Pieces.{idBytes, whoBytes, answerBytes, grantBytes, endOf, cutAt, namedBytes, addedBytes, Room, Puts}
+use Rattle.connection.specs.Pieces.{idSize, whoSize, answerSize, sizeOf, Inside, Ordered}
 
 -- ---- one behind the other
 

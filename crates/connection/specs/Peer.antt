@@ -17,7 +17,7 @@ use Rattle.connection.specs.declared.peer.ConnectionId.the-variants.{Id,
 use Rattle.connection.specs.declared.peer.Opening.{Opening}
 use Rattle.connection.specs.declared.peer.Answer.{Answer}
 
--- the one place that lists the fields
+-- the one definition that lists the fields; it is shut, so that proofs do not write them all out
 unfoldable pub peerWith : List ℕ → ℕ → ℕ → ℕ → Bool → Bool → Challenge → Peer
 peerWith ids n next remote srm auth ch =
     record {

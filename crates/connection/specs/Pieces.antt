@@ -126,7 +126,7 @@ namedBytes f who s = idBytes f ++ part s 0 (cutAt f s) ++ whoBytes who ++ part s
 unfoldable pub addedBytes : Named → Option (List ℕ) → List ℕ → Bool → List ℕ
 addedBytes n user password srm = answerBytes n user password ++ grantBytes srm
 
--- bytes go to a place of a reply store; and they are there, up to the next place
+-- bytes have room at a place of a reply store; and they are there, up to the next place
 pub record Room (y : List ℕ) (at : ℕ) (bytes : List ℕ) : Type 0 where
   pub small : at + length bytes ≤ 65535
   pub store : 65535 ≤ length y
@@ -135,7 +135,7 @@ pub record Puts (y : List ℕ) (at : ℕ) (bytes : List ℕ) (next : ℕ) (z : L
   pub next-is : next ≡ at + length bytes
   pub store : z ≡ laid y at bytes
 
--- the headers that can be read, and all of them or none
+-- the host's header bytes: all, or none where they cannot all be read
 abbrev pub readable : List ℕ → List ℕ
 readable s = pick (readableFrom s 0) s []
 
@@ -156,7 +156,7 @@ answerSize (nonce.Nonce m) has n = 39 + pick has (2 + n) 0
 abbrev pub sizeOf : ConnectionId → Found → ℕ → Named → Bool → ℕ → Bool → ℕ
 sizeOf f who n m has u srm = idSize f + n + whoSize who + answerSize m has u + pick srm 2 0
 
--- a place in a packet
+-- a place that starts before it ends, within 65,535 bytes
 abbrev pub Ordered : Found → Type 0
 Ordered place.Missing = Unit {0}
 Ordered (place.At a b) = (a ≤ b) × (b ≤ 65535)

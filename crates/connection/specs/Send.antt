@@ -1,4 +1,5 @@
--- Replies (engine/server.rs, send): over 65,535 bytes a reply is number 7; over the peer's limit it becomes 0x50, keeping Connect's fields.
+-- Replies (document 01, Engine; engine/server.rs, send): over 65,535 bytes a reply is number 7; over the peer's limit it becomes 0x50,
+-- keeping Connect's fields.
 use Prim.Native.Nat.{ℕ, _+_}
 use mathlib.Core.List.{List, [], _∷_, _++_}
 use mathlib.Core.Bool.{Bool, true, false}

@@ -15,7 +15,9 @@ ghost use Rattle.packet.specs.AuthWrite.{given, overlong};
 ghost use Rattle.packet.specs.Placed.{laid};
 ghost use Rattle.connection.specs.Send.{fieldsOf, sendBytes, sending, sentInto};
 ghost use Rattle.connection.specs.Connect.{connectHeaders, challengeHeader};
-ghost use Rattle.connection.specs.Pieces.{headersFrom, firstIn, whoPlace, cutAt, readable, idBytes, whoBytes, answerBytes, namedBytes, addedBytes, idSize, whoSize, answerSize, sizeOf, Inside, Ordered, Room, Puts, credentialsOf, idGiven};
+ghost use Rattle.connection.specs.Pieces.{headersFrom, firstIn, whoPlace, cutAt, readable, credentialsOf, idGiven};
+ghost use Rattle.connection.specs.Pieces.{idBytes, whoBytes, answerBytes, namedBytes, addedBytes, Room, Puts};
+ghost use Rattle.connection.specs.Pieces.{idSize, whoSize, answerSize, sizeOf, Inside, Ordered};
 use crate::challenge::AUTHENTICATE_CHALLENGE;
 use crate::challenge::first_in;
 use crate::challenge::nonce_for;
@@ -214,7 +216,8 @@ fn put_named(
     headers: &[u8],
 ) -> usize
     requires { ⌜ Room (now reply) at (namedBytes front (bytesAt (now packet) who) (now headers)) × Inside (now packet) who ⌝ }
-    ensures { λ r. ⌜ Puts (now (reply .entry)) at (namedBytes front (bytesAt (now (packet .entry)) who) (now (headers .entry))) r (now (reply .exit)) ⌝ }
+    ensures { λ r. ⌜ Puts (now (reply .entry)) at (namedBytes front (bytesAt (now (packet .entry)) who) (now (headers .entry)))
+        r (now (reply .exit)) ⌝ }
 {
     let cut = who_cut(front, headers);
     let first = put_id(reply, at, front);
@@ -232,8 +235,10 @@ fn put_answer(
     user: &[u8],
     password: &[u8],
 ) -> usize
-    requires { ⌜ Room (now reply) at (answerBytes nonce (given «has_user» (now user)) (now password)) × (overlong (given «has_user» (now user)) ≡ false) ⌝ }
-    ensures { λ r. ⌜ Puts (now (reply .entry)) at (answerBytes nonce (given «has_user» (now (user .entry))) (now (password .entry))) r (now (reply .exit)) ⌝ }
+    requires { ⌜ Room (now reply) at (answerBytes nonce (given «has_user» (now user)) (now password))
+        × (overlong (given «has_user» (now user)) ≡ false) ⌝ }
+    ensures { λ r. ⌜ Puts (now (reply .entry)) at (answerBytes nonce (given «has_user» (now (user .entry))) (now (password .entry)))
+        r (now (reply .exit)) ⌝ }
 {
     let Named::Nonce(n) = nonce else {
         return at;
@@ -254,8 +259,10 @@ fn put_added(
     password: &[u8],
     srm: bool,
 )
-    requires { ⌜ Room (now reply) at (addedBytes nonce (given «has_user» (now user)) (now password) srm) × (overlong (given «has_user» (now user)) ≡ false) ⌝ }
-    ensures { λ r. ⌜ now (reply .exit) ≡ laid (now (reply .entry)) at (addedBytes nonce (given «has_user» (now (user .entry))) (now (password .entry)) srm) ⌝ }
+    requires { ⌜ Room (now reply) at (addedBytes nonce (given «has_user» (now user)) (now password) srm)
+        × (overlong (given «has_user» (now user)) ≡ false) ⌝ }
+    ensures { λ r. ⌜ now (reply .exit)
+        ≡ laid (now (reply .entry)) at (addedBytes nonce (given «has_user» (now (user .entry))) (now (password .entry)) srm) ⌝ }
 {
     let next = put_answer(reply, at, nonce, has_user, user, password);
     if srm {
@@ -279,8 +286,12 @@ fn send_pieces(
     password: &[u8],
     srm: bool,
 ) -> Sent
-    requires { ⌜ (65535 ≤ length (now reply)) × (length (now packet) ≤ 65535) × (length (now headers) ≤ 65535) × Inside (now packet) who × (overlong (given «has_user» (now user)) ≡ false) ⌝ }
-    ensures { λ r. ⌜ sending r (now (reply .exit)) ≡ sentInto (sendBytes remote code (fieldsOf limit) (namedBytes front (bytesAt (now (packet .entry)) who) (now (headers .entry)) ++ addedBytes nonce (given «has_user» (now (user .entry))) (now (password .entry)) srm)) (now (reply .entry)) ⌝ }
+    requires { ⌜ (65535 ≤ length (now reply)) × (length (now packet) ≤ 65535) × (length (now headers) ≤ 65535) × Inside (now packet) who
+        × (overlong (given «has_user» (now user)) ≡ false) ⌝ }
+    ensures { λ r. ⌜ sending r (now (reply .exit))
+        ≡ sentInto (sendBytes remote code (fieldsOf limit)
+        (namedBytes front (bytesAt (now (packet .entry)) who) (now (headers .entry))
+        ++ addedBytes nonce (given «has_user» (now (user .entry))) (now (password .entry)) srm)) (now (reply .entry)) ⌝ }
 {
     let size = connect_size(front, who, headers.len(), nonce, has_user, user.len(), srm);
     let begun = begin_connect(reply, remote, code, limit, size);
@@ -308,8 +319,12 @@ pub fn connect_reply(
     password: &[u8],
     srm: bool,
 ) -> Sent
-    requires { ⌜ (65535 ≤ length (now reply)) × (length (now packet) ≤ 65535) × (length (now headers) ≤ 65535) × (overlong (given «has_user» (now user)) ≡ false) ⌝ }
-    ensures { λ r. ⌜ sending r (now (reply .exit)) ≡ sentInto (sendBytes remote code (fieldsOf limit) (allBytes (connectHeaders (idGiven front) (headersFrom (now (packet .entry)) from) (headersFrom (now (headers .entry)) 0) (credentialsOf «has_credentials» (given «has_user» (now (user .entry))) (now (password .entry))) srm))) (now (reply .entry)) ⌝ }
+    requires { ⌜ (65535 ≤ length (now reply)) × (length (now packet) ≤ 65535) × (length (now headers) ≤ 65535)
+        × (overlong (given «has_user» (now user)) ≡ false) ⌝ }
+    ensures { λ r. ⌜ sending r (now (reply .exit))
+        ≡ sentInto (sendBytes remote code (fieldsOf limit) (allBytes
+        (connectHeaders (idGiven front) (headersFrom (now (packet .entry)) from) (headersFrom (now (headers .entry)) 0)
+        (credentialsOf «has_credentials» (given «has_user» (now (user .entry))) (now (password .entry))) srm))) (now (reply .entry)) ⌝ }
 {
     let n = readable_len(headers);
     let answer = &headers[..n];
@@ -347,7 +362,10 @@ pub fn challenge_reply(
     realm: &[u8],
 ) -> Sent
     requires { ⌜ (65535 ≤ length (now reply)) × (overlong (given «has_realm» (charset ∷ now realm)) ≡ false) ⌝ }
-    ensures { λ r. ⌜ sending r (now (reply .exit)) ≡ sentInto (sendBytes remote 0x41 (fieldsOf limit) (bytesOf (challengeHeader (octets16 nonce) (flagBits «user_id_required» «read_only») (given «has_realm» (charset ∷ now (realm .entry)))))) (now (reply .entry)) ⌝ }
+    ensures { λ r. ⌜ sending r (now (reply .exit))
+        ≡ sentInto (sendBytes remote 0x41 (fieldsOf limit) (bytesOf
+        (challengeHeader (octets16 nonce) (flagBits «user_id_required» «read_only») (given «has_realm» (charset ∷ now (realm .entry))))))
+        (now (reply .entry)) ⌝ }
 {
     let size = challenge_size(has_realm, realm.len());
     let begun = begin_connect(reply, remote, UNAUTHORIZED, limit, size);

@@ -5,7 +5,8 @@ ghost use mathlib.Core.Bool.{true, false};
 ghost use Prim.Native.Nat.{_+_, _%_, _^_, _≤_, _<_};
 ghost use lib.ListN.{length, take};
 ghost use Rattle.journal.specs.Ids.{member, taken, without, newId};
-ghost use Rattle.connection.specs.Peer.{atLeast255, limited as limitedPeer, authenticatedPeer, verifiedPeer, challengedPeer, srmPeer, addedPeer, opened as openedPeer, openingOf, answerBy, clearedPeer, disconnectedBy};
+ghost use Rattle.connection.specs.Peer.{atLeast255, limited as limitedPeer, authenticatedPeer, verifiedPeer, challengedPeer, srmPeer};
+ghost use Rattle.connection.specs.Peer.{addedPeer, opened as openedPeer, openingOf, answerBy, clearedPeer, disconnectedBy};
 ghost use Rattle.connection.specs.Send.{front};
 use digest::md5::Octets16;
 

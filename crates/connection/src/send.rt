@@ -4,7 +4,8 @@ ghost use mathlib.Core.List.{[]};
 ghost use Prim.Native.Nat.{_+_, _≤_, _<_};
 ghost use lib.ListN.{length};
 ghost use Rattle.packet.specs.Packet.{packetBytes};
-ghost use Rattle.connection.specs.Send.{fieldsOf, startBytes, sendBytes, front, continueBytes, sending, sentInto, fitOf, beginning, beginsBy};
+ghost use Rattle.connection.specs.Send.{fieldsOf, startBytes, sendBytes, front, continueBytes};
+ghost use Rattle.connection.specs.Send.{sending, sentInto, fitOf, beginning, beginsBy};
 use base::copy_into;
 use packet::packet::put_prefix;
 use packet::response::INTERNAL_SERVER_ERROR;
@@ -130,7 +131,8 @@ pub fn begin_connect(reply: &mut [u8], remote: usize, code: u8, limit: u16, size
 // A reply with Connect's fields and headers.
 pub fn send_connect(reply: &mut [u8], remote: usize, code: u8, limit: u16, headers: &[u8]) -> Sent
     requires { ⌜ 65535 ≤ length (now reply) ⌝ }
-    ensures { λ r. ⌜ sending r (now (reply .exit)) ≡ sentInto (sendBytes remote code (fieldsOf limit) (now (headers .entry))) (now (reply .entry)) ⌝ }
+    ensures { λ r. ⌜ sending r (now (reply .exit))
+        ≡ sentInto (sendBytes remote code (fieldsOf limit) (now (headers .entry))) (now (reply .entry)) ⌝ }
 {
     let begun = begin_connect(reply, remote, code, limit, headers.len());
     if begun.whole {

@@ -1,4 +1,5 @@
--- The pass over a packet's headers: of ConnectionID, SingleResponseMode and its parameters the first is noted, others are passed over.
+-- The survey in one pass, as src/survey has it: of ConnectionID, SingleResponseMode and its parameters the first is noted, others are passed
+-- over. proofs/Notes says that this is the survey.
 use Prim.Native.Nat.{ℕ}
 use mathlib.Core.Bool.{true, false}
 use lib.ListN.{getD}

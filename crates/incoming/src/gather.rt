@@ -7,7 +7,8 @@ ghost use lib.ListN.{length};
 ghost use Rattle.journal.specs.Carried.{isBody, isSrm};
 ghost use Rattle.packet.specs.Header.{part, bytesOf, readHeaders};
 ghost use Rattle.packet.specs.HeaderList.{readableFrom};
-ghost use Rattle.incoming.specs.Gather.{gathering, isStored, isDropped, keepBytes, storeBytes, gatherOne, gatherAll, headersOf};
+ghost use Rattle.incoming.specs.Gather.{gathering, isStored, isDropped, keepBytes, storeBytes};
+ghost use Rattle.incoming.specs.Gather.{gatherOne, gatherAll, headersOf};
 use base::copy_into;
 use packet::header::HeaderAt;
 use packet::header::header_at;
@@ -54,7 +55,8 @@ fn is_srm(id: u8) -> bool
 // A header's bytes to the header store, where they fit.
 fn keep_bytes(bytes: &[u8], g: Gathered, headers: &mut [u8]) -> Gathered
     requires { ⌜ (g .kept ≤ 65535) × (65535 ≤ length (now headers)) ⌝ }
-    ensures model { λ r. ⌜ ((b : List ℕ) → gathering r (now (headers .exit)) b ≡ keepBytes (gathering g (now (headers .entry)) b) (now (bytes .entry))) ⌝ }
+    ensures model { λ r. ⌜ ((b : List ℕ) → gathering r (now (headers .exit)) b
+        ≡ keepBytes (gathering g (now (headers .entry)) b) (now (bytes .entry))) ⌝ }
 {
     let kept = g.kept;
     let mut r = g;
@@ -71,7 +73,8 @@ fn keep_bytes(bytes: &[u8], g: Gathered, headers: &mut [u8]) -> Gathered
 // A body header's bytes to the body store, where they do not pass the limit.
 fn store_bytes(bytes: &[u8], g: Gathered, limit: usize, body: &mut [u8]) -> Gathered
     requires { ⌜ (g .body ≤ limit) × (limit ≤ length (now body)) ⌝ }
-    ensures model { λ r. ⌜ ((h : List ℕ) → gathering r h (now (body .exit)) ≡ storeBytes limit (gathering g h (now (body .entry))) (now (bytes .entry))) ⌝ }
+    ensures model { λ r. ⌜ ((h : List ℕ) → gathering r h (now (body .exit))
+        ≡ storeBytes limit (gathering g h (now (body .entry))) (now (bytes .entry))) ⌝ }
 {
     let stored = g.body;
     let mut r = g;
@@ -121,8 +124,12 @@ fn gather_one(
     headers: &mut [u8],
     body: &mut [u8],
 ) -> Gathered
-    requires { ⌜ (bytesOf (record { id = id; value = part (now p) start «end» }) ≡ part (now p) at «end») × (at ≤ start) × (start ≤ «end») × («end» ≤ length (now p)) × (g .kept ≤ 65535) × (65535 ≤ length (now headers)) × (g .body ≤ limit) × (limit ≤ length (now body)) ⌝ }
-    ensures model { λ r. ⌜ gathering r (now (headers .exit)) (now (body .exit)) ≡ gatherOne keep limit (gathering g (now (headers .entry)) (now (body .entry))) (record { id = id; value = part (now (p .entry)) start «end» }) ⌝ }
+    requires { ⌜ (bytesOf (record { id = id; value = part (now p) start «end» }) ≡ part (now p) at «end») × (at ≤ start) × (start ≤ «end»)
+        × («end» ≤ length (now p)) × (g .kept ≤ 65535) × (65535 ≤ length (now headers)) × (g .body ≤ limit)
+        × (limit ≤ length (now body)) ⌝ }
+    ensures model { λ r. ⌜ gathering r (now (headers .exit)) (now (body .exit))
+        ≡ gatherOne keep limit (gathering g (now (headers .entry)) (now (body .entry)))
+        (record { id = id; value = part (now (p .entry)) start «end» }) ⌝ }
 {
     if is_stored(keep, id) {
         return store_bytes(&p[start..end], g, limit, body);
@@ -143,8 +150,11 @@ pub fn gather(
     headers: &mut [u8],
     body: &mut [u8],
 ) -> Gathered
-    requires { ⌜ (readableFrom (now p) from ≡ true) × (begun .kept ≤ 65535) × (65535 ≤ length (now headers)) × (begun .body ≤ limit) × (limit ≤ length (now body)) ⌝ }
-    ensures model { λ r. ⌜ gathering r (now (headers .exit)) (now (body .exit)) ≡ gatherAll keep limit (headersOf (readHeaders (now (p .entry)) from)) (gathering begun (now (headers .entry)) (now (body .entry))) ⌝ }
+    requires { ⌜ (readableFrom (now p) from ≡ true) × (begun .kept ≤ 65535) × (65535 ≤ length (now headers))
+        × (begun .body ≤ limit) × (limit ≤ length (now body)) ⌝ }
+    ensures model { λ r. ⌜ gathering r (now (headers .exit)) (now (body .exit))
+        ≡ gatherAll keep limit (headersOf (readHeaders (now (p .entry)) from))
+        (gathering begun (now (headers .entry)) (now (body .entry))) ⌝ }
     ensures within { λ r. ⌜ (r .kept ≤ 65535) × (r .body ≤ limit) ⌝ }
 {
     let mut g = begun;

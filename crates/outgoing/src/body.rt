@@ -6,7 +6,8 @@ ghost use lib.ListN.{length};
 ghost use lib.Seq.{paste};
 ghost use Rattle.base.specs.Bytes.{bytes16};
 ghost use Rattle.packet.specs.Header.{headerAt};
-ghost use Rattle.outgoing.specs.Outgoing.{fill, leadAt, leadStore, made, sending, sentTo, aheadWith, aheadNone, lastChunk, fullChunk, beginChunk, bodyAfter, nextFilled, nextPacket, bodyGiven, codeOf, reading, refusing};
+ghost use Rattle.outgoing.specs.Outgoing.{fill, leadAt, leadStore, made, sending, sentTo, aheadWith, aheadNone, lastChunk, fullChunk};
+ghost use Rattle.outgoing.specs.Outgoing.{beginChunk, bodyAfter, nextFilled, nextPacket, bodyGiven, codeOf, reading, refusing};
 ghost use Rattle.outgoing.specs.Steps.{fitOf, whyOf, fillingOf};
 use base::copy_into;
 use packet::header::HeaderAt;
@@ -103,7 +104,8 @@ fn next_fit(capacity: usize, headers: &[u8], sent: usize, at: usize) -> Fit
 // The headers from a place on, copied into the packet while they fit.
 fn fill(capacity: usize, headers: &[u8], from: usize, start: usize, reply: &mut [u8]) -> Filling
     requires { ⌜ (capacity ≤ 65532) × (start ≤ capacity + 3) × (65535 ≤ length (now reply)) ⌝ }
-    ensures model { λ r. ⌜ fillingOf r (now (reply .exit)) ≡ fill (suc (length (now (headers .entry)))) capacity (now (headers .entry)) from start (now (reply .entry)) ⌝ }
+    ensures model { λ r. ⌜ fillingOf r (now (reply .exit))
+        ≡ fill (suc (length (now (headers .entry)))) capacity (now (headers .entry)) from start (now (reply .entry)) ⌝ }
     ensures within { λ r. ⌜ r .at ≤ capacity + 3 ⌝ }
 {
     let mut sent = from;
@@ -305,7 +307,8 @@ pub fn next_packet(capacity: usize, o: Outgoing, headers: &[u8], reply: &mut [u8
 
 // Body bytes from the host, no more than were asked for; none is the body's end. With the byte that is one too many, the chunk is full.
 pub fn body_given(o: Outgoing, c: Chunk, d: &[u8], reply: &mut [u8]) -> Packet
-    requires { ⌜ (length (now d) ≤ c .room) × (c .at + c .got + c .room ≤ 65533) × (c .at + c .got ≤ 65532) × (65535 ≤ length (now reply)) ⌝ }
+    requires { ⌜ (length (now d) ≤ c .room) × (c .at + c .got + c .room ≤ 65533) × (c .at + c .got ≤ 65532)
+        × (65535 ≤ length (now reply)) ⌝ }
     ensures { λ r. ⌜ made r (now (reply .exit)) ≡ bodyGiven o c (now (d .entry)) (now (reply .entry)) ⌝ }
 {
     let n = d.len();

@@ -29,8 +29,9 @@ connect-size-requires c κs =
 size : (c : tie.After-connect-size) → c .connect-size .result ≡ length (pieces (c .before .before .before .before .before .before))
 size c =
     let x = c .before .before .before .before .before .before in
+    let a = x .args in
     c .connect-size .ensures
-    ∙ pieces-length (x .args .packet .now) (x .args .headers .now) (x .args .user .now) (x .args .password .now) (x .args .front) (x .args .who) (x .args .nonce) (x .args .has-user) (x .args .srm) (x .pre .3)
+    ∙ pieces-length (a .packet .now) (a .headers .now) (a .user .now) (a .password .now) (a .front) (a .who) (a .nonce) (a .has-user) (a .srm) (x .pre .3)
 
 begin-connect-requires : tie.Need-begin-connect-requires
 begin-connect-requires c κs = search needs

@@ -12,7 +12,8 @@ begin-connect-requires : tie.Need-begin-connect-requires
 begin-connect-requires c κs = search needs
 
 -- the headers have their place
-room : (c : tie.After-begin-connect) → c .begin-connect .result .whole ≡ true → Room (c .begin-connect .last .0) 7 (c .before .before .before .before .args .headers .now)
+room : (c : tie.After-begin-connect) → c .begin-connect .result .whole ≡ true
+    → Room (c .begin-connect .last .0) 7 (c .before .before .before .before .args .headers .now)
 room c k =
     let x = c .before .before .before .before in
     begun-room (x .args .reply .now) (x .args .headers .now) (x .args .remote) (x .args .code) (x .args .limit) _ refl _ _ (c .begin-connect .ensures) k (x .pre)
