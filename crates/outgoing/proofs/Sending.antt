@@ -14,8 +14,7 @@ use Rattle.outgoing.specs.Outgoing.{made, sending, prefixed, aheadNone, 
 
 -- the first three bytes are a paste at the front
 pub prefix-pasted : (last : Bool) (n b : ℕ) (y : List ℕ) → b ≡ codeOf last → paste y 0 (b ∷ bytes16 n) 3 ≡ prefixed last n y
-prefix-pasted true n b y e = ap (λ (k : ℕ). paste y 0 (k ∷ bytes16 n) 3) e
-prefix-pasted false n b y e = ap (λ (k : ℕ). paste y 0 (k ∷ bytes16 n) 3) e
+prefix-pasted last n b y e = ap (λ (k : ℕ). paste y 0 (k ∷ bytes16 n) 3) e
 
 pub made-alike : {p q : Packet} {y z : List ℕ} → p ≡ q → y ≡ z → made p y ≡ made q z
 made-alike {p} {q} {y} {z} e f = ap (λ (x : Packet). made x y) e ∙ ap (made q) f

@@ -53,8 +53,7 @@ abbrev Counts : Outgoing → Outgoing → Type 0
 Counts o q = (q .total ≡ o .total) × (q .sent ≤ o .total)
 
 prefix-length : (last : Bool) (n : ℕ) (y : List ℕ) → 3 ≤ length y → length (prefixed last n y) ≡ length y
-prefix-length true n y h = omega (arith, length-drop 3 y)
-prefix-length false n y h = omega (arith, length-drop 3 y)
+prefix-length last n y h = omega (arith, length-drop 3 y)
 
 header-kept : (id at n : ℕ) (y : List ℕ) → at + 3 ≤ length y → length (bodyHeader id at n y) ≡ length y
 header-kept id at n y h = length-paste y at (id ∷ bytes16 (3 + n)) 3 h (le-refl 3)

@@ -2,7 +2,7 @@
 use borrow.Author.Needs.{needs}
 use native.Mathlib.Omega.{arith}
 use borrow.Author.Tests.{lt-ltb, le-ltb, le-leb, lt-leb}
-use mathlib.Core.Path.{_≡_}
+use mathlib.Core.Path.{_≡_, sym}
 use Prim.Native.Nat.{ℕ}
 use Rattle.incoming.specs.declared.io.Frame.the-variants.{More, Whole, Short}
 use Rattle.incoming.specs.Frame.{frameEnd}
@@ -12,9 +12,6 @@ use Rattle.incoming.proofs.io.frame_end.Tie as tie
 -- the three are different
 more-whole : More ≡ Whole → ⊥
 more-whole w = let z : _≡_ {A = ℕ} 0 1 = cc in omega arith
-
-whole-more : Whole ≡ More → ⊥
-whole-more w = let z : _≡_ {A = ℕ} 0 1 = cc in omega arith
 
 short-more : Short ≡ More → ⊥
 short-more w = let z : _≡_ {A = ℕ} 0 1 = cc in omega arith
@@ -42,7 +39,7 @@ unfolding frameEnd
 returns-3 c =
     let n = c .before .before in (
       simp (le-ltb _ _ (n .before .if1 .left), ← n .be16-at .ensures .0, le-ltb _ _ (c .before .if2 .left), le-leb _ _ (c .if3 .taken)),
-      (λ w. absurd (whole-more w), λ w. omega arith),
+      (λ w. absurd (more-whole (sym w)), λ w. omega arith),
     )
 
 returns-4 : tie.Need-returns-4
