@@ -7,7 +7,7 @@ use Prim.Native.Nat.{ℕ, _+_, _-_, _≤_}
 use native.Mathlib.Omega.{arith}
 use borrow.Author.Tests.{le-ltb, ltb-false}
 use lib.Dec.{ltb}
-use lib.ListN.{length, drop, length-append, length-take, length-drop}
+use lib.ListN.{length, length-append}
 use Rattle.base.specs.Pick.{pick}
 use Rattle.base.specs.Bytes.{bytes32}
 use Rattle.digest.specs.Md5.{octets16}
@@ -31,7 +31,7 @@ use Rattle.packet.proofs.AuthWrites.{answer-length, user-length, challenge-leng
 use Rattle.connection.specs.Connect.{challengeHeader}
 use Rattle.packet.specs.declared.header.HeaderAt.{HeaderAt}
 use Rattle.packet.specs.declared.header.HeaderAt.the-variants.{At, Unreadable, End}
-use Rattle.packet.proofs.HeaderBytes.{header-at-within}
+use Rattle.packet.proofs.HeaderBytes.{header-at-within, part-length}
 use Rattle.connection.specs.declared.peer.ConnectionId.{ConnectionId}
 use Rattle.connection.specs.declared.peer.ConnectionId.the-variants.{Id, Missing}
 use Rattle.connection.specs.Pieces.{idBytes, whoBytes, answerBytes, grantBytes, endOf, cutAt, namedBytes, addedBytes, Room, Puts}
@@ -85,9 +85,6 @@ bytes-short id n a b h = rw (a, b) (le-ltb 65535 (3 + n) (omega arith))
 
 -- ---- their lengths
 
-pub part-size : (s : List ℕ) (from to : ℕ) → to ≤ length s → length (part s from to) ≡ to - from
-part-size s from to h = omega (arith, length-take (to - from) (drop from s), length-drop from s)
-
 id-length : (f : ConnectionId) → length (idBytes f) ≡ idSize f
 unfolding bytesOf encodingOf
 id-length (Id i) = refl
@@ -100,7 +97,7 @@ grant-length false = refl
 
 pub who-length : (s : List ℕ) (who : Found) → Inside s who → length (whoBytes (bytesAt s who)) ≡ whoSize who
 who-length s place.Missing w = refl
-who-length s (place.At a b) w = bytes-length 0x4A (part s a b) refl refl ∙ ap (λ (n : ℕ). 3 + n) (part-size s a b (w .1))
+who-length s (place.At a b) w = bytes-length 0x4A (part s a b) refl refl ∙ ap (λ (n : ℕ). 3 + n) (part-length s a b (w .1))
 
 pub response-length : (n : Octets16) (has : Bool) (user password : List ℕ)
     → length (writeTags (responseTags (octets16 n) (given has user) password)) ≡ 36 + pick has (2 + length user) 0
@@ -146,7 +143,7 @@ pub who-puts : (y z s : List ℕ) (at a b : ℕ) (w : Found) (r : Put) → w ≡
 who-puts y z s at a b w r e m i p =
     let room : Room y at (whoBytes (bytesAt s (place.At a b))) = rw e at m in
     let inside : Inside s (place.At a b) = rw e at i in
-    let l : length (part s a b) ≡ b - a = part-size s a b (inside .1) in
+    let l : length (part s a b) ≡ b - a = part-length s a b (inside .1) in
     let n : length (whoBytes (bytesAt s (place.At a b))) ≡ 3 + (b - a) = who-length s (place.At a b) inside in
     rw e
     (record {
@@ -292,8 +289,8 @@ pieces-length s hs user password f w m has srm i =
       length-append x y,
       id-length f,
       grant-length srm,
-      part-size hs 0 cut (cut-within f hs),
-      part-size hs cut (length hs) (omega arith),
+      part-length hs 0 cut (cut-within f hs),
+      part-length hs cut (length hs) (omega arith),
       cut-within f hs,
       who-length s w i,
       answer-bytes-length m has user password,

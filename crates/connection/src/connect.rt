@@ -83,15 +83,9 @@ fn who_cut(front: ConnectionId, headers: &[u8]) -> usize
             encoding: _,
             start: _,
             end,
-        } => {
-            return end;
-        }
-        HeaderAt::Unreadable => {
-            return 0;
-        }
-        HeaderAt::End => {
-            return 0;
-        }
+        } => end,
+        HeaderAt::Unreadable => 0,
+        HeaderAt::End => 0,
     }
 }
 
