@@ -282,8 +282,7 @@ fn send_pieces(
 ) -> Sent
     requires { ⌜ (65535 ≤ length (now reply)) × (length (now packet) ≤ 65535) × (length (now headers) ≤ 65535) × Inside (now packet) who
         × (overlong (given «has_user» (now user)) ≡ false) ⌝ }
-    ensures { λ r. ⌜ sending r (now (reply .exit))
-        ≡ sentInto (sendBytes remote code (fieldsOf limit)
+    ensures { λ r. ⌜ sending r (now (reply .exit)) ≡ sentInto (sendBytes remote code (fieldsOf limit)
         (namedBytes front (bytesAt (now (packet .entry)) who) (now (headers .entry))
         ++ addedBytes nonce (given «has_user» (now (user .entry))) (now (password .entry)) srm)) (now (reply .entry)) ⌝ }
 {
@@ -315,8 +314,7 @@ pub fn connect_reply(
 ) -> Sent
     requires { ⌜ (65535 ≤ length (now reply)) × (length (now packet) ≤ 65535) × (length (now headers) ≤ 65535)
         × (overlong (given «has_user» (now user)) ≡ false) ⌝ }
-    ensures { λ r. ⌜ sending r (now (reply .exit))
-        ≡ sentInto (sendBytes remote code (fieldsOf limit) (allBytes
+    ensures { λ r. ⌜ sending r (now (reply .exit)) ≡ sentInto (sendBytes remote code (fieldsOf limit) (allBytes
         (connectHeaders (idGiven front) (headersFrom (now (packet .entry)) from) (headersFrom (now (headers .entry)) 0)
         (credentialsOf «has_credentials» (given «has_user» (now (user .entry))) (now (password .entry))) srm))) (now (reply .entry)) ⌝ }
 {
@@ -356,8 +354,7 @@ pub fn challenge_reply(
     realm: &[u8],
 ) -> Sent
     requires { ⌜ (65535 ≤ length (now reply)) × (overlong (given «has_realm» (charset ∷ now realm)) ≡ false) ⌝ }
-    ensures { λ r. ⌜ sending r (now (reply .exit))
-        ≡ sentInto (sendBytes remote 0x41 (fieldsOf limit) (bytesOf
+    ensures { λ r. ⌜ sending r (now (reply .exit)) ≡ sentInto (sendBytes remote 0x41 (fieldsOf limit) (bytesOf
         (challengeHeader (octets16 nonce) (flagBits «user_id_required» «read_only») (given «has_realm» (charset ∷ now (realm .entry))))))
         (now (reply .entry)) ⌝ }
 {
