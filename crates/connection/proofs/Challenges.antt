@@ -8,7 +8,7 @@ use native.Mathlib.Omega.{arith}
 use lib.Dec.{eqb}
 use Rattle.base.specs.Pick.{pick}
 use Rattle.packet.specs.Header.{Header, push, readHeaders, first, firstPlace}
-use Rattle.packet.specs.HeaderList.{isRead, readableFrom}
+use Rattle.packet.specs.HeaderList.{isRead}
 use Rattle.packet.specs.Tags.{bytesAt}
 use Rattle.packet.specs.Auth.{Challenge, challengeOf, realmPlace}
 use Rattle.packet.specs.AuthRead.{challengeRead, readChallenge}

@@ -3,20 +3,18 @@ use mathlib.Core.Path.{_≡_, refl, sym, ap, ap₂, _∙_}
 use mathlib.Core.Bool.{Bool, true, false}
 use mathlib.Core.List.{List, [], _∷_, _++_, append-nil, append-assoc}
 use mathlib.Core.Option.{Option, none, some}
-use Prim.Native.Nat.{ℕ, zero, suc, _+_, _-_, _≤_}
+use Prim.Native.Nat.{ℕ, _+_, _-_}
 use native.Mathlib.Omega.{arith}
-use lib.Dec.{eqb}
-use lib.ListN.{length, getD, take, drop, length-append, length-drop, take-append-drop}
+use lib.ListN.{length, take, drop, length-drop, take-append-drop}
 use lib.Seq.{take-all, take-length}
 use Rattle.base.specs.Pick.{pick}
 use Rattle.base.specs.Bytes.{bytes32}
-use Rattle.digest.specs.Md5.{octets16, numbers16}
-use Rattle.packet.specs.Header.{Header, headerAt, encodingOf, part, push, readHeaders, walk, first, firstPlace, bytesOf, allBytes}
+use Rattle.packet.specs.HeaderWriter.{header}
+use Rattle.packet.specs.Header.{Header, headerAt, part, push, readHeaders, walk, first, firstPlace, bytesOf, allBytes}
 use Rattle.packet.specs.HeaderList.{isRead, readableFrom}
 use Rattle.packet.specs.Tags.{bytesAt, writeTags}
 use Rattle.packet.specs.Auth.{Challenge, responseTags}
 use Rattle.packet.specs.AuthRead.{challengeRead}
-use Rattle.packet.specs.AuthWrite.{given}
 use Rattle.packet.specs.declared.header.HeaderAt.{HeaderAt}
 use Rattle.packet.specs.declared.header.HeaderAt.the-variants.{At, Unreadable, End}
 use Rattle.packet.specs.declared.auth.Named.{Named}
@@ -24,25 +22,20 @@ use Rattle.packet.specs.declared.auth.Named.the-variants as nonce
 use Rattle.packet.specs.declared.tlv.Found.{Found}
 use Rattle.packet.specs.declared.tlv.Found.the-variants as place
 use Rattle.packet.proofs.HeaderBytes.{Octets, header-bytes, header-at-bytes}
-use Rattle.packet.proofs.HeaderLaws.{Reads, by-cursor, first-found}
-use Rattle.journal.specs.Calls.{Credentials}
+use Rattle.packet.proofs.HeaderLaws.{by-cursor, first-found}
 use Rattle.journal.specs.Journal.{listOf}
 use Rattle.connection.specs.declared.peer.ConnectionId.{ConnectionId}
 use Rattle.connection.specs.declared.peer.ConnectionId.the-variants.{Id, Missing}
-use Rattle.connection.specs.Connect.{header, second, withId, whoFor, answerWith, grant, answeredChallenge, connectHeaders}
-use Rattle.connection.specs.Pieces.{headersFrom, firstIn, answeredIn, realmOf, nonceOf, nonceFor, whoPlace, endOf, cutAt, readable, idBytes, whoBytes, answerBytes, grantBytes, namedBytes, addedBytes, idSize, whoSize, answerSize, sizeOf, Inside, Ordered, credentialsOf, idGiven}
+use Rattle.connection.specs.Connect.{second, withId, whoFor, answerWith, grant, answeredChallenge, connectHeaders}
+use Rattle.connection.specs.Pieces.{headersFrom, firstIn, answeredIn, realmOf, nonceOf, nonceFor, whoPlace, endOf, readable}
+use Rattle.connection.specs.Pieces.{whoBytes, answerBytes, grantBytes, namedBytes, addedBytes, Inside, credentialsOf, idGiven}
 use Rattle.connection.proofs.Challenges.{first-in-bytes}
 use Rattle.connection.proofs.Nonces.{answered-nonce}
-use Rattle.connection.proofs.Putting.{part-size, who-length, answer-bytes-length, cut-within}
 
 all-append : (a b : List Header) → allBytes (a ++ b) ≡ allBytes a ++ allBytes b
 unfolding allBytes
 all-append [] b = refl
 all-append (h ∷ a) b = ap (λ (l : List ℕ). bytesOf h ++ l) (all-append a b) ∙ sym (append-assoc (bytesOf h) (allBytes a) (allBytes b))
-
-all-one : (h : Header) → allBytes (h ∷ []) ≡ bytesOf h
-unfolding allBytes
-all-one h = append-nil (bytesOf h)
 
 -- ---- the host's headers
 

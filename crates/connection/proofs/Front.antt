@@ -4,8 +4,8 @@ use mathlib.Core.List.{List, [], _∷_, _++_, append-assoc, append-nil}
 use Prim.Native.Nat.{ℕ, suc, _+_, _-_, _≤_, _<_}
 use native.Mathlib.Omega.{arith}
 use native.Mathlib.Numerals.{add-one}
-use lib.ListN.{length, getD, set, take, drop, length-append, length-drop}
-use lib.Seq.{take-at, drop-at, drop-cons, set-append-seam, getD-append-add, getD-drop, drop-drop, drop-append-add, take-length, paste, sets}
+use lib.ListN.{length, getD, set, drop, length-append, length-drop}
+use lib.Seq.{take-at, drop-cons, set-append-seam, getD-append-add, getD-drop, drop-drop, drop-append-add, take-length, paste, sets}
 use Rattle.connection.specs.Send.{front}
 
 pub front-length : (q y : List ℕ) → length q ≤ length y → length (front q y) ≡ length y

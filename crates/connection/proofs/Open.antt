@@ -106,15 +106,8 @@ free-from (suc n) k xs c e l all = go (taken xs ((c + k) % 2 ^ 32)) refl (free-f
         rw (passed n xs ((c + k) % 2 ^ 32) q, w) (ih (below-more (λ (i : ℕ). taken xs ((c + i) % 2 ^ 32) ≡ true) k all q))
     go false q ih = rw (found n xs ((c + k) % 2 ^ 32) q) q
 
--- where at most 64 are open, the search yields an id that is not, and not the reserved one
+-- the theorem on the search, for the reader (TRACE, 01-ID-1): where at most 64 are open, it yields an id that is not, and not the reserved one
 pub new-free : (xs : List ℕ) (c : ℕ) → length xs ≤ 64 → c < 2 ^ 32 → taken xs (newId xs c) ≡ false
 new-free xs c l h =
     let e : (c + 0) % 2 ^ 32 ≡ c = omega arith in
     rw e at (free-from 66 0 xs c refl l (λ i k. absurd (omega arith)))
-
-pub new-not-open : (xs : List ℕ) (c : ℕ) → length xs ≤ 64 → c < 2 ^ 32 → member (newId xs c) xs ≡ false
-new-not-open xs c l h = go (eqb (newId xs c) 0xFFFFFFFF) (member (newId xs c) xs) (new-free xs c l h)
-  where
-    go : (t u : Bool) → (t || u) ≡ false → u ≡ false
-    go true u e = absurd (let z : _≡_ {A = ℕ} 0 1 = cc in omega arith)
-    go false u e = e

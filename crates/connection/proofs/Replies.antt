@@ -1,29 +1,27 @@
 -- A reply in its store: its pieces one after the other, and what is sent by its length. Assumes nothing.
 use mathlib.Core.Path.{_≡_, refl, sym, ap, _∙_}
-use mathlib.Core.Bool.{Bool, true, false}
-use mathlib.Core.List.{List, [], _∷_, _++_}
+use mathlib.Core.Bool.{Bool, true, false, true≢false}
+use mathlib.Core.List.{List, [], _∷_}
 use mathlib.Core.Option.{Option, none, some}
-use Prim.Native.Nat.{ℕ, _+_, _-_, _≤_, _<_}
+use Prim.Native.Nat.{ℕ, _+_, _≤_, _<_}
 use native.Mathlib.Omega.{arith}
 use borrow.Author.Tests.{ltb-false, lt-ltb, le-ltb}
 use lib.Dec.{ltb}
-use lib.ListN.{length, set, length-append}
+use lib.ListN.{length, set}
 use lib.Seq.{paste, sets}
 use Rattle.base.specs.Pick.{pick}
 use Rattle.base.specs.Bytes.{bytes16}
 use Rattle.packet.specs.Codes.{sentCode}
 use Rattle.packet.specs.Packet.{packetBytes}
+use Rattle.packet.proofs.PacketWrites.{packet-length}
+use Rattle.connection.specs.declared.send.Begun.{Begun}
 use Rattle.connection.specs.declared.send.Fit.{Fit}
 use Rattle.connection.specs.declared.send.Fit.the-variants.{Whole, Replaced, TooLarge}
 use Rattle.connection.specs.declared.send.Sent.the-variants as sent
-use Rattle.connection.specs.Send.{fieldsOf, startBytes, sendBytes, fitOf, front, sending, sentInto}
+use Rattle.connection.specs.Send.{fieldsOf, startBytes, sendBytes, fitOf, front, sending, sentInto, Beginning, beginning, beginsBy}
 use Rattle.connection.proofs.Front.{front-length, front-sets, front-paste}
 use Rattle.packet.specs.Placed.{laid}
 use Rattle.connection.specs.Pieces.{Room}
-
-pub packet-length : (b : ℕ) (fields hs : List ℕ) → length (packetBytes b fields hs) ≡ 3 + length fields + length hs
-unfolding packetBytes
-packet-length b fields hs = omega (arith, length-append fields hs)
 
 -- ---- what a length leads to
 
@@ -121,38 +119,62 @@ pub start-headers : (y hs : List ℕ) (b limit : ℕ) → 7 + length hs ≤ leng
 unfolding packetBytes
 start-headers y hs b limit h = front-paste (startBytes b (7 + length hs) limit) y hs h
 
--- ---- a reply to a Connect, whose headers l take size bytes
+-- ---- a reply to a Connect begun, whose headers l take size bytes
 
-module _ (y l : List ℕ) (remote code limit size : ℕ) (f : Fit) (e : f ≡ fitOf remote (7 + size)) (q : size ≡ length l) where
-  fit-of : f ≡ fitOf remote (3 + length (fieldsOf limit) + length l)
-  fit-of = e ∙ ap (λ (n : ℕ). fitOf remote (7 + n)) q
+module _ (y l : List ℕ) (remote code limit size : ℕ) (q : size ≡ length l) (r : Begun) (z : List ℕ)
+    (b : beginning r z ≡ beginsBy (fitOf remote (7 + size)) code limit size y) where
+  fit-of : (f : Fit) → fitOf remote (7 + size) ≡ f → f ≡ fitOf remote (3 + length (fieldsOf limit) + length l)
+  fit-of f e = sym e ∙ ap (λ (n : ℕ). fitOf remote (7 + n)) q
 
-  pub connect-none : f ≡ TooLarge → sending sent.TooLarge y ≡ sentInto (sendBytes remote code (fieldsOf limit) l) y
-  connect-none k = sent-none y remote code (fieldsOf limit) l f fit-of k
+  begins : (f : Fit) → fitOf remote (7 + size) ≡ f → beginning r z ≡ beginsBy f code limit size y
+  begins f e = b ∙ ap (λ (f : Fit). beginsBy f code limit size y) e
 
-  pub connect-replaced : f ≡ Replaced → (z : List ℕ) (b : ℕ) → b ≡ sentCode 0x50 → z ≡ front (startBytes b 7 limit) y
-      → sending (sent.Reply 7) z ≡ sentInto (sendBytes remote code (fieldsOf limit) l) y
-  connect-replaced k z b c s =
-      sent-replaced y remote code (fieldsOf limit) l f fit-of k 7 z refl
-      (s ∙ ap (λ (n : ℕ). front (startBytes n 7 limit) y) c ∙ start-alone y (sentCode 0x50) limit)
+  follows : (f : Fit) → fitOf remote (7 + size) ≡ f → r .whole ≡ beginsBy f code limit size y .answer .whole
+  follows f e = ap (λ (x : Beginning). x .answer .whole) (begins f e)
 
-  pub connect-fits : f ≡ Whole → 7 + size ≤ 65535
-  connect-fits k = whole-bound remote (7 + size) (sym k ∙ e)
+  -- no headers follow
+  pub begun-sent : r .whole ≡ false → sending (r .sent) z ≡ sentInto (sendBytes remote code (fieldsOf limit) l) y
+  begun-sent k = go (fitOf remote (7 + size)) refl
+    where
+      told : (f : Fit) → fitOf remote (7 + size) ≡ f → let x = beginsBy f code limit size y in sending (r .sent) z ≡ sending (x .answer .sent) (x .reply)
+      told f e = ap (λ (x : Beginning). sending (x .answer .sent) (x .reply)) (begins f e)
 
-  module _ (k : f ≡ Whole) (h : 65535 ≤ length y) (z : List ℕ) (b : ℕ) (s : z ≡ front (startBytes b (7 + size) limit) y) where
-    pub connect-room : Room z 7 l
-    connect-room =
-        let n = connect-fits k in
-        record {
-          small = omega (arith, n, q);
-          store = omega (arith, h, ap length s ∙ front-length (startBytes b (7 + size) limit) y (omega (arith, h)));
-        }
+      go : (f : Fit) → fitOf remote (7 + size) ≡ f → sending (r .sent) z ≡ sentInto (sendBytes remote code (fieldsOf limit) l) y
+      go TooLarge e = told TooLarge e ∙ sent-none y remote code (fieldsOf limit) l TooLarge (fit-of TooLarge e) refl
+      go Replaced e =
+          told Replaced e
+          ∙ sent-replaced y remote code (fieldsOf limit) l Replaced (fit-of Replaced e) refl 7 _ refl (start-alone y (sentCode 0x50) limit)
+      go Whole e = absurd (true≢false (sym (follows Whole e) ∙ k))
 
-    pub connect-whole : (w : List ℕ) → b ≡ sentCode code → w ≡ laid z 7 l
-        → sending (sent.Reply (7 + size)) w ≡ sentInto (sendBytes remote code (fieldsOf limit) l) y
-    connect-whole w c t =
-        let n = connect-fits k in
-        sent-whole y remote code (fieldsOf limit) l f fit-of k (7 + size) w (ap (λ (m : ℕ). 7 + m) q)
-        (t
-        ∙ ap (λ (d : List ℕ). laid d 7 l) (s ∙ ap (λ (m : ℕ). front (startBytes b (7 + m) limit) y) q ∙ ap (λ (m : ℕ). front (startBytes m (7 + length l) limit) y) c)
-        ∙ start-headers y l (sentCode code) limit (omega (arith, n, h, q)))
+  -- headers follow
+  module _ (k : r .whole ≡ true) where
+    whole-fit : fitOf remote (7 + size) ≡ Whole
+    whole-fit = go (fitOf remote (7 + size)) refl
+      where
+        go : (f : Fit) → fitOf remote (7 + size) ≡ f → f ≡ Whole
+        go TooLarge e = absurd (true≢false (sym k ∙ follows TooLarge e))
+        go Replaced e = absurd (true≢false (sym k ∙ follows Replaced e))
+        go Whole e = refl
+
+    begun-store : z ≡ front (startBytes (sentCode code) (7 + size) limit) y
+    begun-store = ap (λ (x : Beginning). x .reply) (begins Whole whole-fit)
+
+    pub begun-fits : 7 + size ≤ 65535
+    begun-fits = whole-bound remote (7 + size) (sym whole-fit)
+
+    module _ (h : 65535 ≤ length y) where
+      pub begun-room : Room z 7 l
+      begun-room =
+          let n = begun-fits in
+          record {
+            small = omega (arith, n, q);
+            store = omega (arith, h, ap length begun-store ∙ front-length (startBytes (sentCode code) (7 + size) limit) y (omega (arith, h)));
+          }
+
+      pub begun-whole : (w : List ℕ) → w ≡ laid z 7 l → sending (r .sent) w ≡ sentInto (sendBytes remote code (fieldsOf limit) l) y
+      begun-whole w t =
+          let n = begun-fits in
+          let s = begun-store ∙ ap (λ (m : ℕ). front (startBytes (sentCode code) (7 + m) limit) y) q in
+          ap (λ (x : Beginning). sending (x .answer .sent) w) (begins Whole whole-fit)
+          ∙ sent-whole y remote code (fieldsOf limit) l Whole (fit-of Whole whole-fit) refl (7 + size) w (ap (λ (m : ℕ). 7 + m) q)
+          (t ∙ ap (λ (d : List ℕ). laid d 7 l) s ∙ start-headers y l (sentCode code) limit (omega (arith, n, h, q)))

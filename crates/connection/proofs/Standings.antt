@@ -4,14 +4,13 @@ use mathlib.Core.Path.{_≡_, refl, ap, _∙_}
 use mathlib.Core.List.{List, [], _∷_, _++_}
 use mathlib.Core.Bool.{Bool, true, false}
 use mathlib.Core.Option.{Option, none, some}
-use Prim.Native.Nat.{ℕ, suc, _+_, _%_, _^_, _≤_, _<_}
+use Prim.Native.Nat.{ℕ, _+_, _%_, _^_, _≤_, _<_}
 use native.Mathlib.Omega.{arith}
 use native.Mathlib.Numerals.{add-one}
 use lib.ListN.{length, length-append, length-drop, length-take, length-set, take, drop, set}
 use lib.Seq.{take-append-seam, take-suc-set, length-take-le}
-use lib.Dec.{leb, ltb, eqb}
+use lib.Dec.{leb, ltb}
 use borrow.Author.Tests.{leb-false, ltb-false}
-use Rattle.base.specs.Pick.{pick}
 use Rattle.base.specs.Bytes.{be32}
 use Rattle.digest.specs.Md5.{octets16}
 use Rattle.digest.specs.declared.md5.Octets16.{Octets16}
@@ -21,6 +20,7 @@ use Rattle.connection.specs.declared.peer.Challenge.{Challenge}
 use Rattle.connection.specs.declared.peer.Challenge.the-variants.{Stored, Absent}
 use Rattle.connection.specs.declared.peer.Peer.{Peer}
 use Rattle.connection.specs.Peer.{peerWith, idsOf, freshPeer, atLeast255, limited, verifiedPeer, challengedPeer, opened, searched, openedFor, leftPeer, disconnectedPeer}
+use Rattle.connection.proofs.Closing.{without-shorter}
 
 abbrev pub challengeBytes : Challenge → Option (List ℕ)
 challengeBytes Absent = none
@@ -44,10 +44,6 @@ pub record PeerFits (p : Peer) : Type 0 where
   pub most : p .«remote_max_packet_length» ≤ 65535
 
 -- ---- the operations
-
-pub fresh-standing : standingOf freshPeer ≡ record { authenticated = false; challenge = none; ids = []; next = 1; srm = false }
-unfolding peerWith
-fresh-standing = refl
 
 pub limited-standing : (p : Peer) (n : ℕ) → standingOf (limited p n) ≡ standingOf p
 unfolding peerWith
@@ -98,15 +94,6 @@ verified-fits p f = same-fits p (p .«next_connection_id») (p .«srm_enabled»)
 
 pub challenged-fits : (p : Peer) (n : Octets16) → PeerFits p → PeerFits (challengedPeer p n)
 challenged-fits p n f = same-fits p (p .«next_connection_id») (p .«srm_enabled») false (Stored n) f
-
-without-shorter : (x : ℕ) (l : List ℕ) → length (without x l) ≤ length l
-unfolding without
-without-shorter x [] = omega arith
-without-shorter x (y ∷ l) = go (eqb x y) (without-shorter x l)
-  where
-    go : (t : Bool) → length (without x l) ≤ length l → length (pick t (without x l) (y ∷ without x l)) ≤ suc (length l)
-    go true h = omega arith
-    go false h = omega arith
 
 left-fits : (p : Peer) (ids : List ℕ) → PeerFits p → length ids ≤ 64 → PeerFits (leftPeer p ids)
 unfolding peerWith

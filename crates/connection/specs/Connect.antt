@@ -8,6 +8,7 @@ use lib.Dec.{eqb}
 use Rattle.base.specs.Pick.{pick}
 use Rattle.base.specs.Bytes.{bytes32}
 use Rattle.packet.specs.Header.{Header, first}
+use Rattle.packet.specs.HeaderWriter.{header}
 use Rattle.packet.specs.Tags.{writeTags}
 use Rattle.packet.specs.Auth.{Challenge, challengeOf, challengeTags, responseTags}
 use Rattle.journal.specs.Calls.{Credentials}
@@ -34,9 +35,6 @@ unfoldable pub answeredChallenge : List Header → Option Challenge
 answeredChallenge hs = firstOf (challenges hs)
 
 -- ---- the headers
-
-abbrev pub header : ℕ → List ℕ → Header
-header i v = record { id = i; value = v }
 
 -- in the second place
 abbrev pub second : Header → List Header → List Header

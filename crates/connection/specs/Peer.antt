@@ -4,7 +4,7 @@ use mathlib.Core.List.{List, [], _∷_, _++_}
 use mathlib.Core.Bool.{Bool, true, false}
 use mathlib.Core.Option.{Option, none, some}
 use lib.ListN.{length, take, drop, set}
-use lib.Dec.{leb, ltb, eqb}
+use lib.Dec.{leb, ltb}
 use Rattle.base.specs.Pick.{pick}
 use Rattle.base.specs.Bytes.{be32}
 use Rattle.digest.specs.declared.md5.Octets16.{Octets16}
@@ -17,7 +17,7 @@ use Rattle.connection.specs.declared.peer.ConnectionId.the-variants.{Id,
 use Rattle.connection.specs.declared.peer.Opening.{Opening}
 use Rattle.connection.specs.declared.peer.Answer.{Answer}
 
--- the one place that lists the fields
+-- the one definition that lists the fields; it is shut, so that proofs do not write them all out
 unfoldable pub peerWith : List ℕ → ℕ → ℕ → ℕ → Bool → Bool → Challenge → Peer
 peerWith ids n next remote srm auth ch =
     record {
@@ -50,14 +50,16 @@ abbrev pub limited : Peer → ℕ → Peer
 limited p n =
     peerWith (p .connections) (p .count) (p .«next_connection_id») (atLeast255 n) (p .«srm_enabled») (p .authenticated) (p .challenge)
 
--- a right password; and a new challenge
+-- authentication from now on: a right password; and a new challenge
+abbrev pub authenticatedPeer : Peer → Bool → Challenge → Peer
+authenticatedPeer p auth ch =
+    peerWith (p .connections) (p .count) (p .«next_connection_id») (p .«remote_max_packet_length») (p .«srm_enabled») auth ch
+
 abbrev pub verifiedPeer : Peer → Peer
-verifiedPeer p =
-    peerWith (p .connections) (p .count) (p .«next_connection_id») (p .«remote_max_packet_length») (p .«srm_enabled») true Absent
+verifiedPeer p = authenticatedPeer p true Absent
 
 abbrev pub challengedPeer : Peer → Octets16 → Peer
-challengedPeer p n =
-    peerWith (p .connections) (p .count) (p .«next_connection_id») (p .«remote_max_packet_length») (p .«srm_enabled») false (Stored n)
+challengedPeer p n = authenticatedPeer p false (Stored n)
 
 -- SRM from now on; and one id more, with a counter
 abbrev pub srmPeer : Peer → Bool → Peer

@@ -8,10 +8,11 @@ use mathlib.Core.Option.{Option, none, some}
 use lib.ListN.{length}
 use lib.Dec.{eqb}
 use Rattle.base.specs.Pick.{pick}
-use Rattle.base.specs.Bytes.{bytes16, bytes32}
+use Rattle.base.specs.Bytes.{bytes32}
 use Rattle.digest.specs.Md5.{octets16}
 use Rattle.packet.specs.Header.{Header, headerAt, readHeaders, first, firstPlace, part, bytesOf}
 use Rattle.packet.specs.HeaderList.{readableFrom}
+use Rattle.packet.specs.HeaderWriter.{header}
 use Rattle.packet.specs.Tags.{writeTags}
 use Rattle.packet.specs.Placed.{laid}
 use Rattle.packet.specs.Auth.{Challenge as PeerChallenge, realmPlace, responseTags}
@@ -32,7 +33,7 @@ use Rattle.connection.specs.declared.peer.Challenge.{Challenge}
 use Rattle.connection.specs.declared.peer.Challenge.the-variants.{Stored, Absent}
 use Rattle.connection.specs.declared.peer.ConnectionId.{ConnectionId}
 use Rattle.connection.specs.declared.peer.ConnectionId.the-variants.{Id, Missing}
-use Rattle.connection.specs.Connect.{header, challenges, answeredChallenge}
+use Rattle.connection.specs.Connect.{challenges, answeredChallenge}
 
 -- ---- what is read
 
@@ -101,9 +102,6 @@ checkOf (Stored n) (response.Response d u m) (some p) = verifies n d m p
 
 -- ---- the bytes
 
-abbrev pub leadBytes : ℕ → ℕ → List ℕ
-leadBytes id n = id ∷ bytes16 (3 + n)
-
 abbrev pub idBytes : ConnectionId → List ℕ
 idBytes Missing = []
 idBytes (Id i) = bytesOf (header 0xCB (bytes32 i))
@@ -128,7 +126,7 @@ namedBytes f who s = idBytes f ++ part s 0 (cutAt f s) ++ whoBytes who ++ part s
 unfoldable pub addedBytes : Named → Option (List ℕ) → List ℕ → Bool → List ℕ
 addedBytes n user password srm = answerBytes n user password ++ grantBytes srm
 
--- bytes go to a place of a reply store; and they are there, up to the next place
+-- bytes have room at a place of a reply store; and they are there, up to the next place
 pub record Room (y : List ℕ) (at : ℕ) (bytes : List ℕ) : Type 0 where
   pub small : at + length bytes ≤ 65535
   pub store : 65535 ≤ length y
@@ -137,7 +135,7 @@ pub record Puts (y : List ℕ) (at : ℕ) (bytes : List ℕ) (next : ℕ) (z : L
   pub next-is : next ≡ at + length bytes
   pub store : z ≡ laid y at bytes
 
--- the headers that can be read, and all of them or none
+-- the host's header bytes: all, or none where they cannot all be read
 abbrev pub readable : List ℕ → List ℕ
 readable s = pick (readableFrom s 0) s []
 
@@ -158,7 +156,7 @@ answerSize (nonce.Nonce m) has n = 39 + pick has (2 + n) 0
 abbrev pub sizeOf : ConnectionId → Found → ℕ → Named → Bool → ℕ → Bool → ℕ
 sizeOf f who n m has u srm = idSize f + n + whoSize who + answerSize m has u + pick srm 2 0
 
--- a place in a packet
+-- a place that starts before it ends, within 65,535 bytes
 abbrev pub Ordered : Found → Type 0
 Ordered place.Missing = Unit {0}
 Ordered (place.At a b) = (a ≤ b) × (b ≤ 65535)

@@ -1,4 +1,5 @@
--- Replies (engine/server.rs, send): over 65,535 bytes a reply is number 7; over the peer's limit it becomes 0x50, keeping Connect's fields.
+-- Replies (document 01, Engine; engine/server.rs, send): over 65,535 bytes a reply is number 7; over the peer's limit it becomes 0x50,
+-- keeping Connect's fields.
 use Prim.Native.Nat.{ℕ, _+_}
 use mathlib.Core.List.{List, [], _∷_, _++_}
 use mathlib.Core.Bool.{Bool, true, false}
@@ -11,6 +12,7 @@ use Rattle.packet.specs.Codes.{sentCode}
 use Rattle.packet.specs.Packet.{packetBytes}
 use Rattle.connection.specs.declared.send.Sent.{Sent}
 use Rattle.connection.specs.declared.send.Sent.the-variants.{Reply, TooLarge}
+use Rattle.connection.specs.declared.send.Begun.{Begun}
 use Rattle.connection.specs.declared.send.Fit.{Fit}
 use Rattle.connection.specs.declared.send.Fit.the-variants as fit
 
@@ -54,3 +56,17 @@ sentInto (some q) y = sending (Reply (length q)) (front q y)
 -- what becomes of a reply of n bytes, by the peer's limit
 abbrev pub fitOf : ℕ → ℕ → Fit
 fitOf remote n = pick (ltb 65535 n) fit.TooLarge (pick (ltb remote n) fit.Replaced fit.Whole)
+
+-- ---- a reply to a Connect begun, with the reply store afterwards: what stands before its headers of n bytes, or the reply in its place
+
+pub record Beginning : Type 0 where
+  pub answer : Begun
+  pub reply : List ℕ
+
+abbrev pub beginning : Begun → List ℕ → Beginning
+beginning r y = record { answer = r; reply = y }
+
+abbrev pub beginsBy : Fit → ℕ → ℕ → ℕ → List ℕ → Beginning
+beginsBy fit.TooLarge code limit n y = beginning (record { whole = false; sent = TooLarge }) y
+beginsBy fit.Replaced code limit n y = beginning (record { whole = false; sent = Reply 7 }) (front (startBytes (sentCode 0x50) 7 limit) y)
+beginsBy fit.Whole code limit n y = beginning (record { whole = true; sent = Reply (7 + n) }) (front (startBytes (sentCode code) (7 + n) limit) y)

@@ -7,21 +7,23 @@ ghost use lib.ListN.{length};
 ghost use Rattle.base.specs.Pick.{pick};
 ghost use Rattle.digest.specs.Md5.{octets16};
 ghost use Rattle.packet.specs.Header.{part, bytesOf, allBytes};
+ghost use Rattle.packet.specs.declared.header.HeaderEncoding.the-variants.{Bytes};
+ghost use Rattle.packet.specs.HeaderWriter.{leadBytes};
 ghost use Rattle.packet.specs.Tags.{bytesAt};
 ghost use Rattle.packet.specs.Flags.{flagBits};
 ghost use Rattle.packet.specs.AuthWrite.{given, overlong};
 ghost use Rattle.packet.specs.Placed.{laid};
 ghost use Rattle.connection.specs.Send.{fieldsOf, sendBytes, sending, sentInto};
 ghost use Rattle.connection.specs.Connect.{connectHeaders, challengeHeader};
-ghost use Rattle.connection.specs.Pieces.{headersFrom, firstIn, whoPlace, cutAt, readable, leadBytes, idBytes, whoBytes, answerBytes, namedBytes, addedBytes, idSize, whoSize, answerSize, sizeOf, Inside, Ordered, Room, Puts, credentialsOf, idGiven};
+ghost use Rattle.connection.specs.Pieces.{headersFrom, firstIn, whoPlace, cutAt, readable, credentialsOf, idGiven};
+ghost use Rattle.connection.specs.Pieces.{idBytes, whoBytes, answerBytes, namedBytes, addedBytes, Room, Puts};
+ghost use Rattle.connection.specs.Pieces.{idSize, whoSize, answerSize, sizeOf, Inside, Ordered};
 use crate::challenge::AUTHENTICATE_CHALLENGE;
 use crate::challenge::first_in;
 use crate::challenge::nonce_for;
 use crate::peer::ConnectionId;
-use crate::send::Fit;
 use crate::send::Sent;
-use crate::send::fits;
-use crate::send::put_connect_prefix;
+use crate::send::begin_connect;
 use base::copy_into;
 use digest::md5::Octets16;
 use packet::auth::Named;
@@ -33,9 +35,7 @@ use packet::header::is_readable;
 use packet::header::put_bytes;
 use packet::header::put_u8;
 use packet::header::put_u32;
-use packet::response::INTERNAL_SERVER_ERROR;
 use packet::response::UNAUTHORIZED;
-use packet::response::to_byte;
 use packet::tlv::Found;
 
 const TARGET: u8 = 0x46;
@@ -83,15 +83,9 @@ fn who_cut(front: ConnectionId, headers: &[u8]) -> usize
             encoding: _,
             start: _,
             end,
-        } => {
-            return end;
-        }
-        HeaderAt::Unreadable => {
-            return 0;
-        }
-        HeaderAt::End => {
-            return 0;
-        }
+        } => end,
+        HeaderAt::Unreadable => 0,
+        HeaderAt::End => 0,
     }
 }
 
@@ -168,7 +162,7 @@ fn connect_size(
 // What stands before the n bytes of a header's value.
 fn put_lead(reply: &mut [u8], at: usize, id: u8, n: usize)
     requires { ⌜ (at + 3 ≤ length (now reply)) × (n ≤ 65532) ⌝ }
-    ensures { λ r. ⌜ now (reply .exit) ≡ laid (now (reply .entry)) at (leadBytes id n) ⌝ }
+    ensures { λ r. ⌜ now (reply .exit) ≡ laid (now (reply .entry)) at (leadBytes Bytes id n) ⌝ }
 {
     reply[at] = id;
     reply[at + 1] = ((3 + n) / 256) as u8;
@@ -216,7 +210,8 @@ fn put_named(
     headers: &[u8],
 ) -> usize
     requires { ⌜ Room (now reply) at (namedBytes front (bytesAt (now packet) who) (now headers)) × Inside (now packet) who ⌝ }
-    ensures { λ r. ⌜ Puts (now (reply .entry)) at (namedBytes front (bytesAt (now (packet .entry)) who) (now (headers .entry))) r (now (reply .exit)) ⌝ }
+    ensures { λ r. ⌜ Puts (now (reply .entry)) at (namedBytes front (bytesAt (now (packet .entry)) who) (now (headers .entry)))
+        r (now (reply .exit)) ⌝ }
 {
     let cut = who_cut(front, headers);
     let first = put_id(reply, at, front);
@@ -234,8 +229,10 @@ fn put_answer(
     user: &[u8],
     password: &[u8],
 ) -> usize
-    requires { ⌜ Room (now reply) at (answerBytes nonce (given «has_user» (now user)) (now password)) × (overlong (given «has_user» (now user)) ≡ false) ⌝ }
-    ensures { λ r. ⌜ Puts (now (reply .entry)) at (answerBytes nonce (given «has_user» (now (user .entry))) (now (password .entry))) r (now (reply .exit)) ⌝ }
+    requires { ⌜ Room (now reply) at (answerBytes nonce (given «has_user» (now user)) (now password))
+        × (overlong (given «has_user» (now user)) ≡ false) ⌝ }
+    ensures { λ r. ⌜ Puts (now (reply .entry)) at (answerBytes nonce (given «has_user» (now (user .entry))) (now (password .entry)))
+        r (now (reply .exit)) ⌝ }
 {
     let Named::Nonce(n) = nonce else {
         return at;
@@ -256,8 +253,10 @@ fn put_added(
     password: &[u8],
     srm: bool,
 )
-    requires { ⌜ Room (now reply) at (addedBytes nonce (given «has_user» (now user)) (now password) srm) × (overlong (given «has_user» (now user)) ≡ false) ⌝ }
-    ensures { λ r. ⌜ now (reply .exit) ≡ laid (now (reply .entry)) at (addedBytes nonce (given «has_user» (now (user .entry))) (now (password .entry)) srm) ⌝ }
+    requires { ⌜ Room (now reply) at (addedBytes nonce (given «has_user» (now user)) (now password) srm)
+        × (overlong (given «has_user» (now user)) ≡ false) ⌝ }
+    ensures { λ r. ⌜ now (reply .exit)
+        ≡ laid (now (reply .entry)) at (addedBytes nonce (given «has_user» (now (user .entry))) (now (password .entry)) srm) ⌝ }
 {
     let next = put_answer(reply, at, nonce, has_user, user, password);
     if srm {
@@ -265,7 +264,7 @@ fn put_added(
     }
 }
 
-// Those pieces, behind Connect's fields. Number 7 comes before the peer's limit.
+// Those pieces, behind Connect's fields.
 fn send_pieces(
     reply: &mut [u8],
     remote: usize,
@@ -281,25 +280,19 @@ fn send_pieces(
     password: &[u8],
     srm: bool,
 ) -> Sent
-    requires { ⌜ (65535 ≤ length (now reply)) × (length (now packet) ≤ 65535) × (length (now headers) ≤ 65535) × Inside (now packet) who × (overlong (given «has_user» (now user)) ≡ false) ⌝ }
-    ensures { λ r. ⌜ sending r (now (reply .exit)) ≡ sentInto (sendBytes remote code (fieldsOf limit) (namedBytes front (bytesAt (now (packet .entry)) who) (now (headers .entry)) ++ addedBytes nonce (given «has_user» (now (user .entry))) (now (password .entry)) srm)) (now (reply .entry)) ⌝ }
+    requires { ⌜ (65535 ≤ length (now reply)) × (length (now packet) ≤ 65535) × (length (now headers) ≤ 65535) × Inside (now packet) who
+        × (overlong (given «has_user» (now user)) ≡ false) ⌝ }
+    ensures { λ r. ⌜ sending r (now (reply .exit)) ≡ sentInto (sendBytes remote code (fieldsOf limit)
+        (namedBytes front (bytesAt (now (packet .entry)) who) (now (headers .entry))
+        ++ addedBytes nonce (given «has_user» (now (user .entry))) (now (password .entry)) srm)) (now (reply .entry)) ⌝ }
 {
     let size = connect_size(front, who, headers.len(), nonce, has_user, user.len(), srm);
-    match fits(remote, 7, size) {
-        Fit::TooLarge => {
-            return Sent::TooLarge;
-        }
-        Fit::Replaced => {
-            put_connect_prefix(reply, to_byte(INTERNAL_SERVER_ERROR), 7, limit);
-            return Sent::Reply(7);
-        }
-        Fit::Whole => {
-            put_connect_prefix(reply, to_byte(code), 7 + size, limit);
-            let next = put_named(reply, 7, front, who, packet, headers);
-            put_added(reply, next, nonce, has_user, user, password, srm);
-            return Sent::Reply(7 + size);
-        }
+    let begun = begin_connect(reply, remote, code, limit, size);
+    if begun.whole {
+        let next = put_named(reply, 7, front, who, packet, headers);
+        put_added(reply, next, nonce, has_user, user, password, srm);
     }
+    begun.sent
 }
 
 // The reply to a Connect that the host accepted: by the id put in front, the packet whose headers start at a place, the host's headers
@@ -319,8 +312,11 @@ pub fn connect_reply(
     password: &[u8],
     srm: bool,
 ) -> Sent
-    requires { ⌜ (65535 ≤ length (now reply)) × (length (now packet) ≤ 65535) × (length (now headers) ≤ 65535) × (overlong (given «has_user» (now user)) ≡ false) ⌝ }
-    ensures { λ r. ⌜ sending r (now (reply .exit)) ≡ sentInto (sendBytes remote code (fieldsOf limit) (allBytes (connectHeaders (idGiven front) (headersFrom (now (packet .entry)) from) (headersFrom (now (headers .entry)) 0) (credentialsOf «has_credentials» (given «has_user» (now (user .entry))) (now (password .entry))) srm))) (now (reply .entry)) ⌝ }
+    requires { ⌜ (65535 ≤ length (now reply)) × (length (now packet) ≤ 65535) × (length (now headers) ≤ 65535)
+        × (overlong (given «has_user» (now user)) ≡ false) ⌝ }
+    ensures { λ r. ⌜ sending r (now (reply .exit)) ≡ sentInto (sendBytes remote code (fieldsOf limit) (allBytes
+        (connectHeaders (idGiven front) (headersFrom (now (packet .entry)) from) (headersFrom (now (headers .entry)) 0)
+        (credentialsOf «has_credentials» (given «has_user» (now (user .entry))) (now (password .entry))) srm))) (now (reply .entry)) ⌝ }
 {
     let n = readable_len(headers);
     let answer = &headers[..n];
@@ -358,31 +354,24 @@ pub fn challenge_reply(
     realm: &[u8],
 ) -> Sent
     requires { ⌜ (65535 ≤ length (now reply)) × (overlong (given «has_realm» (charset ∷ now realm)) ≡ false) ⌝ }
-    ensures { λ r. ⌜ sending r (now (reply .exit)) ≡ sentInto (sendBytes remote 0x41 (fieldsOf limit) (bytesOf (challengeHeader (octets16 nonce) (flagBits «user_id_required» «read_only») (given «has_realm» (charset ∷ now (realm .entry)))))) (now (reply .entry)) ⌝ }
+    ensures { λ r. ⌜ sending r (now (reply .exit)) ≡ sentInto (sendBytes remote 0x41 (fieldsOf limit) (bytesOf
+        (challengeHeader (octets16 nonce) (flagBits «user_id_required» «read_only») (given «has_realm» (charset ∷ now (realm .entry))))))
+        (now (reply .entry)) ⌝ }
 {
     let size = challenge_size(has_realm, realm.len());
-    match fits(remote, 7, size) {
-        Fit::TooLarge => {
-            return Sent::TooLarge;
-        }
-        Fit::Replaced => {
-            put_connect_prefix(reply, to_byte(INTERNAL_SERVER_ERROR), 7, limit);
-            return Sent::Reply(7);
-        }
-        Fit::Whole => {
-            put_connect_prefix(reply, to_byte(UNAUTHORIZED), 7 + size, limit);
-            put_lead(reply, 7, AUTHENTICATE_CHALLENGE, size - 3);
-            write_challenge(
-                reply,
-                10,
-                nonce,
-                user_id_required,
-                read_only,
-                has_realm,
-                charset,
-                realm,
-            );
-            return Sent::Reply(7 + size);
-        }
+    let begun = begin_connect(reply, remote, UNAUTHORIZED, limit, size);
+    if begun.whole {
+        put_lead(reply, 7, AUTHENTICATE_CHALLENGE, size - 3);
+        write_challenge(
+            reply,
+            10,
+            nonce,
+            user_id_required,
+            read_only,
+            has_realm,
+            charset,
+            realm,
+        );
     }
+    begun.sent
 }

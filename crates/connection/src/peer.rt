@@ -5,7 +5,8 @@ ghost use mathlib.Core.Bool.{true, false};
 ghost use Prim.Native.Nat.{_+_, _%_, _^_, _≤_, _<_};
 ghost use lib.ListN.{length, take};
 ghost use Rattle.journal.specs.Ids.{member, taken, without, newId};
-ghost use Rattle.connection.specs.Peer.{peerWith, atLeast255, limited as limitedPeer, verifiedPeer, challengedPeer, srmPeer, addedPeer, opened as openedPeer, openingOf, answerBy, clearedPeer, disconnectedBy};
+ghost use Rattle.connection.specs.Peer.{atLeast255, limited as limitedPeer, authenticatedPeer, verifiedPeer, challengedPeer, srmPeer};
+ghost use Rattle.connection.specs.Peer.{addedPeer, opened as openedPeer, openingOf, answerBy, clearedPeer, disconnectedBy};
 ghost use Rattle.connection.specs.Send.{front};
 use digest::md5::Octets16;
 
@@ -126,29 +127,6 @@ fn close_id(ids: &mut [u32], count: usize, id: u32) -> usize
 
 // ---- the peer
 
-// The one place that lists the fields.
-fn peer_with(
-    connections: [u32; 64],
-    count: usize,
-    next_connection_id: u32,
-    remote_max_packet_length: u16,
-    srm_enabled: bool,
-    authenticated: bool,
-    challenge: Challenge,
-) -> Peer
-    ensures { λ r. ⌜ r ≡ peerWith connections count «next_connection_id» «remote_max_packet_length» «srm_enabled» authenticated challenge ⌝ }
-{
-    Peer {
-        connections,
-        count,
-        next_connection_id,
-        remote_max_packet_length,
-        srm_enabled,
-        authenticated,
-        challenge,
-    }
-}
-
 fn at_least_minimum(n: u16) -> u16
     ensures { λ r. ⌜ r ≡ atLeast255 n ⌝ }
 {
@@ -162,66 +140,48 @@ fn at_least_minimum(n: u16) -> u16
 pub fn limited(peer: Peer, max_packet_length: u16) -> Peer
     ensures { λ r. ⌜ r ≡ limitedPeer peer «max_packet_length» ⌝ }
 {
+    let mut r = peer;
+    r.remote_max_packet_length = at_least_minimum(max_packet_length);
+    r
+}
+
+// Authentication as it is from now on; the rest stays.
+fn with_authentication(peer: Peer, authenticated: bool, challenge: Challenge) -> Peer
+    ensures { λ r. ⌜ r ≡ authenticatedPeer peer authenticated challenge ⌝ }
+{
     let connections = peer.connections;
-    let challenge = peer.challenge;
-    peer_with(
+    Peer {
         connections,
-        peer.count,
-        peer.next_connection_id,
-        at_least_minimum(max_packet_length),
-        peer.srm_enabled,
-        peer.authenticated,
+        count: peer.count,
+        next_connection_id: peer.next_connection_id,
+        remote_max_packet_length: peer.remote_max_packet_length,
+        srm_enabled: peer.srm_enabled,
+        authenticated,
         challenge,
-    )
+    }
 }
 
 // The password was right.
 pub fn verified(peer: Peer) -> Peer
     ensures { λ r. ⌜ r ≡ verifiedPeer peer ⌝ }
 {
-    let connections = peer.connections;
-    peer_with(
-        connections,
-        peer.count,
-        peer.next_connection_id,
-        peer.remote_max_packet_length,
-        peer.srm_enabled,
-        true,
-        Challenge::Absent,
-    )
+    with_authentication(peer, true, Challenge::Absent)
 }
 
 // A challenge with a new nonce is sent.
 pub fn challenged(peer: Peer, nonce: Octets16) -> Peer
     ensures { λ r. ⌜ r ≡ challengedPeer peer nonce ⌝ }
 {
-    let connections = peer.connections;
-    peer_with(
-        connections,
-        peer.count,
-        peer.next_connection_id,
-        peer.remote_max_packet_length,
-        peer.srm_enabled,
-        false,
-        Challenge::Stored(nonce),
-    )
+    with_authentication(peer, false, Challenge::Stored(nonce))
 }
 
 // SRM as it is from now on; the rest stays.
 fn with_srm(peer: Peer, srm: bool) -> Peer
     ensures { λ r. ⌜ r ≡ srmPeer peer srm ⌝ }
 {
-    let connections = peer.connections;
-    let challenge = peer.challenge;
-    peer_with(
-        connections,
-        peer.count,
-        peer.next_connection_id,
-        peer.remote_max_packet_length,
-        srm,
-        peer.authenticated,
-        challenge,
-    )
+    let mut r = peer;
+    r.srm_enabled = srm;
+    r
 }
 
 // One id more, with the counter from now on.
@@ -229,19 +189,13 @@ fn with_id(peer: Peer, srm: bool, id: u32, next: u32) -> Peer
     requires { ⌜ peer .count < 64 ⌝ }
     ensures { λ r. ⌜ r ≡ addedPeer peer srm id next ⌝ }
 {
-    let mut connections = peer.connections;
-    let challenge = peer.challenge;
     let count = peer.count;
-    connections[count] = id;
-    peer_with(
-        connections,
-        count + 1,
-        next,
-        peer.remote_max_packet_length,
-        srm,
-        peer.authenticated,
-        challenge,
-    )
+    let mut r = peer;
+    r.connections[count] = id;
+    r.count = count + 1;
+    r.next_connection_id = next;
+    r.srm_enabled = srm;
+    r
 }
 
 // Opens an id, where it is not open yet.
@@ -297,17 +251,12 @@ pub fn opened_for(peer: Peer, srm: bool, given: ConnectionId, target: bool) -> A
 fn cleared(peer: Peer) -> Peer
     ensures { λ r. ⌜ r ≡ clearedPeer peer ⌝ }
 {
-    let connections = peer.connections;
-    let challenge = peer.challenge;
-    peer_with(
-        connections,
-        0,
-        peer.next_connection_id,
-        MINIMUM_PACKET_LENGTH,
-        false,
-        false,
-        challenge,
-    )
+    let mut r = peer;
+    r.count = 0;
+    r.remote_max_packet_length = MINIMUM_PACKET_LENGTH;
+    r.srm_enabled = false;
+    r.authenticated = false;
+    r
 }
 
 // Disconnect closes the id that it names, or all.
@@ -323,14 +272,8 @@ pub fn disconnected(peer: Peer, named: ConnectionId) -> Peer
     if count == 0 {
         return cleared(peer);
     }
-    let challenge = peer.challenge;
-    peer_with(
-        ids,
-        count,
-        peer.next_connection_id,
-        peer.remote_max_packet_length,
-        peer.srm_enabled,
-        peer.authenticated,
-        challenge,
-    )
+    let mut r = peer;
+    r.connections = ids;
+    r.count = count;
+    r
 }

@@ -1,12 +1,13 @@
 // Replies (the source's send): over 65,535 bytes a reply is number 7, over the peer's limit it becomes Internal Server Error.
 ghost use mathlib.Core.Path.{_≡_};
-ghost use mathlib.Core.List.{[], _∷_};
+ghost use mathlib.Core.List.{[]};
 ghost use Prim.Native.Nat.{_+_, _≤_, _<_};
 ghost use lib.ListN.{length};
-ghost use Rattle.base.specs.Bytes.{bytes16};
 ghost use Rattle.packet.specs.Packet.{packetBytes};
-ghost use Rattle.connection.specs.Send.{fieldsOf, startBytes, sendBytes, front, continueBytes, sending, sentInto, fitOf};
+ghost use Rattle.connection.specs.Send.{fieldsOf, startBytes, sendBytes, front, continueBytes};
+ghost use Rattle.connection.specs.Send.{sending, sentInto, fitOf, beginning, beginsBy};
 use base::copy_into;
+use packet::packet::put_prefix;
 use packet::response::INTERNAL_SERVER_ERROR;
 use packet::response::to_byte;
 
@@ -14,6 +15,12 @@ use packet::response::to_byte;
 pub enum Sent {
     Reply(usize),
     TooLarge,
+}
+
+// A reply begun: whether its headers follow, and what sending then leads to.
+pub struct Begun {
+    pub whole: bool,
+    pub sent: Sent,
 }
 
 // What becomes of a reply by its length.
@@ -35,16 +42,6 @@ pub fn fits(remote: usize, lead: usize, headers: usize) -> Fit
         return Fit::Replaced;
     }
     Fit::Whole
-}
-
-// A packet's first byte, and the length of the whole.
-pub fn put_prefix(reply: &mut [u8], byte: u8, n: usize)
-    requires { ⌜ (n < 65536) × (3 ≤ length (now reply)) ⌝ }
-    ensures { λ r. ⌜ now (reply .exit) ≡ front (byte ∷ bytes16 n) (now (reply .entry)) ⌝ }
-{
-    reply[0] = byte;
-    reply[1] = (n / 256) as u8;
-    reply[2] = (n % 256) as u8;
 }
 
 // The three bytes of a reply without headers.
@@ -104,24 +101,42 @@ pub fn put_connect_prefix(reply: &mut [u8], byte: u8, n: usize, limit: u16)
     reply[6] = (limit % 256) as u8;
 }
 
+// Begins a reply to a Connect whose headers take so many bytes. Number 7 comes before the peer's limit.
+pub fn begin_connect(reply: &mut [u8], remote: usize, code: u8, limit: u16, size: usize) -> Begun
+    requires { ⌜ 7 ≤ length (now reply) ⌝ }
+    ensures { λ r. ⌜ beginning r (now (reply .exit)) ≡ beginsBy (fitOf remote (7 + size)) code limit size (now (reply .entry)) ⌝ }
+{
+    match fits(remote, 7, size) {
+        Fit::TooLarge => Begun {
+            whole: false,
+            sent: Sent::TooLarge,
+        },
+        Fit::Replaced => {
+            put_connect_prefix(reply, to_byte(INTERNAL_SERVER_ERROR), 7, limit);
+            Begun {
+                whole: false,
+                sent: Sent::Reply(7),
+            }
+        }
+        Fit::Whole => {
+            put_connect_prefix(reply, to_byte(code), 7 + size, limit);
+            Begun {
+                whole: true,
+                sent: Sent::Reply(7 + size),
+            }
+        }
+    }
+}
+
 // A reply with Connect's fields and headers.
 pub fn send_connect(reply: &mut [u8], remote: usize, code: u8, limit: u16, headers: &[u8]) -> Sent
     requires { ⌜ 65535 ≤ length (now reply) ⌝ }
-    ensures { λ r. ⌜ sending r (now (reply .exit)) ≡ sentInto (sendBytes remote code (fieldsOf limit) (now (headers .entry))) (now (reply .entry)) ⌝ }
+    ensures { λ r. ⌜ sending r (now (reply .exit))
+        ≡ sentInto (sendBytes remote code (fieldsOf limit) (now (headers .entry))) (now (reply .entry)) ⌝ }
 {
-    let n = headers.len();
-    match fits(remote, 7, n) {
-        Fit::TooLarge => {
-            return Sent::TooLarge;
-        }
-        Fit::Replaced => {
-            put_connect_prefix(reply, to_byte(INTERNAL_SERVER_ERROR), 7, limit);
-            return Sent::Reply(7);
-        }
-        Fit::Whole => {
-            put_connect_prefix(reply, to_byte(code), 7 + n, limit);
-            copy_into(reply, 7, headers);
-            return Sent::Reply(7 + n);
-        }
+    let begun = begin_connect(reply, remote, code, limit, headers.len());
+    if begun.whole {
+        copy_into(reply, 7, headers);
     }
+    begun.sent
 }

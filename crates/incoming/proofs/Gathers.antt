@@ -281,7 +281,11 @@ module _ (limit : ℕ) (g : Gathering) (c : Carried) (a : PutAgrees limit g c) w
             headers = a .headers;
             body-within = h;
             over = over-now v true (g .got .over) e refl ∙ ap (ltb limit) (sym sum);
-            body = λ w. (omega (arith, sum, a .body w .0), carried-on (g .got .came) (g .got .body) (g .body) v (c .body) (a .body w .0) (a .body w .1) ∙ ap some (pasted (g .body) v (g .got .body) (omega arith)));
+            body = λ w. (
+              omega (arith, sum, a .body w .0),
+              carried-on (g .got .came) (g .got .body) (g .body) v (c .body) (a .body w .0) (a .body w .1)
+                  ∙ ap some (pasted (g .body) v (g .got .body) (omega arith)),
+            );
           })
       go false e =
           rw (e, append-nil (c .headers))

@@ -18,7 +18,7 @@ use Rattle.packet.proofs.HeaderBytes.{Stands, part-length}
 use Rattle.incoming.specs.declared.survey.Survey.{Survey}
 use Rattle.incoming.specs.declared.survey.Noted.{Noted}
 use Rattle.incoming.specs.Survey.{present, surveyList, surveyOf}
-use Rattle.incoming.specs.Noted.{nothing, noteId, noteMode, noteParameter, noteOne}
+use Rattle.incoming.specs.Noted.{nothing, noteId, noteMode, noteParameter, noteOne, surveyNoted}
 
 -- ---- a value's length, by its id's encoding
 
@@ -164,8 +164,6 @@ either-false : (t : Bool) → (t || false) ≡ t
 either-false true = refl
 either-false false = refl
 
-pub ends : (n : Noted)
-    → surveyLeft n (some [])
-    ≡ record { id = n .id; «has_id» = n .«has_id»; readable = true; enable = n .enable; additional = n .additional; wait = n .wait }
+pub ends : (n : Noted) → surveyLeft n (some []) ≡ surveyNoted n
 unfolding first
 ends n = simp (pick-same, either-false)

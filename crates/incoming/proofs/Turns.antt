@@ -1,16 +1,22 @@
 -- Gathering header by header: what becomes of one header, and what is left to gather after it. Assumes nothing.
 use mathlib.Core.Path.{_≡_, refl, sym, ap, _∙_}
-use mathlib.Core.List.{List, []}
+use mathlib.Core.List.{List, [], _∷_}
 use mathlib.Core.Bool.{Bool, true, false}
+use mathlib.Core.Logic.{inl, inr}
 use mathlib.Core.Option.{Option, none, some}
 use Prim.Native.Nat.{ℕ, _≤_}
 use native.Mathlib.Omega.{arith}
 use lib.ListN.{length}
+use denote.Enum.Declared.{tagOf}
+use types.Run.{OneOf}
 use Rattle.base.specs.Pick.{pick}
 use Rattle.packet.specs.declared.header.HeaderEncoding.{HeaderEncoding}
-use Rattle.packet.specs.Header.{Header, bytesOf, part, push, readHeaders}
+use Rattle.packet.specs.declared.header.HeaderAt.{HeaderAt}
+use Rattle.packet.specs.declared.header.HeaderAt.the-variants.{At, Unreadable, End}
+use Rattle.packet.specs.Header.{Header, bytesOf, part, push, headerAt, readHeaders}
 use Rattle.packet.specs.HeaderList.{isRead, readableFrom}
-use Rattle.packet.proofs.HeaderLaws.{Here, push-read}
+use Rattle.packet.proofs.header.HeaderAt.{the-type}
+use Rattle.packet.proofs.HeaderLaws.{Here, push-read, by-cursor}
 use Rattle.incoming.specs.declared.gather.Keep.{Keep}
 use Rattle.incoming.specs.Gather.{Gathering, stored, dropped, kept, isStored, isDropped, keepBytes, storeBytes, gatherBy, gatherOne, gatherAll, headersOf}
 use Rattle.incoming.proofs.Gathers.{one-within}
@@ -47,11 +53,10 @@ unfolding gatherAll
 pushed k limit g h none e f = absurd (let z : _≡_ {A = ℕ} 0 1 = cc in omega arith)
 pushed k limit g h (some hs) e f = ap (λ (t : Bool). pick t g (gatherAll k limit hs (gatherOne k limit g h))) f
 
-pushed-full : (k : Keep) (limit : ℕ) (g : Gathering) (h : Header) (r : Option (List Header)) → g .got .full ≡ true
-    → gatherAll k limit (headersOf (push h r)) g ≡ g
+gather-full : (k : Keep) (limit : ℕ) (g : Gathering) (hs : List Header) → g .got .full ≡ true → gatherAll k limit hs g ≡ g
 unfolding gatherAll
-pushed-full k limit g h none f = refl
-pushed-full k limit g h (some hs) f = ap (λ (t : Bool). pick t g (gatherAll k limit hs (gatherOne k limit g h))) f
+gather-full k limit g [] f = refl
+gather-full k limit g (h ∷ hs) f = ap (λ (t : Bool). pick t g (gatherAll k limit hs (gatherOne k limit g h))) f
 
 module _ (p : List ℕ) (at : ℕ) (k : Keep) (limit : ℕ) (g whole : Gathering) (l : Left p at k limit g whole) where
   with-list : (r : Option (List Header)) → readHeaders p at ≡ r → whole ≡ gatherAll k limit (headersOf r) g
@@ -74,12 +79,16 @@ module _ (p : List ℕ) (at : ℕ) (k : Keep) (limit : ℕ) (g whole : Gathering
       })
 
   -- a header that did not fit came before
-  pub stops : (id : ℕ) (e : HeaderEncoding) (from to : ℕ) → Here p at id e from to → g .got .full ≡ true → g ≡ whole
-  stops id e from to w f =
-      let h : Header = record { id = id; value = part p from to } in
-      sym (with-list (push h (readHeaders p to)) (w .list) ∙ pushed-full k limit g h (readHeaders p to) f)
+  pub stops : g .got .full ≡ true → g ≡ whole
+  stops f = sym (l .gives ∙ gather-full k limit g (headersOf (readHeaders p at)) f)
 
   -- no header follows
-  pub ends : (r : Option (List Header)) → readHeaders p at ≡ r → headersOf r ≡ [] → g ≡ whole
+  none-left : (r : Option (List Header)) → readHeaders p at ≡ r → headersOf r ≡ [] → g ≡ whole
   unfolding gatherAll
-  ends r e n = sym (with-list r e ∙ ap (λ (hs : List Header). gatherAll k limit hs g) n)
+  none-left r e n = sym (with-list r e ∙ ap (λ (hs : List Header). gatherAll k limit hs g) n)
+
+  pub ends : (a : HeaderAt) → a ≡ headerAt p at → OneOf (1 ∷ 2 ∷ []) (tagOf the-type a) → g ≡ whole
+  ends (At id e from to) is (inl z) = absurd (omega arith)
+  ends (At id e from to) is (inr z) = absurd (omega arith)
+  ends Unreadable is z = none-left none (by-cursor p at Unreadable (sym is)) refl
+  ends End is z = none-left (some []) (by-cursor p at End (sym is) .1) refl

@@ -1,4 +1,5 @@
--- The pass over a packet's headers: of ConnectionID, SingleResponseMode and its parameters the first is noted, others are passed over.
+-- The survey in one pass, as src/survey has it: of ConnectionID, SingleResponseMode and its parameters the first is noted, others are passed
+-- over. proofs/Notes says that this is the survey.
 use Prim.Native.Nat.{ℕ}
 use mathlib.Core.Bool.{true, false}
 use lib.ListN.{getD}
@@ -8,6 +9,7 @@ use Rattle.base.specs.Bytes.{be32}
 use Rattle.packet.specs.Header.{Header}
 use Rattle.packet.specs.Modes as modes
 use Rattle.incoming.specs.declared.survey.Noted.{Noted}
+use Rattle.incoming.specs.declared.survey.Survey.{Survey}
 
 abbrev pub nothing : Noted
 nothing =
@@ -58,3 +60,8 @@ noteOne n h =
     (pick (eqb (h .id) 0x97) (noteMode n (getD (h .value) 0 0))
     (pick (eqb (h .id) 0x98) (noteParameter n (getD (h .value) 0 0))
     n))
+
+-- what is noted of all headers
+abbrev pub surveyNoted : Noted → Survey
+surveyNoted n =
+    record { id = n .id; «has_id» = n .«has_id»; readable = true; enable = n .enable; additional = n .additional; wait = n .wait }

@@ -1,4 +1,5 @@
--- What the engine asks of the headers of every packet: the first ConnectionID, SingleResponseMode and its parameters.
+-- What the engine asks of the headers of every packet (document 01, Engine: who is turned away, Put and Get; engine/server.rs):
+-- the first ConnectionID, the first SingleResponseMode and its first parameters.
 use Prim.Native.Nat.{ℕ}
 use mathlib.Core.List.{List}
 use mathlib.Core.Bool.{Bool, true, false}
@@ -35,6 +36,9 @@ surveyList hs =
     }
 
 -- of unreadable headers nothing is asked
+abbrev pub unreadableSurvey : Survey
+unreadableSurvey = record { id = 0; «has_id» = false; readable = false; enable = false; additional = false; wait = false }
+
 unfoldable pub surveyOf : Option (List Header) → Survey
-surveyOf none = record { id = 0; «has_id» = false; readable = false; enable = false; additional = false; wait = false }
+surveyOf none = unreadableSurvey
 surveyOf (some hs) = surveyList hs

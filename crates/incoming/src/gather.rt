@@ -7,7 +7,8 @@ ghost use lib.ListN.{length};
 ghost use Rattle.journal.specs.Carried.{isBody, isSrm};
 ghost use Rattle.packet.specs.Header.{part, bytesOf, readHeaders};
 ghost use Rattle.packet.specs.HeaderList.{readableFrom};
-ghost use Rattle.incoming.specs.Gather.{gathering, isStored, isDropped, keepBytes, storeBytes, gatherOne, gatherAll, headersOf};
+ghost use Rattle.incoming.specs.Gather.{gathering, isStored, isDropped, keepBytes, storeBytes};
+ghost use Rattle.incoming.specs.Gather.{gatherOne, gatherAll, headersOf};
 use base::copy_into;
 use packet::header::HeaderAt;
 use packet::header::header_at;
@@ -54,51 +55,38 @@ fn is_srm(id: u8) -> bool
 // A header's bytes to the header store, where they fit.
 fn keep_bytes(bytes: &[u8], g: Gathered, headers: &mut [u8]) -> Gathered
     requires { ⌜ (g .kept ≤ 65535) × (65535 ≤ length (now headers)) ⌝ }
-    ensures model { λ r. ⌜ ((b : List ℕ) → gathering r (now (headers .exit)) b ≡ keepBytes (gathering g (now (headers .entry)) b) (now (bytes .entry))) ⌝ }
+    ensures model { λ r. ⌜ ((b : List ℕ) → gathering r (now (headers .exit)) b
+        ≡ keepBytes (gathering g (now (headers .entry)) b) (now (bytes .entry))) ⌝ }
 {
     let kept = g.kept;
+    let mut r = g;
     if 65535 - kept < bytes.len() {
-        return Gathered {
-            kept,
-            body: g.body,
-            came: g.came,
-            over: g.over,
-            full: true,
-        };
+        r.full = true;
+        return r;
     }
     copy_into(headers, kept, bytes);
-    Gathered {
-        kept: kept + bytes.len(),
-        body: g.body,
-        came: g.came,
-        over: g.over,
-        full: false,
-    }
+    r.kept = kept + bytes.len();
+    r.full = false;
+    r
 }
 
 // A body header's bytes to the body store, where they do not pass the limit.
 fn store_bytes(bytes: &[u8], g: Gathered, limit: usize, body: &mut [u8]) -> Gathered
     requires { ⌜ (g .body ≤ limit) × (limit ≤ length (now body)) ⌝ }
-    ensures model { λ r. ⌜ ((h : List ℕ) → gathering r h (now (body .exit)) ≡ storeBytes limit (gathering g h (now (body .entry))) (now (bytes .entry))) ⌝ }
+    ensures model { λ r. ⌜ ((h : List ℕ) → gathering r h (now (body .exit))
+        ≡ storeBytes limit (gathering g h (now (body .entry))) (now (bytes .entry))) ⌝ }
 {
     let stored = g.body;
+    let mut r = g;
+    r.came = true;
+    r.full = false;
     if limit - stored < bytes.len() {
-        return Gathered {
-            kept: g.kept,
-            body: stored,
-            came: true,
-            over: true,
-            full: false,
-        };
+        r.over = true;
+        return r;
     }
     copy_into(body, stored, bytes);
-    Gathered {
-        kept: g.kept,
-        body: stored + bytes.len(),
-        came: true,
-        over: g.over,
-        full: false,
-    }
+    r.body = stored + bytes.len();
+    r
 }
 
 // Whether a header's value is stored as body bytes.
@@ -136,8 +124,12 @@ fn gather_one(
     headers: &mut [u8],
     body: &mut [u8],
 ) -> Gathered
-    requires { ⌜ (bytesOf (record { id = id; value = part (now p) start «end» }) ≡ part (now p) at «end») × (at ≤ start) × (start ≤ «end») × («end» ≤ length (now p)) × (g .kept ≤ 65535) × (65535 ≤ length (now headers)) × (g .body ≤ limit) × (limit ≤ length (now body)) ⌝ }
-    ensures model { λ r. ⌜ gathering r (now (headers .exit)) (now (body .exit)) ≡ gatherOne keep limit (gathering g (now (headers .entry)) (now (body .entry))) (record { id = id; value = part (now (p .entry)) start «end» }) ⌝ }
+    requires { ⌜ (bytesOf (record { id = id; value = part (now p) start «end» }) ≡ part (now p) at «end») × (at ≤ start) × (start ≤ «end»)
+        × («end» ≤ length (now p)) × (g .kept ≤ 65535) × (65535 ≤ length (now headers)) × (g .body ≤ limit)
+        × (limit ≤ length (now body)) ⌝ }
+    ensures model { λ r. ⌜ gathering r (now (headers .exit)) (now (body .exit))
+        ≡ gatherOne keep limit (gathering g (now (headers .entry)) (now (body .entry)))
+        (record { id = id; value = part (now (p .entry)) start «end» }) ⌝ }
 {
     if is_stored(keep, id) {
         return store_bytes(&p[start..end], g, limit, body);
@@ -158,43 +150,27 @@ pub fn gather(
     headers: &mut [u8],
     body: &mut [u8],
 ) -> Gathered
-    requires { ⌜ (readableFrom (now p) from ≡ true) × (begun .kept ≤ 65535) × (65535 ≤ length (now headers)) × (begun .body ≤ limit) × (limit ≤ length (now body)) ⌝ }
-    ensures model { λ r. ⌜ gathering r (now (headers .exit)) (now (body .exit)) ≡ gatherAll keep limit (headersOf (readHeaders (now (p .entry)) from)) (gathering begun (now (headers .entry)) (now (body .entry))) ⌝ }
+    requires { ⌜ (readableFrom (now p) from ≡ true) × (begun .kept ≤ 65535) × (65535 ≤ length (now headers))
+        × (begun .body ≤ limit) × (limit ≤ length (now body)) ⌝ }
+    ensures model { λ r. ⌜ gathering r (now (headers .exit)) (now (body .exit))
+        ≡ gatherAll keep limit (headersOf (readHeaders (now (p .entry)) from))
+        (gathering begun (now (headers .entry)) (now (body .entry))) ⌝ }
     ensures within { λ r. ⌜ (r .kept ≤ 65535) × (r .body ≤ limit) ⌝ }
 {
     let mut g = begun;
     let mut at = from;
-    loop {
-        match header_at(p, at) {
-            HeaderAt::At {
-                id,
-                encoding: _,
-                start,
-                end,
-            } => {
-                if g.full {
-                    return g;
-                }
-                g = gather_one(
-                    p,
-                    at,
-                    start,
-                    end,
-                    id,
-                    keep,
-                    limit,
-                    g,
-                    &mut headers[..],
-                    &mut body[..],
-                );
-                at = end;
-            }
-            HeaderAt::Unreadable => {
-                return g;
-            }
-            HeaderAt::End => {
-                return g;
-            }
-        }
+    while !g.full {
+        let HeaderAt::At {
+            id,
+            encoding: _,
+            start,
+            end,
+        } = header_at(p, at)
+        else {
+            return g;
+        };
+        g = gather_one(p, at, start, end, id, keep, limit, g, headers, body);
+        at = end;
     }
+    g
 }

@@ -60,7 +60,8 @@ fn room(at: usize, n: usize, left: usize) -> usize
 fn bulk(at: usize, i: usize, input: &[u8], packet: &mut [u8]) -> usize
     requires { ⌜ (at < 65535) × (65535 ≤ length (now packet)) × (i ≤ length (now input)) ⌝ }
     ensures within { λ r. ⌜ (i + r ≤ length (now (input .entry))) × (at + r < 65535) ⌝ }
-    ensures model { λ r. ⌜ framed (now (packet .entry)) at i (drop i (now (input .entry))) ≡ framed (now (packet .exit)) (at + r) (i + r) (drop (i + r) (now (input .entry))) ⌝ }
+    ensures model { λ r. ⌜ framed (now (packet .entry)) at i (drop i (now (input .entry)))
+        ≡ framed (now (packet .exit)) (at + r) (i + r) (drop (i + r) (now (input .entry))) ⌝ }
 {
     let n = be16_at(&packet[..], 1);
     let m = room(at, n, input.len() - i);

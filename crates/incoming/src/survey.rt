@@ -2,8 +2,8 @@
 ghost use mathlib.Core.Path.{_≡_};
 ghost use lib.ListN.{length};
 ghost use Rattle.packet.specs.Header.{readHeaders};
-ghost use Rattle.incoming.specs.Noted.{noteId, noteMode, noteParameter, noteOne};
-ghost use Rattle.incoming.specs.Survey.{surveyOf};
+ghost use Rattle.incoming.specs.Noted.{noteId, noteMode, noteParameter, noteOne, surveyNoted};
+ghost use Rattle.incoming.specs.Survey.{unreadableSurvey, surveyOf};
 use packet::header::HeaderAt;
 use packet::header::be32_at;
 use packet::header::header_at;
@@ -41,15 +41,10 @@ fn note_id(n: Noted, id: u32) -> Noted
     if n.has_id {
         return n;
     }
-    Noted {
-        id,
-        has_id: true,
-        has_mode: n.has_mode,
-        enable: n.enable,
-        has_parameter: n.has_parameter,
-        additional: n.additional,
-        wait: n.wait,
-    }
+    let mut r = n;
+    r.id = id;
+    r.has_id = true;
+    r
 }
 
 fn note_mode(n: Noted, mode: u8) -> Noted
@@ -58,15 +53,10 @@ fn note_mode(n: Noted, mode: u8) -> Noted
     if n.has_mode {
         return n;
     }
-    Noted {
-        id: n.id,
-        has_id: n.has_id,
-        has_mode: true,
-        enable: mode == ENABLE,
-        has_parameter: n.has_parameter,
-        additional: n.additional,
-        wait: n.wait,
-    }
+    let mut r = n;
+    r.has_mode = true;
+    r.enable = mode == ENABLE;
+    r
 }
 
 fn note_parameter(n: Noted, parameter: u8) -> Noted
@@ -75,15 +65,11 @@ fn note_parameter(n: Noted, parameter: u8) -> Noted
     if n.has_parameter {
         return n;
     }
-    Noted {
-        id: n.id,
-        has_id: n.has_id,
-        has_mode: n.has_mode,
-        enable: n.enable,
-        has_parameter: true,
-        additional: requests_additional_packet(parameter),
-        wait: requests_wait(parameter),
-    }
+    let mut r = n;
+    r.has_parameter = true;
+    r.additional = requests_additional_packet(parameter);
+    r.wait = requests_wait(parameter);
+    r
 }
 
 // One header more. The three have values of four bytes and of one byte.
@@ -96,6 +82,34 @@ fn note(n: Noted, id: u8, value: &[u8]) -> Noted
         0x97 => note_mode(n, value[0]),
         0x98 => note_parameter(n, value[0]),
         _ => n,
+    }
+}
+
+// What is noted of all headers.
+fn surveyed(n: Noted) -> Survey
+    ensures { λ r. ⌜ r ≡ surveyNoted n ⌝ }
+{
+    Survey {
+        id: n.id,
+        has_id: n.has_id,
+        readable: true,
+        enable: n.enable,
+        additional: n.additional,
+        wait: n.wait,
+    }
+}
+
+// Of unreadable headers nothing is asked.
+fn unreadable() -> Survey
+    ensures { λ r. ⌜ r ≡ unreadableSurvey ⌝ }
+{
+    Survey {
+        id: 0,
+        has_id: false,
+        readable: false,
+        enable: false,
+        additional: false,
+        wait: false,
     }
 }
 
@@ -125,24 +139,10 @@ pub fn survey_headers(p: &[u8], from: usize) -> Survey
                 at = end;
             }
             HeaderAt::Unreadable => {
-                return Survey {
-                    id: 0,
-                    has_id: false,
-                    readable: false,
-                    enable: false,
-                    additional: false,
-                    wait: false,
-                };
+                return unreadable();
             }
             HeaderAt::End => {
-                return Survey {
-                    id: n.id,
-                    has_id: n.has_id,
-                    readable: true,
-                    enable: n.enable,
-                    additional: n.additional,
-                    wait: n.wait,
-                };
+                return surveyed(n);
             }
         }
     }

@@ -1,5 +1,4 @@
 -- What several proofs cite.
-pub mod Three
 pub mod Sending
 pub mod Fitting
 pub mod Sent

@@ -20,7 +20,9 @@ use Rattle.outgoing.specs.declared.body.Outgoing.{Outgoing}
 use Rattle.outgoing.specs.declared.body.Chunk.{Chunk}
 use Rattle.outgoing.specs.declared.body.Next.{Next}
 use Rattle.outgoing.specs.declared.body.Next.the-variants.{Send, Read, TooLarge}
-use Rattle.outgoing.specs.Outgoing.{Filled, empty, full, tooLarge, Filling, filling, fillAt, fill, leadAt, leadStore, fillPacket, Made, made, prefixed, sending, sentTo, aheadWith, aheadNone, bodyHeader, lastChunk, fullChunk, beginChunk, bodyAfter, nextFilled, nextPacket, chunkGiven, bodyGiven}
+use Rattle.outgoing.specs.Outgoing.{Filled, empty, full, tooLarge, Filling, filling, fillAt, fill, leadAt, leadStore, fillPacket}
+use Rattle.outgoing.specs.Outgoing.{Made, made, prefixed, sending, sentTo, aheadWith, aheadNone, bodyHeader}
+use Rattle.outgoing.specs.Outgoing.{lastChunk, fullChunk, beginChunk, bodyAfter, nextFilled, nextPacket, chunkGiven, bodyGiven}
 
 -- ---- what is kept
 
@@ -51,8 +53,7 @@ abbrev Counts : Outgoing → Outgoing → Type 0
 Counts o q = (q .total ≡ o .total) × (q .sent ≤ o .total)
 
 prefix-length : (last : Bool) (n : ℕ) (y : List ℕ) → 3 ≤ length y → length (prefixed last n y) ≡ length y
-prefix-length true n y h = omega (arith, length-drop 3 y)
-prefix-length false n y h = omega (arith, length-drop 3 y)
+prefix-length last n y h = omega (arith, length-drop 3 y)
 
 header-kept : (id at n : ℕ) (y : List ℕ) → at + 3 ≤ length y → length (bodyHeader id at n y) ≡ length y
 header-kept id at n y h = length-paste y at (id ∷ bytes16 (3 + n)) 3 h (le-refl 3)
@@ -141,7 +142,10 @@ fill-bounds (suc k) capacity hs sent at y l s a = go (headerAt hs sent) refl (fi
 
     -- a header: for no packet, for no more of this one, or for this one
     more : (to : ℕ) → (sent < to) × (to ≤ length hs) → Rest → (t u : Bool) → ltb (capacity + 3) (at + (to - sent)) ≡ u
-        → FillBounds capacity (length hs) (length y) (pick t (filling tooLarge sent at y) (pick u (filling full sent at y) (fill k capacity hs to (at + (to - sent)) (paste y at (part hs sent to) (to - sent)))))
+        → FillBounds capacity (length hs) (length y)
+        (pick t (filling tooLarge sent at y)
+        (pick u (filling full sent at y)
+        (fill k capacity hs to (at + (to - sent)) (paste y at (part hs sent to) (to - sent)))))
     more to w ih true u q = record { sent = s; at = a; reply = refl }
     more to w ih false true q = record { sent = s; at = a; reply = refl }
     more to w ih false false q =

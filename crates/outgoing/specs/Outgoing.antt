@@ -1,11 +1,11 @@
 -- The outgoing object (document 01, Outgoing object; engine/body.rs): headers in order while they fit, then the body in chunks, the last as
 -- EndOfBody. One byte is read ahead to tell which is the last.
 use Prim.Native.Nat.{ℕ, zero, suc, _+_, _-_, _/_, _%_}
-use mathlib.Core.List.{List, [], _∷_, _++_}
+use mathlib.Core.List.{List, _∷_}
 use mathlib.Core.Bool.{Bool, true, false}
 use lib.ListN.{length, getD, take, drop, set}
 use lib.Seq.{paste}
-use lib.Dec.{ltb, leb, eqb}
+use lib.Dec.{ltb, eqb}
 use Rattle.base.specs.Pick.{pick}
 use Rattle.base.specs.Bytes.{bytes16}
 use Rattle.packet.specs.Header.{headerAt, part}
@@ -13,7 +13,6 @@ use Rattle.packet.specs.declared.header.HeaderAt.{HeaderAt}
 use Rattle.packet.specs.declared.header.HeaderAt.the-variants.{At, Unreadable, End}
 use Rattle.outgoing.specs.declared.body.Outgoing.{Outgoing}
 use Rattle.outgoing.specs.declared.body.Chunk.{Chunk}
-use Rattle.outgoing.specs.declared.body.Next.{Next}
 use Rattle.outgoing.specs.declared.body.Next.the-variants.{Send, Read, TooLarge}
 use Rattle.outgoing.specs.declared.body.Packet.{Packet}
 
@@ -71,13 +70,24 @@ pub record Made : Type 0 where
 abbrev pub made : Packet → List ℕ → Made
 made p y = record { packet = p; reply = y }
 
--- the first three bytes: 0xA0 on the last packet, 0x90 on others
+-- the code: 0xA0, Success, on the last packet, 0x90, Continue, on others
+abbrev pub codeOf : Bool → ℕ
+codeOf true = 0xA0
+codeOf false = 0x90
+
+-- the first three bytes
 abbrev pub prefixed : Bool → ℕ → List ℕ → List ℕ
-prefixed true n y = 0xA0 ∷ (n / 256 ∷ (n % 256 ∷ drop 3 y))
-prefixed false n y = 0x90 ∷ (n / 256 ∷ (n % 256 ∷ drop 3 y))
+prefixed last n y = codeOf last ∷ (n / 256 ∷ (n % 256 ∷ drop 3 y))
 
 abbrev pub noChunk : Chunk
 noChunk = record { at = 0; got = 0; room = 0 }
+
+-- a packet that waits for body bytes, one that no header fits, and one that is whole
+abbrev pub reading : Outgoing → ℕ → ℕ → ℕ → Packet
+reading o at got room = record { outgoing = o; chunk = record { at = at; got = got; room = room }; next = Read }
+
+abbrev pub refusing : Outgoing → Packet
+refusing o = record { outgoing = o; chunk = noChunk; next = TooLarge }
 
 abbrev pub sending : Outgoing → Bool → ℕ → List ℕ → Made
 sending o last n y = made (record { outgoing = o; chunk = noChunk; next = Send n last }) (prefixed last n y)
@@ -109,10 +119,10 @@ fullChunk o at size ahead y =
 
 -- a chunk of up to size bytes is begun at a place, with the byte that was read ahead; one byte more than its size is asked for
 abbrev pub beginChunk : Bool → Outgoing → ℕ → ℕ → List ℕ → Made
-beginChunk false o at size y = made (record { outgoing = o; chunk = record { at = at; got = 0; room = size + 1 }; next = Read }) y
+beginChunk false o at size y = made (reading o at 0 (size + 1)) y
 beginChunk true o at size y =
     pick (eqb size 0) (fullChunk o at 0 (o .pending) y)
-    (made (record { outgoing = aheadNone o; chunk = record { at = at; got = 1; room = size }; next = Read }) (set y (at + 3) (o .pending)))
+    (made (reading (aheadNone o) at 1 size) (set y (at + 3) (o .pending)))
 
 -- after the headers: no body, the last packet; under 3 bytes left, headers only; else a chunk of the space less 3
 abbrev pub bodyAfter : Bool → ℕ → Outgoing → ℕ → List ℕ → Made
@@ -123,7 +133,7 @@ bodyAfter true capacity o at y =
 abbrev pub nextFilled : Filled → ℕ → Outgoing → ℕ → List ℕ → Made
 nextFilled empty capacity o at y = bodyAfter (o .«has_body») capacity o at y
 nextFilled full capacity o at y = sending o false at y
-nextFilled tooLarge capacity o at y = made (record { outgoing = o; chunk = noChunk; next = TooLarge }) y
+nextFilled tooLarge capacity o at y = made (refusing o) y
 
 abbrev pub nextOf : ℕ → Outgoing → Filling → Made
 nextOf capacity o f = nextFilled (f .why) capacity (sentTo o (f .sent)) (f .at) (f .reply)
@@ -138,10 +148,9 @@ nextPacket capacity o hs y = nextOf capacity o (fillPacket capacity o hs y)
 abbrev pub chunkGiven : Outgoing → Chunk → List ℕ → List ℕ → Made
 chunkGiven o c d y =
     pick (ltb (length d) (c .room))
-    (made
-    (record { outgoing = o; chunk = record { at = c .at; got = c .got + length d; room = c .room - length d }; next = Read })
-    (paste y (c .at + 3 + c .got) d (length d)))
-    (fullChunk o (c .at) (c .got + (length d - 1)) (getD d (length d - 1) 0) (paste y (c .at + 3 + c .got) (take (length d - 1) d) (length d - 1)))
+    (made (reading o (c .at) (c .got + length d) (c .room - length d)) (paste y (c .at + 3 + c .got) d (length d)))
+    (fullChunk o (c .at) (c .got + (length d - 1)) (getD d (length d - 1) 0)
+    (paste y (c .at + 3 + c .got) (take (length d - 1) d) (length d - 1)))
 
 unfoldable pub bodyGiven : Outgoing → Chunk → List ℕ → List ℕ → Made
 bodyGiven o c d y = pick (eqb (length d) 0) (lastChunk o (c .at) (c .got) y) (chunkGiven o c d y)

@@ -1,20 +1,16 @@
--- What the steps of body.rt decide and make, between the definitions of Outgoing.
+-- What the first steps of src/body decide, by the code's own enums, and how these stand for the definitions of Outgoing.
 use Prim.Native.Nat.{ℕ, _+_, _-_}
 use mathlib.Core.List.{List}
-use mathlib.Core.Bool.{Bool, true, false}
 use lib.Dec.{ltb}
 use Rattle.base.specs.Pick.{pick}
 use Rattle.packet.specs.declared.header.HeaderAt.{HeaderAt}
 use Rattle.packet.specs.declared.header.HeaderAt.the-variants.{At, Unreadable, End}
-use Rattle.outgoing.specs.declared.body.Outgoing.{Outgoing}
-use Rattle.outgoing.specs.declared.body.Packet.{Packet}
-use Rattle.outgoing.specs.declared.body.Next.the-variants.{Read, TooLarge}
 use Rattle.outgoing.specs.declared.body.Stop.{Stop}
 use Rattle.outgoing.specs.declared.body.Stop.the-variants.{Empty, Full, Long}
 use Rattle.outgoing.specs.declared.body.Fit.{Fit}
 use Rattle.outgoing.specs.declared.body.Fit.the-variants.{Takes, Stops}
 use Rattle.outgoing.specs.declared.body.Filling as code
-use Rattle.outgoing.specs.Outgoing.{Filled, empty, full, tooLarge, Filling, filling, noChunk}
+use Rattle.outgoing.specs.Outgoing.{Filled, empty, full, tooLarge, Filling, filling}
 
 -- the next header: over the capacity, over the space left, or one that goes into the packet
 unfoldable pub fitOf : HeaderAt → ℕ → ℕ → ℕ → Fit
@@ -31,15 +27,3 @@ whyOf Long = tooLarge
 
 abbrev pub fillingOf : code.Filling → List ℕ → Filling
 fillingOf f y = filling (whyOf (f .why)) (f .sent) (f .at) y
-
--- 0xA0 on the last packet, 0x90 on others
-abbrev pub codeOf : Bool → ℕ
-codeOf true = 0xA0
-codeOf false = 0x90
-
--- a packet that waits for body bytes, and one that no header fits
-abbrev pub reading : Outgoing → ℕ → ℕ → ℕ → Packet
-reading o at got room = record { outgoing = o; chunk = record { at = at; got = got; room = room }; next = Read }
-
-abbrev pub refusing : Outgoing → Packet
-refusing o = record { outgoing = o; chunk = noChunk; next = TooLarge }

@@ -6,8 +6,9 @@ ghost use lib.ListN.{length};
 ghost use lib.Seq.{paste};
 ghost use Rattle.base.specs.Bytes.{bytes16};
 ghost use Rattle.packet.specs.Header.{headerAt};
-ghost use Rattle.outgoing.specs.Outgoing.{fill, leadAt, leadStore, made, sending, sentTo, aheadWith, aheadNone, lastChunk, fullChunk, beginChunk, bodyAfter, nextFilled, nextPacket, bodyGiven};
-ghost use Rattle.outgoing.specs.Steps.{fitOf, whyOf, fillingOf, codeOf, reading, refusing};
+ghost use Rattle.outgoing.specs.Outgoing.{fill, leadAt, leadStore, made, sending, sentTo, aheadWith, aheadNone, lastChunk, fullChunk};
+ghost use Rattle.outgoing.specs.Outgoing.{beginChunk, bodyAfter, nextFilled, nextPacket, bodyGiven, codeOf, reading, refusing};
+ghost use Rattle.outgoing.specs.Steps.{fitOf, whyOf, fillingOf};
 use base::copy_into;
 use packet::header::HeaderAt;
 use packet::header::header_at;
@@ -103,7 +104,8 @@ fn next_fit(capacity: usize, headers: &[u8], sent: usize, at: usize) -> Fit
 // The headers from a place on, copied into the packet while they fit.
 fn fill(capacity: usize, headers: &[u8], from: usize, start: usize, reply: &mut [u8]) -> Filling
     requires { ⌜ (capacity ≤ 65532) × (start ≤ capacity + 3) × (65535 ≤ length (now reply)) ⌝ }
-    ensures model { λ r. ⌜ fillingOf r (now (reply .exit)) ≡ fill (suc (length (now (headers .entry)))) capacity (now (headers .entry)) from start (now (reply .entry)) ⌝ }
+    ensures model { λ r. ⌜ fillingOf r (now (reply .exit))
+        ≡ fill (suc (length (now (headers .entry)))) capacity (now (headers .entry)) from start (now (reply .entry)) ⌝ }
     ensures within { λ r. ⌜ r .at ≤ capacity + 3 ⌝ }
 {
     let mut sent = from;
@@ -151,42 +153,30 @@ fn put_head(store: &mut [u8], at: usize, first: u8, n: usize)
 fn sent_to(o: Outgoing, sent: usize) -> Outgoing
     ensures { λ r. ⌜ r ≡ sentTo o sent ⌝ }
 {
-    Outgoing {
-        total: o.total,
-        sent,
-        lead: false,
-        has_body: o.has_body,
-        has_pending: o.has_pending,
-        pending: o.pending,
-    }
+    let mut r = o;
+    r.sent = sent;
+    r.lead = false;
+    r
 }
 
 // The object with a byte read ahead.
 fn ahead_with(o: Outgoing, pending: u8) -> Outgoing
     ensures { λ r. ⌜ r ≡ aheadWith o pending ⌝ }
 {
-    Outgoing {
-        total: o.total,
-        sent: o.sent,
-        lead: o.lead,
-        has_body: o.has_body,
-        has_pending: true,
-        pending,
-    }
+    let mut r = o;
+    r.has_pending = true;
+    r.pending = pending;
+    r
 }
 
 // And with none.
 fn ahead_none(o: Outgoing) -> Outgoing
     ensures { λ r. ⌜ r ≡ aheadNone o ⌝ }
 {
-    Outgoing {
-        total: o.total,
-        sent: o.sent,
-        lead: o.lead,
-        has_body: o.has_body,
-        has_pending: false,
-        pending: 0,
-    }
+    let mut r = o;
+    r.has_pending = false;
+    r.pending = 0;
+    r
 }
 
 // The code of a packet: Success on the last one, Continue on others.
@@ -317,7 +307,8 @@ pub fn next_packet(capacity: usize, o: Outgoing, headers: &[u8], reply: &mut [u8
 
 // Body bytes from the host, no more than were asked for; none is the body's end. With the byte that is one too many, the chunk is full.
 pub fn body_given(o: Outgoing, c: Chunk, d: &[u8], reply: &mut [u8]) -> Packet
-    requires { ⌜ (length (now d) ≤ c .room) × (c .at + c .got + c .room ≤ 65533) × (c .at + c .got ≤ 65532) × (65535 ≤ length (now reply)) ⌝ }
+    requires { ⌜ (length (now d) ≤ c .room) × (c .at + c .got + c .room ≤ 65533) × (c .at + c .got ≤ 65532)
+        × (65535 ≤ length (now reply)) ⌝ }
     ensures { λ r. ⌜ made r (now (reply .exit)) ≡ bodyGiven o c (now (d .entry)) (now (reply .entry)) ⌝ }
 {
     let n = d.len();

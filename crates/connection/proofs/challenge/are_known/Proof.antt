@@ -34,8 +34,10 @@ enum-known-id : tie.Need-enum-known-id Inv-loop μ-loop
 enum-known-id c = search needs
 
 -- in a turn that goes on, a header stands at the place
-here : (c : tie.After-known-told Inv-loop μ-loop) → let v = c .before .id .given .0 in
-    Here (c .before .before .before .before .before .before .args .packet .now) (c .before .before .before .before .loop .at) (v .0) (v .1 .0) (v .1 .1 .0) (v .1 .1 .1 .0)
+here : (c : tie.After-known-told Inv-loop μ-loop) →
+    let v = c .before .id .given .0 in
+    let l = c .before .before .before .before in
+    Here (l .before .before .args .packet .now) (l .loop .at) (v .0) (v .1 .0) (v .1 .1 .0) (v .1 .1 .1 .0)
 here c = by-cursor _ _ _ (sym (c .before .before .before .header-at .ensures) ∙ c .before .id .given .1)
 
 sub-is-known : tie.Need-sub-is-known Inv-loop μ-loop

@@ -21,7 +21,8 @@ returns c =
     let g = c .before .before .before .before in
     let p = g .before .before .before in
     let x = p .before .before .before .before .before in
-    grant-puts (x .args .reply .now) _ _ _ (x .args .at) (p .put-answer .result) (x .args .srm) _ (g .if1 .taken) (x .pre .0) (p .put-answer .ensures) (c .before .before .put-u8 .ensures)
+    grant-puts (x .args .reply .now) _ _ _ (x .args .at) (p .put-answer .result) (x .args .srm) _ (g .if1 .taken) (x .pre .0)
+    (p .put-answer .ensures) (c .before .before .put-u8 .ensures)
 
 same-length-2 : tie.Need-same-length-2
 same-length-2 c = search needs

@@ -1,7 +1,7 @@
 -- `connection::connect::put_lead` meets its contract. Three stores one behind the other are the three bytes there. Assumes nothing.
 use native.Mathlib.Omega.{arith}
 use lib.ListN.{length-set}
-use Rattle.connection.proofs.Putting.{three-laid}
+use Rattle.packet.proofs.Laid.{three-laid}
 use borrow.Author.Needs.{needs}
 use Rattle.connection.proofs.connect.put_lead.Statement.{statement}
 use Rattle.connection.proofs.connect.put_lead.Tie as tie

@@ -18,17 +18,17 @@ header-at-requires c κs = search needs
 enum-known-end : tie.Need-enum-known-end
 enum-known-end c = search needs
 
-returns-2 : tie.Need-returns-2
-returns-2 c = rw (c .before .before .before .before .enum-told2 .given .1, ← c .before .before .before .header-at .ensures, c .before .end .given .1)
-
 enum-told-3 : tie.Need-enum-told-3
 enum-told-3 c = search needs
 
-returns-3 : tie.Need-returns-3
-returns-3 c = rw (c .before .before .before .enum-told2 .given .1, ← c .before .before .header-at .ensures, c .enum-told3 .given .1)
-
 enum-told-4 : tie.Need-enum-told-4
 enum-told-4 c = search needs
+
+returns-2 : tie.Need-returns-2
+returns-2 c = rw (c .before .before .before .before .enum-told2 .given .1, ← c .before .before .before .header-at .ensures, c .before .end .given .1)
+
+returns-3 : tie.Need-returns-3
+returns-3 c = rw (c .before .before .before .enum-told2 .given .1, ← c .before .before .header-at .ensures, c .enum-told3 .given .1)
 
 returns-4 : tie.Need-returns-4
 returns-4 c = rw (c .before .before .before .enum-told2 .given .1, ← c .before .before .header-at .ensures, c .enum-told4 .given .1)
@@ -42,8 +42,8 @@ who-cut-spec =
     enum-told-2
     header-at-requires
     enum-known-end
-    returns-2
     enum-told-3
-    returns-3
     enum-told-4
+    returns-2
+    returns-3
     returns-4)

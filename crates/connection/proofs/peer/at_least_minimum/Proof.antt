@@ -1,6 +1,5 @@
 -- `connection::peer::at_least_minimum` meets its contract. Its branch is the definition's test. Assumes nothing.
 use borrow.Author.Tests.{lt-ltb, le-ltb}
-use native.Mathlib.Omega.{arith}
 use Rattle.connection.proofs.peer.at_least_minimum.Statement.{statement}
 use Rattle.connection.proofs.peer.at_least_minimum.Tie as tie
 

@@ -1,6 +1,6 @@
 -- `connection::peer::close_id` meets its contract. The numbers kept of those gone through stand in front (`Closed`), and what is still to
 -- be read lies behind them. Assumes nothing.
-use mathlib.Core.Path.{_≡_, refl, sym, ap, _∙_}
+use mathlib.Core.Path.{_≡_, refl}
 use mathlib.Core.Logic.{⊎-elim}
 use Prim.Native.Nat.{_≤_, _<_, _+_, _-_}
 use native.Mathlib.Omega.{arith}

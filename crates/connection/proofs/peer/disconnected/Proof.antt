@@ -1,7 +1,8 @@
 -- `connection::peer::disconnected` meets its contract. Where no id is left, or none is named, all is cleared; else the ids left stand in front. Assumes nothing.
-use mathlib.Core.Path.{_≡_, _∙_, sym}
+use mathlib.Core.Path.{_≡_, _∙_}
 use native.Mathlib.Omega.{arith}
 use lib.ListN.{length}
+use Rattle.connection.specs.Peer.{peerWith}
 use Rattle.connection.proofs.Closing.{none-left, some-left}
 use borrow.Author.Needs.{needs}
 use Rattle.connection.proofs.peer.disconnected.Statement.{statement}
@@ -37,15 +38,12 @@ returns-2 c =
     c .cleared2 .ensures
     ∙ none-left (x .peer) (x .named) _ _ (s .before .before .before .before .named .given .1) (s .close-id .ensures .0) (c .before .if1 .taken)
 
-peer-with-requires : tie.Need-peer-with-requires
-peer-with-requires c κs = search needs
-
 returns-3 : tie.Need-returns-3
+unfolding peerWith
 returns-3 c =
-    let s = c .before .before .before in
+    let s = c .before .before in
     let x = s .before .before .before .before .before .before .args in
-    c .peer-with .ensures
-    ∙ some-left (x .peer) (x .named) _ _ _ (s .before .before .before .before .named .given .1) (s .close-id .ensures .0) (s .close-id .ensures .1) (c .before .if1 .left)
+    some-left (x .peer) (x .named) _ _ _ (s .before .before .before .before .named .given .1) (s .close-id .ensures .0) (s .close-id .ensures .1) (c .if1 .left)
 
 pub disconnected-spec : {M : Type 1} → statement M
 disconnected-spec =
@@ -59,5 +57,4 @@ disconnected-spec =
     close-id-requires
     cleared-requires-2
     returns-2
-    peer-with-requires
     returns-3)

@@ -1,5 +1,5 @@
 -- `connection::send::send` meets its contract. It is decided by the length first; then the pieces go one after the other. Assumes nothing.
-use mathlib.Core.Path.{_≡_, refl, _∙_}
+use mathlib.Core.Path.{refl, _∙_}
 use mathlib.Core.List.{[]}
 use Prim.Native.Nat.{_+_, _≤_}
 use native.Mathlib.Omega.{arith}
@@ -57,7 +57,7 @@ put-prefix-requires-2 c κs =
     let x = s .before .before .before .args in
     let h : 3 + length (x .headers .now) ≤ 65535 =
     whole-fits (x .reply .now) (x .remote) (x .code) [] (x .headers .now) (s .fits2 .result) (s .fits2 .ensures) (k .enum-told3 .given .1) in
-    (omega arith, omega (arith, s .before .before .before .pre))
+    (omega (arith, s .before .before .before .pre), omega arith)
 
 copy-into-requires : tie.Need-copy-into-requires
 copy-into-requires c κs =

@@ -2,17 +2,14 @@
 use borrow.Author.Needs.{needs}
 use native.Mathlib.Omega.{arith}
 use Prim.Native.Nat.{_-_, _≤_}
-use mathlib.Core.Path.{_≡_, refl, sym, ap, _∙_}
-use mathlib.Core.List.{[]}
-use mathlib.Core.Option.{none, some}
+use mathlib.Core.Path.{_≡_, refl, sym, _∙_}
 use denote.Ref.{now}
 use lib.ListN.{length}
-use Rattle.packet.specs.declared.header.HeaderAt.the-variants.{Unreadable, End}
-use Rattle.packet.specs.Header.{part, readHeaders}
+use borrow.Author.Tests.{not-true, not-false}
+use Rattle.packet.specs.Header.{readHeaders}
 use Rattle.packet.proofs.HeaderBytes.{header-at-bytes}
 use Rattle.packet.proofs.HeaderLaws.{Here, by-cursor}
-use Rattle.incoming.specs.Gather.{Gathering, gathering, gatherAll, headersOf}
-use Rattle.incoming.proofs.Gathers.{one-within}
+use Rattle.incoming.specs.Gather.{gathering, gatherAll, headersOf}
 use Rattle.incoming.proofs.Turns.{Left, turn, stops, ends}
 use Rattle.incoming.proofs.gather.gather.Statement.{statement}
 use Rattle.incoming.proofs.gather.gather.Tie as tie
@@ -37,28 +34,31 @@ enum-known-id : tie.Need-enum-known-id Inv-loop μ-loop
 enum-known-id c = search needs
 
 -- in a turn that goes on, a header stands at the place
-here : (c : tie.After-known-told Inv-loop μ-loop) → let v = c .before .id .given .0 in
-    Here (c .before .before .before .before .before .before .before .before .args .p .now) (c .before .before .before .before .loop .at) (v .0) (v .1 .0) (v .1 .1 .0) (v .1 .1 .1 .0)
+here : (c : tie.After-known-told Inv-loop μ-loop) →
+    let v = c .before .id .given .0 in
+    let l = c .before .before .before .before .before .before in
+    Here (l .before .before .before .before .args .p .now) (l .loop .at) (v .0) (v .1 .0) (v .1 .1 .0) (v .1 .1 .1 .0)
 here c = by-cursor _ _ _ (sym (c .before .before .before .header-at .ensures) ∙ c .before .id .given .1)
 
 same-length : tie.Need-same-length Inv-loop μ-loop
-same-length c = c .before .before .before .before .before .loop .inv .1
+same-length c = c .before .before .before .before .loop .inv .1
 
 same-length-2 : tie.Need-same-length-2 Inv-loop μ-loop
-same-length-2 c = c .before .before .before .before .before .loop .inv .2
+same-length-2 c = c .before .before .before .before .loop .inv .2
 
 returns : tie.Need-returns Inv-loop μ-loop
 returns c =
-    let l = c .before .before .before .before .before .loop .inv in
-    (stops _ _ _ _ _ _ (l .0) _ _ _ _ (here (c .before)) (c .if1 .taken), (l .0 .kept-room, l .0 .body-within))
+    let l = c .before .before .before .before .loop .inv .0 in
+    (ends _ _ _ _ _ _ l _ (c .before .header-at .ensures) (c .match .keys2), (l .kept-room, l .body-within))
 
 gather-one-requires : tie.Need-gather-one-requires Inv-loop μ-loop
 gather-one-requires c κs =
-    let k = c .before .before .before in
+    let k = c .before .before in
     let h = here k in
     let e = sym (k .before .before .before .header-at .ensures) ∙ k .before .id .given .1 in
-    let octets = c .before .before .before .before .before .before .before .before .before .before .shared-slice-known .given in (
-      header-at-bytes (k .before .before .before .before .before .before .before .before .args .p .now) _ _ _ _ _ (λ i. omega (arith, octets i)) e,
+    let s = k .before .before .before .before .before .before .before .before .before in
+    let octets = s .shared-slice-known .given in (
+      header-at-bytes (s .before .args .p .now) _ _ _ _ _ (λ i. omega (arith, octets i)) e,
       omega arith,
       omega arith,
       omega arith,
@@ -69,48 +69,35 @@ gather-one-requires c κs =
     )
 
 loop-less : tie.Need-loop-less Inv-loop μ-loop
-loop-less c = let h = here (c .before .before .before .before .before .before .before .before) in omega arith
+loop-less c = let h = here (c .before .before .before .before .before .before .before) in omega arith
 
 loop-again : tie.Need-loop-again Inv-loop μ-loop
 loop-again c =
     let o = c .before .before .before .before .gather-one in
-    let k = c .before .before .before .before .before .before .before .before in
-    let s = k .before .before .before .before .before .before .before .before in
-    let l = k .before .before .before .before .loop in
+    let k = c .before .before .before .before .before .before .before in
+    let t = k .before .before .before .before in
+    let l = t .before .before .loop in
+    let s = t .before .before .before .before .before .before in
+    let x = gathering (l .g) (l .headers) (l .body) in
     let room : 65535 ≤ length (l .headers) = omega (arith, s .pre .2, l .inv .1) in
-    let body-room : s .args .limit ≤ length (l .body) = omega (arith, s .pre .4, l .inv .2) in (
-      turn _ _ _ _ (gathering (l .g) (l .headers) (l .body)) _ (l .inv .0) _ _ _ _ (here k) (c .before .before .before .before .before .before .before .if1 .left) room body-room _ (o .ensures),
-      o .kept .1 .1 .1 .1 .1 .1 .1 .1 .0 ∙ l .inv .1,
-      o .kept .1 .1 .1 .1 .1 .1 .1 .1 .1 .0 ∙ l .inv .2,
+    let body-room : s .args .limit ≤ length (l .body) = omega (arith, s .pre .4, l .inv .2) in
+    let lent = o .kept .1 .1 .1 .1 .1 .1 .1 .1 in (
+      turn _ _ _ _ x _ (l .inv .0) _ _ _ _ (here k) (not-true (l .g .full) (t .if1 .taken)) room body-room _ (o .ensures),
+      lent .0 ∙ l .inv .1,
+      lent .1 .0 ∙ l .inv .2,
     )
 
-enum-told : tie.Need-enum-told Inv-loop μ-loop
-enum-told c = search needs
-
 same-length-3 : tie.Need-same-length-3 Inv-loop μ-loop
-same-length-3 c = c .before .before .before .loop .inv .1
+same-length-3 c = c .before .before .loop .inv .1
 
 same-length-4 : tie.Need-same-length-4 Inv-loop μ-loop
-same-length-4 c = c .before .before .before .loop .inv .2
+same-length-4 c = c .before .before .loop .inv .2
 
 returns-2 : tie.Need-returns-2 Inv-loop μ-loop
 returns-2 c =
-    let l = c .before .before .before .loop .inv in
-    (ends _ _ _ _ _ _ (l .0) none (by-cursor _ _ Unreadable (sym (c .before .before .header-at .ensures) ∙ c .enum-told .given .1)) refl, (l .0 .kept-room, l .0 .body-within))
-
-enum-told-2 : tie.Need-enum-told-2 Inv-loop μ-loop
-enum-told-2 c = search needs
-
-same-length-5 : tie.Need-same-length-5 Inv-loop μ-loop
-same-length-5 c = c .before .before .before .loop .inv .1
-
-same-length-6 : tie.Need-same-length-6 Inv-loop μ-loop
-same-length-6 c = c .before .before .before .loop .inv .2
-
-returns-3 : tie.Need-returns-3 Inv-loop μ-loop
-returns-3 c =
-    let l = c .before .before .before .loop .inv in
-    (ends _ _ _ _ _ _ (l .0) (some []) (by-cursor _ _ End (sym (c .before .before .header-at .ensures) ∙ c .enum-told2 .given .1) .1) refl, (l .0 .kept-room, l .0 .body-within))
+    let l = c .before .before .loop in
+    let i = l .inv .0 in
+    (stops _ _ _ _ _ _ i (not-false (l .g .full) (c .if1 .left)), (i .kept-room, i .body-within))
 
 pub gather-spec : {M : Type 1} → statement M
 gather-spec =
@@ -127,11 +114,6 @@ gather-spec =
     gather-one-requires
     loop-less
     loop-again
-    enum-told
     same-length-3
     same-length-4
-    returns-2
-    enum-told-2
-    same-length-5
-    same-length-6
-    returns-3)
+    returns-2)

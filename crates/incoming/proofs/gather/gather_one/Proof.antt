@@ -31,7 +31,9 @@ returns c =
     let t = c .before .before .before .before .before in
     let x = t .before .before .before .before .before .args in
     c .before .before .store-bytes .ensures (now (x .headers))
-    ∙ one-stored (x .keep) (x .limit) (gathering (x .g) (now (x .headers)) (now (x .body))) (record { id = x .id; value = part (now (x .p)) (x .start) (x .«end») }) (sym (t .before .is-stored .ensures) ∙ t .if1 .taken)
+    ∙ one-stored (x .keep) (x .limit) (gathering (x .g) (now (x .headers)) (now (x .body)))
+    (record { id = x .id; value = part (now (x .p)) (x .start) (x .«end») })
+    (sym (t .before .is-stored .ensures) ∙ t .if1 .taken)
 
 is-dropped-requires : tie.Need-is-dropped-requires
 is-dropped-requires c κs = search needs

@@ -17,8 +17,8 @@ returns c h =
 copy-into-requires : tie.Need-copy-into-requires
 copy-into-requires c κs = search needs
 
-add-t7 : tie.Need-add-t7
-add-t7 c = search needs
+add-r : tie.Need-add-r
+add-r c = search needs
 
 same-length : tie.Need-same-length
 same-length c = search needs
@@ -31,4 +31,4 @@ returns-2 c h =
 
 pub store-bytes-spec : {M : Type 1} → statement M
 store-bytes-spec =
-    tie.close (tie.spec sub-if1 returns copy-into-requires add-t7 same-length returns-2)
+    tie.close (tie.spec sub-if1 returns copy-into-requires add-r same-length returns-2)

@@ -29,7 +29,8 @@ unfolding framed
 turn p input at i f h e = rw (drop-cons input i 0, add-one i, e)
 
 -- the input's end
-last : (p input : List ℕ) (at i : ℕ) → i ≤ length input → length input ≤ i → framed p at i (drop i input) ≡ record { result = record { begun = at; taken = i; frame = More }; packet = p }
+last : (p input : List ℕ) (at i : ℕ) → i ≤ length input → length input ≤ i
+    → framed p at i (drop i input) ≡ record { result = record { begun = at; taken = i; frame = More }; packet = p }
 unfolding framed
 last p input at i h k =
     let e : i ≡ length input = le-antisymm h k in

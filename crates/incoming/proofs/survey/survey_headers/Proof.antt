@@ -29,8 +29,10 @@ enum-known-id : tie.Need-enum-known-id Inv-loop μ-loop
 enum-known-id c = search needs
 
 -- in a turn that goes on, a header stands at the place
-here : (c : tie.After-known-told Inv-loop μ-loop) → let v = c .before .id .given .0 in
-    Here (c .before .before .before .before .before .before .args .p .now) (c .before .before .before .before .loop .at) (v .0) (v .1 .0) (v .1 .1 .0) (v .1 .1 .1 .0)
+here : (c : tie.After-known-told Inv-loop μ-loop) →
+    let v = c .before .id .given .0 in
+    let l = c .before .before .before .before in
+    Here (l .before .before .args .p .now) (l .loop .at) (v .0) (v .1 .0) (v .1 .1 .0) (v .1 .1 .1 .0)
 here c = by-cursor _ _ _ (sym (c .before .before .before .header-at .ensures) ∙ c .before .id .given .1)
 
 sub-note : tie.Need-sub-note Inv-loop μ-loop
@@ -58,19 +60,29 @@ loop-again c =
 enum-told : tie.Need-enum-told Inv-loop μ-loop
 enum-told c = search needs
 
+unreadable-requires : tie.Need-unreadable-requires Inv-loop μ-loop
+unreadable-requires c κs = search needs
+
 returns : tie.Need-returns Inv-loop μ-loop
 unfolding surveyOf
 returns c =
-    let l = c .before .before .before .loop in
-    sym (l .inv ∙ ap (surveyLeft (l .n)) (by-cursor _ _ Unreadable (sym (c .before .before .header-at .ensures) ∙ c .enum-told .given .1)))
+    let k = c .before .before .before in
+    let l = k .before .loop in
+    let e = by-cursor _ _ Unreadable (sym (k .header-at .ensures) ∙ c .before .enum-told .given .1) in
+    c .unreadable .ensures ∙ sym (l .inv ∙ ap (surveyLeft (l .n)) e)
 
 enum-told-2 : tie.Need-enum-told-2 Inv-loop μ-loop
 enum-told-2 c = search needs
 
+surveyed-requires : tie.Need-surveyed-requires Inv-loop μ-loop
+surveyed-requires c κs = search needs
+
 returns-2 : tie.Need-returns-2 Inv-loop μ-loop
 returns-2 c =
-    let l = c .before .before .before .loop in
-    sym (l .inv ∙ ap (surveyLeft (l .n)) (by-cursor _ _ End (sym (c .before .before .header-at .ensures) ∙ c .enum-told2 .given .1) .1) ∙ ends (l .n))
+    let k = c .before .before .before in
+    let l = k .before .loop in
+    let e = by-cursor _ _ End (sym (k .header-at .ensures) ∙ c .before .enum-told2 .given .1) .1 in
+    c .surveyed .ensures ∙ sym (l .inv ∙ ap (surveyLeft (l .n)) e ∙ ends (l .n))
 
 pub survey-headers-spec : {M : Type 1} → statement M
 survey-headers-spec =
@@ -88,6 +100,8 @@ survey-headers-spec =
     loop-less
     loop-again
     enum-told
+    unreadable-requires
     returns
     enum-told-2
+    surveyed-requires
     returns-2)

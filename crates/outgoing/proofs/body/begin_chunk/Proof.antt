@@ -1,7 +1,7 @@
 -- `outgoing::body::begin_chunk` meets its contract. The tests are those of `beginChunk`. Assumes nothing.
 use borrow.Author.Needs.{needs}
 use mathlib.Core.Path.{_∙_, refl, ap}
-use Rattle.outgoing.specs.Steps.{reading}
+use Rattle.outgoing.specs.Outgoing.{reading}
 use Rattle.outgoing.proofs.Sending.{made-alike, begun-empty, begun-ahead, begun-new}
 use Rattle.outgoing.proofs.body.begin_chunk.Statement.{statement}
 use Rattle.outgoing.proofs.body.begin_chunk.Tie as tie

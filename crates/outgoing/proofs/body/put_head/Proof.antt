@@ -3,7 +3,7 @@ use borrow.Author.Needs.{needs}
 use native.Mathlib.Omega.{arith}
 use Prim.Native.Nat.{_/_, _%_}
 use lib.ListN.{length-set}
-use Rattle.outgoing.proofs.Three.{three-stored}
+use Rattle.packet.proofs.Laid.{three-laid}
 use Rattle.outgoing.proofs.body.put_head.Statement.{statement}
 use Rattle.outgoing.proofs.body.put_head.Tie as tie
 
@@ -32,7 +32,7 @@ same-length : tie.Need-same-length
 same-length c = search needs
 
 returns : tie.Need-returns
-returns c = let x = c .args in three-stored (x .store .now) (x .at) (x .first) (x .n / 256) (x .n % 256) (omega arith)
+returns c = let x = c .args in three-laid (x .store .now) (x .at) (x .first) (x .n / 256) (x .n % 256) (omega arith)
 
 pub put-head-spec : {M : Type 1} → statement M
 put-head-spec =

@@ -1,7 +1,6 @@
 -- `outgoing::body::send` meets its contract. What `put_head` writes at the front is the prefix. Assumes nothing.
 use borrow.Author.Needs.{needs}
-use mathlib.Core.Path.{_∙_}
-use mathlib.Core.Path.{ap}
+use mathlib.Core.Path.{ap, _∙_}
 use Rattle.outgoing.specs.Outgoing.{made}
 use Rattle.outgoing.proofs.Sending.{prefix-pasted}
 use Rattle.outgoing.proofs.body.send.Statement.{statement}
