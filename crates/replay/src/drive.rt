@@ -117,7 +117,7 @@ fn peer_call(
 fn host_call(
     e: Engine,
     call: Call,
-    realm: &[u8; 254],
+    realm: [u8; 254],
     input: &[u8],
     a: &[u8],
     b: &[u8],
@@ -177,11 +177,12 @@ fn call_engine(
     let n2 = least(s.lent.headers, headers.len());
     let n3 = least(s.lent.body, body.len());
     let n4 = least(s.lent.reply, reply.len());
-    let realm = realm_from(s.realm, call, a);
+    let before = s.realm;
+    let realm = realm_from(before, call, a);
     let took = host_call(
         s.engine,
         call,
-        &realm,
+        realm,
         &stream[from..to],
         a,
         b,

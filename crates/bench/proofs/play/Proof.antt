@@ -11,8 +11,8 @@ Inv-loop input₀ packet₀ headers₀ body₀ reply₀ p₀ left₀ input packe
 abbrev μ-loop : tie.MeasureT-loop
 μ-loop input₀ packet₀ headers₀ body₀ reply₀ p₀ left₀ input packet headers body reply p left = left
 
-settings-requires : tie.Need-settings-requires Inv-loop μ-loop
-settings-requires c κs = search needs
+default-settings-requires : tie.Need-default-settings-requires Inv-loop μ-loop
+default-settings-requires c κs = search needs
 
 start-requires : tie.Need-start-requires Inv-loop μ-loop
 start-requires c κs = search needs
@@ -80,7 +80,7 @@ play-spec =
     (tie.spec
     Inv-loop
     μ-loop
-    settings-requires
+    default-settings-requires
     start-requires
     loop-holds
     over-requires
