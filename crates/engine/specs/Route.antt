@@ -20,6 +20,7 @@ use Rattle.incoming.specs.Gather.{Gathering}
 use Rattle.incoming.specs.declared.gather.Keep.{Keep}
 use Rattle.incoming.specs.declared.gather.Keep.the-variants as keep
 use Rattle.incoming.specs.declared.gather.Gathered.{Gathered}
+use Rattle.outgoing.specs.declared.body.Outgoing.{Outgoing}
 use Rattle.connection.specs.Peer.{limited}
 use Rattle.connection.specs.declared.peer.Challenge.{Challenge}
 use Rattle.connection.specs.declared.peer.Challenge.the-variants.{Stored, Absent}
@@ -85,6 +86,9 @@ putRoute h g srm confirm = Gather kind.Put g (h .«is_final») (h .survey .addit
 abbrev pub getRoute : Heading → Gathered → Bool → Bool → Route
 getRoute h g srm confirm = Gather kind.Get g (h .«is_final») (h .survey .wait) srm confirm
 
+abbrev pub sendRoute : Heading → Outgoing → Bool → Route
+sendRoute h o srm = Send o srm (h .survey .wait)
+
 abbrev pub headersRoute : Heading → Opcode → Gathered → Route
 headersRoute h o g = Gather (kind.Headers o) g (h .«is_final») false false false
 
@@ -121,7 +125,7 @@ abbrev pub insideRoute : Operation → Engine → Heading → Route
 insideRoute Nothing e h = openRoute e h
 insideRoute (Putting g srm) e h = continuedRoute h op.Put (putRoute h g srm false)
 insideRoute (Getting g srm confirm wait) e h = continuedRoute h op.Get (getRoute h g srm confirm)
-insideRoute (Sending o c srm wait) e h = continuedRoute h op.Get (Send o srm (h .survey .wait))
+insideRoute (Sending o c srm wait) e h = continuedRoute h op.Get (sendRoute h o srm)
 insideRoute (GatheringOp o g) e h = continuedRoute h o (headersRoute h o g)
 insideRoute (Connecting c f n) e h = interruptsRoute
 insideRoute (Draining code) e h = drainingRoute h code

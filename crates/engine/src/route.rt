@@ -2,7 +2,7 @@
 ghost use mathlib.Core.Path.{_≡_};
 ghost use Prim.Native.Nat.{_≤_};
 ghost use Rattle.model.specs.Model.{nothingGathered, rejection as rejectionOf, drains as drainsOf, confirms as confirmsOf, busy as busyWith};
-ghost use Rattle.engine.specs.Route.{admissionOf, unauthorizedFor, codeRoute, askRoute, drainedBy, rejectedRoute, putRoute, getRoute, headersRoute, dispatchRoute, openRoute, interruptsRoute, continuedRoute, drainingRoute, insideRoute, headingRoute, unreadableRoute, briefPlan, keepOf, kindPlan};
+ghost use Rattle.engine.specs.Route.{admissionOf, unauthorizedFor, codeRoute, askRoute, drainedBy, rejectedRoute, putRoute, getRoute, sendRoute, headersRoute, dispatchRoute, openRoute, interruptsRoute, continuedRoute, drainingRoute, insideRoute, headingRoute, unreadableRoute, briefPlan, keepOf, kindPlan};
 use crate::plan::Plan;
 use crate::plan::asks;
 use crate::plan::code;
@@ -203,6 +203,16 @@ fn get_route(h: Heading, begun: Gathered, srm: bool, confirm: bool) -> Route
     }
 }
 
+fn send_route(h: Heading, outgoing: Outgoing, srm: bool) -> Route
+    ensures { λ r. ⌜ r ≡ sendRoute h outgoing srm ⌝ }
+{
+    Route::Send {
+        outgoing,
+        srm,
+        wait: h.survey.wait,
+    }
+}
+
 fn headers_route(h: Heading, opcode: Opcode, begun: Gathered) -> Route
     ensures { λ r. ⌜ r ≡ headersRoute h opcode begun ⌝ }
 {
@@ -329,15 +339,7 @@ fn inside(e: Engine, h: Heading) -> Route
             chunk: _,
             srm,
             wait: _,
-        } => continued(
-            h,
-            Opcode::Get,
-            Route::Send {
-                outgoing,
-                srm,
-                wait: h.survey.wait,
-            },
-        ),
+        } => continued(h, Opcode::Get, send_route(h, outgoing, srm)),
         Operation::Gathering { opcode, gathered } => continued(
             h,
             opcode,

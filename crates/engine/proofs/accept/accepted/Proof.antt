@@ -19,8 +19,8 @@ enum-known-nonce c = search needs
 enum-told : tie.Need-enum-told
 enum-told c = search needs
 
-connect-sends-requires : tie.Need-connect-sends-requires
-connect-sends-requires c κs = search needs
+unchallenged-requires : tie.Need-unchallenged-requires
+unchallenged-requires c κs = search needs
 
 same-length : tie.Need-same-length
 same-length c = search needs
@@ -34,7 +34,7 @@ returns c =
     let k = l .before .before .before .before .before .args in
     not-challenged (k .e) (k .peer) (k .code) (k .front) (k .packet .now) (k .header-bytes .now) (k .reply .now) (k .headers .now) _
     (challenge-known (k .packet .now) _ _ _ (l .last-from .ensures) (a .answered-challenge .ensures) (t .enum-told .given .1))
-    (s .connect-sends .ensures)
+    (s .unchallenged .ensures)
 
 copy-into-requires : tie.Need-copy-into-requires
 copy-into-requires c κs = search needs
@@ -73,7 +73,7 @@ accepted-spec =
     answered-challenge-requires
     enum-known-nonce
     enum-told
-    connect-sends-requires
+    unchallenged-requires
     same-length
     returns
     copy-into-requires
