@@ -30,12 +30,12 @@ use Rattle.connection.specs.declared.peer.Peer.{Peer}
 use Rattle.connection.specs.declared.peer.ConnectionId.{ConnectionId}
 use Rattle.connection.specs.declared.peer.Answer.{Answer}
 use Rattle.connection.proofs.ByNumbers.{opened-by, disconnected-by}
-use Rattle.model.specs.Model.{Stores, Stepped, stepped, Done, after, refuse, badHeaders, badReply, replyStep, longUser, credentialsWith, soundOperation, lastPacket, lastHeaders, srmAsked, sends, sendsConnect, connectSends, frontFor, listOf, realmIn, connectChallenged, connectOpened, connectAnswer, replyAnswer, awaited}
+use Rattle.model.specs.Model.{Stores, Stepped, stepped, Done, after, refuse, badHeaders, badReply, replyStep, longUser, checked, credentialsWith, credentialsStep, soundOperation, lastPacket, lastHeaders, srmAsked, sends, sendsConnect, connectSends, frontFor, listOf, realmIn, connectChallenged, connectOpened, connectAnswer, replyAnswer, awaited}
 use Rattle.engine.specs.Plan.{asksPlan}
 use Rattle.engine.specs.Guard.{refusal}
 use Rattle.engine.specs.Carry.{Written, written, within, tookBy, sentPlan, repliesBy}
 use Rattle.engine.specs.Last.{lastFrom}
-use Rattle.engine.specs.Accept.{Answering, answering, among, leaving, headersOf, srmAskedBy, connectReplies, acceptedHeaders, answerFor, challengedBy, openedBy, acceptedBy, repliedPeer}
+use Rattle.engine.specs.Accept.{Answering, answering, among, leaving, headersOf, srmAskedBy, connectReplies, acceptedHeaders, answerFor, challengedBy, openedBy, acceptedBy, repliedPeer, credentialsBy}
 use Rattle.model.specs.declared.server.Operation.{Operation}
 use Rattle.model.specs.declared.server.Operation.the-variants.{Nothing, Putting, Getting, Sending, Gathering as GatheringOp, Connecting, Draining}
 use Rattle.model.specs.declared.server.Await.the-variants as await
@@ -244,14 +244,40 @@ good-reply code hs t h k = good-length hs _ refl (or-false (not (isCode code)) (
 -- ---- a call for credentials
 
 -- no Connect waits for them
-pub credentials-other : (o : Operation) (e : Engine) (c : Option Credentials) (s : Stores) → OneOf (0 ∷ 1 ∷ 2 ∷ 3 ∷ 4 ∷ 6 ∷ []) (tagOf the-type o) → refuse 9 e s ≡ credentialsWith o e c s
-credentials-other Nothing e c s k = refl
-credentials-other (Putting g srm) e c s k = refl
-credentials-other (Getting g srm confirm wait) e c s k = refl
-credentials-other (Sending o x srm wait) e c s k = refl
-credentials-other (GatheringOp o g) e c s k = refl
-credentials-other (Draining code) e c s k = refl
-credentials-other (Connecting code f n) e c s k = absurd (miss (0 ∷ 1 ∷ 2 ∷ 3 ∷ 4 ∷ 6 ∷ []) 5 tt k)
+pub credentials-other : (o : Operation) (e : Engine) (c : Option Credentials) (q h y : List ℕ) → OneOf (0 ∷ 1 ∷ 2 ∷ 3 ∷ 4 ∷ 6 ∷ []) (tagOf the-type o)
+    → written (refusal 9 e) y ≡ credentialsBy o e c q h y
+credentials-other Nothing e c q h y k = refl
+credentials-other (Putting g srm) e c q h y k = refl
+credentials-other (Getting g srm confirm wait) e c q h y k = refl
+credentials-other (Sending o x srm wait) e c q h y k = refl
+credentials-other (GatheringOp o g) e c q h y k = refl
+credentials-other (Draining code) e c q h y k = refl
+credentials-other (Connecting code f n) e c q h y k = absurd (miss (0 ∷ 1 ∷ 2 ∷ 3 ∷ 4 ∷ 6 ∷ []) 5 tt k)
+
+-- what the call gives by the last packet and two stores is the model's
+module _ (e : Engine) (c : Option Credentials) (s : Stores) where
+  credentials-is : (o : Operation) → within (credentialsBy o e c (lastPacket e s) (s .headers) (s .reply)) s ≡ credentialsWith o e c s
+  credentials-is Nothing = refl
+  credentials-is (Putting g srm) = refl
+  credentials-is (Getting g srm confirm wait) = refl
+  credentials-is (Sending o x srm wait) = refl
+  credentials-is (GatheringOp o g) = refl
+  credentials-is (Draining code) = refl
+  credentials-is (Connecting code f n) = go (longUser c)
+    where
+      hs : List ℕ
+      hs = take n (s .headers)
+
+      go : (t : Bool)
+          → within (pick t (written (refusal 8 e) (s .reply)) (connectReplies e (e .peer) code (acceptedHeaders e f (lastPacket e s) hs c) (s .reply))) s
+          ≡ checked t e s (connectSends e (e .peer) code f (listOf (readHeaders hs 0)) c s)
+      go true = refl
+      go false = accepted-replies e s (e .peer) code f hs c
+
+  pub credentials-call : Goes 10 10 e s → (w : Written) → w ≡ credentialsBy (e .operation) e c (take (e .length) (s .packet)) (s .headers) (s .reply)
+      → within w s ≡ credentialsStep e c s
+  unfolding credentialsStep lastPacket
+  credentials-call g w h = ap (λ (w : Written). within w s) h ∙ credentials-is (e .operation) ∙ sym (g .whole _)
 
 -- a user id counts where there are credentials; m says whether it does
 module _ (has named m : Bool) (is : m ≡ has && named) (user password : List ℕ) where
@@ -280,18 +306,16 @@ module _ (has named m : Bool) (is : m ≡ has && named) (user password : List �
       go true z = z
       go false z = refl
 
-  module _ (o : Operation) (code : ℕ) (f : ConnectionId) (n : ℕ) (waits : o ≡ Connecting code f n) (e : Engine) (s : Stores) (t : Bool) (long : t ≡ both m (ltb 255 (length user))) where
-    pub credentials-long : t ≡ true → (r : Took) → r ≡ refusal 8 e → stepped r s ≡ credentialsWith o e told s
-    credentials-long k r h = ap (λ (r : Took). stepped r s) h ∙ sym (simp (waits, sym long-is ∙ sym long ∙ k))
+  module _ (o : Operation) (code : ℕ) (f : ConnectionId) (n : ℕ) (waits : o ≡ Connecting code f n) (e : Engine) (q h y : List ℕ) (t : Bool) (long : t ≡ both m (ltb 255 (length user))) where
+    pub credentials-long : t ≡ true → (r : Took) → r ≡ refusal 8 e → written r y ≡ credentialsBy o e told q h y
+    credentials-long k r i = ap (λ (r : Took). written r y) i ∙ sym (simp (waits, sym long-is ∙ sym long ∙ k))
 
     pub credentials-go : t ≡ false → (w : Written)
-        → w ≡ connectReplies e (e .peer) code (acceptedHeaders e f (take (e .length) (s .packet)) (take n (s .headers)) (credentialsOf has (given m user) password)) (s .reply)
-        → within w s ≡ credentialsWith o e told s
-    unfolding lastPacket
-    credentials-go k w h =
-        ap (λ (w : Written). within w s) h
-        ∙ accepted-replies e s (e .peer) code f (take n (s .headers)) (credentialsOf has (given m user) password)
-        ∙ ap (λ (c : Option Credentials). after 0 (connectSends e (e .peer) code f (listOf (readHeaders (take n (s .headers)) 0)) c s)) told-is
+        → w ≡ connectReplies e (e .peer) code (acceptedHeaders e f q (take n h) (credentialsOf has (given m user) password)) y
+        → w ≡ credentialsBy o e told q h y
+    credentials-go k w i =
+        i
+        ∙ ap (λ (c : Option Credentials). connectReplies e (e .peer) code (acceptedHeaders e f q (take n h) c) y) told-is
         ∙ sym (simp (waits, sym long-is ∙ sym long ∙ k))
 
 -- the headers that wait are in the header store

@@ -1,6 +1,6 @@
 // The host's answers to the engine's requests.
 ghost use mathlib.Core.Path.{_≡_};
-ghost use mathlib.Core.Bool.{_||_, _&&_};
+ghost use mathlib.Core.Bool.{true, _||_, _&&_};
 ghost use Prim.Native.Nat.{_≤_};
 ghost use lib.ListN.{length};
 ghost use Rattle.digest.specs.Md5.{octets16};
@@ -11,8 +11,8 @@ ghost use Rattle.connection.specs.Connect.{challengeHeader};
 ghost use Rattle.connection.specs.Pieces.{credentialsOf};
 ghost use Rattle.outgoing.specs.Outgoing.{nextPacket};
 ghost use Rattle.engine.specs.Carry.{written, packetSent, objectWith, passwordPlan};
-ghost use Rattle.model.specs.Model.{stepped, stores, acknowledgeStep, bodyFailedStep, bodyStep, objectStep, nonceStep, passwordStep, replyStep, credentialsStep, optionsOf, realmOf, badHeaders, badReply, capacityOf};
-ghost use Rattle.engine.specs.Accept.{repliedPeer};
+ghost use Rattle.model.specs.Model.{stepped, stores, acknowledgeStep, bodyFailedStep, bodyStep, objectStep, nonceStep, passwordStep, replyStep, credentialsStep, optionsOf, realmOf, badHeaders, badReply, capacityOf, limitOf, soundOperation};
+ghost use Rattle.engine.specs.Accept.{repliedPeer, credentialsBy};
 use crate::accept::connect_answer;
 use crate::accept::connect_sends;
 use crate::carry::carry_out;
@@ -402,6 +402,48 @@ fn both(a: bool, b: bool) -> bool
     b
 }
 
+// The Connect that waits is answered with credentials, or without; a user id over 255 bytes is 8.
+fn credentials_given(
+    e: Engine,
+    has_credentials: bool,
+    has_user: bool,
+    user: &[u8],
+    password: &[u8],
+    packet: &[u8],
+    headers: &[u8],
+    reply: &mut [u8],
+) -> Took
+    requires { ⌜ (soundOperation (limitOf e) (e .operation) ≡ true) × (length (now packet) ≤ 65535) × (65535 ≤ length (now headers)) × (65535 ≤ length (now reply)) ⌝ }
+    ensures { λ r. ⌜ written r (now (reply .exit)) ≡ credentialsBy (e .operation) e (credentialsOf «has_credentials» (given «has_user» (now (user .entry))) (now (password .entry))) (now (packet .entry)) (now (headers .entry)) (now (reply .entry)) ⌝ }
+{
+    let operation = e.operation;
+    let Operation::Connecting {
+        code,
+        front,
+        length: kept,
+    } = operation
+    else {
+        return refuse(e, 9);
+    };
+    let named = both(has_credentials, has_user);
+    if is_long(named, user.len()) {
+        return refuse(e, 8);
+    }
+    connect_sends(
+        e,
+        e.peer,
+        code,
+        front,
+        packet,
+        &headers[..kept],
+        has_credentials,
+        named,
+        user,
+        password,
+        reply,
+    )
+}
+
 // Credentials for the peer's challenge, or none: the host's answer to the Connect goes out.
 pub fn credentials(
     e: Engine,
@@ -428,31 +470,15 @@ pub fn credentials(
     if number != 0 {
         return refuse(e, number);
     }
-    let operation = e.operation;
-    let Operation::Connecting {
-        code,
-        front,
-        length: kept,
-    } = operation
-    else {
-        return refuse(e, 9);
-    };
-    let named = both(has_credentials, has_user);
-    if is_long(named, user.len()) {
-        return refuse(e, 8);
-    }
     let length = e.length;
-    connect_sends(
+    credentials_given(
         e,
-        e.peer,
-        code,
-        front,
-        &packet[..length],
-        &headers[..kept],
         has_credentials,
-        named,
+        has_user,
         user,
         password,
+        &packet[..length],
+        &headers[..],
         reply,
     )
 }
