@@ -9,7 +9,7 @@ use types.Run.{OneOf, miss}
 use Rattle.digest.specs.declared.md5.Octets16.{Octets16}
 use borrow.Author.Tests.{eq-eqb, ne-eqb, leb-true}
 use native.Mathlib.Omega.{arith}
-use lib.ListN.{length, take, length-take}
+use lib.ListN.{length, take}
 use lib.Dec.{eqb, ltb}
 use Rattle.base.specs.Pick.{pick, both}
 use Rattle.packet.specs.Codes.{isCode, isSuccess}
@@ -226,15 +226,6 @@ module _ (e : Engine) (s : Stores) where
             (ap (λ (w : Written). within w s) h ∙ replies-plain p code hs
             ∙ ap (λ (p : Peer). after 0 (sends e p code hs s)) i
             ∙ ap (λ (d : Done). after 0 d) (to-another (λ (z : awaited (e .awaits) ≡ 3). k (now ∙ z))))
-
--- bytes at the front of a store that is long
-pub record Prefix (n : ℕ) (s : List ℕ) : Type 0 where
-  pub inside : n ≤ length s
-  pub count : n ≡ length (take n s)
-  pub short : length (take n s) ≤ 65535
-
-pub prefix-in : (n : ℕ) (s : List ℕ) → n ≤ 65535 → 65535 ≤ length s → Prefix n s
-prefix-in n s h k = let l = length-take n s in record { inside = omega arith; count = omega arith; short = omega arith }
 
 -- good header bytes are not too long
 pub good-reply : (code : ℕ) (hs : List ℕ) (t : Bool) → t ≡ badReply code hs → t ≡ false → length hs ≤ 65535

@@ -2,9 +2,10 @@
 -- room and the state's counts are in bounds. Assumes nothing.
 use mathlib.Core.Path.{_≡_, refl, sym, _∙_}
 use mathlib.Core.Bool.{Bool, true, false, _&&_, _||_}
+use mathlib.Core.List.{List}
 use Prim.Native.Nat.{ℕ, _+_, _<_, _≤_}
 use native.Mathlib.Omega.{arith}
-use lib.ListN.{length}
+use lib.ListN.{length, take, length-take}
 use lib.Dec.{ltb, leb}
 use borrow.Author.Tests.{ltb-true, ltb-false, leb-true}
 use Rattle.base.specs.Pick.{pick}
@@ -90,12 +91,22 @@ sendable o c k =
     let w = and-true g f (v .1) in
     record { total = leb-true _ _ (u .0); sent = leb-true _ _ (v .0); chunk = leb-true _ _ (w .0); asked = leb-true _ _ (w .1) }
 
+-- bytes at the front of a store that is long
+pub record Prefix (n : ℕ) (s : List ℕ) : Type 0 where
+  pub inside : n ≤ length s
+  pub count : n ≡ length (take n s)
+  pub short : length (take n s) ≤ 65535
+
+pub prefix-in : (n : ℕ) (s : List ℕ) → n ≤ 65535 → 65535 ≤ length s → Prefix n s
+prefix-in n s h k = let l = length-take n s in record { inside = omega arith; count = omega arith; short = omega arith }
+
 -- ---- the guard
 
 -- what a call that goes on knows
 pub record Goes (from to : ℕ) (e : Engine) (s : Stores) : Type 0 where
   pub room : Room (limitOf e) (length (s .packet)) (length (s .headers)) (length (s .body)) (length (s .reply))
   pub bounds : Bounds e
+  pub last : Prefix (e .length) (s .packet)
   pub low : from ≤ awaited (e .awaits)
   pub high : awaited (e .awaits) ≤ to
   pub whole : (go : Stepped) → guarded from to e s go ≡ go
@@ -137,6 +148,7 @@ module _ (from to : ℕ) (e : Engine) (s : Stores) where
           record {
             room = room _ _ _ _ _ h;
             bounds = bounds e (u .0);
+            last = prefix-in _ _ (bounds e (u .0) .length) (room _ _ _ _ _ h .packet);
             low = leb-true _ _ (v .0);
             high = leb-true _ _ (v .1);
             whole = λ go. simp (same-short false h, k);

@@ -3,7 +3,7 @@
 use Rattle.model.specs.Model.{Stores, stores, credentialsStep}
 use Rattle.engine.proofs.Guards.{Goes, going}
 use Rattle.engine.proofs.Carried.{refused-call}
-use Rattle.engine.proofs.Accepts.{credentials-call, Prefix, prefix-in}
+use Rattle.engine.proofs.Accepts.{credentials-call}
 use borrow.Author.Needs.{needs}
 use Rattle.engine.proofs.host.credentials.Statement.{statement}
 use Rattle.engine.proofs.host.credentials.Tie as tie
@@ -19,10 +19,6 @@ lent k = let a = start k .args in stores (a .packet .now) (a .headers .now) (a .
 goes : (k : tie.Else1) → Goes 10 10 (start (k .before) .args .e) (lent (k .before))
 goes k = going 10 10 _ _ _ (k .before .refused .ensures) (k .if1 .left)
 
--- the last packet in its store
-last : (k : tie.Else1) → Prefix (start (k .before) .args .e .length) (start (k .before) .args .packet .now)
-last k = let g = goes k in prefix-in _ _ (g .bounds .length) (g .room .packet)
-
 refused-requires : tie.Need-refused-requires
 refused-requires c κs = search needs
 
@@ -36,14 +32,14 @@ returns c =
     refused-call 10 10 (start k .args .e) (lent k) _ _ _ (c .refuse .ensures) (k .refused .ensures) (c .before .if1 .taken)
 
 slice-reshare-prefix-credentials-given : tie.Need-slice-reshare-prefix-credentials-given
-slice-reshare-prefix-credentials-given c = last c .inside
+slice-reshare-prefix-credentials-given c = goes c .last .inside
 
 slice-aggregate-credentials-given : tie.Need-slice-aggregate-credentials-given
-slice-aggregate-credentials-given c = last (c .before) .count
+slice-aggregate-credentials-given c = goes (c .before) .last .count
 
 credentials-given-requires : tie.Need-credentials-given-requires
 credentials-given-requires c κs =
-    let z = c .before .before .before in let g = goes z in (g .bounds .operation, last z .short, g .room .headers, g .room .reply)
+    let g = goes (c .before .before .before) in (g .bounds .operation, g .last .short, g .room .headers, g .room .reply)
 
 same-length : tie.Need-same-length
 same-length c = search needs

@@ -3,7 +3,8 @@
 use mathlib.Core.Path.{ap, _∙_}
 use Rattle.model.specs.declared.server.Took.{Took}
 use Rattle.engine.specs.Carry.{written}
-use Rattle.engine.proofs.Accepts.{credentials-other, credentials-long, credentials-go, Prefix, prefix-in, user-fits, waiting-length}
+use Rattle.engine.proofs.Guards.{Prefix, prefix-in}
+use Rattle.engine.proofs.Accepts.{credentials-other, credentials-long, credentials-go, user-fits, waiting-length}
 use borrow.Author.Needs.{needs}
 use Rattle.engine.proofs.host.credentials_given.Statement.{statement}
 use Rattle.engine.proofs.host.credentials_given.Tie as tie
