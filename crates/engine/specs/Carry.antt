@@ -72,6 +72,18 @@ madePlan next.TooLarge e srm wait k = codePlan e (e .peer) await.Taken 0xD0
 unfoldable pub packetPlan : Engine → Bool → Bool → Packet → Plan
 packetPlan e srm wait k = madePlan (k .next) e srm wait k
 
+-- a plan, and the reply store before it is carried out
+pub record PlanMade : Type 0 where
+  pub plan : Plan
+  pub reply : List ℕ
+
+abbrev pub planMade : Plan → List ℕ → PlanMade
+planMade p y = record { plan = p; reply = y }
+
+-- the plan for the next packet of an object, after the packet's bytes
+abbrev pub objectPlan : Engine → Bool → Bool → Made → PlanMade
+objectPlan e srm wait m = planMade (packetPlan e srm wait (m .packet)) (m .reply)
+
 -- the plan carried out after the packet's bytes
 abbrev pub packetSent : Engine → Bool → Bool → Made → Written
 packetSent e srm wait m = carried (packetPlan e srm wait (m .packet)) (m .reply)

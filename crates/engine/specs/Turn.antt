@@ -1,32 +1,17 @@
--- A packet of an object as a plan, and what follows a reply that is taken.
+-- What follows a reply that is taken, and what `bytes` gives.
 use Prim.Native.Nat.{ℕ}
-use mathlib.Core.List.{List}
 use mathlib.Core.Bool.{Bool, _&&_, not}
 use lib.Dec.{eqb}
 use Rattle.base.specs.Pick.{pick}
-use Rattle.outgoing.specs.Outgoing.{Made}
 use Rattle.outgoing.specs.declared.body.Outgoing.{Outgoing}
 use Rattle.model.specs.Model.{Stores, Done, engineWith, wants, ends, awaited, sendsNext}
-use Rattle.engine.specs.Carry.{packetPlan}
 use Rattle.model.specs.declared.server.Operation.{Operation}
 use Rattle.model.specs.declared.server.Operation.the-variants.{Nothing, Putting, Getting, Sending, Gathering as GatheringOp, Connecting, Draining}
 use Rattle.model.specs.declared.server.Engine.{Engine}
 use Rattle.model.specs.declared.server.Outcome.the-variants as outcome
 use Rattle.model.specs.declared.server.Took.{Took}
-use Rattle.engine.specs.declared.plan.Plan.{Plan}
 use Rattle.engine.specs.declared.arrival.Turn.{Turn}
 use Rattle.engine.specs.declared.arrival.Turn.the-variants.{Send, Wait, End}
-
--- a plan, and the reply store before it is carried out
-pub record PlanMade : Type 0 where
-  pub plan : Plan
-  pub reply : List ℕ
-
-abbrev pub planMade : Plan → List ℕ → PlanMade
-planMade p y = record { plan = p; reply = y }
-
-abbrev pub objectPlan : Engine → Bool → Bool → Made → PlanMade
-objectPlan e srm wait m = planMade (packetPlan e srm wait (m .packet)) (m .reply)
 
 -- under SRM and without a wait the next packet of an object follows at once
 abbrev pub followsTurn : Outgoing → Bool → Bool → Turn

@@ -33,7 +33,8 @@ pub fn awaited(a: Await) -> u8
     }
 }
 
-fn wide(n: u32) -> usize
+// The Put limit as a length.
+pub fn wide(n: u32) -> usize
     ensures { λ r. ⌜ r ≡ n ⌝ }
 {
     n as usize
