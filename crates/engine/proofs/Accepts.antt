@@ -8,7 +8,6 @@ use denote.Enum.Declared.{tagOf}
 use types.Run.{OneOf, miss}
 use Rattle.digest.specs.declared.md5.Octets16.{Octets16}
 use borrow.Author.Tests.{eq-eqb, ne-eqb, leb-true}
-use native.Mathlib.Omega.{arith}
 use lib.ListN.{length, take}
 use lib.Dec.{eqb, ltb}
 use Rattle.base.specs.Pick.{pick, both}
@@ -30,7 +29,7 @@ use Rattle.connection.specs.declared.peer.Peer.{Peer}
 use Rattle.connection.specs.declared.peer.ConnectionId.{ConnectionId}
 use Rattle.connection.specs.declared.peer.Answer.{Answer}
 use Rattle.connection.proofs.ByNumbers.{opened-by, disconnected-by}
-use Rattle.model.specs.Model.{Stores, Stepped, stepped, Done, after, refuse, badHeaders, badReply, replyStep, longUser, checked, credentialsWith, credentialsStep, soundOperation, lastPacket, lastHeaders, srmAsked, sends, sendsConnect, connectSends, frontFor, listOf, realmIn, connectChallenged, connectOpened, connectAnswer, replyAnswer, awaited}
+use Rattle.model.specs.Model.{Stores, Stepped, stepped, Done, after, badHeaders, badReply, replyStep, longUser, checked, credentialsWith, credentialsStep, soundOperation, lastPacket, lastHeaders, srmAsked, sends, sendsConnect, connectSends, frontFor, listOf, realmIn, connectChallenged, connectOpened, connectAnswer, replyAnswer, awaited}
 use Rattle.engine.specs.Plan.{asksPlan}
 use Rattle.engine.specs.Guard.{refusal}
 use Rattle.engine.specs.Carry.{Written, written, within, tookBy, sentPlan, repliesBy}

@@ -1,17 +1,15 @@
 -- Carrying out a plan is the model's step. Assumes nothing.
-use mathlib.Core.Path.{_≡_, refl, ap}
+use mathlib.Core.Path.{_≡_, refl}
 use mathlib.Core.Bool.{Bool, true, false}
-use mathlib.Core.List.{List, []}
+use mathlib.Core.List.{[]}
 use Prim.Native.Nat.{ℕ}
 use Rattle.base.specs.Pick.{pick}
-use Rattle.packet.specs.Codes.{sentCode}
-use Rattle.packet.specs.FirstByte.{topBit}
 use Rattle.packet.specs.Packet.{Request as Packet, packetBytes}
 use Rattle.packet.specs.declared.opcode.Opcode.{Opcode}
 use Rattle.connection.specs.declared.peer.Peer.{Peer}
 use Rattle.incoming.specs.Gather.{Gathering}
 use Rattle.incoming.specs.declared.survey.Survey.{Survey}
-use Rattle.model.specs.Model.{Stores, Done, withGathered, wants, asks, ends, replies, repliesCode, continues, putContinues, putGathered, getContinues, getGathered, headersGathered}
+use Rattle.model.specs.Model.{Stores, Done, withGathered, wants, asks, ends, replies, continues, putContinues, putGathered, getContinues, getGathered, headersGathered}
 use Rattle.engine.specs.Plan.{planned, wantsPlan, asksPlan, endsPlan, codePlan, continuePlan, putContinuePlan, putPlan, getContinuePlan, getPlan, headersPlan}
 use Rattle.model.specs.declared.server.Operation.{Operation}
 use Rattle.model.specs.declared.server.Operation.the-variants.{Nothing, Putting, Getting, Gathering as GatheringOp}

@@ -2,8 +2,6 @@
 -- the reading of an `ensures` clause that the check makes: a contract that stops saying what demand 3 needs breaks its line here.
 -- Assumes nothing.
 use mathlib.Core.Path.{_≡_}
-use mathlib.Core.List.{List}
-use Prim.Native.Nat.{ℕ}
 use denote.Ref.{now}
 use contract.Lifetimes.{Lfts}
 use denote.Triple.Clauses.{AtExit}

@@ -14,7 +14,6 @@ use Rattle.model.specs.declared.server.Operation.{Operation}
 use Rattle.model.specs.declared.server.Operation.the-variants.{Nothing, Putting, Getting, Gathering as GatheringOp}
 use Rattle.model.specs.declared.server.Await.{Await}
 use Rattle.model.specs.declared.server.Await.the-variants as await
-use Rattle.model.specs.declared.server.Body.{Body}
 use Rattle.model.specs.declared.server.Engine.{Engine}
 use Rattle.model.specs.declared.server.Request.{Request}
 use Rattle.model.specs.declared.server.Request.the-variants as request

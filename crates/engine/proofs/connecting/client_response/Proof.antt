@@ -1,5 +1,5 @@
 -- `engine::connecting::client_response` meets its contract: the first response's place holds the value that the definition reads. Assumes nothing.
-use mathlib.Core.Path.{_≡_, _∙_, sym}
+use mathlib.Core.Path.{_∙_, sym}
 use native.Mathlib.Omega.{arith}
 use Rattle.packet.proofs.HeaderLaws.{first-found}
 use Rattle.engine.proofs.Connects.{not-answered, answer-unread, answer-read, user-below}

@@ -1,7 +1,7 @@
 -- `engine::host::send_challenge` meets its contract. The settings' flags and the realm's first bytes are the challenge's.
 use borrow.Author.Needs.{needs}
 use lib.ListN.{length, length-take}
-use mathlib.Core.Path.{_≡_, sym, ap, _∙_}
+use mathlib.Core.Path.{_≡_, _∙_}
 use native.Mathlib.Omega.{arith}
 use Rattle.engine.proofs.Challenged.{options-are, realm-is, realm-fits}
 use Rattle.engine.proofs.host.send_challenge.Statement.{statement}
