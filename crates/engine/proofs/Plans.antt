@@ -51,7 +51,8 @@ pick-planned false a b = b
 
 -- ---- a gathered packet
 
-pub put-planned : (e : Engine) (r : Packet) (v : Survey) (srm confirm : Bool) (g : Gathering) (s : Stores) → Carries (putPlan e (g .got) (r .final) (v .additional) srm confirm) (withGathered s g) (putGathered e r v srm confirm g s)
+pub put-planned : (e : Engine) (r : Packet) (v : Survey) (srm confirm : Bool) (g : Gathering) (s : Stores)
+    → Carries (putPlan e (g .got) (r .final) (v .additional) srm confirm) (withGathered s g) (putGathered e r v srm confirm g s)
 unfolding putPlan
 put-planned e r v srm confirm g s =
     pick-planned (g .got .full) (ends-planned e (e .peer) 6 t)
@@ -64,7 +65,8 @@ put-planned e r v srm confirm g s =
     go true = pick-planned (v .additional) (continue-planned e (Putting (g .got) true) false t) (wants-planned e (e .peer) (Putting (g .got) true) t)
     go false = pick-planned (g .got .over) (code-planned e (e .peer) await.Taken 0xCD t) (continue-planned e (Putting (g .got) confirm) confirm t)
 
-pub get-planned : (e : Engine) (r : Packet) (v : Survey) (srm confirm : Bool) (g : Gathering) (s : Stores) → Carries (getPlan e (g .got) (r .final) (v .wait) srm confirm) (withGathered s g) (getGathered e r v srm confirm g s)
+pub get-planned : (e : Engine) (r : Packet) (v : Survey) (srm confirm : Bool) (g : Gathering) (s : Stores)
+    → Carries (getPlan e (g .got) (r .final) (v .wait) srm confirm) (withGathered s g) (getGathered e r v srm confirm g s)
 unfolding getPlan
 get-planned e r v srm confirm g s =
     pick-planned (g .got .full) (ends-planned e (e .peer) 6 t)
@@ -77,7 +79,8 @@ get-planned e r v srm confirm g s =
     go true = wants-planned e (e .peer) (Getting (g .got) true confirm (v .wait)) t
     go false = continue-planned e (Getting (g .got) confirm false (v .wait)) confirm t
 
-pub headers-planned : (e : Engine) (r : Packet) (o : Opcode) (g : Gathering) (s : Stores) → Carries (headersPlan e o (g .got) (r .final)) (withGathered s g) (headersGathered e r o g s)
+pub headers-planned : (e : Engine) (r : Packet) (o : Opcode) (g : Gathering) (s : Stores)
+    → Carries (headersPlan e o (g .got) (r .final)) (withGathered s g) (headersGathered e r o g s)
 unfolding headersPlan
 headers-planned e r o g s =
     pick-planned (g .got .full) (ends-planned e (e .peer) 6 t)
