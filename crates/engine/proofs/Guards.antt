@@ -110,6 +110,14 @@ pub record Goes (from to : ℕ) (e : Engine) (s : Stores) : Type 0 where
   pub high : awaited (e .awaits) ≤ to
   pub whole : (go : Stepped) → guarded from to e s go ≡ go
 
+-- by the stores themselves
+abbrev pub shortIn : ℕ → Stores → Bool
+shortIn limit s = shortBy limit (length (s .packet)) (length (s .headers)) (length (s .body)) (length (s .reply))
+
+pub same-short : (limit : ℕ) (s : Stores) (t : Bool) → shortIn limit s ≡ t → short limit s ≡ t
+unfolding short shortBy
+same-short limit s t h = h
+
 abbrev pub refusedIn : ℕ → ℕ → Engine → Stores → ℕ
 refusedIn from to e s = refusedBy from to e (length (s .packet)) (length (s .headers)) (length (s .body)) (length (s .reply))
 
@@ -117,27 +125,23 @@ module _ (from to : ℕ) (e : Engine) (s : Stores) where
   fitting : Bool
   fitting = sound e && (leb from (awaited (e .awaits)) && leb (awaited (e .awaits)) to)
 
-  same-short : (t : Bool) → shortBy (limitOf e) (length (s .packet)) (length (s .headers)) (length (s .body)) (length (s .reply)) ≡ t → short (limitOf e) s ≡ t
-  unfolding short shortBy
-  same-short t h = h
-
   -- where the number is not 0, the model refuses with it
   pub turned : (go : Stepped) (n : ℕ) → n ≡ refusedIn from to e s → (n ≡ 0 → ⊥) → refuse n e s ≡ guarded from to e s go
   unfolding refusedBy fitting
-  turned go n = by (shortBy (limitOf e) (length (s .packet)) (length (s .headers)) (length (s .body)) (length (s .reply))) fitting refl refl
+  turned go n = by (shortIn (limitOf e) s) fitting refl refl
     where
-      by : (t f : Bool) → shortBy (limitOf e) (length (s .packet)) (length (s .headers)) (length (s .body)) (length (s .reply)) ≡ t → fitting ≡ f
+      by : (t f : Bool) → shortIn (limitOf e) s ≡ t → fitting ≡ f
           → n ≡ refusedIn from to e s → (n ≡ 0 → ⊥) → refuse n e s ≡ guarded from to e s go
-      by true f h k q w = let z : n ≡ 10 = simp h at q in simp (same-short true h, z)
+      by true f h k q w = let z : n ≡ 10 = simp h at q in simp (same-short (limitOf e) s true h, z)
       by false true h k q w = let z : n ≡ 0 = simp (h, k) at q in absurd (w z)
-      by false false h k q w = let z : n ≡ 9 = simp (h, k) at q in simp (same-short false h, k, z)
+      by false false h k q w = let z : n ≡ 9 = simp (h, k) at q in simp (same-short (limitOf e) s false h, k, z)
 
   -- where it is 0, the call goes on
   pub going : (n : ℕ) → n ≡ refusedIn from to e s → n ≡ 0 → Goes from to e s
   unfolding refusedBy fitting
-  going n p z = by (shortBy (limitOf e) (length (s .packet)) (length (s .headers)) (length (s .body)) (length (s .reply))) fitting refl refl (sym p ∙ z)
+  going n p z = by (shortIn (limitOf e) s) fitting refl refl (sym p ∙ z)
     where
-      by : (t f : Bool) → shortBy (limitOf e) (length (s .packet)) (length (s .headers)) (length (s .body)) (length (s .reply)) ≡ t → fitting ≡ f
+      by : (t f : Bool) → shortIn (limitOf e) s ≡ t → fitting ≡ f
           → refusedIn from to e s ≡ 0 → Goes from to e s
       by true f h k q = let z : _≡_ {A = ℕ} 10 0 = simp h at q in absurd (omega arith)
       by false false h k q = let z : _≡_ {A = ℕ} 9 0 = simp (h, k) at q in absurd (omega arith)
@@ -150,5 +154,5 @@ module _ (from to : ℕ) (e : Engine) (s : Stores) where
             last = prefix-in _ _ (bounds e (u .0) .length) (room _ _ _ _ _ h .packet);
             low = leb-true _ _ (v .0);
             high = leb-true _ _ (v .1);
-            whole = λ go. simp (same-short false h, k);
+            whole = λ go. simp (same-short (limitOf e) s false h, k);
           }

@@ -18,8 +18,8 @@ use Rattle.incoming.specs.declared.gather.Gathered.{Gathered}
 use Rattle.outgoing.specs.Outgoing.{Made, nextPacket, bodyGiven}
 use Rattle.outgoing.specs.declared.body.Outgoing.{Outgoing}
 use Rattle.outgoing.specs.declared.body.Chunk.{Chunk}
-use Rattle.model.specs.Model.{Stores, Done, stepped, withHeaders, after, refuse, bodyFor, objectFor, badHeaders, sendsPacket, sendsNext, capacityOf, soundOperation, engineWith, started, short, startStep}
-use Rattle.engine.specs.Guard.{shortBy, startNumber, refusal}
+use Rattle.model.specs.Model.{Stores, Done, stepped, withHeaders, after, refuse, bodyFor, objectFor, badHeaders, sendsPacket, sendsNext, capacityOf, soundOperation, engineWith, started, startStep}
+use Rattle.engine.specs.Guard.{startNumber, refusal}
 use Rattle.engine.specs.Carry.{Written, within, carried, packetPlan, packetSent, objectWith}
 use Rattle.model.specs.declared.server.Settings.{Settings}
 use Rattle.model.specs.declared.server.Operation.{Operation}
@@ -30,7 +30,7 @@ use Rattle.model.specs.declared.server.Outcome.the-variants as outcome
 use Rattle.model.specs.declared.server.Took.{Took}
 use Rattle.engine.specs.declared.plan.Plan.{Plan}
 use Rattle.model.proofs.server.Operation.{the-type}
-use Rattle.engine.proofs.Guards.{Sendable, sendable, or-false}
+use Rattle.engine.proofs.Guards.{Sendable, sendable, or-false, shortIn, same-short}
 use Rattle.engine.proofs.Carried.{packet-carried}
 
 -- ---- a packet of an object
@@ -106,25 +106,33 @@ module _ (p : Operation) (g : Gathered) (srm confirm wait : Bool) (is : p ≡ Ge
 
 -- ---- the start
 
-module _ (st : Settings) (s : Stores) (n : ℕ) (e : Engine) (number : n ≡ startNumber (st .«max_object_size») (st .«realm_length») (length (s .packet)) (length (s .headers)) (length (s .body)) (length (s .reply))) where
-  same : (t : Bool) → shortBy (st .«max_object_size») (length (s .packet)) (length (s .headers)) (length (s .body)) (length (s .reply)) ≡ t → short (st .«max_object_size») s ≡ t
-  unfolding short shortBy
-  same t h = h
+module _ (st : Settings) (s : Stores) (n : ℕ) (e : Engine) where
+  abbrev limit : ℕ
+  limit = st .«max_object_size»
 
-  pub start-refused : e ≡ engineWith st freshPeer Nothing await.Nothing 0 0 → (n ≡ 0 → ⊥) → (r : Took) → r ≡ refusal n e → stepped r s ≡ startStep st s
+  abbrev realm : Bool
+  realm = ltb 254 (st .«realm_length»)
+
+  -- what the number is of
+  abbrev pub Number : Type 0
+  Number = n ≡ startNumber limit (st .«realm_length») (length (s .packet)) (length (s .headers)) (length (s .body)) (length (s .reply))
+
+  pub start-refused : Number → e ≡ engineWith st freshPeer Nothing await.Nothing 0 0 → (n ≡ 0 → ⊥) → (r : Took) → r ≡ refusal n e
+      → stepped r s ≡ startStep st s
   unfolding startStep startNumber
-  start-refused k w r h = go (shortBy (st .«max_object_size») (length (s .packet)) (length (s .headers)) (length (s .body)) (length (s .reply))) (ltb 254 (st .«realm_length»)) refl refl
+  start-refused number k w r h = go (shortIn limit s) realm refl refl
     where
-      go : (t u : Bool) → shortBy (st .«max_object_size») (length (s .packet)) (length (s .headers)) (length (s .body)) (length (s .reply)) ≡ t → ltb 254 (st .«realm_length») ≡ u → stepped r s ≡ startStep st s
-      go true u a b = let z : n ≡ 10 = simp a at number in simp (h, k, z, same true a)
-      go false true a b = let z : n ≡ 8 = simp (a, b) at number in simp (h, k, z, same false a, b)
+      go : (t u : Bool) → shortIn limit s ≡ t → realm ≡ u → stepped r s ≡ startStep st s
+      go true u a b = let z : n ≡ 10 = simp a at number in simp (h, k, z, same-short limit s true a)
+      go false true a b = let z : n ≡ 8 = simp (a, b) at number in simp (h, k, z, same-short limit s false a, b)
       go false false a b = let z : n ≡ 0 = simp (a, b) at number in absurd (w z)
 
-  pub start-goes : e ≡ engineWith st freshPeer Nothing await.Bytes 0 0 → n ≡ 0 → stepped (record { engine = e; taken = 0; outcome = outcome.WantsBytes }) s ≡ startStep st s
+  pub start-goes : Number → e ≡ engineWith st freshPeer Nothing await.Bytes 0 0 → n ≡ 0
+      → stepped (record { engine = e; taken = 0; outcome = outcome.WantsBytes }) s ≡ startStep st s
   unfolding startStep startNumber started
-  start-goes k w = go (shortBy (st .«max_object_size») (length (s .packet)) (length (s .headers)) (length (s .body)) (length (s .reply))) (ltb 254 (st .«realm_length»)) refl refl
+  start-goes number k w = go (shortIn limit s) realm refl refl
     where
-      go : (t u : Bool) → shortBy (st .«max_object_size») (length (s .packet)) (length (s .headers)) (length (s .body)) (length (s .reply)) ≡ t → ltb 254 (st .«realm_length») ≡ u → stepped (record { engine = e; taken = 0; outcome = outcome.WantsBytes }) s ≡ startStep st s
+      go : (t u : Bool) → shortIn limit s ≡ t → realm ≡ u → stepped (record { engine = e; taken = 0; outcome = outcome.WantsBytes }) s ≡ startStep st s
       go true u a b = let z : n ≡ 10 = simp a at number in absurd (omega arith)
       go false true a b = let z : n ≡ 8 = simp (a, b) at number in absurd (omega arith)
-      go false false a b = simp (k, same false a, b)
+      go false false a b = simp (k, same-short limit s false a, b)
