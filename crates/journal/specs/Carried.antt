@@ -1,12 +1,12 @@
 -- What the packets of a Put carry (document 01, Put): the headers that are kept, as received, and the body.
 use Prim.Native.Nat.{ℕ}
 use mathlib.Core.List.{List, [], _∷_, _++_}
-use mathlib.Core.Bool.{Bool, true, false, _||_}
+use mathlib.Core.Bool.{Bool, _||_}
 use mathlib.Core.Option.{Option, none, some}
 use lib.ListN.{length}
 use lib.Dec.{eqb}
 use Rattle.base.specs.Pick.{pick}
-use Rattle.packet.specs.Header.{Header, bytesOf, allBytes}
+use Rattle.packet.specs.Header.{Header, bytesOf}
 
 -- ---- ids
 
