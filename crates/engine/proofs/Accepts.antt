@@ -1,7 +1,7 @@
 -- Replies, and the host's answer to a Connect: what the code does by the last packet and two stores is the model's step. Assumes nothing.
 use mathlib.Core.Path.{_≡_, refl, sym, ap, ap₂, _∙_}
 use mathlib.Core.List.{List, [], _∷_}
-use mathlib.Core.Bool.{Bool, true, false, _&&_, _||_, not}
+use mathlib.Core.Bool.{Bool, true, false, _&&_, _||_}
 use mathlib.Core.Option.{Option, none, some}
 use Prim.Native.Nat.{ℕ, _≤_}
 use denote.Enum.Declared.{tagOf}
@@ -11,7 +11,7 @@ use borrow.Author.Tests.{eq-eqb, ne-eqb, leb-true}
 use lib.ListN.{length, take}
 use lib.Dec.{eqb, ltb}
 use Rattle.base.specs.Pick.{pick, both}
-use Rattle.packet.specs.Codes.{isCode, isSuccess}
+use Rattle.packet.specs.Codes.{isSuccess}
 use Rattle.packet.specs.Header.{Header, readHeaders, first, firstPlace, allBytes}
 use Rattle.packet.specs.Auth.{Challenge as PeerChallenge}
 use Rattle.packet.specs.AuthRead.{challengeRead}
@@ -29,7 +29,8 @@ use Rattle.connection.specs.declared.peer.Peer.{Peer}
 use Rattle.connection.specs.declared.peer.ConnectionId.{ConnectionId}
 use Rattle.connection.specs.declared.peer.Answer.{Answer}
 use Rattle.connection.proofs.ByNumbers.{opened-by, disconnected-by}
-use Rattle.model.specs.Model.{Stores, Stepped, stepped, Done, after, badHeaders, badReply, replyStep, longUser, checked, credentialsWith, credentialsStep, soundOperation, lastPacket, lastHeaders, srmAsked, sends, sendsConnect, connectSends, frontFor, listOf, realmIn, connectChallenged, connectOpened, connectAnswer, replyAnswer, awaited}
+use Rattle.journal.specs.Journal.{listOf}
+use Rattle.model.specs.Model.{Stores, Stepped, stepped, Done, after, badReply, replyStep, longUser, checked, credentialsWith, credentialsStep, soundOperation, lastPacket, lastHeaders, srmAsked, sends, sendsConnect, connectSends, frontFor, realmIn, connectChallenged, connectOpened, connectAnswer, replyAnswer, awaited}
 use Rattle.engine.specs.Plan.{asksPlan}
 use Rattle.engine.specs.Guard.{refusal}
 use Rattle.engine.specs.Carry.{Written, written, within, tookBy, sentPlan, repliesBy}
@@ -44,8 +45,8 @@ use Rattle.model.specs.declared.server.Took.{Took}
 use Rattle.engine.specs.declared.plan.Plan.{Plan}
 use Rattle.engine.proofs.Carried.{took-sent, sent-written}
 use Rattle.model.proofs.server.Operation.{the-type}
-use Rattle.engine.proofs.Guards.{Goes, or-false}
-use Rattle.engine.proofs.Objects.{good-length}
+use Rattle.model.proofs.FromHost.{reply-headers-fit}
+use Rattle.engine.proofs.Guards.{Goes}
 use Rattle.engine.proofs.LastPacket.{last-headers}
 
 -- ---- the id in front
@@ -228,8 +229,7 @@ module _ (e : Engine) (s : Stores) where
 
 -- good header bytes are not too long
 pub good-reply : (code : ℕ) (hs : List ℕ) (t : Bool) → t ≡ badReply code hs → t ≡ false → length hs ≤ 65535
-unfolding badReply
-good-reply code hs t h k = good-length hs _ refl (or-false (not (isCode code)) (badHeaders hs) (sym h ∙ k) .1)
+good-reply code hs t h k = reply-headers-fit code hs (sym h ∙ k)
 
 -- ---- a call for credentials
 

@@ -19,7 +19,8 @@ use Rattle.packet.specs.declared.opcode.Opcode.{Opcode}
 use Rattle.packet.specs.declared.opcode.Opcode.the-variants as op
 use Rattle.incoming.specs.Survey.{surveyOf}
 use Rattle.outgoing.specs.declared.body.Chunk.{Chunk}
-use Rattle.model.specs.Model.{limitOf, headersIn, nothingGathered, soundGathered, soundOutgoing, soundOperation, rejection, busy}
+use Rattle.journal.specs.Journal.{headersOf as headersIn}
+use Rattle.model.specs.Model.{limitOf, nothingGathered, soundGathered, soundOutgoing, soundOperation, rejection, busy}
 use Rattle.engine.specs.Route.{headingOf, admissionOf, drainedBy, rejectedRoute, dispatchRoute, admittedRoute, openRoute, insideRoute, headingRoute, routeAs, packetRoute, fromOf}
 use Rattle.model.specs.declared.server.Operation.{Operation}
 use Rattle.model.specs.declared.server.Operation.the-variants.{Nothing, Putting, Getting, Sending, Gathering as GatheringOp, Connecting, Draining}

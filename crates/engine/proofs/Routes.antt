@@ -20,7 +20,8 @@ use Rattle.connection.specs.Peer.{limited}
 use Rattle.connection.specs.declared.peer.Challenge.{Challenge}
 use Rattle.connection.specs.declared.peer.Challenge.the-variants.{Stored, Absent}
 use Rattle.connection.specs.declared.peer.Peer.{Peer}
-use Rattle.model.specs.Model.{Stores, Done, engineWith, lastPacket, lastHeaders, responseIn, clientResponse, userPlace, verifies, wants, asks, ends, replies, repliesCode, headersIn, nothingGathered, gathers, putPacket, getPacket, headersPacket, connectPacket, Rejection, admits, rejects, rejection, drains, rejected, dispatches, admittedAs, dispatch, interrupts, inside, busy, readAs, lengthOf, packetDone}
+use Rattle.journal.specs.Journal.{responseIn, headersOf as headersIn}
+use Rattle.model.specs.Model.{Stores, Done, engineWith, lastPacket, lastHeaders, clientResponse, userPlace, verifies, wants, asks, ends, replies, repliesCode, nothingGathered, gathers, putPacket, getPacket, headersPacket, connectPacket, Rejection, admits, rejects, rejection, drains, rejected, dispatches, admittedAs, dispatch, interrupts, inside, busy, readAs, lengthOf, packetDone}
 use Rattle.engine.specs.Route.{headingOf, askRoute, codeRoute, admissionOf, rejectedRoute, putRoute, getRoute, headersRoute, dispatchRoute, admittedRoute, openRoute, interruptsRoute, insideRoute, headingRoute, routeAs, packetRoute, briefPlan, keepOf, kindPlan, actsGathered, answeredAs, verifiesPlan, limitedPlan, connectPlan, acts}
 use Rattle.model.specs.declared.server.Operation.{Operation}
 use Rattle.model.specs.declared.server.Operation.the-variants.{Nothing, Putting, Getting, Sending, Gathering as GatheringOp, Connecting, Draining}

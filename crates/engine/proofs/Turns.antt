@@ -17,8 +17,9 @@ use Rattle.model.specs.declared.server.Engine.{Engine}
 use Rattle.engine.specs.declared.plan.Plan.{Plan}
 use Rattle.engine.specs.declared.arrival.Turn.{Turn}
 use Rattle.engine.specs.declared.arrival.Turn.the-variants.{Send, Wait, End}
+use Rattle.model.proofs.Steps.{outgoing-within}
 use Rattle.engine.proofs.Carried.{packet-carried}
-use Rattle.engine.proofs.Guards.{Goes, sendable}
+use Rattle.engine.proofs.Guards.{Goes}
 
 -- an object that is sent on is in bounds
 abbrev pub TurnReady : Turn → Type 0
@@ -31,7 +32,7 @@ ready-pick true x y a b = a
 ready-pick false x y a b = b
 
 goes-ready : (limit : ℕ) (o : Operation) → soundOperation limit o ≡ true → TurnReady (goesTurn o)
-goes-ready limit (Sending o c srm wait) s = ready-pick (srm && not wait) _ _ (sendable o c s .total) tt
+goes-ready limit (Sending o c srm wait) s = ready-pick (srm && not wait) _ _ (outgoing-within o c s .total) tt
 goes-ready limit Nothing s = tt
 goes-ready limit (Putting g srm) s = tt
 goes-ready limit (Getting g srm confirm wait) s = tt

@@ -21,7 +21,8 @@ use Rattle.connection.specs.Pieces.{headersFrom, answeredIn, idGiven}
 use Rattle.connection.specs.declared.peer.Peer.{Peer}
 use Rattle.connection.specs.declared.peer.Answer.{Answer}
 use Rattle.connection.specs.declared.peer.ConnectionId.{ConnectionId}
-use Rattle.model.specs.Model.{Stores, Stepped, stepped, stores, headersIn, srmAsked, realmIn, longUser, awaited}
+use Rattle.journal.specs.Journal.{headersOf as headersIn}
+use Rattle.model.specs.Model.{Stores, Stepped, stepped, stores, srmAsked, realmIn, longUser, awaited}
 use Rattle.engine.specs.Plan.{asksPlan}
 use Rattle.engine.specs.Guard.{refusal}
 use Rattle.engine.specs.Carry.{Written, written, tookBy, repliesBy}

@@ -9,7 +9,6 @@ use Rattle.connection.specs.declared.peer.Peer.{Peer}
 use Rattle.connection.specs.declared.send.Sent.{Sent}
 use Rattle.connection.specs.declared.send.Sent.the-variants as sent
 use Rattle.outgoing.specs.Outgoing.{Made}
-use Rattle.outgoing.specs.declared.body.Outgoing.{Outgoing}
 use Rattle.outgoing.specs.declared.body.Packet.{Packet}
 use Rattle.outgoing.specs.declared.body.Next.{Next}
 use Rattle.outgoing.specs.declared.body.Next.the-variants as next
@@ -87,10 +86,6 @@ objectPlan e srm wait m = planMade (packetPlan e srm wait (m .packet)) (m .reply
 -- the plan carried out after the packet's bytes
 abbrev pub packetSent : Engine → Bool → Bool → Made → Written
 packetSent e srm wait m = carried (packetPlan e srm wait (m .packet)) (m .reply)
-
--- an object with so many header bytes
-abbrev pub objectWith : ℕ → Bool → Bool → Outgoing
-objectWith n lead has = record { total = n; sent = 0; lead = lead; «has_body» = has; «has_pending» = false; pending = 0 }
 
 -- the password's check: right, the host is asked; else a new challenge is made
 unfoldable pub passwordPlan : Engine → Bool → Plan

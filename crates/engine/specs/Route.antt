@@ -25,7 +25,8 @@ use Rattle.connection.specs.Peer.{limited}
 use Rattle.connection.specs.declared.peer.Challenge.{Challenge}
 use Rattle.connection.specs.declared.peer.Challenge.the-variants.{Stored, Absent}
 use Rattle.connection.specs.declared.peer.Peer.{Peer}
-use Rattle.model.specs.Model.{Stores, Done, withGathered, headersIn, responseIn, userIn, nothingGathered, gathers, sendsNext, Rejection, admits, rejects, rejection, drains, confirms, unknownByte, busy}
+use Rattle.journal.specs.Journal.{headersOf as headersIn, responseIn}
+use Rattle.model.specs.Model.{Stores, Done, withGathered, userIn, nothingGathered, gathers, sendsNext, Rejection, admits, rejects, rejection, drains, confirms, unknownByte, busy}
 use Rattle.engine.specs.Plan.{planned, wantsPlan, asksPlan, endsPlan, codePlan, putPlan, getPlan, headersPlan}
 use Rattle.model.specs.declared.server.Operation.{Operation}
 use Rattle.model.specs.declared.server.Operation.the-variants.{Nothing, Putting, Getting, Sending, Gathering as GatheringOp, Connecting, Draining}

@@ -10,8 +10,8 @@ ghost use Rattle.connection.specs.Send.{fieldsOf, sendBytes, sending, sentInto}
 ghost use Rattle.connection.specs.Connect.{challengeHeader};
 ghost use Rattle.connection.specs.Pieces.{credentialsOf};
 ghost use Rattle.outgoing.specs.Outgoing.{nextPacket};
-ghost use Rattle.engine.specs.Carry.{written, packetSent, objectWith, passwordPlan};
-ghost use Rattle.model.specs.Model.{stepped, stores, acknowledgeStep, bodyFailedStep, bodyStep, objectStep, nonceStep, passwordStep, replyStep, credentialsStep, optionsOf, realmOf, badHeaders, badReply, capacityOf, limitOf, soundOperation};
+ghost use Rattle.engine.specs.Carry.{written, packetSent, passwordPlan};
+ghost use Rattle.model.specs.Model.{stepped, stores, acknowledgeStep, bodyFailedStep, bodyStep, objectStep, nonceStep, passwordStep, replyStep, credentialsStep, optionsOf, realmOf, badHeaders, badReply, capacityOf, limitOf, soundOperation, objectOf};
 ghost use Rattle.engine.specs.Accept.{repliedPeer, credentialsBy};
 use crate::accept::connect_answer;
 use crate::accept::connect_sends;
@@ -129,7 +129,7 @@ pub fn sends_next(
 
 // SRM that was not granted yet goes in front of the object's headers.
 fn object_of(total: usize, lead: bool, has_body: bool) -> Outgoing
-    ensures { λ r. ⌜ r ≡ objectWith total lead «has_body» ⌝ }
+    ensures { λ r. ⌜ r ≡ objectOf total lead «has_body» ⌝ }
 {
     Outgoing {
         total,

@@ -1,8 +1,8 @@
 -- The proved cases, P1 to P12 of document 01, as one table of rows: what is given, and what the definitions make of it.
 use Prim.Native.Nat.{ℕ}
 use mathlib.Core.List.{List, [], _∷_, _++_}
-use mathlib.Core.Bool.{Bool, true, false}
-use mathlib.Core.Option.{Option, none, some}
+use mathlib.Core.Bool.{true, false}
+use mathlib.Core.Option.{none, some}
 use lib.ListN.{take, replicate}
 use Rattle.digest.specs.Unicode.{scalars16}
 use Rattle.packet.specs.FirstByte.{firstByte}
@@ -12,9 +12,8 @@ use Rattle.packet.specs.declared.opcode.Opcode.the-variants as op
 use Rattle.journal.specs.Ids.{newId}
 use Rattle.journal.specs.Carried.{Carried}
 use Rattle.journal.specs.Calls.{Call, bytesOffered, replyTaken, objectGiven, bodyGiven}
-use Rattle.model.specs.Model.{Stores, Stepped, started, defaultSettings}
+use Rattle.model.specs.Model.{Stores, started, defaultSettings}
 use Rattle.model.specs.Runs.{State, stepOf, stateOf, records}
-use Rattle.model.specs.declared.server.Settings.{Settings}
 use Rattle.model.specs.declared.server.Outcome.{Outcome}
 use Rattle.model.specs.declared.server.Outcome.the-variants as outcome
 

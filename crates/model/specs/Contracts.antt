@@ -1,5 +1,4 @@
 -- The claims over contracts: a run of calls of which is known only what the calls' contracts say, the state and the stores passed on.
-use Prim.Native.Nat.{ℕ}
 use mathlib.Core.Path.{_≡_}
 use mathlib.Core.List.{List, [], _∷_, _++_}
 use Rattle.journal.specs.Carried.{Carried}

@@ -24,6 +24,7 @@ use Rattle.packet.specs.declared.opcode.FirstByte.{FirstByte}
 use Rattle.packet.specs.declared.opcode.FirstByte.the-variants.{Known, Unknown}
 use Rattle.journal.specs.Calls.{Credentials}
 use Rattle.journal.specs.Ids.{member}
+use Rattle.journal.specs.Journal.{listOf, responseIn, headersOf as headersIn}
 use Rattle.incoming.specs.Frame.{Frames, framed}
 use Rattle.incoming.specs.Survey.{surveyOf}
 use Rattle.incoming.specs.Gather.{Gathering, gathering, gatherAll}
@@ -63,6 +64,7 @@ use Rattle.model.specs.declared.server.Took.{Took}
 
 -- ---- state and stores
 
+-- the four stores that the host lends
 pub record Stores : Type 0 where
   pub packet : List ℕ
   pub headers : List ℕ
@@ -136,10 +138,6 @@ sendsConnect e p code hs s =
     sent e p (sendBytes (p .«remote_max_packet_length») code (fieldsOf (e .settings .«max_packet_length»)) hs) s
 
 -- the last whole packet, read again
-abbrev pub headersIn : Option Packet → List Header
-headersIn none = []
-headersIn (some r) = r .headers
-
 unfoldable pub lastPacket : Engine → Stores → List ℕ
 lastPacket e s = take (e .length) (s .packet)
 
@@ -148,15 +146,19 @@ lastHeaders e s = headersIn (requestOf (lastPacket e s))
 
 -- ---- gathering: Put, Get, and the operations of headers alone
 
+-- the Put limit
 abbrev pub limitOf : Engine → ℕ
 limitOf e = e .settings .«max_object_size»
 
+-- before the first packet of an operation
 abbrev pub nothingGathered : Gathered
 nothingGathered = record { kept = 0; body = 0; came = false; over = false; full = false }
 
+-- the headers of a packet, gathered into the header and body store
 abbrev pub gathers : Engine → Keep → List Header → Gathered → Stores → Gathering
 gathers e k hs g s = gatherAll k (limitOf e) hs (gathering g (s .headers) (s .body))
 
+-- none where no body header came
 abbrev pub putBody : Gathered → Body
 putBody g = pick (g .came) (body.Bytes (g .body)) body.Missing
 
@@ -167,6 +169,7 @@ putContinues e g true confirm additional s =
 putContinues e g false confirm additional s =
     pick (g .over) (repliesCode e (e .peer) Nothing 0x4D s) (continues e (Putting g confirm) confirm s)
 
+-- Put, final: past the limit 0x4D, else the host gets the record
 abbrev pub putFinal : Engine → Gathered → Stores → Done
 putFinal e g s =
     pick (g .over) (repliesCode e (e .peer) Nothing 0x4D s)
@@ -220,6 +223,7 @@ headersPacket e r o g s = headersGathered e r o (gathers e keep.All (r .headers)
 
 -- ---- sending an object
 
+-- what a packet to the peer may hold after its first three bytes
 abbrev pub capacityOf : Engine → ℕ
 capacityOf e = e .peer .«remote_max_packet_length» - 3
 
@@ -244,10 +248,6 @@ sendsNext e o srm wait s = sendsPacket e srm wait (nextPacket (capacityOf e) o (
 
 -- ---- Connect
 
-abbrev pub responseIn : Option (List ℕ) → Option Response
-responseIn none = none
-responseIn (some v) = responseOf v
-
 -- the first AuthenticateResponse of the last packet
 unfoldable pub clientResponse : Engine → Stores → Option Response
 clientResponse e s = responseIn (first 0x4E (lastHeaders e s))
@@ -257,6 +257,7 @@ abbrev pub placedAt : ℕ → Found → Found
 placedAt n place.Missing = place.Missing
 placedAt n (place.At a b) = place.At (n + a) (n + b)
 
+-- where the user id of the response stands
 abbrev pub userIn : List ℕ → Found → Found
 userIn q place.Missing = place.Missing
 userIn q (place.At a b) = placedAt a (lastValue (part q a b) 1)
@@ -294,10 +295,7 @@ frontFor p (some v) target = front-id.Missing
 frontFor p none none = front-id.Missing
 frontFor p none (some t) = front-id.Id (searched p)
 
-abbrev pub listOf : Option (List Header) → List Header
-listOf none = []
-listOf (some hs) = hs
-
+-- where the realm of the peer's challenge stands in the packet
 abbrev pub realmIn : List ℕ → Found → Found
 realmIn q place.Missing = place.Missing
 realmIn q (place.At a b) = placedAt a (realmPlace (part q a b))
@@ -347,6 +345,7 @@ bit true = 1
 abbrev pub optionsOf : Settings → ℕ
 optionsOf st = bit (st .«user_id_required») + 2 * bit (st .«read_only»)
 
+-- the realm, after its charset
 abbrev pub realmOf : Settings → List ℕ → Option (List ℕ)
 realmOf st l = pick (st .«has_realm») (some (st .charset ∷ take (st .«realm_length») l)) none
 
@@ -376,9 +375,11 @@ rejected e r code s =
     pick (e .peer .«srm_enabled» && (drains (r .opcode) && not (r .final))) (wants e (e .peer) (Draining code) s)
     (repliesCode e (e .peer) Nothing code s)
 
+-- SRM is granted with the next Continue
 abbrev pub confirms : Engine → Survey → Bool
 confirms e v = not (e .peer .«srm_enabled») && srmAsked e v
 
+-- a packet that is admitted
 abbrev pub dispatches : Opcode → Engine → Packet → Survey → Stores → Done
 dispatches op.Connect e r v s = connectPacket e s
 dispatches op.Abort e r v s = asks e (e .peer) Nothing await.Acknowledgement (request.Abort (e .length)) s
@@ -395,6 +396,7 @@ abbrev pub admittedAs : Rejection → Engine → Packet → Survey → Stores �
 admittedAs admits e r v s = dispatches (r .opcode) e r v s
 admittedAs (rejects code) e r v s = rejected e r code s
 
+-- Connect is not turned away
 unfoldable pub dispatch : Engine → Packet → Survey → Stores → Done
 dispatch e r v s =
     pick (sameOpcode (r .opcode) op.Connect) (connectPacket e s) (admittedAs (rejection e (r .opcode) v) e r v s)
@@ -434,6 +436,7 @@ unreadable e q s =
     pick (busy (e .operation)) (ends e (e .peer) 4 s)
     (repliesCode e (e .peer) Nothing (pick (unknownByte (firstByte (getD q 0 0))) 0x51 0x40) s)
 
+-- Abort goes before all else
 abbrev pub readAs : Option Packet → Engine → List ℕ → Stores → Done
 readAs none e q s = unreadable e q s
 readAs (some r) e q s =
@@ -461,6 +464,7 @@ stepped r s = record { took = r; stores = s }
 abbrev pub refuse : ℕ → Engine → Stores → Stepped
 refuse n e s = stepped (record { engine = e; taken = 0; outcome = outcome.Refused n }) s
 
+-- so many bytes were taken
 abbrev pub after : ℕ → Done → Stepped
 after t d = stepped (record { engine = d .engine; taken = t; outcome = d .outcome }) (d .stores)
 
@@ -515,6 +519,7 @@ guarded from to e s go =
 
 -- ---- bytes, end of stream, reply taken
 
+-- by where the frame stands: begun, taken
 abbrev pub framedAs : Frame → Engine → ℕ → ℕ → Stores → Stepped
 framedAs More e b t s =
     stepped (record { engine = engineWith (e .settings) (e .peer) (e .operation) (e .awaits) b (e .length); taken = t; outcome = outcome.WantsBytes }) s
@@ -557,6 +562,7 @@ badHeaders hs = ltb 65535 (length hs) || not (canonical hs)
 unfoldable pub badReply : ℕ → List ℕ → Bool
 badReply code hs = not (isCode code) || badHeaders hs
 
+-- 8 where the answer is bad
 abbrev pub checked : Bool → Engine → Stores → Done → Stepped
 checked bad e s d = pick bad (refuse 8 e s) (after 0 d)
 
@@ -570,14 +576,14 @@ replyAnswer e code hs s =
 unfoldable pub replyStep : Engine → ℕ → List ℕ → Stores → Stepped
 replyStep e code hs s = guarded 3 6 e s (checked (badReply code hs) e s (replyAnswer e code hs s))
 
--- an object for a Get: SRM that was not granted yet goes in front of its headers
-abbrev pub objectOf : List ℕ → Bool → Bool → Outgoing
-objectOf hs confirm has =
-    record { total = length hs; sent = 0; lead = confirm; «has_body» = has; «has_pending» = false; pending = 0 }
+-- an object with so many header bytes; SRM that was not granted yet goes in front of them
+abbrev pub objectOf : ℕ → Bool → Bool → Outgoing
+objectOf n lead has = record { total = n; sent = 0; lead = lead; «has_body» = has; «has_pending» = false; pending = 0 }
 
+-- an object for a Get
 abbrev pub objectFor : Operation → Engine → List ℕ → Bool → Stores → Stepped
 objectFor (Getting g srm confirm wait) e hs has s =
-    checked (badHeaders hs) e s (sendsNext e (objectOf hs confirm has) (srm || confirm) wait (withHeaders s (front hs (s .headers))))
+    checked (badHeaders hs) e s (sendsNext e (objectOf (length hs) confirm has) (srm || confirm) wait (withHeaders s (front hs (s .headers))))
 objectFor Nothing e hs has s = refuse 9 e s
 objectFor (Putting g srm) e hs has s = refuse 9 e s
 objectFor (Sending o c srm wait) e hs has s = refuse 9 e s

@@ -3,12 +3,11 @@
 use Prim.Native.Nat.{ℕ}
 use mathlib.Core.List.{List, [], _∷_}
 use mathlib.Core.Bool.{Bool, true, false}
-use mathlib.Core.Option.{Option, none, some}
 use lib.ListN.{length, getD}
-use lib.Dec.{ltb, eqb, leb}
+use lib.Dec.{eqb, leb}
 use Rattle.base.specs.Pick.{pick}
 use Rattle.journal.specs.Calls.{Call, bytesOffered, streamEnded, replyTaken, replyGiven, objectGiven, bodyGiven, bodyFailed, abortAcknowledged, passwordGiven, nonceGiven, credentialsGiven, Credentials, Verdict, goes, refused, Fed}
-use Rattle.model.specs.Model.{Stores, short, badReply, badHeaders, longUser}
+use Rattle.model.specs.Model.{short, badReply, badHeaders, longUser}
 use Rattle.model.specs.Runs.{State, stepOf, stateOf}
 use Rattle.model.specs.declared.server.Request.{Request}
 use Rattle.model.specs.declared.server.Request.the-variants as request

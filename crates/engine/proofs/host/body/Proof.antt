@@ -66,7 +66,7 @@ body-given-requires c κs =
     let o = c .before .before .before .before in
     let g = goes (o .before .before) in
     let b = sending-bounds _ _ _ _ _ (o .operation .given .1) _ (g .bounds .operation) in
-    (c .before .if2 .left, b .asked, b .chunk, g .room .reply)
+    (c .before .if2 .left, b .chunk, b .begun, g .room .reply)
 
 packet-plan-requires : tie.Need-packet-plan-requires
 packet-plan-requires c κs = search needs
