@@ -24,5 +24,17 @@ use Rattle.model.specs.Model.{engineWith, sends, sendsConnect, lastPacke
 use Rattle.model.specs.Cases.{comesOf, evaluated, table}
 
 pub cases : map evaluated table ≡ table
-unfolding upToZero codes allKept sizes whole units isPair first16 paired pieces16 scalars16 wellFormed16 need low high inside first8 split8 pieces8 lossy scalars8 wellFormed8 utf8 utf16 joined stepOf word steps blockOf le padded blocks outputOf digestOf leValue be beValue octets16 numbers16 requestDigest named firstByte byteOf sameOpcode isCode isSuccess isMode isParameter additional wait isAction tagsBy tags tagAt lastFrom lastValue lastBytes writeTags putTag encodingOf tagged allowed encodedAt headerAt walk readHeaders first firstFrom firstPlace bytesOf allBytes requestOf requestAt connectLimit backup noCreate packetBytes responseFrom responseOf challengeFrom challengeOf realmFrom realmPlace userIdRequired readOnly same verified challengeTags responseTags rewritten canonical isBody isSrm carriedOne carriedBy keptByGet without firstFree frameEnd framed surveyOf keepBytes storeBytes gatherOne gatherAll fill fillPacket fullChunk nextPacket bodyGiven sendBytes peerWith opened disconnectedPeer challenges answeredChallenge connectHeaders challengeHeader engineWith sends sendsConnect lastPacket lastHeaders putPacket getPacket headersPacket sendsNext clientResponse userPlace connectPacket connectSends connectAnswer passwordAnswer nonceAnswer rejection dispatch packetDone short sound bytesStep endStep takenStep badHeaders badReply replyAnswer replyStep objectStep bodyStep bodyFailedStep acknowledgeStep passwordStep nonceStep credentialsStep started startStep comesOf evaluated
+unfolding upToZero codes allKept sizes whole units isPair first16 paired pieces16 scalars16 wellFormed16 need low high inside first8
+    split8 pieces8 lossy scalars8 wellFormed8 utf8 utf16 joined stepOf word steps blockOf le padded blocks outputOf digestOf leValue
+    be beValue octets16 numbers16 requestDigest named firstByte byteOf sameOpcode isCode isSuccess isMode isParameter additional
+    wait isAction tagsBy tags tagAt lastFrom lastValue lastBytes writeTags putTag encodingOf tagged allowed encodedAt headerAt walk
+    readHeaders first firstFrom firstPlace bytesOf allBytes requestOf requestAt connectLimit backup noCreate packetBytes
+    responseFrom responseOf challengeFrom challengeOf realmFrom realmPlace userIdRequired readOnly same verified challengeTags
+    responseTags rewritten canonical isBody isSrm carriedOne carriedBy keptByGet without firstFree frameEnd framed surveyOf
+    keepBytes storeBytes gatherOne gatherAll fill fillPacket fullChunk nextPacket bodyGiven sendBytes peerWith opened
+    disconnectedPeer challenges answeredChallenge connectHeaders challengeHeader engineWith sends sendsConnect lastPacket
+    lastHeaders putPacket getPacket headersPacket sendsNext clientResponse userPlace connectPacket connectSends connectAnswer
+    passwordAnswer nonceAnswer rejection dispatch packetDone short sound bytesStep endStep takenStep badHeaders badReply replyAnswer
+    replyStep objectStep bodyStep bodyFailedStep acknowledgeStep passwordStep nonceStep credentialsStep started startStep comesOf
+    evaluated
 cases = refl
