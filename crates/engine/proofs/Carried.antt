@@ -1,4 +1,5 @@
--- How a call that the guard let go on comes to the model's step, by its plan. Plans for what the lower layers sent, carried out, are the model's steps. Assumes nothing.
+-- How a call that the guard let go on comes to the model's step by its plan, and plans for what the lower layers sent.
+-- Assumes nothing.
 use mathlib.Core.Path.{_≡_, refl, sym, ap, _∙_}
 use mathlib.Core.List.{List}
 use mathlib.Core.Bool.{Bool, true, false}

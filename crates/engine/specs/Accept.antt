@@ -1,5 +1,5 @@
--- The host's answer to a Connect by the last packet and the two stores that it touches: how the model's `connectAnswer` comes about.
--- `proofs/Accepts.antt` says that it is that.
+-- The host's answers to a Connect, a reply and then credentials, by the last packet and the stores that they touch: how the model's
+-- `connectAnswer` and `credentialsStep` come about. `proofs/Accepts.antt` says that they are these.
 use Prim.Native.Nat.{ℕ}
 use mathlib.Core.List.{List, []}
 use mathlib.Core.Bool.{Bool, _||_}
@@ -42,10 +42,11 @@ pub record Answering : Type 0 where
 abbrev pub answering : Took → List ℕ → List ℕ → Answering
 answering r h y = record { took = r; headers = h; reply = y }
 
--- the header store stays; and the other two
+-- the header store stays
 abbrev pub leaving : List ℕ → Written → Answering
 leaving h w = answering (w .took) h (w .reply)
 
+-- the packet and body store stay
 abbrev pub among : Answering → Stores → Stepped
 among a s = stepped (a .took) (stores (s .packet) (a .headers) (s .body) (a .reply))
 

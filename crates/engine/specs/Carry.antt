@@ -1,4 +1,5 @@
 -- Plans carried out: what a call gives that takes no bytes, with the reply store afterwards; and plans for what was sent.
+-- `proofs/Carried.antt` says that they come to the model's steps.
 use Prim.Native.Nat.{ℕ}
 use mathlib.Core.List.{List}
 use mathlib.Core.Bool.{Bool, false}
@@ -36,9 +37,11 @@ written r y = record { took = r; reply = y }
 abbrev pub within : Written → Stores → Stepped
 within w s = stepped (w .took) (withReply s (w .reply))
 
+-- what a call gives by its plan
 abbrev pub tookBy : Plan → Took
 tookBy p = record { engine = p .engine; taken = 0; outcome = p .outcome }
 
+-- the plan carried out: its small reply is at the front of the reply store
 abbrev pub carried : Plan → List ℕ → Written
 carried p y = written (tookBy p) (front (smallBytes (p .small)) y)
 
@@ -68,6 +71,7 @@ madePlan next.Read e srm wait k =
     asksPlan e (e .peer) (sendingOn k false srm wait) await.Body (request.Read (k .chunk .room))
 madePlan next.TooLarge e srm wait k = codePlan e (e .peer) await.Taken 0xD0
 
+-- by what is next
 unfoldable pub packetPlan : Engine → Bool → Bool → Packet → Plan
 packetPlan e srm wait k = madePlan (k .next) e srm wait k
 

@@ -1,4 +1,5 @@
--- What follows a reply that is taken, and what `bytes` gives.
+-- What follows a reply that is taken, and what `bytes` gives: how the model's `takenStep` and `bytesStep` come about. `proofs/Turns.antt`
+-- and `proofs/Arrivals.antt` say that they are these.
 use Prim.Native.Nat.{ℕ}
 use mathlib.Core.Bool.{Bool, _&&_, not}
 use lib.Dec.{eqb}
@@ -17,6 +18,7 @@ use Rattle.engine.specs.declared.arrival.Turn.the-variants.{Send, Wait, 
 abbrev pub followsTurn : Outgoing → Bool → Bool → Turn
 followsTurn o srm wait = pick (srm && not wait) (Send o srm wait) Wait
 
+-- after a reply that is not the last
 abbrev pub goesTurn : Operation → Turn
 goesTurn (Sending o c srm wait) = followsTurn o srm wait
 goesTurn Nothing = Wait
@@ -30,6 +32,7 @@ goesTurn (Draining code) = Wait
 abbrev pub turnOf : Engine → Turn
 turnOf e = pick (eqb (awaited (e .awaits)) 1) (goesTurn (e .operation)) End
 
+-- what it does
 abbrev pub turnActs : Turn → Engine → Stores → Done
 turnActs (Send o srm wait) e s = sendsNext e o srm wait s
 turnActs Wait e s = wants e (e .peer) (e .operation) s
@@ -37,6 +40,7 @@ turnActs End e s = ends e (e .peer) 5 s
 
 -- ---- what `bytes` gives
 
+-- so many bytes were taken
 abbrev pub withTaken : Took → ℕ → Took
 withTaken r t = record { engine = r .engine; taken = t; outcome = r .outcome }
 

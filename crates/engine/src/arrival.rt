@@ -50,6 +50,7 @@ use packet::packet::parse_packet;
 use packet::packet::prefix_len;
 use packet::packet::set_path_flags;
 
+// Whether the first byte names no operation.
 fn is_unknown(byte: u8) -> bool
     ensures { λ r. ⌜ r ≡ unknownByte (firstByte byte) ⌝ }
 {
@@ -158,6 +159,7 @@ fn follows(outgoing: Outgoing, srm: bool, wait: bool) -> Turn
     Turn::Wait
 }
 
+// After a reply that is not the last.
 fn goes_on(operation: Operation) -> Turn
     ensures { λ r. ⌜ r ≡ goesTurn operation ⌝ }
 {
@@ -192,6 +194,7 @@ fn goes_on(operation: Operation) -> Turn
     }
 }
 
+// By whether the reply was the last.
 fn next_turn(e: Engine) -> Turn
     ensures { λ r. ⌜ r ≡ turnOf e ⌝ }
 {
@@ -285,6 +288,7 @@ fn act(e: Engine, p: &[u8], headers: &mut [u8], body: &mut [u8], reply: &mut [u8
     }
 }
 
+// So many bytes are the last packet.
 fn whole(e: Engine, n: usize) -> Engine
     ensures { λ r. ⌜ r ≡ lengthOf e n ⌝ }
 {

@@ -60,6 +60,7 @@ pub fn took(p: Plan) -> Took
     }
 }
 
+// The small reply is written, and the rest handed back.
 pub fn carry_out(p: Plan, reply: &mut [u8]) -> Took
     requires { ⌜ 5 ≤ length (now reply) ⌝ }
     ensures { λ r. ⌜ written r (now (reply .exit)) ≡ carried p (now (reply .entry)) ⌝ }

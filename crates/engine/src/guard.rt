@@ -56,6 +56,7 @@ pub fn is_short(limit: u32, packet: usize, headers: usize, body: usize, reply: u
     body < wide(limit)
 }
 
+// What was gathered is in bounds, what is sent, and what is open.
 fn sound_gathered(limit: u32, g: Gathered) -> bool
     ensures { λ r. ⌜ r ≡ soundGathered limit g ⌝ }
 {

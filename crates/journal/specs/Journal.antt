@@ -46,6 +46,7 @@ pub data Opened : Type 0 where
   gathering : Opcode → List ℕ → Opened
   draining : Opened
 
+-- an operation is open
 abbrev pub busy : Opened → Bool
 busy nothing = false
 busy (putting c s) = true
@@ -178,6 +179,7 @@ firstRead (UserDefined x) j r =
 abbrev pub stopped : Journal → Entry
 stopped j = unchanged (end j)
 
+-- a packet that can be read, by what is open
 abbrev pub requestRead : Opened → Journal → Request → Entry
 requestRead nothing j r = firstRead (r .opcode) j r
 requestRead (putting c s) j r =
@@ -218,6 +220,7 @@ unfoldable pub readUp : List ℕ → List ℕ → Read
 readUp p [] = more p
 readUp p (x ∷ xs) = readStep (p ++ (x ∷ [])) (readUp (p ++ (x ∷ [])) xs)
 
+-- by what the bytes are
 abbrev pub bytesRead : Journal → Read → Entry
 bytesRead j (more p) = unchanged (begin j p)
 bytesRead j (whole p) = journalPacket j p
@@ -276,6 +279,7 @@ replyTo Session j r code hs = j
 replyTo Abort j r code hs = j
 replyTo (UserDefined x) j r code hs = j
 
+-- nothing changes where that could not be read
 abbrev pub replyLast : Option Request → Journal → ℕ → List ℕ → Journal
 replyLast none j code hs = j
 replyLast (some r) j code hs = replyTo (r .opcode) j r code hs
@@ -318,6 +322,7 @@ abbrev pub responseIn : Option (List ℕ) → Option Response
 responseIn none = none
 responseIn (some v) = responseOf v
 
+-- none where the packet could not be read
 abbrev pub headersOf : Option Request → List Header
 headersOf none = []
 headersOf (some r) = r .headers
@@ -354,6 +359,7 @@ abbrev pub journalFed : Journal → Call → Verdict → ℕ → Entry
 journalFed j c (refused n) b = unchanged j
 journalFed j c goes b = pick (j .ended) (unchanged j) (journalCall j c b)
 
+-- a call as it is fed
 unfoldable pub journalStep : Journal → Fed → Entry
 journalStep j f = journalFed j (f .call) (f .verdict) (f .reply)
 
@@ -373,6 +379,7 @@ readIn j (more p) = []
 readIn j (whole p) = record { before = j; bytes = p } ∷ []
 readIn j short = []
 
+-- by the call
 abbrev pub callReads : Journal → Call → List Marked
 callReads j (bytesOffered i) = readIn j (readUp (j .begun) i)
 callReads j streamEnded = []

@@ -51,12 +51,14 @@ pub data Comes : Type 0 where
   scalars : List ℕ → Comes
   session : List (List ℕ) → List Carried → Comes
 
+-- what the definitions make of it
 unfoldable pub comesOf : Given → Comes
 comesOf (byte b) = operation (firstByte b)
 comesOf (counter ids c) = id (newId ids c)
 comesOf (text s) = scalars (scalars16 s)
 comesOf (calls limit cs) = session (replies (freshState limit) cs) (records (freshState limit) cs)
 
+-- a row of the table
 pub record Row : Type 0 where
   pub given : Given
   pub comes : Comes
@@ -64,12 +66,14 @@ pub record Row : Type 0 where
 abbrev pub row : Given → Comes → Row
 row g c = record { given = g; comes = c }
 
+-- with what the definitions make of what it is given
 unfoldable pub evaluated : Row → Row
 evaluated r = row (r .given) (comesOf (r .given))
 
 abbrev pub putBody : List ℕ → Carried
 putBody b = record { headers = []; body = some b }
 
+-- the cases
 abbrev pub table : List Row
 table =
     -- P1, P2

@@ -38,6 +38,7 @@ pub record Upholds (st : Settings) (s : State) (cs : List Call) (vs : List Verdi
   pub forms : Kept (packets (fresh (settingsOf st)) (feedOf bytes s cs))
       → Exactly (st .«max_object_size») (packets (fresh (settingsOf st)) (feedOf bytes s cs)) ls
 
+-- for every list of calls from an accepted start, of which only the contracts are known
 abbrev pub ContractsUphold : Type 0
 ContractsUphold =
     (st : Settings) (s t : Stores) (r : Took) (cs : List Call) (vs : List Verdict) (ls : List Carried) → Accepted st s r t → AllOctets cs

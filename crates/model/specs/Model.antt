@@ -130,6 +130,7 @@ abbrev pub sent : Engine → Peer → Option (List ℕ) → Stores → Done
 sent e p none s = ends e p 7 s
 sent e p (some q) s = replies e p Nothing await.Taken q s
 
+-- without fields, and with Connect's
 unfoldable pub sends : Engine → Peer → ℕ → List ℕ → Stores → Done
 sends e p code hs s = sent e p (sendBytes (p .«remote_max_packet_length») code [] hs) s
 
@@ -190,6 +191,7 @@ abbrev pub getContinues : Engine → Gathered → Bool → Bool → Bool → Sto
 getContinues e g true confirm wait s = wants e (e .peer) (Getting g true confirm wait) s
 getContinues e g false confirm wait s = continues e (Getting g confirm false wait) confirm s
 
+-- number 6 comes first
 abbrev pub getGathered : Engine → Packet → Survey → Bool → Bool → Gathering → Stores → Done
 getGathered e r v srm confirm g s =
     pick (g .got .full) (ends e (e .peer) 6 (withGathered s g))
@@ -243,6 +245,7 @@ sendsMade e srm wait next.TooLarge m s = repliesCode e (e .peer) Nothing 0x50 (w
 abbrev pub sendsPacket : Engine → Bool → Bool → Made → Stores → Done
 sendsPacket e srm wait m s = sendsMade e srm wait (m .packet .next) m s
 
+-- the next packet of an object
 unfoldable pub sendsNext : Engine → Outgoing → Bool → Bool → Stores → Done
 sendsNext e o srm wait s = sendsPacket e srm wait (nextPacket (capacityOf e) o (s .headers) (s .reply)) s
 
@@ -300,6 +303,7 @@ abbrev pub realmIn : List ℕ → Found → Found
 realmIn q place.Missing = place.Missing
 realmIn q (place.At a b) = placedAt a (realmPlace (part q a b))
 
+-- what the host is told of the peer's challenge
 abbrev pub credentialsFor : List ℕ → PeerChallenge → Request
 credentialsFor q c =
     request.Credentials (numbers16 (c .nonce)) (userIdRequired (c .options)) (readOnly (c .options)) (realmIn q (firstPlace 0x4D q 7))
@@ -331,6 +335,7 @@ checks (Stored n) none p = false
 checks (Stored n) (some r) none = false
 checks (Stored n) (some r) (some p) = verified (octets16 n) r p
 
+-- the host's answer to the request for a password
 unfoldable pub passwordAnswer : Engine → Option (List ℕ) → Stores → Done
 passwordAnswer e p s =
     pick (checks (e .peer .challenge) (clientResponse e s) p)
@@ -370,6 +375,7 @@ rejection e o v =
 abbrev pub drains : Opcode → Bool
 drains o = sameOpcode o op.Put || sameOpcode o op.Get
 
+-- the reply to a packet that is turned away
 abbrev pub rejected : Engine → Packet → ℕ → Stores → Done
 rejected e r code s =
     pick (e .peer .«srm_enabled» && (drains (r .opcode) && not (r .final))) (wants e (e .peer) (Draining code) s)
@@ -407,6 +413,7 @@ dispatch e r v s =
 abbrev pub interrupts : Engine → Stores → Done
 interrupts e s = replies e (e .peer) Nothing await.Last (packetBytes (sentCode 0x40) [] []) s
 
+-- by what is open
 abbrev pub inside : Operation → Engine → Packet → Survey → Stores → Done
 inside Nothing e r v s = dispatch e r v s
 inside (Putting g srm) e r v s = pick (sameOpcode (r .opcode) op.Put) (putPacket e r v srm false g s) (interrupts e s)
@@ -422,6 +429,7 @@ abbrev pub unknownByte : FirstByte → Bool
 unknownByte Unknown = true
 unknownByte (Known o f) = false
 
+-- an operation is open
 abbrev pub busy : Operation → Bool
 busy Nothing = false
 busy (Putting g srm) = true
@@ -490,6 +498,7 @@ soundOperation limit (GatheringOp o g) = soundGathered limit g
 soundOperation limit (Connecting code f n) = leb n 65535
 soundOperation limit (Draining code) = true
 
+-- of the whole state
 unfoldable pub sound : Engine → Bool
 sound e =
     ltb (e .begun) 65535 && (leb (e .length) 65535 && (leb (e .peer .count) 64 && (leb 255 (e .peer .«remote_max_packet_length»)
@@ -529,9 +538,11 @@ framedAs Whole e b t s = after t (packetDone e b s)
 abbrev pub withPacket : Stores → List ℕ → Stores
 withPacket s p = stores p (s .headers) (s .body) (s .reply)
 
+-- bytes that were read into the packet store
 abbrev pub offers : Engine → Frames → Stores → Stepped
 offers e f s = framedAs (f .result .frame) e (f .result .begun) (f .result .taken) (withPacket s (f .packet))
 
+-- bytes from the peer
 unfoldable pub bytesStep : Engine → List ℕ → Stores → Stepped
 bytesStep e i s = guarded 0 0 e s (offers e (framed (s .packet) (e .begun) 0 i) s)
 
@@ -549,6 +560,7 @@ goesOn (GatheringOp o g) e s = wants e (e .peer) (e .operation) s
 goesOn (Connecting code f n) e s = wants e (e .peer) (e .operation) s
 goesOn (Draining code) e s = wants e (e .peer) (e .operation) s
 
+-- the host took the reply; number 5 after the last one
 unfoldable pub takenStep : Engine → Stores → Stepped
 takenStep e s =
     guarded 1 2 e s (after 0 (pick (eqb (awaited (e .awaits)) 1) (goesOn (e .operation) e s) (ends e (e .peer) 5 s)))
@@ -573,6 +585,7 @@ replyAnswer e code hs s =
     (pick (eqb (awaited (e .awaits)) 4) (sends e (disconnectedPeer (e .peer) (first 0xCB (lastHeaders e s))) code hs s)
     (sends e (e .peer) code hs s))
 
+-- the host's reply
 unfoldable pub replyStep : Engine → ℕ → List ℕ → Stores → Stepped
 replyStep e code hs s = guarded 3 6 e s (checked (badReply code hs) e s (replyAnswer e code hs s))
 
@@ -591,6 +604,7 @@ objectFor (GatheringOp o g) e hs has s = refuse 9 e s
 objectFor (Connecting code f n) e hs has s = refuse 9 e s
 objectFor (Draining code) e hs has s = refuse 9 e s
 
+-- the host's object
 unfoldable pub objectStep : Engine → List ℕ → Bool → Stores → Stepped
 objectStep e hs has s = guarded 5 5 e s (objectFor (e .operation) e hs has s)
 
@@ -605,9 +619,11 @@ bodyFor (GatheringOp o g) e d s = refuse 9 e s
 bodyFor (Connecting code f n) e d s = refuse 9 e s
 bodyFor (Draining code) e d s = refuse 9 e s
 
+-- bytes of its body
 unfoldable pub bodyStep : Engine → List ℕ → Stores → Stepped
 bodyStep e d s = guarded 11 11 e s (bodyFor (e .operation) e d s)
 
+-- its body cannot be read on
 unfoldable pub bodyFailedStep : Engine → Stores → Stepped
 bodyFailedStep e s = guarded 11 11 e s (after 0 (repliesCode e (e .peer) Nothing 0x50 s))
 
@@ -615,9 +631,11 @@ bodyFailedStep e s = guarded 11 11 e s (after 0 (repliesCode e (e .peer) Nothing
 unfoldable pub acknowledgeStep : Engine → Stores → Stepped
 acknowledgeStep e s = guarded 7 7 e s (after 0 (repliesCode e (e .peer) Nothing 0x20 s))
 
+-- the host's password, or none
 unfoldable pub passwordStep : Engine → Option (List ℕ) → Stores → Stepped
 passwordStep e p s = guarded 8 8 e s (after 0 (passwordAnswer e p s))
 
+-- the host's nonce, and the realm's bytes
 unfoldable pub nonceStep : Engine → Octets16 → List ℕ → Stores → Stepped
 nonceStep e n l s = guarded 9 9 e s (after 0 (nonceAnswer e n l s))
 
@@ -630,6 +648,7 @@ abbrev pub longUser : Option Credentials → Bool
 longUser none = false
 longUser (some c) = longId (c .user)
 
+-- for the Connect that waits
 abbrev pub credentialsWith : Operation → Engine → Option Credentials → Stores → Stepped
 credentialsWith (Connecting code f n) e c s =
     checked (longUser c) e s (connectSends e (e .peer) code f (listOf (readHeaders (take n (s .headers)) 0)) c s)
@@ -640,6 +659,7 @@ credentialsWith (Sending o k srm wait) e c s = refuse 9 e s
 credentialsWith (GatheringOp o g) e c s = refuse 9 e s
 credentialsWith (Draining code) e c s = refuse 9 e s
 
+-- the host's credentials, or none
 unfoldable pub credentialsStep : Engine → Option Credentials → Stores → Stepped
 credentialsStep e c s = guarded 10 10 e s (credentialsWith (e .operation) e c s)
 

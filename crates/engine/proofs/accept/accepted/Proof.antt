@@ -1,4 +1,5 @@
--- `engine::accept::accepted` meets its contract: the two ways are those of the definition, by the challenge that is answered. Assumes nothing.
+-- `engine::accept::accepted` meets its contract: the two ways are those of the definition, by the challenge that is answered.
+-- Assumes nothing.
 use mathlib.Core.Path.{_∙_}
 use native.Mathlib.Omega.{arith}
 use Rattle.engine.proofs.Objects.{store-front}

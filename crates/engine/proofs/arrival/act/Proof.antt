@@ -1,4 +1,5 @@
--- `engine::arrival::act` meets its contract: each way has its plan, and what is known on it meets what the plan requires (proofs/Ready.antt). Assumes nothing.
+-- `engine::arrival::act` meets its contract: each way has its plan, whose needs are known on that way (proofs/Ready.antt).
+-- Assumes nothing.
 use mathlib.Core.Path.{_∙_, sym, ap}
 use native.Mathlib.Omega.{arith}
 use Rattle.model.specs.Model.{stores}

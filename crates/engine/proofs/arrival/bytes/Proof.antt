@@ -1,4 +1,5 @@
--- `engine::arrival::bytes` meets its contract. The guard refuses as the model does, and each end of the frame is the model's (proofs/Arrivals.antt). Assumes nothing.
+-- `engine::arrival::bytes` meets its contract: the guard and each end of the frame are the model's (proofs/Arrivals.antt).
+-- Assumes nothing.
 use borrow.Author.Needs.{needs}
 use native.Mathlib.Omega.{arith}
 use mathlib.Core.Path.{_≡_, ap}

@@ -1,4 +1,5 @@
--- `engine::arrival::reply_taken` meets its contract. The guard refuses as the model does, and the plan is the model's step. Assumes nothing.
+-- `engine::arrival::reply_taken` meets its contract. The guard refuses as the model does, and the plan is the model's step.
+-- Assumes nothing.
 use borrow.Author.Needs.{needs}
 use native.Mathlib.Omega.{arith}
 use Rattle.model.specs.Model.{Stores, stores, takenStep}

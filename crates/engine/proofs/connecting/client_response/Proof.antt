@@ -1,4 +1,5 @@
--- `engine::connecting::client_response` meets its contract: the first response's place holds the value that the definition reads. Assumes nothing.
+-- `engine::connecting::client_response` meets its contract: the first response's place holds the value that the definition reads.
+-- Assumes nothing.
 use mathlib.Core.Path.{_∙_, sym}
 use native.Mathlib.Omega.{arith}
 use Rattle.packet.proofs.HeaderLaws.{FoundIn, first-found}

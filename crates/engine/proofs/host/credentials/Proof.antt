@@ -1,4 +1,4 @@
--- `engine::host::credentials` meets its contract: the guard refuses as the model does, and what `credentials_given` does is the model's step.
+-- `engine::host::credentials` meets its contract: the guard and what `credentials_given` does are the model's.
 -- Assumes nothing.
 use Rattle.model.specs.Model.{Stores, stores, credentialsStep}
 use Rattle.engine.proofs.Guards.{Goes, going}

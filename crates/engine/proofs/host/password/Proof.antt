@@ -1,4 +1,4 @@
--- `engine::host::password` meets its contract. The guard refuses as the model does, and the plan is by the check of the last packet's response.
+-- `engine::host::password` meets its contract: the guard is the model's, and so is the check of the last packet's response.
 use borrow.Author.Needs.{needs}
 use Rattle.model.specs.Model.{Stores, stores, passwordStep}
 use Rattle.engine.proofs.Guards.{Goes, going}

@@ -1,4 +1,5 @@
--- `engine::host::reply` meets its contract: the guard refuses as the model does; then the ways of the code are those of `replyAnswer`. Assumes nothing.
+-- `engine::host::reply` meets its contract: the guard refuses as the model does; then the ways of the code are those of `replyAnswer`.
+-- Assumes nothing.
 use Rattle.model.specs.Model.{Stores, stores, replyStep}
 use Rattle.engine.proofs.Guards.{Goes, going}
 use Rattle.engine.proofs.Carried.{refused-call}
