@@ -1,18 +1,17 @@
 -- Replies, and the host's answer to a Connect: what the code does by the last packet and two stores is the model's step. Assumes nothing.
 use mathlib.Core.Path.{_≡_, refl, sym, ap, ap₂, _∙_}
 use mathlib.Core.List.{List, [], _∷_}
-use mathlib.Core.Bool.{Bool, true, false, _&&_, _||_, not}
+use mathlib.Core.Bool.{Bool, true, false, _&&_, _||_}
 use mathlib.Core.Option.{Option, none, some}
 use Prim.Native.Nat.{ℕ, _≤_}
 use denote.Enum.Declared.{tagOf}
 use types.Run.{OneOf, miss}
 use Rattle.digest.specs.declared.md5.Octets16.{Octets16}
 use borrow.Author.Tests.{eq-eqb, ne-eqb, leb-true}
-use native.Mathlib.Omega.{arith}
-use lib.ListN.{length, take, length-take}
+use lib.ListN.{length, take}
 use lib.Dec.{eqb, ltb}
 use Rattle.base.specs.Pick.{pick}
-use Rattle.packet.specs.Codes.{isCode, isSuccess}
+use Rattle.packet.specs.Codes.{isSuccess}
 use Rattle.packet.specs.Header.{Header, readHeaders, first, firstPlace, allBytes}
 use Rattle.packet.specs.Auth.{Challenge as PeerChallenge}
 use Rattle.packet.specs.AuthRead.{challengeRead}
@@ -30,12 +29,13 @@ use Rattle.connection.specs.declared.peer.Peer.{Peer}
 use Rattle.connection.specs.declared.peer.ConnectionId.{ConnectionId}
 use Rattle.connection.specs.declared.peer.Answer.{Answer}
 use Rattle.connection.proofs.ByNumbers.{opened-by, disconnected-by}
-use Rattle.model.specs.Model.{Stores, Stepped, stepped, Done, after, refuse, badHeaders, badReply, replyStep, longUser, credentialsWith, soundOperation, lastPacket, lastHeaders, srmAsked, sends, sendsConnect, connectSends, frontFor, listOf, realmIn, connectChallenged, connectOpened, connectAnswer, replyAnswer, awaited}
+use Rattle.journal.specs.Journal.{listOf}
+use Rattle.model.specs.Model.{Stores, Stepped, stepped, Done, after, badReply, replyStep, longUser, checked, credentialsWith, credentialsStep, soundOperation, lastPacket, lastHeaders, srmAsked, sends, sendsConnect, connectSends, frontFor, realmIn, connectChallenged, connectOpened, connectAnswer, replyAnswer, awaited}
 use Rattle.engine.specs.Plan.{asksPlan}
 use Rattle.engine.specs.Guard.{refusal}
 use Rattle.engine.specs.Carry.{Written, written, within, tookBy, sentPlan, repliesBy}
 use Rattle.engine.specs.Last.{lastFrom}
-use Rattle.engine.specs.Accept.{Answering, answering, among, leaving, headersOf, srmAskedBy, connectReplies, acceptedHeaders, answerFor, challengedBy, openedBy, acceptedBy, repliedPeer}
+use Rattle.engine.specs.Accept.{Answering, answering, among, leaving, headersOf, srmAskedBy, connectReplies, acceptedHeaders, answerFor, challengedBy, openedBy, acceptedBy, repliedPeer, credentialsBy}
 use Rattle.model.specs.declared.server.Operation.{Operation}
 use Rattle.model.specs.declared.server.Operation.the-variants.{Nothing, Putting, Getting, Sending, Gathering as GatheringOp, Connecting, Draining}
 use Rattle.model.specs.declared.server.Await.the-variants as await
@@ -45,8 +45,8 @@ use Rattle.model.specs.declared.server.Took.{Took}
 use Rattle.engine.specs.declared.plan.Plan.{Plan}
 use Rattle.engine.proofs.Carried.{took-sent, sent-written}
 use Rattle.model.proofs.server.Operation.{the-type}
-use Rattle.engine.proofs.Guards.{Goes, or-false}
-use Rattle.engine.proofs.Objects.{good-length}
+use Rattle.model.proofs.FromHost.{reply-headers-fit}
+use Rattle.engine.proofs.Guards.{Goes}
 use Rattle.engine.proofs.LastPacket.{last-headers}
 
 -- ---- the id in front
@@ -227,31 +227,47 @@ module _ (e : Engine) (s : Stores) where
             ∙ ap (λ (p : Peer). after 0 (sends e p code hs s)) i
             ∙ ap (λ (d : Done). after 0 d) (to-another (λ (z : awaited (e .awaits) ≡ 3). k (now ∙ z))))
 
--- bytes at the front of a store that is long
-pub record Prefix (n : ℕ) (s : List ℕ) : Type 0 where
-  pub inside : n ≤ length s
-  pub count : n ≡ length (take n s)
-  pub short : length (take n s) ≤ 65535
-
-pub prefix-in : (n : ℕ) (s : List ℕ) → n ≤ 65535 → 65535 ≤ length s → Prefix n s
-prefix-in n s h k = let l = length-take n s in record { inside = omega arith; count = omega arith; short = omega arith }
-
 -- good header bytes are not too long
 pub good-reply : (code : ℕ) (hs : List ℕ) (t : Bool) → t ≡ badReply code hs → t ≡ false → length hs ≤ 65535
-unfolding badReply
-good-reply code hs t h k = good-length hs _ refl (or-false (not (isCode code)) (badHeaders hs) (sym h ∙ k) .1)
+good-reply code hs t h k = reply-headers-fit code hs (sym h ∙ k)
 
 -- ---- a call for credentials
 
 -- no Connect waits for them
-pub credentials-other : (o : Operation) (e : Engine) (c : Option Credentials) (s : Stores) → OneOf (0 ∷ 1 ∷ 2 ∷ 3 ∷ 4 ∷ 6 ∷ []) (tagOf the-type o) → refuse 9 e s ≡ credentialsWith o e c s
-credentials-other Nothing e c s k = refl
-credentials-other (Putting g srm) e c s k = refl
-credentials-other (Getting g srm confirm wait) e c s k = refl
-credentials-other (Sending o x srm wait) e c s k = refl
-credentials-other (GatheringOp o g) e c s k = refl
-credentials-other (Draining code) e c s k = refl
-credentials-other (Connecting code f n) e c s k = absurd (miss (0 ∷ 1 ∷ 2 ∷ 3 ∷ 4 ∷ 6 ∷ []) 5 tt k)
+pub credentials-other : (o : Operation) (e : Engine) (c : Option Credentials) (q h y : List ℕ) → OneOf (0 ∷ 1 ∷ 2 ∷ 3 ∷ 4 ∷ 6 ∷ []) (tagOf the-type o)
+    → written (refusal 9 e) y ≡ credentialsBy o e c q h y
+credentials-other Nothing e c q h y k = refl
+credentials-other (Putting g srm) e c q h y k = refl
+credentials-other (Getting g srm confirm wait) e c q h y k = refl
+credentials-other (Sending o x srm wait) e c q h y k = refl
+credentials-other (GatheringOp o g) e c q h y k = refl
+credentials-other (Draining code) e c q h y k = refl
+credentials-other (Connecting code f n) e c q h y k = absurd (miss (0 ∷ 1 ∷ 2 ∷ 3 ∷ 4 ∷ 6 ∷ []) 5 tt k)
+
+-- what the call gives by the last packet and two stores is the model's
+module _ (e : Engine) (c : Option Credentials) (s : Stores) where
+  credentials-is : (o : Operation) → within (credentialsBy o e c (lastPacket e s) (s .headers) (s .reply)) s ≡ credentialsWith o e c s
+  credentials-is Nothing = refl
+  credentials-is (Putting g srm) = refl
+  credentials-is (Getting g srm confirm wait) = refl
+  credentials-is (Sending o x srm wait) = refl
+  credentials-is (GatheringOp o g) = refl
+  credentials-is (Draining code) = refl
+  credentials-is (Connecting code f n) = go (longUser c)
+    where
+      hs : List ℕ
+      hs = take n (s .headers)
+
+      go : (t : Bool)
+          → within (pick t (written (refusal 8 e) (s .reply)) (connectReplies e (e .peer) code (acceptedHeaders e f (lastPacket e s) hs c) (s .reply))) s
+          ≡ checked t e s (connectSends e (e .peer) code f (listOf (readHeaders hs 0)) c s)
+      go true = refl
+      go false = accepted-replies e s (e .peer) code f hs c
+
+  pub credentials-call : Goes 10 10 e s → (w : Written) → w ≡ credentialsBy (e .operation) e c (take (e .length) (s .packet)) (s .headers) (s .reply)
+      → within w s ≡ credentialsStep e c s
+  unfolding credentialsStep lastPacket
+  credentials-call g w h = ap (λ (w : Written). within w s) h ∙ credentials-is (e .operation) ∙ sym (g .whole _)
 
 -- a user id counts where there are credentials; m says whether it does
 module _ (has named m : Bool) (is : m ≡ has && named) (user password : List ℕ) where
@@ -280,18 +296,16 @@ module _ (has named m : Bool) (is : m ≡ has && named) (user password : List �
       go true z = z
       go false z = refl
 
-  module _ (o : Operation) (code : ℕ) (f : ConnectionId) (n : ℕ) (waits : o ≡ Connecting code f n) (e : Engine) (s : Stores) (t : Bool) (long : t ≡ (m && ltb 255 (length user))) where
-    pub credentials-long : t ≡ true → (r : Took) → r ≡ refusal 8 e → stepped r s ≡ credentialsWith o e told s
-    credentials-long k r h = ap (λ (r : Took). stepped r s) h ∙ sym (simp (waits, sym long-is ∙ sym long ∙ k))
+  module _ (o : Operation) (code : ℕ) (f : ConnectionId) (n : ℕ) (waits : o ≡ Connecting code f n) (e : Engine) (q h y : List ℕ) (t : Bool) (long : t ≡ (m && ltb 255 (length user))) where
+    pub credentials-long : t ≡ true → (r : Took) → r ≡ refusal 8 e → written r y ≡ credentialsBy o e told q h y
+    credentials-long k r i = ap (λ (r : Took). written r y) i ∙ sym (simp (waits, sym long-is ∙ sym long ∙ k))
 
     pub credentials-go : t ≡ false → (w : Written)
-        → w ≡ connectReplies e (e .peer) code (acceptedHeaders e f (take (e .length) (s .packet)) (take n (s .headers)) (credentialsOf has (given m user) password)) (s .reply)
-        → within w s ≡ credentialsWith o e told s
-    unfolding lastPacket
-    credentials-go k w h =
-        ap (λ (w : Written). within w s) h
-        ∙ accepted-replies e s (e .peer) code f (take n (s .headers)) (credentialsOf has (given m user) password)
-        ∙ ap (λ (c : Option Credentials). after 0 (connectSends e (e .peer) code f (listOf (readHeaders (take n (s .headers)) 0)) c s)) told-is
+        → w ≡ connectReplies e (e .peer) code (acceptedHeaders e f q (take n h) (credentialsOf has (given m user) password)) y
+        → w ≡ credentialsBy o e told q h y
+    credentials-go k w i =
+        i
+        ∙ ap (λ (c : Option Credentials). connectReplies e (e .peer) code (acceptedHeaders e f q (take n h) c) y) told-is
         ∙ sym (simp (waits, sym long-is ∙ sym long ∙ k))
 
 -- the headers that wait are in the header store

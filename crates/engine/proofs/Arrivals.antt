@@ -19,7 +19,8 @@ use Rattle.incoming.specs.declared.io.Framed.{Framed}
 use Rattle.incoming.specs.Gather.{Gathering, gathering, gatherAll, headersOf}
 use Rattle.incoming.specs.declared.gather.Gathered.{Gathered}
 use Rattle.incoming.specs.declared.gather.Keep.{Keep}
-use Rattle.model.specs.Model.{Stores, stores, Done, Stepped, stepped, ends, after, lengthOf, packetDone, framedAs, withPacket, offers, bytesStep, limitOf, headersIn, gathers, unknownByte, soundOperation}
+use Rattle.journal.specs.Journal.{headersOf as headersIn}
+use Rattle.model.specs.Model.{Stores, stores, Done, Stepped, stepped, ends, after, lengthOf, packetDone, framedAs, withPacket, offers, bytesStep, limitOf, gathers, unknownByte, soundOperation}
 use Rattle.engine.specs.Plan.{planned, endsPlan}
 use Rattle.engine.specs.Carry.{Written, carried, tookBy}
 use Rattle.engine.specs.Route.{unreadableRoute, headingRoute, routeAs, packetRoute, keepOf, fromOf, kindPlan, actsGathered, acts}

@@ -1,13 +1,16 @@
--- How a call that the guard let go on comes to the model's step, by its plan. Plans for what the lower layers sent, carried out, are the model's steps. Assumes nothing.
+-- How a call that the guard let go on comes to the model's step by its plan, and plans for what the lower layers sent.
+-- Assumes nothing.
 use mathlib.Core.Path.{_≡_, refl, sym, ap, _∙_}
 use mathlib.Core.List.{List}
 use mathlib.Core.Bool.{Bool, true, false}
 use mathlib.Core.Option.{Option, none, some}
-use Prim.Native.Nat.{ℕ}
+use Prim.Native.Nat.{ℕ, _-_}
 use Rattle.packet.specs.Packet.{packetBytes}
 use Rattle.connection.specs.Send.{Sending as Sent, sendBytes, sentInto, front}
 use Rattle.connection.specs.declared.peer.Peer.{Peer}
-use Rattle.outgoing.specs.Outgoing.{Made}
+use Rattle.outgoing.specs.Outgoing.{Made, made, nextPacket}
+use Rattle.outgoing.specs.declared.body.Outgoing.{Outgoing}
+use Rattle.outgoing.specs.declared.body.Packet.{Packet}
 use Rattle.outgoing.specs.declared.body.Next.{Next}
 use Rattle.outgoing.specs.declared.body.Next.the-variants as next
 use Rattle.model.specs.declared.server.Took.{Took}
@@ -15,19 +18,12 @@ use Rattle.engine.specs.declared.plan.Plan.{Plan}
 use Rattle.engine.proofs.Guards.{Goes, refusedIn, turned}
 use Rattle.engine.proofs.Plans.{Carries}
 use Rattle.engine.specs.Guard.{refusal}
-use Rattle.model.specs.Model.{Stepped, stepped, after, guarded, Stores, Done, withReply, sent, sendsMade, sendsPacket}
+use Rattle.model.specs.Model.{Stepped, stepped, after, guarded, Stores, Done, withReply, capacityOf, sent, sendsMade, sendsPacket}
 use Rattle.engine.specs.declared.plan.Small.{Small}
 use Rattle.engine.specs.declared.plan.Small.the-variants.{Silent}
 use Rattle.engine.specs.Plan.{smallBytes, planned, endsPlan, codePlan, asksPlan}
-use Rattle.engine.specs.Carry.{Written, written, within, carried, tookBy, sentPlan, sentBy, repliesBy, madePlan, packetPlan}
+use Rattle.engine.specs.Carry.{Written, written, within, carried, tookBy, sentPlan, sentBy, repliesBy, madePlan, packetPlan, planMade, objectPlan}
 use Rattle.model.specs.declared.server.Engine.{Engine}
-
--- a reply that was sent, by what sending gave
-pub sent-carried : (e : Engine) (p : Peer) (q : Option (List ℕ)) (z : Sent) (s : Stores) → z ≡ sentInto q (s .reply)
-    → planned (sentPlan e p (z .answer)) (withReply s (z .reply)) ≡ sent e p q s
-unfolding sentPlan endsPlan
-sent-carried e p none z s h = simp h
-sent-carried e p (some q) z s h = simp h
 
 -- a packet of an object
 pub made-carried : (e : Engine) (srm wait : Bool) (n : Next) (m : Made) (s : Stores)
@@ -42,6 +38,14 @@ pub packet-carried : (e : Engine) (srm wait : Bool) (m : Made) (s : Stores)
     → planned (packetPlan e srm wait (m .packet)) (withReply s (m .reply)) ≡ sendsPacket e srm wait m s
 unfolding packetPlan
 packet-carried e srm wait m s = made-carried e srm wait (m .packet .next) m s
+
+-- a packet of an object, by what `next_packet` gives
+pub object-made : (e : Engine) (srm wait : Bool) (o : Outgoing) (h y z : List ℕ) (k : Packet) (p : Plan) (n : ℕ)
+    → made k z ≡ nextPacket (n - 3) o h y → n ≡ e .peer .«remote_max_packet_length» → p ≡ packetPlan e srm wait k
+    → planMade p z ≡ objectPlan e srm wait (nextPacket (capacityOf e) o h y)
+object-made e srm wait o h y z k p n w r q =
+    ap (λ (x : Plan). planMade x z) q ∙ ap (λ (x : Made). objectPlan e srm wait x) w
+    ∙ ap (λ (i : ℕ). objectPlan e srm wait (nextPacket (i - 3) o h y)) r
 
 -- ---- Calls
 

@@ -18,7 +18,8 @@ use Rattle.packet.specs.declared.tlv.Found.the-variants as place
 use Rattle.packet.proofs.HeaderLaws.{first-agrees}
 use Rattle.packet.proofs.AuthLaws.{within}
 use Rattle.packet.proofs.TagWrites.{Within}
-use Rattle.model.specs.Model.{headersIn, responseIn, userIn, placedAt}
+use Rattle.journal.specs.Journal.{headersOf as headersIn, responseIn}
+use Rattle.model.specs.Model.{userIn, placedAt}
 use Rattle.engine.specs.Route.{answeredAs, answeredBy, Below}
 use Rattle.engine.specs.declared.connecting.Answered.the-variants.{Missing, User}
 

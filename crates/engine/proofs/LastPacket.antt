@@ -28,7 +28,7 @@ use Rattle.packet.specs.declared.tlv.Found.the-variants as place
 use Rattle.packet.proofs.HeaderBytes.{Octets}
 use Rattle.packet.proofs.HeaderLaws.{by-cursor, first-found}
 use Rattle.packet.proofs.TextForms.{octets-take}
-use Rattle.journal.specs.Journal.{listOf as journalList}
+use Rattle.journal.specs.Journal.{listOf, headersOf as headersIn, responseIn}
 use Rattle.incoming.specs.Survey.{idOf, present, surveyOf}
 use Rattle.incoming.specs.declared.survey.Survey.{Survey}
 use Rattle.connection.specs.Peer.{idIn, isGiven}
@@ -38,7 +38,7 @@ use Rattle.connection.specs.declared.peer.Challenge.{Challenge}
 use Rattle.connection.specs.declared.peer.Challenge.the-variants.{Stored, Absent}
 use Rattle.connection.proofs.Challenges.{first-in-bytes}
 use Rattle.connection.proofs.ByNumbers.{checkBy, check-by}
-use Rattle.model.specs.Model.{Stores, stepped, after, guarded, passwordAnswer, clientResponse, lastHeaders, lastPacket, headersIn, responseIn, checks}
+use Rattle.model.specs.Model.{Stores, stepped, after, guarded, passwordAnswer, clientResponse, lastHeaders, lastPacket, checks}
 use Rattle.engine.specs.Plan.{asksPlan}
 use Rattle.engine.specs.Carry.{tookBy, passwordPlan}
 use Rattle.model.specs.declared.server.Engine.{Engine}
@@ -76,7 +76,7 @@ last-read q = go (firstByte (getD q 0 0))
     go (Known o f) = by o f (ltb (length q) (prefixOf o)) (readHeaders q (prefixOf o)) refl
 
 pub last-headers : (q : List ℕ) → headersFrom q (lastFrom q) ≡ headersIn (requestOf q)
-last-headers q = ap (λ (r : Option (List Header)). journalList r) (last-read q)
+last-headers q = ap (λ (r : Option (List Header)). listOf r) (last-read q)
 
 -- the place of the first header of an id
 pub first-bounds : (id : ℕ) (q : List ℕ) (from a b : ℕ) → firstIn id q from ≡ place.At a b → (a ≤ b) × (b ≤ length q)
@@ -94,7 +94,7 @@ first-value id q f e =
 -- ---- what else is asked of headers
 
 -- the first ConnectionID, by the survey
-pub id-given : (r : Option (List Header)) (v : Survey) → v ≡ surveyOf r → v .«has_id» ≡ true → connection-id.Id (v .id) ≡ idIn (first 0xCB (journalList r))
+pub id-given : (r : Option (List Header)) (v : Survey) → v ≡ surveyOf r → v .«has_id» ≡ true → connection-id.Id (v .id) ≡ idIn (first 0xCB (listOf r))
 unfolding surveyOf
 id-given none v e h = absurd (let z : _≡_ {A = ℕ} 0 1 = cc in omega arith)
 id-given (some hs) v e h = rw e (go (first 0xCB hs) (rw e at h))
@@ -103,7 +103,7 @@ id-given (some hs) v e h = rw e (go (first 0xCB hs) (rw e at h))
     go none k = absurd (let z : _≡_ {A = ℕ} 0 1 = cc in omega arith)
     go (some x) k = refl
 
-pub id-missing : (r : Option (List Header)) (v : Survey) → v ≡ surveyOf r → v .«has_id» ≡ false → connection-id.Missing ≡ idIn (first 0xCB (journalList r))
+pub id-missing : (r : Option (List Header)) (v : Survey) → v ≡ surveyOf r → v .«has_id» ≡ false → connection-id.Missing ≡ idIn (first 0xCB (listOf r))
 unfolding surveyOf first
 id-missing none v e h = refl
 id-missing (some hs) v e h = go (first 0xCB hs) (rw e at h)

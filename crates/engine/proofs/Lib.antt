@@ -1,8 +1,7 @@
--- Theorems over the definitions of specs/. `Cases`: the table. The rest proves demand 3 (`Demand3`): what holds of the engine
--- alone (`Fit`, `Steps`), how it stands to the journal (`Coupling`), packets (`Gathers`, `Dispatch`, `Packets`) and the host's answers
--- (`Answers`), and the calls (`Moments`, `FromPeer`, `FromHost`). What the code's proofs cite: its guard (`Guards`), plans (`Plans`, `Carried`), the
--- outgoing object and challenges (`Objects`, `Challenged`), the packet read again (`LastPacket`), a packet's way (`Routes`, `Arrivals`, `Connects`, `Ready`), what follows a
--- reply (`Turns`), and the host's replies and credentials (`Accepts`).
+-- What the proofs of the engine's functions cite: the guard (`Guards`), plans and how they are carried out (`Plans`, `Carried`), the
+-- outgoing object and the start (`Objects`), challenges (`Challenged`), the last packet read again (`LastPacket`), a packet's way
+-- (`Routes`, `Ready`, `Arrivals`, `Connects`), what follows a reply (`Turns`), the host's replies and credentials (`Accepts`). `Tied`
+-- states the contracts as the model's steps, for the theorem of crates/model.
 pub mod Guards
 pub mod Plans
 pub mod Carried

@@ -1,26 +1,25 @@
 -- The start, and an object that is sent: how each way of the code is the model's. Assumes nothing.
 use mathlib.Core.Path.{_≡_, refl, sym, ap, _∙_}
 use mathlib.Core.List.{List, [], _∷_}
-use mathlib.Core.Bool.{Bool, true, false, _||_, not}
+use mathlib.Core.Bool.{Bool, true, false, _||_}
 use Prim.Native.Nat.{ℕ, _<_, _≤_}
 use native.Mathlib.Omega.{arith}
 use denote.Enum.Declared.{tagOf}
 use types.Run.{OneOf, miss}
-use borrow.Author.Tests.{lt-ltb, le-ltb, ltb-false}
+use borrow.Author.Tests.{lt-ltb, le-ltb}
 use lib.ListN.{length}
 use lib.Dec.{ltb}
 use lib.Seq.{paste}
 use Rattle.connection.proofs.Front.{front-paste}
-use Rattle.packet.specs.Canonical.{canonical}
 use Rattle.connection.specs.Send.{front}
 use Rattle.connection.specs.Peer.{freshPeer}
 use Rattle.incoming.specs.declared.gather.Gathered.{Gathered}
 use Rattle.outgoing.specs.Outgoing.{Made, nextPacket, bodyGiven}
 use Rattle.outgoing.specs.declared.body.Outgoing.{Outgoing}
 use Rattle.outgoing.specs.declared.body.Chunk.{Chunk}
-use Rattle.model.specs.Model.{Stores, Done, stepped, withHeaders, after, refuse, bodyFor, objectFor, badHeaders, sendsPacket, sendsNext, capacityOf, soundOperation, engineWith, started, short, startStep}
-use Rattle.engine.specs.Guard.{shortBy, startNumber, refusal}
-use Rattle.engine.specs.Carry.{Written, within, carried, packetPlan, packetSent, objectWith}
+use Rattle.model.specs.Model.{Stores, Done, stepped, withHeaders, after, refuse, bodyFor, objectFor, badHeaders, sendsPacket, sendsNext, capacityOf, objectOf, soundOperation, engineWith, started, startStep}
+use Rattle.engine.specs.Guard.{startNumber, refusal}
+use Rattle.engine.specs.Carry.{Written, within, carried, packetPlan, packetSent}
 use Rattle.model.specs.declared.server.Settings.{Settings}
 use Rattle.model.specs.declared.server.Operation.{Operation}
 use Rattle.model.specs.declared.server.Operation.the-variants.{Nothing, Putting, Getting, Sending, Gathering as GatheringOp, Connecting, Draining}
@@ -30,7 +29,9 @@ use Rattle.model.specs.declared.server.Outcome.the-variants as outcome
 use Rattle.model.specs.declared.server.Took.{Took}
 use Rattle.engine.specs.declared.plan.Plan.{Plan}
 use Rattle.model.proofs.server.Operation.{the-type}
-use Rattle.engine.proofs.Guards.{Sendable, sendable, or-false}
+use Rattle.model.proofs.Steps.{OutgoingFits, outgoing-within}
+use Rattle.model.proofs.FromHost.{headers-fit}
+use Rattle.engine.proofs.Guards.{shortIn, same-short}
 use Rattle.engine.proofs.Carried.{packet-carried}
 
 -- ---- a packet of an object
@@ -58,8 +59,8 @@ body-other (Draining code) e d s k = refl
 body-other (Sending o c srm wait) e d s k = absurd (miss (0 ∷ 1 ∷ 2 ∷ 4 ∷ 5 ∷ 6 ∷ []) 3 tt k)
 
 module _ (p : Operation) (o : Outgoing) (c : Chunk) (srm wait : Bool) (is : p ≡ Sending o c srm wait) where
-  pub sending-bounds : (limit : ℕ) → soundOperation limit p ≡ true → Sendable o c
-  sending-bounds limit k = sendable o c (simp is at k)
+  pub sending-bounds : (limit : ℕ) → soundOperation limit p ≡ true → OutgoingFits o c
+  sending-bounds limit k = outgoing-within o c (simp is at k)
 
   -- more than were asked for
   pub body-much : (e : Engine) (d : List ℕ) (s : Stores) → c .room < length d → refuse 9 e s ≡ bodyFor p e d s
@@ -86,45 +87,52 @@ object-other (Getting g srm confirm wait) e hs has s k = absurd (miss (0 ∷ 1 �
 
 -- good header bytes are not too long
 pub good-length : (hs : List ℕ) (t : Bool) → t ≡ badHeaders hs → t ≡ false → length hs ≤ 65535
-unfolding badHeaders
-good-length hs t h k = ltb-false _ _ (or-false (ltb 65535 (length hs)) (not (canonical hs)) (sym h ∙ k) .0)
+good-length hs t h k = headers-fit hs (sym h ∙ k)
 
 module _ (p : Operation) (g : Gathered) (srm confirm wait : Bool) (is : p ≡ Getting g srm confirm wait) (e : Engine) (hs : List ℕ) (t : Bool) (bad : t ≡ badHeaders hs) (has : Bool) (s : Stores) where
   pub object-bad : t ≡ true → refuse 8 e s ≡ objectFor p e hs has s
   object-bad h = simp (is, sym bad ∙ h)
 
   pub object-goes : t ≡ false → (o : Outgoing) (q : Bool) (h : List ℕ) (w : Written)
-      → w ≡ packetSent e q wait (nextPacket (capacityOf e) o h (s .reply)) → o ≡ objectWith (length hs) confirm has → q ≡ srm || confirm
+      → w ≡ packetSent e q wait (nextPacket (capacityOf e) o h (s .reply)) → o ≡ objectOf (length hs) confirm has → q ≡ srm || confirm
       → h ≡ front hs (s .headers) → within w (withHeaders s h) ≡ objectFor p e hs has s
   unfolding sendsNext
   object-goes f o q h w sent whole granted stored =
       packet-call e (withHeaders s h) q wait w (nextPacket (capacityOf e) o h (s .reply)) sent
       ∙ ap (λ (x : Outgoing). after 0 (sendsNext e x q wait (withHeaders s h))) whole
-      ∙ ap (λ (x : Bool). after 0 (sendsNext e (objectWith (length hs) confirm has) x wait (withHeaders s h))) granted
-      ∙ ap (λ (x : List ℕ). after 0 (sendsNext e (objectWith (length hs) confirm has) (srm || confirm) wait (withHeaders s x))) stored
+      ∙ ap (λ (x : Bool). after 0 (sendsNext e (objectOf (length hs) confirm has) x wait (withHeaders s h))) granted
+      ∙ ap (λ (x : List ℕ). after 0 (sendsNext e (objectOf (length hs) confirm has) (srm || confirm) wait (withHeaders s x))) stored
       ∙ sym (simp (is, sym bad ∙ f))
 
 -- ---- the start
 
-module _ (st : Settings) (s : Stores) (n : ℕ) (e : Engine) (number : n ≡ startNumber (st .«max_object_size») (st .«realm_length») (length (s .packet)) (length (s .headers)) (length (s .body)) (length (s .reply))) where
-  same : (t : Bool) → shortBy (st .«max_object_size») (length (s .packet)) (length (s .headers)) (length (s .body)) (length (s .reply)) ≡ t → short (st .«max_object_size») s ≡ t
-  unfolding short shortBy
-  same t h = h
+module _ (st : Settings) (s : Stores) (n : ℕ) (e : Engine) where
+  abbrev limit : ℕ
+  limit = st .«max_object_size»
 
-  pub start-refused : e ≡ engineWith st freshPeer Nothing await.Nothing 0 0 → (n ≡ 0 → ⊥) → (r : Took) → r ≡ refusal n e → stepped r s ≡ startStep st s
+  abbrev realm : Bool
+  realm = ltb 254 (st .«realm_length»)
+
+  -- what the number is of
+  abbrev pub Number : Type 0
+  Number = n ≡ startNumber limit (st .«realm_length») (length (s .packet)) (length (s .headers)) (length (s .body)) (length (s .reply))
+
+  pub start-refused : Number → e ≡ engineWith st freshPeer Nothing await.Nothing 0 0 → (n ≡ 0 → ⊥) → (r : Took) → r ≡ refusal n e
+      → stepped r s ≡ startStep st s
   unfolding startStep startNumber
-  start-refused k w r h = go (shortBy (st .«max_object_size») (length (s .packet)) (length (s .headers)) (length (s .body)) (length (s .reply))) (ltb 254 (st .«realm_length»)) refl refl
+  start-refused number k w r h = go (shortIn limit s) realm refl refl
     where
-      go : (t u : Bool) → shortBy (st .«max_object_size») (length (s .packet)) (length (s .headers)) (length (s .body)) (length (s .reply)) ≡ t → ltb 254 (st .«realm_length») ≡ u → stepped r s ≡ startStep st s
-      go true u a b = let z : n ≡ 10 = simp a at number in simp (h, k, z, same true a)
-      go false true a b = let z : n ≡ 8 = simp (a, b) at number in simp (h, k, z, same false a, b)
+      go : (t u : Bool) → shortIn limit s ≡ t → realm ≡ u → stepped r s ≡ startStep st s
+      go true u a b = let z : n ≡ 10 = simp a at number in simp (h, k, z, same-short limit s true a)
+      go false true a b = let z : n ≡ 8 = simp (a, b) at number in simp (h, k, z, same-short limit s false a, b)
       go false false a b = let z : n ≡ 0 = simp (a, b) at number in absurd (w z)
 
-  pub start-goes : e ≡ engineWith st freshPeer Nothing await.Bytes 0 0 → n ≡ 0 → stepped (record { engine = e; taken = 0; outcome = outcome.WantsBytes }) s ≡ startStep st s
+  pub start-goes : Number → e ≡ engineWith st freshPeer Nothing await.Bytes 0 0 → n ≡ 0
+      → stepped (record { engine = e; taken = 0; outcome = outcome.WantsBytes }) s ≡ startStep st s
   unfolding startStep startNumber started
-  start-goes k w = go (shortBy (st .«max_object_size») (length (s .packet)) (length (s .headers)) (length (s .body)) (length (s .reply))) (ltb 254 (st .«realm_length»)) refl refl
+  start-goes number k w = go (shortIn limit s) realm refl refl
     where
-      go : (t u : Bool) → shortBy (st .«max_object_size») (length (s .packet)) (length (s .headers)) (length (s .body)) (length (s .reply)) ≡ t → ltb 254 (st .«realm_length») ≡ u → stepped (record { engine = e; taken = 0; outcome = outcome.WantsBytes }) s ≡ startStep st s
+      go : (t u : Bool) → shortIn limit s ≡ t → realm ≡ u → stepped (record { engine = e; taken = 0; outcome = outcome.WantsBytes }) s ≡ startStep st s
       go true u a b = let z : n ≡ 10 = simp a at number in absurd (omega arith)
       go false true a b = let z : n ≡ 8 = simp (a, b) at number in absurd (omega arith)
-      go false false a b = simp (k, same false a, b)
+      go false false a b = simp (k, same-short limit s false a, b)

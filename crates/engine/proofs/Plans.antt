@@ -1,17 +1,15 @@
 -- Carrying out a plan is the model's step. Assumes nothing.
-use mathlib.Core.Path.{_≡_, refl, ap}
+use mathlib.Core.Path.{_≡_, refl}
 use mathlib.Core.Bool.{Bool, true, false}
-use mathlib.Core.List.{List, []}
+use mathlib.Core.List.{[]}
 use Prim.Native.Nat.{ℕ}
 use Rattle.base.specs.Pick.{pick}
-use Rattle.packet.specs.Codes.{sentCode}
-use Rattle.packet.specs.FirstByte.{topBit}
 use Rattle.packet.specs.Packet.{Request as Packet, packetBytes}
 use Rattle.packet.specs.declared.opcode.Opcode.{Opcode}
 use Rattle.connection.specs.declared.peer.Peer.{Peer}
 use Rattle.incoming.specs.Gather.{Gathering}
 use Rattle.incoming.specs.declared.survey.Survey.{Survey}
-use Rattle.model.specs.Model.{Stores, Done, withGathered, wants, asks, ends, replies, repliesCode, continues, putContinues, putGathered, getContinues, getGathered, headersGathered}
+use Rattle.model.specs.Model.{Stores, Done, withGathered, wants, asks, ends, replies, continues, putContinues, putGathered, getContinues, getGathered, headersGathered}
 use Rattle.engine.specs.Plan.{planned, wantsPlan, asksPlan, endsPlan, codePlan, continuePlan, putContinuePlan, putPlan, getContinuePlan, getPlan, headersPlan}
 use Rattle.model.specs.declared.server.Operation.{Operation}
 use Rattle.model.specs.declared.server.Operation.the-variants.{Nothing, Putting, Getting, Gathering as GatheringOp}
@@ -53,7 +51,8 @@ pick-planned false a b = b
 
 -- ---- a gathered packet
 
-pub put-planned : (e : Engine) (r : Packet) (v : Survey) (srm confirm : Bool) (g : Gathering) (s : Stores) → Carries (putPlan e (g .got) (r .final) (v .additional) srm confirm) (withGathered s g) (putGathered e r v srm confirm g s)
+pub put-planned : (e : Engine) (r : Packet) (v : Survey) (srm confirm : Bool) (g : Gathering) (s : Stores)
+    → Carries (putPlan e (g .got) (r .final) (v .additional) srm confirm) (withGathered s g) (putGathered e r v srm confirm g s)
 unfolding putPlan
 put-planned e r v srm confirm g s =
     pick-planned (g .got .full) (ends-planned e (e .peer) 6 t)
@@ -66,7 +65,8 @@ put-planned e r v srm confirm g s =
     go true = pick-planned (v .additional) (continue-planned e (Putting (g .got) true) false t) (wants-planned e (e .peer) (Putting (g .got) true) t)
     go false = pick-planned (g .got .over) (code-planned e (e .peer) await.Taken 0xCD t) (continue-planned e (Putting (g .got) confirm) confirm t)
 
-pub get-planned : (e : Engine) (r : Packet) (v : Survey) (srm confirm : Bool) (g : Gathering) (s : Stores) → Carries (getPlan e (g .got) (r .final) (v .wait) srm confirm) (withGathered s g) (getGathered e r v srm confirm g s)
+pub get-planned : (e : Engine) (r : Packet) (v : Survey) (srm confirm : Bool) (g : Gathering) (s : Stores)
+    → Carries (getPlan e (g .got) (r .final) (v .wait) srm confirm) (withGathered s g) (getGathered e r v srm confirm g s)
 unfolding getPlan
 get-planned e r v srm confirm g s =
     pick-planned (g .got .full) (ends-planned e (e .peer) 6 t)
@@ -79,7 +79,8 @@ get-planned e r v srm confirm g s =
     go true = wants-planned e (e .peer) (Getting (g .got) true confirm (v .wait)) t
     go false = continue-planned e (Getting (g .got) confirm false (v .wait)) confirm t
 
-pub headers-planned : (e : Engine) (r : Packet) (o : Opcode) (g : Gathering) (s : Stores) → Carries (headersPlan e o (g .got) (r .final)) (withGathered s g) (headersGathered e r o g s)
+pub headers-planned : (e : Engine) (r : Packet) (o : Opcode) (g : Gathering) (s : Stores)
+    → Carries (headersPlan e o (g .got) (r .final)) (withGathered s g) (headersGathered e r o g s)
 unfolding headersPlan
 headers-planned e r o g s =
     pick-planned (g .got .full) (ends-planned e (e .peer) 6 t)

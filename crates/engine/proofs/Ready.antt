@@ -1,6 +1,6 @@
 -- What is known of a packet on its way: its headers can be read from where that way starts, and what was gathered before is in bounds.
 -- Assumes nothing.
-use mathlib.Core.Path.{_≡_, refl, sym, ap, _∙_, subst}
+use mathlib.Core.Path.{_≡_, refl, subst}
 use mathlib.Core.Bool.{Bool, true, false}
 use mathlib.Core.List.{List}
 use mathlib.Core.Option.{Option, none, some}
@@ -18,9 +18,9 @@ use Rattle.packet.specs.declared.opcode.FirstByte.the-variants.{Known, Unknown}
 use Rattle.packet.specs.declared.opcode.Opcode.{Opcode}
 use Rattle.packet.specs.declared.opcode.Opcode.the-variants as op
 use Rattle.incoming.specs.Survey.{surveyOf}
-use Rattle.incoming.specs.declared.gather.Gathered.{Gathered}
 use Rattle.outgoing.specs.declared.body.Chunk.{Chunk}
-use Rattle.model.specs.Model.{limitOf, headersIn, nothingGathered, soundGathered, soundOutgoing, soundOperation, rejection, unknownByte, busy}
+use Rattle.journal.specs.Journal.{headersOf as headersIn}
+use Rattle.model.specs.Model.{limitOf, nothingGathered, soundGathered, soundOutgoing, soundOperation, rejection, busy}
 use Rattle.engine.specs.Route.{headingOf, admissionOf, drainedBy, rejectedRoute, dispatchRoute, admittedRoute, openRoute, insideRoute, headingRoute, routeAs, packetRoute, fromOf}
 use Rattle.model.specs.declared.server.Operation.{Operation}
 use Rattle.model.specs.declared.server.Operation.the-variants.{Nothing, Putting, Getting, Sending, Gathering as GatheringOp, Connecting, Draining}

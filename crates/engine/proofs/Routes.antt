@@ -4,25 +4,25 @@ use mathlib.Core.Bool.{Bool, true, false, _&&_, not}
 use mathlib.Core.List.{List, []}
 use mathlib.Core.Option.{Option, none, some}
 use Prim.Native.Nat.{ℕ}
-use lib.ListN.{getD, take}
+use lib.ListN.{take}
 use Rattle.base.specs.Pick.{pick}
 use Rattle.packet.specs.Codes.{sentCode}
-use Rattle.packet.specs.FirstByte.{firstByte, sameOpcode}
+use Rattle.packet.specs.FirstByte.{sameOpcode}
 use Rattle.packet.specs.Auth.{Response}
 use Rattle.packet.specs.Header.{first}
 use Rattle.packet.specs.Packet.{Request as Packet, requestOf, connectLimit, packetBytes}
 use Rattle.packet.specs.declared.opcode.Opcode.{Opcode}
 use Rattle.packet.specs.declared.opcode.Opcode.the-variants as op
 use Rattle.incoming.specs.Survey.{surveyOf}
-use Rattle.incoming.specs.declared.survey.Survey.{Survey}
 use Rattle.incoming.specs.declared.gather.Gathered.{Gathered}
 use Rattle.incoming.specs.declared.gather.Keep.the-variants as keep
 use Rattle.connection.specs.Peer.{limited}
 use Rattle.connection.specs.declared.peer.Challenge.{Challenge}
 use Rattle.connection.specs.declared.peer.Challenge.the-variants.{Stored, Absent}
 use Rattle.connection.specs.declared.peer.Peer.{Peer}
-use Rattle.model.specs.Model.{Stores, Done, engineWith, lastPacket, lastHeaders, responseIn, clientResponse, userPlace, verifies, wants, asks, ends, replies, repliesCode, headersIn, nothingGathered, gathers, sendsNext, putPacket, getPacket, headersPacket, connectPacket, Rejection, admits, rejects, rejection, drains, rejected, confirms, dispatches, admittedAs, dispatch, interrupts, inside, unknownByte, busy, unreadable, readAs, lengthOf, packetDone}
-use Rattle.engine.specs.Route.{headingOf, askRoute, codeRoute, admissionOf, rejectedRoute, putRoute, getRoute, headersRoute, dispatchRoute, admittedRoute, openRoute, interruptsRoute, insideRoute, headingRoute, unreadableRoute, routeAs, packetRoute, briefPlan, keepOf, kindPlan, actsGathered, answeredAs, verifiesPlan, limitedPlan, connectPlan, acts}
+use Rattle.journal.specs.Journal.{responseIn, headersOf as headersIn}
+use Rattle.model.specs.Model.{Stores, Done, engineWith, lastPacket, lastHeaders, clientResponse, userPlace, verifies, wants, asks, ends, replies, repliesCode, nothingGathered, gathers, putPacket, getPacket, headersPacket, connectPacket, Rejection, admits, rejects, rejection, drains, rejected, dispatches, admittedAs, dispatch, interrupts, inside, busy, readAs, lengthOf, packetDone}
+use Rattle.engine.specs.Route.{headingOf, askRoute, codeRoute, admissionOf, rejectedRoute, putRoute, getRoute, headersRoute, dispatchRoute, admittedRoute, openRoute, interruptsRoute, insideRoute, headingRoute, routeAs, packetRoute, briefPlan, keepOf, kindPlan, actsGathered, answeredAs, verifiesPlan, limitedPlan, connectPlan, acts}
 use Rattle.model.specs.declared.server.Operation.{Operation}
 use Rattle.model.specs.declared.server.Operation.the-variants.{Nothing, Putting, Getting, Sending, Gathering as GatheringOp, Connecting, Draining}
 use Rattle.model.specs.declared.server.Await.{Await}

@@ -1,9 +1,7 @@
--- What a caller learns from each call's contract is the model's step, so `contracts-uphold` speaks of the functions' own clauses. `Learnt` is
--- the reading of an `ensures` clause that the check makes: a contract that stops saying what demand 3 needs breaks its line here.
+-- What a caller learns from each call's contract is the model's step, so `contracts-uphold` speaks of the functions' own clauses. `Learnt`
+-- is the reading of an `ensures` clause that the check makes: a contract that stops saying what demand 3 needs breaks its line here.
 -- Assumes nothing.
 use mathlib.Core.Path.{_≡_}
-use mathlib.Core.List.{List}
-use Prim.Native.Nat.{ℕ}
 use denote.Ref.{now}
 use contract.Lifetimes.{Lfts}
 use denote.Triple.Clauses.{AtExit}
@@ -57,60 +55,97 @@ abbrev before : Engine → Stores → State
 before e s = record { engine = e; stores = s }
 
 pub start-says : (κs : Lfts 4) (a : ArgsD start.signature κs) (r : ResD start.signature κs) (x : AtExit (endedOf 4 start-kinds.ps start-kinds.r) κs)
-    → start-reads.Learnt κs a r x → stepped r (stores (now (x .1 .0)) (now (x .1 .1 .0)) (now (x .1 .1 .1 .0)) (now (x .1 .1 .1 .1 .0))) ≡ startStep (a .0) (stores (now (a .1 .0)) (now (a .1 .1 .0)) (now (a .1 .1 .1 .0)) (now (a .1 .1 .1 .1 .0)))
+    → start-reads.Learnt κs a r x
+    → let p = a .1 in
+    let q = x .1 in
+    stepped r (stores (now (q .0)) (now (q .1 .0)) (now (q .1 .1 .0)) (now (q .1 .1 .1 .0)))
+    ≡ startStep (a .0) (stores (now (p .0)) (now (p .1 .0)) (now (p .1 .1 .0)) (now (p .1 .1 .1 .0)))
 start-says κs a r x h = h
 
 pub bytes-says : (κs : Lfts 5) (a : ArgsD bytes.signature κs) (r : ResD bytes.signature κs) (x : AtExit (endedOf 5 bytes-kinds.ps bytes-kinds.r) κs)
     → bytes-reads.Learnt κs a r x
-    → Says (before (a .0) (stores (now (a .1 .1 .0)) (now (a .1 .1 .1 .0)) (now (a .1 .1 .1 .1 .0)) (now (a .1 .1 .1 .1 .1 .0)))) (bytesOffered (now (a .1 .0))) r (stores (now (x .1 .1 .0)) (now (x .1 .1 .1 .0)) (now (x .1 .1 .1 .1 .0)) (now (x .1 .1 .1 .1 .1 .0)))
+    → let p = a .1 .1 in
+    let q = x .1 .1 in
+    Says (before (a .0) (stores (now (p .0)) (now (p .1 .0)) (now (p .1 .1 .0)) (now (p .1 .1 .1 .0)))) (bytesOffered (now (a .1 .0))) r
+    (stores (now (q .0)) (now (q .1 .0)) (now (q .1 .1 .0)) (now (q .1 .1 .1 .0)))
 bytes-says κs a r x h = h
 
 pub end-of-stream-says : (κs : Lfts 4) (a : ArgsD end_of_stream.signature κs) (r : ResD end_of_stream.signature κs) (x : AtExit (endedOf 4 end-of-stream-kinds.ps end-of-stream-kinds.r) κs)
     → end-of-stream-reads.Learnt κs a r x
-    → Says (before (a .0) (stores (now (a .1 .0)) (now (a .1 .1 .0)) (now (a .1 .1 .1 .0)) (now (a .1 .1 .1 .1 .0)))) streamEnded r (stores (now (x .1 .0)) (now (x .1 .1 .0)) (now (x .1 .1 .1 .0)) (now (x .1 .1 .1 .1 .0)))
+    → let p = a .1 in
+    let q = x .1 in
+    Says (before (a .0) (stores (now (p .0)) (now (p .1 .0)) (now (p .1 .1 .0)) (now (p .1 .1 .1 .0)))) streamEnded r
+    (stores (now (q .0)) (now (q .1 .0)) (now (q .1 .1 .0)) (now (q .1 .1 .1 .0)))
 end-of-stream-says κs a r x h = h
 
 pub reply-taken-says : (κs : Lfts 4) (a : ArgsD reply_taken.signature κs) (r : ResD reply_taken.signature κs) (x : AtExit (endedOf 4 reply-taken-kinds.ps reply-taken-kinds.r) κs)
     → reply-taken-reads.Learnt κs a r x
-    → Says (before (a .0) (stores (now (a .1 .0)) (now (a .1 .1 .0)) (now (a .1 .1 .1 .0)) (now (a .1 .1 .1 .1 .0)))) replyTaken r (stores (now (x .1 .0)) (now (x .1 .1 .0)) (now (x .1 .1 .1 .0)) (now (x .1 .1 .1 .1 .0)))
+    → let p = a .1 in
+    let q = x .1 in
+    Says (before (a .0) (stores (now (p .0)) (now (p .1 .0)) (now (p .1 .1 .0)) (now (p .1 .1 .1 .0)))) replyTaken r
+    (stores (now (q .0)) (now (q .1 .0)) (now (q .1 .1 .0)) (now (q .1 .1 .1 .0)))
 reply-taken-says κs a r x h = h
 
 pub object-says : (κs : Lfts 5) (a : ArgsD object.signature κs) (r : ResD object.signature κs) (x : AtExit (endedOf 5 object-kinds.ps object-kinds.r) κs)
     → object-reads.Learnt κs a r x
-    → Says (before (a .0) (stores (now (a .1 .1 .1 .0)) (now (a .1 .1 .1 .1 .0)) (now (a .1 .1 .1 .1 .1 .0)) (now (a .1 .1 .1 .1 .1 .1 .0)))) (objectGiven (now (a .1 .0)) (a .1 .1 .0)) r (stores (now (x .1 .1 .1 .0)) (now (x .1 .1 .1 .1 .0)) (now (x .1 .1 .1 .1 .1 .0)) (now (x .1 .1 .1 .1 .1 .1 .0)))
+    → let p = a .1 .1 .1 in
+    let q = x .1 .1 .1 in
+    Says (before (a .0) (stores (now (p .0)) (now (p .1 .0)) (now (p .1 .1 .0)) (now (p .1 .1 .1 .0)))) (objectGiven (now (a .1 .0)) (a .1 .1 .0)) r
+    (stores (now (q .0)) (now (q .1 .0)) (now (q .1 .1 .0)) (now (q .1 .1 .1 .0)))
 object-says κs a r x h = h
 
 pub body-says : (κs : Lfts 5) (a : ArgsD body.signature κs) (r : ResD body.signature κs) (x : AtExit (endedOf 5 body-kinds.ps body-kinds.r) κs)
     → body-reads.Learnt κs a r x
-    → Says (before (a .0) (stores (now (a .1 .1 .0)) (now (a .1 .1 .1 .0)) (now (a .1 .1 .1 .1 .0)) (now (a .1 .1 .1 .1 .1 .0)))) (bodyGiven (now (a .1 .0))) r (stores (now (x .1 .1 .0)) (now (x .1 .1 .1 .0)) (now (x .1 .1 .1 .1 .0)) (now (x .1 .1 .1 .1 .1 .0)))
+    → let p = a .1 .1 in
+    let q = x .1 .1 in
+    Says (before (a .0) (stores (now (p .0)) (now (p .1 .0)) (now (p .1 .1 .0)) (now (p .1 .1 .1 .0)))) (bodyGiven (now (a .1 .0))) r
+    (stores (now (q .0)) (now (q .1 .0)) (now (q .1 .1 .0)) (now (q .1 .1 .1 .0)))
 body-says κs a r x h = h
 
 pub body-failed-says : (κs : Lfts 4) (a : ArgsD body_failed.signature κs) (r : ResD body_failed.signature κs) (x : AtExit (endedOf 4 body-failed-kinds.ps body-failed-kinds.r) κs)
     → body-failed-reads.Learnt κs a r x
-    → Says (before (a .0) (stores (now (a .1 .0)) (now (a .1 .1 .0)) (now (a .1 .1 .1 .0)) (now (a .1 .1 .1 .1 .0)))) bodyFailed r (stores (now (x .1 .0)) (now (x .1 .1 .0)) (now (x .1 .1 .1 .0)) (now (x .1 .1 .1 .1 .0)))
+    → let p = a .1 in
+    let q = x .1 in
+    Says (before (a .0) (stores (now (p .0)) (now (p .1 .0)) (now (p .1 .1 .0)) (now (p .1 .1 .1 .0)))) bodyFailed r
+    (stores (now (q .0)) (now (q .1 .0)) (now (q .1 .1 .0)) (now (q .1 .1 .1 .0)))
 body-failed-says κs a r x h = h
 
 pub acknowledge-says : (κs : Lfts 4) (a : ArgsD acknowledge.signature κs) (r : ResD acknowledge.signature κs) (x : AtExit (endedOf 4 acknowledge-kinds.ps acknowledge-kinds.r) κs)
     → acknowledge-reads.Learnt κs a r x
-    → Says (before (a .0) (stores (now (a .1 .0)) (now (a .1 .1 .0)) (now (a .1 .1 .1 .0)) (now (a .1 .1 .1 .1 .0)))) abortAcknowledged r (stores (now (x .1 .0)) (now (x .1 .1 .0)) (now (x .1 .1 .1 .0)) (now (x .1 .1 .1 .1 .0)))
+    → let p = a .1 in
+    let q = x .1 in
+    Says (before (a .0) (stores (now (p .0)) (now (p .1 .0)) (now (p .1 .1 .0)) (now (p .1 .1 .1 .0)))) abortAcknowledged r
+    (stores (now (q .0)) (now (q .1 .0)) (now (q .1 .1 .0)) (now (q .1 .1 .1 .0)))
 acknowledge-says κs a r x h = h
 
 pub password-says : (κs : Lfts 5) (a : ArgsD password.signature κs) (r : ResD password.signature κs) (x : AtExit (endedOf 5 password-kinds.ps password-kinds.r) κs)
     → password-reads.Learnt κs a r x
-    → Says (before (a .0) (stores (now (a .1 .1 .1 .0)) (now (a .1 .1 .1 .1 .0)) (now (a .1 .1 .1 .1 .1 .0)) (now (a .1 .1 .1 .1 .1 .1 .0)))) (passwordGiven (given (a .1 .0) (now (a .1 .1 .0)))) r (stores (now (x .1 .1 .1 .0)) (now (x .1 .1 .1 .1 .0)) (now (x .1 .1 .1 .1 .1 .0)) (now (x .1 .1 .1 .1 .1 .1 .0)))
+    → let p = a .1 .1 .1 in
+    let q = x .1 .1 .1 in
+    Says (before (a .0) (stores (now (p .0)) (now (p .1 .0)) (now (p .1 .1 .0)) (now (p .1 .1 .1 .0)))) (passwordGiven (given (a .1 .0) (now (a .1 .1 .0)))) r
+    (stores (now (q .0)) (now (q .1 .0)) (now (q .1 .1 .0)) (now (q .1 .1 .1 .0)))
 password-says κs a r x h = h
 
 pub nonce-says : (κs : Lfts 4) (a : ArgsD nonce.signature κs) (r : ResD nonce.signature κs) (x : AtExit (endedOf 4 nonce-kinds.ps nonce-kinds.r) κs)
     → nonce-reads.Learnt κs a r x
-    → Says (before (a .0) (stores (now (a .1 .1 .1 .0)) (now (a .1 .1 .1 .1 .0)) (now (a .1 .1 .1 .1 .1 .0)) (now (a .1 .1 .1 .1 .1 .1 .0)))) (nonceGiven (a .1 .0) (a .1 .1 .0)) r (stores (now (x .1 .1 .1 .0)) (now (x .1 .1 .1 .1 .0)) (now (x .1 .1 .1 .1 .1 .0)) (now (x .1 .1 .1 .1 .1 .1 .0)))
+    → let p = a .1 .1 .1 in
+    let q = x .1 .1 .1 in
+    Says (before (a .0) (stores (now (p .0)) (now (p .1 .0)) (now (p .1 .1 .0)) (now (p .1 .1 .1 .0)))) (nonceGiven (a .1 .0) (a .1 .1 .0)) r
+    (stores (now (q .0)) (now (q .1 .0)) (now (q .1 .1 .0)) (now (q .1 .1 .1 .0)))
 nonce-says κs a r x h = h
 
 pub reply-says : (κs : Lfts 5) (a : ArgsD reply.signature κs) (r : ResD reply.signature κs) (x : AtExit (endedOf 5 reply-kinds.ps reply-kinds.r) κs)
     → reply-reads.Learnt κs a r x
-    → Says (before (a .0) (stores (now (a .1 .1 .1 .0)) (now (a .1 .1 .1 .1 .0)) (now (a .1 .1 .1 .1 .1 .0)) (now (a .1 .1 .1 .1 .1 .1 .0)))) (replyGiven (a .1 .0) (now (a .1 .1 .0))) r (stores (now (x .1 .1 .1 .0)) (now (x .1 .1 .1 .1 .0)) (now (x .1 .1 .1 .1 .1 .0)) (now (x .1 .1 .1 .1 .1 .1 .0)))
+    → let p = a .1 .1 .1 in
+    let q = x .1 .1 .1 in
+    Says (before (a .0) (stores (now (p .0)) (now (p .1 .0)) (now (p .1 .1 .0)) (now (p .1 .1 .1 .0)))) (replyGiven (a .1 .0) (now (a .1 .1 .0))) r
+    (stores (now (q .0)) (now (q .1 .0)) (now (q .1 .1 .0)) (now (q .1 .1 .1 .0)))
 reply-says κs a r x h = h
 
 pub credentials-says : (κs : Lfts 6) (a : ArgsD credentials.signature κs) (r : ResD credentials.signature κs) (x : AtExit (endedOf 6 credentials-kinds.ps credentials-kinds.r) κs)
     → credentials-reads.Learnt κs a r x
-    → Says (before (a .0) (stores (now (a .1 .1 .1 .1 .1 .0)) (now (a .1 .1 .1 .1 .1 .1 .0)) (now (a .1 .1 .1 .1 .1 .1 .1 .0)) (now (a .1 .1 .1 .1 .1 .1 .1 .1 .0)))) (credentialsGiven (credentialsOf (a .1 .0) (given (a .1 .1 .0) (now (a .1 .1 .1 .0))) (now (a .1 .1 .1 .1 .0)))) r (stores (now (x .1 .1 .1 .1 .1 .0)) (now (x .1 .1 .1 .1 .1 .1 .0)) (now (x .1 .1 .1 .1 .1 .1 .1 .0)) (now (x .1 .1 .1 .1 .1 .1 .1 .1 .0)))
+    → let p = a .1 .1 .1 .1 .1 in
+    let q = x .1 .1 .1 .1 .1 in
+    Says (before (a .0) (stores (now (p .0)) (now (p .1 .0)) (now (p .1 .1 .0)) (now (p .1 .1 .1 .0)))) (credentialsGiven (credentialsOf (a .1 .0) (given (a .1 .1 .0) (now (a .1 .1 .1 .0))) (now (a .1 .1 .1 .1 .0)))) r
+    (stores (now (q .0)) (now (q .1 .0)) (now (q .1 .1 .0)) (now (q .1 .1 .1 .0)))
 credentials-says κs a r x h = h

@@ -2,32 +2,24 @@
 use mathlib.Core.Path.{_≡_, refl, sym, ap, _∙_}
 use mathlib.Core.Bool.{Bool, true, false, _&&_, not}
 use mathlib.Core.List.{List}
-use Prim.Native.Nat.{ℕ, _-_, _≤_}
+use Prim.Native.Nat.{ℕ, _≤_}
 use lib.Dec.{eqb}
 use Rattle.base.specs.Pick.{pick}
-use Rattle.outgoing.specs.Outgoing.{Made, made, nextPacket}
+use Rattle.outgoing.specs.Outgoing.{nextPacket}
 use Rattle.outgoing.specs.declared.body.Outgoing.{Outgoing}
-use Rattle.outgoing.specs.declared.body.Packet.{Packet}
 use Rattle.model.specs.Model.{Stores, Done, withReply, limitOf, capacityOf, awaited, soundOperation, goesOn, ends, sendsNext, after, takenStep}
 use Rattle.engine.specs.Plan.{planned}
-use Rattle.engine.specs.Carry.{Written, within, carried, packetPlan}
-use Rattle.engine.specs.Turn.{PlanMade, planMade, objectPlan, goesTurn, turnOf, turnActs}
+use Rattle.engine.specs.Carry.{Written, within, carried, PlanMade, planMade, objectPlan}
+use Rattle.engine.specs.Turn.{goesTurn, turnOf, turnActs}
 use Rattle.model.specs.declared.server.Operation.{Operation}
 use Rattle.model.specs.declared.server.Operation.the-variants.{Nothing, Putting, Getting, Sending, Gathering as GatheringOp, Connecting, Draining}
 use Rattle.model.specs.declared.server.Engine.{Engine}
 use Rattle.engine.specs.declared.plan.Plan.{Plan}
 use Rattle.engine.specs.declared.arrival.Turn.{Turn}
 use Rattle.engine.specs.declared.arrival.Turn.the-variants.{Send, Wait, End}
+use Rattle.model.proofs.Steps.{outgoing-within}
 use Rattle.engine.proofs.Carried.{packet-carried}
-use Rattle.engine.proofs.Guards.{Goes, sendable}
-
--- a packet of an object, by what `next_packet` gives
-pub object-made : (e : Engine) (srm wait : Bool) (o : Outgoing) (h y z : List ℕ) (k : Packet) (p : Plan) (n : ℕ)
-    → made k z ≡ nextPacket (n - 3) o h y → n ≡ e .peer .«remote_max_packet_length» → p ≡ packetPlan e srm wait k
-    → planMade p z ≡ objectPlan e srm wait (nextPacket (capacityOf e) o h y)
-object-made e srm wait o h y z k p n w r q =
-    ap (λ (x : Plan). planMade x z) q ∙ ap (λ (x : Made). objectPlan e srm wait x) w
-    ∙ ap (λ (i : ℕ). objectPlan e srm wait (nextPacket (i - 3) o h y)) r
+use Rattle.engine.proofs.Guards.{Goes}
 
 -- an object that is sent on is in bounds
 abbrev pub TurnReady : Turn → Type 0
@@ -40,7 +32,7 @@ ready-pick true x y a b = a
 ready-pick false x y a b = b
 
 goes-ready : (limit : ℕ) (o : Operation) → soundOperation limit o ≡ true → TurnReady (goesTurn o)
-goes-ready limit (Sending o c srm wait) s = ready-pick (srm && not wait) _ _ (sendable o c s .total) tt
+goes-ready limit (Sending o c srm wait) s = ready-pick (srm && not wait) _ _ (outgoing-within o c s .total) tt
 goes-ready limit Nothing s = tt
 goes-ready limit (Putting g srm) s = tt
 goes-ready limit (Getting g srm confirm wait) s = tt

@@ -1,10 +1,10 @@
--- The host's answer to a Connect by the last packet and the two stores that it touches: how the model's `connectAnswer` comes about.
--- `proofs/Accepts.antt` says that it is that.
+-- The host's answers to a Connect, a reply and then credentials, by the last packet and the stores that they touch: how the model's
+-- `connectAnswer` and `credentialsStep` come about. `proofs/Accepts.antt` says that they are these.
 use Prim.Native.Nat.{ℕ}
 use mathlib.Core.List.{List, []}
 use mathlib.Core.Bool.{Bool, _||_}
 use mathlib.Core.Option.{Option, none, some}
-use lib.ListN.{length}
+use lib.ListN.{length, take}
 use lib.Dec.{eqb}
 use Rattle.base.specs.Pick.{pick}
 use Rattle.packet.specs.Codes.{isSuccess}
@@ -21,10 +21,13 @@ use Rattle.connection.specs.Pieces.{headersFrom, answeredIn, idGiven}
 use Rattle.connection.specs.declared.peer.Peer.{Peer}
 use Rattle.connection.specs.declared.peer.Answer.{Answer}
 use Rattle.connection.specs.declared.peer.ConnectionId.{ConnectionId}
-use Rattle.model.specs.Model.{Stores, Stepped, stepped, stores, headersIn, srmAsked, realmIn, awaited}
+use Rattle.journal.specs.Journal.{headersOf as headersIn}
+use Rattle.model.specs.Model.{Stores, Stepped, stepped, stores, srmAsked, realmIn, longUser, awaited}
 use Rattle.engine.specs.Plan.{asksPlan}
-use Rattle.engine.specs.Carry.{Written, tookBy, repliesBy}
-use Rattle.model.specs.declared.server.Operation.the-variants.{Connecting}
+use Rattle.engine.specs.Guard.{refusal}
+use Rattle.engine.specs.Carry.{Written, written, tookBy, repliesBy}
+use Rattle.model.specs.declared.server.Operation.{Operation}
+use Rattle.model.specs.declared.server.Operation.the-variants.{Nothing, Putting, Getting, Sending, Gathering as GatheringOp, Connecting, Draining}
 use Rattle.model.specs.declared.server.Await.the-variants as await
 use Rattle.model.specs.declared.server.Engine.{Engine}
 use Rattle.model.specs.declared.server.Request.the-variants as request
@@ -39,10 +42,11 @@ pub record Answering : Type 0 where
 abbrev pub answering : Took → List ℕ → List ℕ → Answering
 answering r h y = record { took = r; headers = h; reply = y }
 
--- the header store stays; and the other two
+-- the header store stays
 abbrev pub leaving : List ℕ → Written → Answering
 leaving h w = answering (w .took) h (w .reply)
 
+-- the packet and body store stay
 abbrev pub among : Answering → Stores → Stepped
 among a s = stepped (a .took) (stores (s .packet) (a .headers) (s .body) (a .reply))
 
@@ -92,3 +96,14 @@ acceptedBy e code hs q h y =
 -- the peer when a reply is made: Disconnect closes ids before it
 unfoldable pub repliedPeer : Engine → List ℕ → Peer
 repliedPeer e q = pick (eqb (awaited (e .awaits)) 4) (disconnectedPeer (e .peer) (first 0xCB (headersOf q))) (e .peer)
+
+-- credentials for the Connect that waits, whose headers stand in front of the header store; a long user id is 8, no such Connect 9
+abbrev pub credentialsBy : Operation → Engine → Option Credentials → List ℕ → List ℕ → List ℕ → Written
+credentialsBy (Connecting code f n) e c q h y =
+    pick (longUser c) (written (refusal 8 e) y) (connectReplies e (e .peer) code (acceptedHeaders e f q (take n h) c) y)
+credentialsBy Nothing e c q h y = written (refusal 9 e) y
+credentialsBy (Putting g srm) e c q h y = written (refusal 9 e) y
+credentialsBy (Getting g srm confirm wait) e c q h y = written (refusal 9 e) y
+credentialsBy (Sending o k srm wait) e c q h y = written (refusal 9 e) y
+credentialsBy (GatheringOp o g) e c q h y = written (refusal 9 e) y
+credentialsBy (Draining code) e c q h y = written (refusal 9 e) y

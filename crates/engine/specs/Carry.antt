@@ -1,4 +1,5 @@
 -- Plans carried out: what a call gives that takes no bytes, with the reply store afterwards; and plans for what was sent.
+-- `proofs/Carried.antt` says that they come to the model's steps.
 use Prim.Native.Nat.{ℕ}
 use mathlib.Core.List.{List}
 use mathlib.Core.Bool.{Bool, false}
@@ -9,7 +10,6 @@ use Rattle.connection.specs.declared.peer.Peer.{Peer}
 use Rattle.connection.specs.declared.send.Sent.{Sent}
 use Rattle.connection.specs.declared.send.Sent.the-variants as sent
 use Rattle.outgoing.specs.Outgoing.{Made}
-use Rattle.outgoing.specs.declared.body.Outgoing.{Outgoing}
 use Rattle.outgoing.specs.declared.body.Packet.{Packet}
 use Rattle.outgoing.specs.declared.body.Next.{Next}
 use Rattle.outgoing.specs.declared.body.Next.the-variants as next
@@ -37,9 +37,11 @@ written r y = record { took = r; reply = y }
 abbrev pub within : Written → Stores → Stepped
 within w s = stepped (w .took) (withReply s (w .reply))
 
+-- what a call gives by its plan
 abbrev pub tookBy : Plan → Took
 tookBy p = record { engine = p .engine; taken = 0; outcome = p .outcome }
 
+-- the plan carried out: its small reply is at the front of the reply store
 abbrev pub carried : Plan → List ℕ → Written
 carried p y = written (tookBy p) (front (smallBytes (p .small)) y)
 
@@ -69,16 +71,25 @@ madePlan next.Read e srm wait k =
     asksPlan e (e .peer) (sendingOn k false srm wait) await.Body (request.Read (k .chunk .room))
 madePlan next.TooLarge e srm wait k = codePlan e (e .peer) await.Taken 0xD0
 
+-- by what is next
 unfoldable pub packetPlan : Engine → Bool → Bool → Packet → Plan
 packetPlan e srm wait k = madePlan (k .next) e srm wait k
+
+-- a plan, and the reply store before it is carried out
+pub record PlanMade : Type 0 where
+  pub plan : Plan
+  pub reply : List ℕ
+
+abbrev pub planMade : Plan → List ℕ → PlanMade
+planMade p y = record { plan = p; reply = y }
+
+-- the plan for the next packet of an object, after the packet's bytes
+abbrev pub objectPlan : Engine → Bool → Bool → Made → PlanMade
+objectPlan e srm wait m = planMade (packetPlan e srm wait (m .packet)) (m .reply)
 
 -- the plan carried out after the packet's bytes
 abbrev pub packetSent : Engine → Bool → Bool → Made → Written
 packetSent e srm wait m = carried (packetPlan e srm wait (m .packet)) (m .reply)
-
--- an object with so many header bytes
-abbrev pub objectWith : ℕ → Bool → Bool → Outgoing
-objectWith n lead has = record { total = n; sent = 0; lead = lead; «has_body» = has; «has_pending» = false; pending = 0 }
 
 -- the password's check: right, the host is asked; else a new challenge is made
 unfoldable pub passwordPlan : Engine → Bool → Plan

@@ -1,4 +1,5 @@
--- Which calls are refused, by the state and the lengths of the lent stores alone: what `guarded` comes to, as a number.
+-- Which calls are refused, by the state and the lengths of the lent stores alone: what the model's `guarded` comes to, as a number.
+-- `proofs/Guards.antt` says so.
 use Prim.Native.Nat.{ℕ}
 use mathlib.Core.Bool.{Bool, _&&_, _||_}
 use lib.Dec.{ltb, leb}

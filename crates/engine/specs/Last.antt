@@ -1,10 +1,11 @@
--- The last whole packet, read again: where its headers start.
+-- The last whole packet, read again: where its headers start. `proofs/LastPacket.antt` says that they are the model's `lastHeaders`.
 use Prim.Native.Nat.{ℕ}
 use mathlib.Core.List.{List}
 use mathlib.Core.Option.{Option, none, some}
 use lib.ListN.{length}
 use Rattle.packet.specs.Packet.{Request as Packet, requestOf, prefixOf}
 
+-- after the fields of its opcode
 abbrev pub fromIn : Option Packet → ℕ → ℕ
 fromIn none n = n
 fromIn (some r) n = prefixOf (r .opcode)

@@ -14,7 +14,6 @@ use Rattle.model.specs.declared.server.Operation.{Operation}
 use Rattle.model.specs.declared.server.Operation.the-variants.{Nothing, Putting, Getting, Gathering as GatheringOp}
 use Rattle.model.specs.declared.server.Await.{Await}
 use Rattle.model.specs.declared.server.Await.the-variants as await
-use Rattle.model.specs.declared.server.Body.{Body}
 use Rattle.model.specs.declared.server.Engine.{Engine}
 use Rattle.model.specs.declared.server.Request.{Request}
 use Rattle.model.specs.declared.server.Request.the-variants as request
@@ -37,15 +36,19 @@ planned p s = done (p .engine) (p .outcome) (withReply s (front (smallBytes (p .
 abbrev pub plan : Engine → Outcome → Small → Plan
 plan e o m = record { engine = e; outcome = o; small = m }
 
+-- bytes are wanted
 unfoldable pub wantsPlan : Engine → Peer → Operation → Plan
 wantsPlan e p o = plan (engineWith (e .settings) p o await.Bytes 0 (e .length)) outcome.WantsBytes Silent
 
+-- the host is asked
 unfoldable pub asksPlan : Engine → Peer → Operation → Await → Request → Plan
 asksPlan e p o a r = plan (engineWith (e .settings) p o a 0 (e .length)) (outcome.Request r) Silent
 
+-- the engine ends with a number
 unfoldable pub endsPlan : Engine → Peer → ℕ → Plan
 endsPlan e p n = plan (engineWith (e .settings) p Nothing await.Nothing 0 (e .length)) (outcome.End n) Silent
 
+-- a reply of a first byte alone
 unfoldable pub codePlan : Engine → Peer → Await → ℕ → Plan
 codePlan e p a b = plan (engineWith (e .settings) p Nothing a 0 (e .length)) (outcome.Reply 3) (Byte b)
 
@@ -57,35 +60,42 @@ abbrev pub continueSmall : Bool → Small
 continueSmall true = Grant
 continueSmall false = Byte 0x90
 
+-- Continue, with SingleResponseMode where it is granted
 unfoldable pub continuePlan : Engine → Operation → Bool → Plan
 continuePlan e o grant =
     plan (engineWith (e .settings) (e .peer) o await.Taken 0 (e .length)) (outcome.Reply (continueLength grant)) (continueSmall grant)
 
+-- a Put packet that is not final: first under SRM, then without
 abbrev pub putContinuePlan : Engine → Gathered → Bool → Bool → Bool → Plan
 putContinuePlan e g true confirm additional =
     pick additional (continuePlan e (Putting g true) false) (wantsPlan e (e .peer) (Putting g true))
 putContinuePlan e g false confirm additional =
     pick (g .over) (codePlan e (e .peer) await.Taken 0xCD) (continuePlan e (Putting g confirm) confirm)
 
+-- a final Put packet
 abbrev pub putFinalPlan : Engine → Gathered → Plan
 putFinalPlan e g =
     pick (g .over) (codePlan e (e .peer) await.Taken 0xCD)
     (asksPlan e (e .peer) Nothing await.Reply (request.Put (g .kept) (putBody g)))
 
+-- a Put packet: number 6 comes before 0x4D
 unfoldable pub putPlan : Engine → Gathered → Bool → Bool → Bool → Bool → Plan
 putPlan e g final additional srm confirm =
     pick (g .full) (endsPlan e (e .peer) 6) (pick final (putFinalPlan e g) (putContinuePlan e g srm confirm additional))
 
+-- a Get packet that is not final: first under SRM, then without
 abbrev pub getContinuePlan : Engine → Gathered → Bool → Bool → Bool → Plan
 getContinuePlan e g true confirm wait = wantsPlan e (e .peer) (Getting g true confirm wait)
 getContinuePlan e g false confirm wait = continuePlan e (Getting g confirm false wait) confirm
 
+-- a Get packet of the request
 unfoldable pub getPlan : Engine → Gathered → Bool → Bool → Bool → Bool → Plan
 getPlan e g final wait srm confirm =
     pick (g .full) (endsPlan e (e .peer) 6)
     (pick final (asksPlan e (e .peer) (Getting g srm confirm wait) await.Get (request.Get (g .kept)))
     (getContinuePlan e g srm confirm wait))
 
+-- a packet of Action, Session or a user-defined operation
 unfoldable pub headersPlan : Engine → Opcode → Gathered → Bool → Plan
 headersPlan e o g final =
     pick (g .full) (endsPlan e (e .peer) 6)

@@ -1,8 +1,8 @@
--- Which way a packet goes, decided without the stores, and what acting on it does. `proofs/Routes.antt` says that this is the model's
--- `packetDone`.
+-- Which way a packet goes, decided without the stores, and what acting on it does: how the model's `packetDone` comes about.
+-- `proofs/Routes.antt` says that it is that.
 use Prim.Native.Nat.{ℕ, _+_, _^_, _≤_, _<_}
 use mathlib.Core.List.{List}
-use mathlib.Core.Bool.{Bool, true, false, _&&_, not}
+use mathlib.Core.Bool.{Bool, false, _&&_, not}
 use mathlib.Core.Option.{Option, none, some}
 use lib.ListN.{getD}
 use Rattle.base.specs.Pick.{pick}
@@ -20,11 +20,13 @@ use Rattle.incoming.specs.Gather.{Gathering}
 use Rattle.incoming.specs.declared.gather.Keep.{Keep}
 use Rattle.incoming.specs.declared.gather.Keep.the-variants as keep
 use Rattle.incoming.specs.declared.gather.Gathered.{Gathered}
+use Rattle.outgoing.specs.declared.body.Outgoing.{Outgoing}
 use Rattle.connection.specs.Peer.{limited}
 use Rattle.connection.specs.declared.peer.Challenge.{Challenge}
 use Rattle.connection.specs.declared.peer.Challenge.the-variants.{Stored, Absent}
 use Rattle.connection.specs.declared.peer.Peer.{Peer}
-use Rattle.model.specs.Model.{Stores, Done, withGathered, headersIn, responseIn, userIn, nothingGathered, gathers, sendsNext, Rejection, admits, rejects, rejection, drains, confirms, unknownByte, busy}
+use Rattle.journal.specs.Journal.{headersOf as headersIn, responseIn}
+use Rattle.model.specs.Model.{Stores, Done, withGathered, userIn, nothingGathered, gathers, sendsNext, Rejection, admits, rejects, rejection, drains, confirms, unknownByte, busy}
 use Rattle.engine.specs.Plan.{planned, wantsPlan, asksPlan, endsPlan, codePlan, putPlan, getPlan, headersPlan}
 use Rattle.model.specs.declared.server.Operation.{Operation}
 use Rattle.model.specs.declared.server.Operation.the-variants.{Nothing, Putting, Getting, Sending, Gathering as GatheringOp, Connecting, Draining}
@@ -58,6 +60,7 @@ headingOf r =
       «is_final» = r .final;
     }
 
+-- the host is asked
 abbrev pub askRoute : Await → Request → Route
 askRoute a r = Plain (brief.Ask a r)
 
@@ -65,6 +68,7 @@ askRoute a r = Plain (brief.Ask a r)
 abbrev pub codeRoute : ℕ → Route
 codeRoute code = Plain (brief.Code await.Taken (sentCode code))
 
+-- a password is required and not given, but for Disconnect
 abbrev pub unauthorizedFor : Engine → Opcode → Bool
 unauthorizedFor e o = e .settings .authentication && (not (e .peer .authenticated) && not (sameOpcode o op.Disconnect))
 
@@ -76,18 +80,24 @@ admissionOf (rejects code) = Rejects code
 abbrev pub drainedBy : Engine → Heading → Bool
 drainedBy e h = e .peer .«srm_enabled» && (drains (h .opcode) && not (h .«is_final»))
 
+-- turned away
 abbrev pub rejectedRoute : Engine → Heading → ℕ → Route
 rejectedRoute e h code = pick (drainedBy e h) (Plain (brief.Drain code)) (codeRoute code)
 
+-- a packet of a Put, of a Get's request, of a Get's object, of an operation of headers alone
 abbrev pub putRoute : Heading → Gathered → Bool → Bool → Route
 putRoute h g srm confirm = Gather kind.Put g (h .«is_final») (h .survey .additional) srm confirm
 
 abbrev pub getRoute : Heading → Gathered → Bool → Bool → Route
 getRoute h g srm confirm = Gather kind.Get g (h .«is_final») (h .survey .wait) srm confirm
 
+abbrev pub sendRoute : Heading → Outgoing → Bool → Route
+sendRoute h o srm = Send o srm (h .survey .wait)
+
 abbrev pub headersRoute : Heading → Opcode → Gathered → Route
 headersRoute h o g = Gather (kind.Headers o) g (h .«is_final») false false false
 
+-- a packet that is admitted, where nothing is open
 abbrev pub dispatchRoute : Opcode → Engine → Heading → Route
 dispatchRoute op.Connect e h = Connect
 dispatchRoute op.Abort e h = askRoute await.Acknowledgement (request.Abort (e .length))
@@ -99,10 +109,12 @@ dispatchRoute op.Action e h = headersRoute h op.Action nothingGathered
 dispatchRoute op.Session e h = headersRoute h op.Session nothingGathered
 dispatchRoute (op.UserDefined x) e h = headersRoute h (op.UserDefined x) nothingGathered
 
+-- admitted or turned away
 abbrev pub admittedRoute : Admission → Engine → Heading → Route
 admittedRoute Admits e h = dispatchRoute (h .opcode) e h
 admittedRoute (Rejects code) e h = rejectedRoute e h code
 
+-- nothing is open; Connect is not turned away
 unfoldable pub openRoute : Engine → Heading → Route
 openRoute e h =
     pick (sameOpcode (h .opcode) op.Connect) Connect (admittedRoute (admissionOf (rejection e (h .opcode) (h .survey))) e h)
@@ -111,17 +123,20 @@ openRoute e h =
 abbrev pub interruptsRoute : Route
 interruptsRoute = Plain (brief.Code await.Last (sentCode 0x40))
 
+-- of an operation that is open
 abbrev pub continuedRoute : Heading → Opcode → Route → Route
 continuedRoute h o r = pick (sameOpcode (h .opcode) o) r interruptsRoute
 
+-- an operation that is turned away is read to its final packet
 abbrev pub drainingRoute : Heading → ℕ → Route
 drainingRoute h code = pick (h .«is_final») (codeRoute code) (Plain (brief.Drain code))
 
+-- by what is open
 abbrev pub insideRoute : Operation → Engine → Heading → Route
 insideRoute Nothing e h = openRoute e h
 insideRoute (Putting g srm) e h = continuedRoute h op.Put (putRoute h g srm false)
 insideRoute (Getting g srm confirm wait) e h = continuedRoute h op.Get (getRoute h g srm confirm)
-insideRoute (Sending o c srm wait) e h = continuedRoute h op.Get (Send o srm (h .survey .wait))
+insideRoute (Sending o c srm wait) e h = continuedRoute h op.Get (sendRoute h o srm)
 insideRoute (GatheringOp o g) e h = continuedRoute h o (headersRoute h o g)
 insideRoute (Connecting c f n) e h = interruptsRoute
 insideRoute (Draining code) e h = drainingRoute h code
@@ -136,6 +151,7 @@ headingRoute e h =
 abbrev pub unreadableRoute : Operation → Bool → Route
 unreadableRoute o unknown = pick (busy o) (Plain (brief.End 4)) (codeRoute (pick unknown 0x51 0x40))
 
+-- readable or not
 abbrev pub routeAs : Option Packet → Engine → List ℕ → Route
 routeAs none e q = unreadableRoute (e .operation) (unknownByte (firstByte (getD q 0 0)))
 routeAs (some r) e q = headingRoute e (headingOf r)
@@ -152,6 +168,7 @@ briefPlan e (brief.Code a b) = codePlan e (e .peer) a b
 briefPlan e (brief.Drain code) = wantsPlan e (e .peer) (Draining code)
 briefPlan e (brief.End n) = endsPlan e (e .peer) n
 
+-- which headers are kept
 abbrev pub keepOf : Kind → Keep
 keepOf kind.Put = keep.Put
 keepOf kind.Get = keep.Get
@@ -163,15 +180,17 @@ fromOf kind.Put = 3
 fromOf kind.Get = 3
 fromOf (kind.Headers o) = prefixOf o
 
+-- a packet that is gathered
 unfoldable pub kindPlan : Engine → Kind → Gathered → Bool → Bool → Bool → Bool → Plan
 kindPlan e kind.Put g final asked srm confirm = putPlan e g final asked srm confirm
 kindPlan e kind.Get g final asked srm confirm = getPlan e g final asked srm confirm
 kindPlan e (kind.Headers o) g final asked srm confirm = headersPlan e o g final
 
+-- with the stores that gathering left
 abbrev pub actsGathered : Engine → Kind → Bool → Bool → Bool → Bool → Gathering → Stores → Done
 actsGathered e k final asked srm confirm g s = planned (kindPlan e k (g .got) final asked srm confirm) (withGathered s g)
 
--- a Connect: the password is asked where a challenge is stored and a response can be read; else a new challenge is made
+-- by whether the client's response can be read
 abbrev pub answeredAs : Option Response → Found → Answered
 answeredAs none u = Missing
 answeredAs (some r) u = User u
@@ -185,16 +204,19 @@ abbrev pub Below : ℕ → Found → Type 0
 Below n place.Missing = Unit {0}
 Below n (place.At a b) = (a ≤ b) × (n + b < 2 ^ 64)
 
+-- the password is asked where a challenge is stored and a response can be read; else a new challenge is made
 abbrev pub verifiesPlan : Engine → Peer → Challenge → Answered → Plan
 verifiesPlan e p Absent a = asksPlan e p Nothing await.Nonce request.Nonce
 verifiesPlan e p (Stored n) Missing = asksPlan e p Nothing await.Nonce request.Nonce
 verifiesPlan e p (Stored n) (User u) = asksPlan e p Nothing await.Password (request.Password u)
 
+-- once the peer's limit is set: the password where one is required, else the host is asked
 unfoldable pub limitedPlan : Engine → Peer → Answered → Plan
 limitedPlan e p a =
     pick (e .settings .authentication) (verifiesPlan e p (p .challenge) a)
     (asksPlan e p Nothing await.Connect (request.Connect (e .length)))
 
+-- a Connect packet
 unfoldable pub connectPlan : Engine → List ℕ → Plan
 connectPlan e q = limitedPlan e (limited (e .peer) (connectLimit q)) (answeredBy q)
 

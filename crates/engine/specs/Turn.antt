@@ -1,37 +1,24 @@
--- A packet of an object as a plan, and what follows a reply that is taken.
+-- What follows a reply that is taken, and what `bytes` gives: how the model's `takenStep` and `bytesStep` come about. `proofs/Turns.antt`
+-- and `proofs/Arrivals.antt` say that they are these.
 use Prim.Native.Nat.{ℕ}
-use mathlib.Core.List.{List}
 use mathlib.Core.Bool.{Bool, _&&_, not}
 use lib.Dec.{eqb}
 use Rattle.base.specs.Pick.{pick}
-use Rattle.outgoing.specs.Outgoing.{Made}
 use Rattle.outgoing.specs.declared.body.Outgoing.{Outgoing}
 use Rattle.model.specs.Model.{Stores, Done, engineWith, wants, ends, awaited, sendsNext}
-use Rattle.engine.specs.Carry.{packetPlan}
 use Rattle.model.specs.declared.server.Operation.{Operation}
 use Rattle.model.specs.declared.server.Operation.the-variants.{Nothing, Putting, Getting, Sending, Gathering as GatheringOp, Connecting, Draining}
 use Rattle.model.specs.declared.server.Engine.{Engine}
 use Rattle.model.specs.declared.server.Outcome.the-variants as outcome
 use Rattle.model.specs.declared.server.Took.{Took}
-use Rattle.engine.specs.declared.plan.Plan.{Plan}
 use Rattle.engine.specs.declared.arrival.Turn.{Turn}
 use Rattle.engine.specs.declared.arrival.Turn.the-variants.{Send, Wait, End}
-
--- a plan, and the reply store before it is carried out
-pub record PlanMade : Type 0 where
-  pub plan : Plan
-  pub reply : List ℕ
-
-abbrev pub planMade : Plan → List ℕ → PlanMade
-planMade p y = record { plan = p; reply = y }
-
-abbrev pub objectPlan : Engine → Bool → Bool → Made → PlanMade
-objectPlan e srm wait m = planMade (packetPlan e srm wait (m .packet)) (m .reply)
 
 -- under SRM and without a wait the next packet of an object follows at once
 abbrev pub followsTurn : Outgoing → Bool → Bool → Turn
 followsTurn o srm wait = pick (srm && not wait) (Send o srm wait) Wait
 
+-- after a reply that is not the last
 abbrev pub goesTurn : Operation → Turn
 goesTurn (Sending o c srm wait) = followsTurn o srm wait
 goesTurn Nothing = Wait
@@ -45,6 +32,7 @@ goesTurn (Draining code) = Wait
 abbrev pub turnOf : Engine → Turn
 turnOf e = pick (eqb (awaited (e .awaits)) 1) (goesTurn (e .operation)) End
 
+-- what it does
 abbrev pub turnActs : Turn → Engine → Stores → Done
 turnActs (Send o srm wait) e s = sendsNext e o srm wait s
 turnActs Wait e s = wants e (e .peer) (e .operation) s
@@ -52,6 +40,7 @@ turnActs End e s = ends e (e .peer) 5 s
 
 -- ---- what `bytes` gives
 
+-- so many bytes were taken
 abbrev pub withTaken : Took → ℕ → Took
 withTaken r t = record { engine = r .engine; taken = t; outcome = r .outcome }
 

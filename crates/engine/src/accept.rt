@@ -1,6 +1,7 @@
 // The host's answer to a Connect (of the source's handle_connect).
 ghost use mathlib.Core.Path.{_≡_};
 ghost use mathlib.Core.Bool.{false, _||_};
+ghost use mathlib.Core.Option.{none};
 ghost use Prim.Native.Nat.{_≤_};
 ghost use lib.ListN.{length};
 ghost use Rattle.packet.specs.Header.{firstPlace};
@@ -117,6 +118,34 @@ pub fn connect_sends(
     took(sent_plan(e, peer, sent))
 }
 
+// The reply without credentials: the bytes passed for them are not read.
+fn unchallenged(
+    e: Engine,
+    peer: Peer,
+    code: u8,
+    front: ConnectionId,
+    header_bytes: &[u8],
+    packet: &[u8],
+    reply: &mut [u8],
+) -> Took
+    requires { ⌜ (65535 ≤ length (now reply)) × (length (now packet) ≤ 65535) × (length (now «header_bytes») ≤ 65535) ⌝ }
+    ensures { λ r. ⌜ written r (now (reply .exit)) ≡ connectReplies e peer code (acceptedHeaders e front (now (packet .entry)) (now («header_bytes» .entry)) none) (now (reply .entry)) ⌝ }
+{
+    connect_sends(
+        e,
+        peer,
+        code,
+        front,
+        packet,
+        header_bytes,
+        false,
+        false,
+        packet,
+        packet,
+        reply,
+    )
+}
+
 // An id is open or not needed: the reply follows, or the host's headers wait until it has given credentials.
 fn accepted(
     e: Engine,
@@ -138,20 +167,7 @@ fn accepted(
         realm: _,
     } = answered_challenge(packet, last_from(packet))
     else {
-        // No credentials: the bytes passed for them are not read.
-        return connect_sends(
-            e,
-            peer,
-            code,
-            front,
-            packet,
-            header_bytes,
-            false,
-            false,
-            packet,
-            packet,
-            reply,
-        );
+        return unchallenged(e, peer, code, front, header_bytes, packet, reply);
     };
     copy_into(headers, 0, header_bytes);
     let operation = Operation::Connecting {

@@ -3,23 +3,24 @@ ghost use mathlib.Core.Path.{_≡_};
 ghost use mathlib.Core.Bool.{true};
 ghost use mathlib.Core.Option.{some};
 ghost use mathlib.Core.List.{List};
-ghost use Prim.Native.Nat.{ℕ, _≤_, _<_};
+ghost use Prim.Native.Nat.{ℕ, _≤_};
 ghost use lib.ListN.{length};
 ghost use Rattle.packet.specs.FirstByte.{firstByte};
 ghost use Rattle.packet.specs.Header.{readHeaders};
 ghost use Rattle.packet.specs.Packet.{requestOf};
-ghost use Rattle.model.specs.Model.{stepped, stores, limitOf, headersIn, gathers, capacityOf, unknownByte, soundGathered, soundOperation, after, lengthOf, packetDone, bytesStep, takenStep};
+ghost use Rattle.journal.specs.Journal.{headersOf as headersIn};
+ghost use Rattle.model.specs.Model.{stepped, stores, limitOf, gathers, unknownByte, soundGathered, soundOperation, after, lengthOf, packetDone, bytesStep, takenStep};
 ghost use Rattle.engine.specs.Plan.{planned};
 ghost use Rattle.engine.specs.Route.{packetRoute, keepOf, fromOf, actsGathered, acts};
-ghost use Rattle.engine.specs.Turn.{planMade, objectPlan, followsTurn, goesTurn, turnOf, turnActs, withTaken, moreTook};
-ghost use Rattle.outgoing.specs.Outgoing.{nextPacket};
+ghost use Rattle.engine.specs.Turn.{followsTurn, goesTurn, turnOf, turnActs, withTaken, moreTook};
 use crate::carry::carry_out;
-use crate::carry::packet_plan;
+use crate::carry::object_plan;
 use crate::carry::took;
 use crate::connecting::connect_plan;
 use crate::guard::awaited;
 use crate::guard::refuse;
 use crate::guard::refused;
+use crate::guard::wide;
 use crate::plan::Plan;
 use crate::plan::ends;
 use crate::plan::engine_with;
@@ -42,7 +43,6 @@ use model::server::Operation;
 use model::server::Outcome;
 use model::server::Took;
 use outgoing::body::Outgoing;
-use outgoing::body::next_packet;
 use packet::opcode::FirstByte;
 use packet::opcode::from_byte;
 use packet::packet::Parsed;
@@ -50,6 +50,7 @@ use packet::packet::parse_packet;
 use packet::packet::prefix_len;
 use packet::packet::set_path_flags;
 
+// Whether the first byte names no operation.
 fn is_unknown(byte: u8) -> bool
     ensures { λ r. ⌜ r ≡ unknownByte (firstByte byte) ⌝ }
 {
@@ -100,12 +101,6 @@ fn from(kind: Kind) -> usize
     }
 }
 
-fn wide(n: u32) -> usize
-    ensures { λ r. ⌜ r ≡ n ⌝ }
-{
-    n as usize
-}
-
 // A packet of an operation whose headers are gathered.
 fn gathered(
     e: Engine,
@@ -132,28 +127,6 @@ fn gathered(
         body,
     );
     kind_plan(e, kind, g, is_final, asked, srm, confirm)
-}
-
-fn wide16(n: u16) -> usize
-    ensures { λ r. ⌜ (r ≡ n) × (r < 65536) ⌝ }
-{
-    n as usize
-}
-
-// The next packet of an object, or what it needs first.
-fn object_plan(
-    e: Engine,
-    o: Outgoing,
-    srm: bool,
-    wait: bool,
-    headers: &[u8],
-    reply: &mut [u8],
-) -> Plan
-    requires { ⌜ (255 ≤ e .peer .«remote_max_packet_length») × (o .total ≤ length (now headers)) × (65535 ≤ length (now reply)) ⌝ }
-    ensures { λ r. ⌜ planMade r (now (reply .exit)) ≡ objectPlan e srm wait (nextPacket (capacityOf e) o (now (headers .entry)) (now (reply .entry))) ⌝ }
-{
-    let capacity = wide16(e.peer.remote_max_packet_length) - 3;
-    packet_plan(e, srm, wait, next_packet(capacity, o, headers, reply))
 }
 
 // ---- the reply is taken
@@ -186,6 +159,7 @@ fn follows(outgoing: Outgoing, srm: bool, wait: bool) -> Turn
     Turn::Wait
 }
 
+// After a reply that is not the last.
 fn goes_on(operation: Operation) -> Turn
     ensures { λ r. ⌜ r ≡ goesTurn operation ⌝ }
 {
@@ -220,6 +194,7 @@ fn goes_on(operation: Operation) -> Turn
     }
 }
 
+// By whether the reply was the last.
 fn next_turn(e: Engine) -> Turn
     ensures { λ r. ⌜ r ≡ turnOf e ⌝ }
 {
@@ -313,6 +288,7 @@ fn act(e: Engine, p: &[u8], headers: &mut [u8], body: &mut [u8], reply: &mut [u8
     }
 }
 
+// So many bytes are the last packet.
 fn whole(e: Engine, n: usize) -> Engine
     ensures { λ r. ⌜ r ≡ lengthOf e n ⌝ }
 {

@@ -4,8 +4,10 @@ ghost use mathlib.Core.List.{[]};
 ghost use Prim.Native.Nat.{_≤_, _<_};
 ghost use lib.ListN.{length};
 ghost use Rattle.connection.specs.Send.{fieldsOf, front};
+ghost use Rattle.outgoing.specs.Outgoing.{nextPacket};
+ghost use Rattle.model.specs.Model.{capacityOf};
 ghost use Rattle.engine.specs.Plan.{smallBytes};
-ghost use Rattle.engine.specs.Carry.{tookBy, written, carried, sentPlan, repliesBy, sendingOn, packetPlan};
+ghost use Rattle.engine.specs.Carry.{tookBy, written, carried, sentPlan, repliesBy, sendingOn, packetPlan, planMade, objectPlan};
 use crate::plan::Plan;
 use crate::plan::Small;
 use crate::plan::asks;
@@ -25,7 +27,9 @@ use model::server::Outcome;
 use model::server::Request;
 use model::server::Took;
 use outgoing::body::Next;
+use outgoing::body::Outgoing;
 use outgoing::body::Packet;
+use outgoing::body::next_packet;
 
 // The bytes of a small reply at the front of the reply store.
 pub fn write_small(small: Small, reply: &mut [u8])
@@ -56,6 +60,7 @@ pub fn took(p: Plan) -> Took
     }
 }
 
+// The small reply is written, and the rest handed back.
 pub fn carry_out(p: Plan, reply: &mut [u8]) -> Took
     requires { ⌜ 5 ≤ length (now reply) ⌝ }
     ensures { λ r. ⌜ written r (now (reply .exit)) ≡ carried p (now (reply .entry)) ⌝ }
@@ -86,6 +91,7 @@ pub fn sent_plan(e: Engine, peer: Peer, sent: Sent) -> Plan
     }
 }
 
+// A number of the state as a length.
 pub fn wide16(n: u16) -> usize
     ensures { λ r. ⌜ (r ≡ n) × (r < 65536) ⌝ }
 {
@@ -153,4 +159,20 @@ pub fn packet_plan(e: Engine, srm: bool, wait: bool, k: Packet) -> Plan
         ),
         Next::TooLarge => code(e, e.peer, Await::Taken, 0xD0),
     }
+}
+
+// The next packet of an object, or what it needs first.
+pub fn object_plan(
+    e: Engine,
+    o: Outgoing,
+    srm: bool,
+    wait: bool,
+    headers: &[u8],
+    reply: &mut [u8],
+) -> Plan
+    requires { ⌜ (255 ≤ e .peer .«remote_max_packet_length») × (o .total ≤ length (now headers)) × (65535 ≤ length (now reply)) ⌝ }
+    ensures { λ r. ⌜ planMade r (now (reply .exit)) ≡ objectPlan e srm wait (nextPacket (capacityOf e) o (now (headers .entry)) (now (reply .entry))) ⌝ }
+{
+    let capacity = wide16(e.peer.remote_max_packet_length) - 3;
+    packet_plan(e, srm, wait, next_packet(capacity, o, headers, reply))
 }

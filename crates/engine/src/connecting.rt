@@ -4,7 +4,8 @@ ghost use mathlib.Core.Option.{some};
 ghost use lib.ListN.{length};
 ghost use Rattle.packet.specs.Header.{readHeaders};
 ghost use Rattle.packet.specs.Packet.{requestOf};
-ghost use Rattle.model.specs.Model.{headersIn, placedAt};
+ghost use Rattle.journal.specs.Journal.{headersOf as headersIn};
+ghost use Rattle.model.specs.Model.{placedAt};
 ghost use Rattle.engine.specs.Route.{Below, answeredBy, verifiesPlan, limitedPlan, connectPlan};
 use crate::plan::Plan;
 use crate::plan::asks;
@@ -81,6 +82,7 @@ fn verifies(e: Engine, peer: Peer, challenge: Challenge, a: Answered) -> Plan
     }
 }
 
+// Once the peer's limit is set: the password where one is required, else the host is asked.
 fn limited_plan(e: Engine, peer: Peer, a: Answered) -> Plan
     ensures { λ r. ⌜ r ≡ limitedPlan e peer a ⌝ }
 {
@@ -97,6 +99,7 @@ fn limited_plan(e: Engine, peer: Peer, a: Answered) -> Plan
     )
 }
 
+// A Connect packet.
 pub fn connect_plan(e: Engine, p: &[u8]) -> Plan
     requires { ⌜ readHeaders (now p) 7 ≡ some (headersIn (requestOf (now p))) ⌝ }
     ensures { λ r. ⌜ r ≡ connectPlan e (now (p .entry)) ⌝ }

@@ -33,7 +33,8 @@ pub fn awaited(a: Await) -> u8
     }
 }
 
-fn wide(n: u32) -> usize
+// The Put limit as a length.
+pub fn wide(n: u32) -> usize
     ensures { λ r. ⌜ r ≡ n ⌝ }
 {
     n as usize
@@ -55,6 +56,7 @@ pub fn is_short(limit: u32, packet: usize, headers: usize, body: usize, reply: u
     body < wide(limit)
 }
 
+// What was gathered is in bounds, what is sent, and what is open.
 fn sound_gathered(limit: u32, g: Gathered) -> bool
     ensures { λ r. ⌜ r ≡ soundGathered limit g ⌝ }
 {

@@ -1,6 +1,6 @@
 // The host's answers to the engine's requests.
 ghost use mathlib.Core.Path.{_≡_};
-ghost use mathlib.Core.Bool.{_||_, _&&_};
+ghost use mathlib.Core.Bool.{true, _||_, _&&_};
 ghost use Prim.Native.Nat.{_≤_};
 ghost use lib.ListN.{length};
 ghost use Rattle.digest.specs.Md5.{octets16};
@@ -10,12 +10,13 @@ ghost use Rattle.connection.specs.Send.{fieldsOf, sendBytes, sending, sentInto}
 ghost use Rattle.connection.specs.Connect.{challengeHeader};
 ghost use Rattle.connection.specs.Pieces.{credentialsOf};
 ghost use Rattle.outgoing.specs.Outgoing.{nextPacket};
-ghost use Rattle.engine.specs.Carry.{written, packetSent, objectWith, passwordPlan};
-ghost use Rattle.model.specs.Model.{stepped, stores, acknowledgeStep, bodyFailedStep, bodyStep, objectStep, nonceStep, passwordStep, replyStep, credentialsStep, optionsOf, realmOf, badHeaders, badReply, capacityOf};
-ghost use Rattle.engine.specs.Accept.{repliedPeer};
+ghost use Rattle.engine.specs.Carry.{written, packetSent, passwordPlan};
+ghost use Rattle.model.specs.Model.{stepped, stores, acknowledgeStep, bodyFailedStep, bodyStep, objectStep, nonceStep, passwordStep, replyStep, credentialsStep, optionsOf, realmOf, badHeaders, badReply, capacityOf, limitOf, soundOperation, objectOf};
+ghost use Rattle.engine.specs.Accept.{repliedPeer, credentialsBy};
 use crate::accept::connect_answer;
 use crate::accept::connect_sends;
 use crate::carry::carry_out;
+use crate::carry::object_plan;
 use crate::carry::packet_plan;
 use crate::carry::sends;
 use crate::carry::sent_plan;
@@ -46,7 +47,6 @@ use model::server::Settings;
 use model::server::Took;
 use outgoing::body::Outgoing;
 use outgoing::body::body_given;
-use outgoing::body::next_packet;
 use packet::auth::is_long;
 use packet::header::is_canonical;
 use packet::response::is_code;
@@ -123,14 +123,13 @@ pub fn sends_next(
     requires { ⌜ (255 ≤ e .peer .«remote_max_packet_length») × (o .total ≤ length (now headers)) × (65535 ≤ length (now reply)) ⌝ }
     ensures { λ r. ⌜ written r (now (reply .exit)) ≡ packetSent e srm wait (nextPacket (capacityOf e) o (now (headers .entry)) (now (reply .entry))) ⌝ }
 {
-    let capacity = wide16(e.peer.remote_max_packet_length) - 3;
-    let k = next_packet(capacity, o, headers, reply);
-    carry_out(packet_plan(e, srm, wait, k), reply)
+    let plan = object_plan(e, o, srm, wait, headers, reply);
+    carry_out(plan, reply)
 }
 
 // SRM that was not granted yet goes in front of the object's headers.
 fn object_of(total: usize, lead: bool, has_body: bool) -> Outgoing
-    ensures { λ r. ⌜ r ≡ objectWith total lead «has_body» ⌝ }
+    ensures { λ r. ⌜ r ≡ objectOf total lead «has_body» ⌝ }
 {
     Outgoing {
         total,
@@ -402,6 +401,48 @@ fn both(a: bool, b: bool) -> bool
     b
 }
 
+// The Connect that waits is answered with credentials, or without; a user id over 255 bytes is 8.
+fn credentials_given(
+    e: Engine,
+    has_credentials: bool,
+    has_user: bool,
+    user: &[u8],
+    password: &[u8],
+    packet: &[u8],
+    headers: &[u8],
+    reply: &mut [u8],
+) -> Took
+    requires { ⌜ (soundOperation (limitOf e) (e .operation) ≡ true) × (length (now packet) ≤ 65535) × (65535 ≤ length (now headers)) × (65535 ≤ length (now reply)) ⌝ }
+    ensures { λ r. ⌜ written r (now (reply .exit)) ≡ credentialsBy (e .operation) e (credentialsOf «has_credentials» (given «has_user» (now (user .entry))) (now (password .entry))) (now (packet .entry)) (now (headers .entry)) (now (reply .entry)) ⌝ }
+{
+    let operation = e.operation;
+    let Operation::Connecting {
+        code,
+        front,
+        length: kept,
+    } = operation
+    else {
+        return refuse(e, 9);
+    };
+    let named = both(has_credentials, has_user);
+    if is_long(named, user.len()) {
+        return refuse(e, 8);
+    }
+    connect_sends(
+        e,
+        e.peer,
+        code,
+        front,
+        packet,
+        &headers[..kept],
+        has_credentials,
+        named,
+        user,
+        password,
+        reply,
+    )
+}
+
 // Credentials for the peer's challenge, or none: the host's answer to the Connect goes out.
 pub fn credentials(
     e: Engine,
@@ -428,31 +469,15 @@ pub fn credentials(
     if number != 0 {
         return refuse(e, number);
     }
-    let operation = e.operation;
-    let Operation::Connecting {
-        code,
-        front,
-        length: kept,
-    } = operation
-    else {
-        return refuse(e, 9);
-    };
-    let named = both(has_credentials, has_user);
-    if is_long(named, user.len()) {
-        return refuse(e, 8);
-    }
     let length = e.length;
-    connect_sends(
+    credentials_given(
         e,
-        e.peer,
-        code,
-        front,
-        &packet[..length],
-        &headers[..kept],
         has_credentials,
-        named,
+        has_user,
         user,
         password,
+        &packet[..length],
+        &headers[..],
         reply,
     )
 }

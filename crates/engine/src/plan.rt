@@ -22,6 +22,7 @@ pub enum Small {
     Grant,
 }
 
+// What to do next.
 pub struct Plan {
     pub engine: Engine,
     pub outcome: Outcome,
@@ -157,6 +158,7 @@ fn put_continues(e: Engine, g: Gathered, srm: bool, confirm: bool, additional: b
     )
 }
 
+// A final Put packet: past the limit 0x4D, else the host gets the record.
 fn put_final(e: Engine, g: Gathered) -> Plan
     ensures { λ r. ⌜ r ≡ putFinalPlan e g ⌝ }
 {
@@ -233,6 +235,7 @@ pub fn get_plan(
     )
 }
 
+// The request for an operation of headers alone.
 fn headers_request(opcode: Opcode, kept: usize) -> Request
     ensures { λ r. ⌜ r ≡ headersRequest opcode kept ⌝ }
 {

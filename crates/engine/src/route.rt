@@ -2,7 +2,7 @@
 ghost use mathlib.Core.Path.{_≡_};
 ghost use Prim.Native.Nat.{_≤_};
 ghost use Rattle.model.specs.Model.{nothingGathered, rejection as rejectionOf, drains as drainsOf, confirms as confirmsOf, busy as busyWith};
-ghost use Rattle.engine.specs.Route.{admissionOf, unauthorizedFor, codeRoute, askRoute, drainedBy, rejectedRoute, putRoute, getRoute, headersRoute, dispatchRoute, openRoute, interruptsRoute, continuedRoute, drainingRoute, insideRoute, headingRoute, unreadableRoute, briefPlan, keepOf, kindPlan};
+ghost use Rattle.engine.specs.Route.{admissionOf, unauthorizedFor, codeRoute, askRoute, drainedBy, rejectedRoute, putRoute, getRoute, sendRoute, headersRoute, dispatchRoute, openRoute, interruptsRoute, continuedRoute, drainingRoute, insideRoute, headingRoute, unreadableRoute, briefPlan, keepOf, kindPlan};
 use crate::plan::Plan;
 use crate::plan::asks;
 use crate::plan::code;
@@ -52,6 +52,7 @@ pub enum Brief {
     End { number: u8 },
 }
 
+// Which way a packet goes.
 pub enum Route {
     Plain(Brief),
     Connect,
@@ -74,6 +75,7 @@ pub enum Route {
 
 // ---- a packet between operations
 
+// Whether a packet that opens an operation is turned away, and with which code.
 pub enum Admission {
     Admits,
     Rejects(u8),
@@ -111,6 +113,7 @@ fn rejection(e: Engine, h: Heading) -> Admission
     Admission::Admits
 }
 
+// Which operations are drained.
 fn drains(opcode: Opcode) -> bool
     ensures { λ r. ⌜ r ≡ drainsOf opcode ⌝ }
 {
@@ -120,6 +123,7 @@ fn drains(opcode: Opcode) -> bool
     same(opcode, Opcode::Get)
 }
 
+// A reply of a code, and nothing is open.
 fn reply_code(code: u8) -> Route
     ensures { λ r. ⌜ r ≡ codeRoute code ⌝ }
 {
@@ -143,6 +147,7 @@ fn drained(e: Engine, h: Heading) -> bool
     false
 }
 
+// Turned away: drained, or answered at once.
 fn rejected(e: Engine, h: Heading, code: u8) -> Route
     ensures { λ r. ⌜ r ≡ rejectedRoute e h code ⌝ }
 {
@@ -177,6 +182,7 @@ fn nothing_gathered() -> Gathered
     }
 }
 
+// A packet of a Put, of a Get's request, of a Get's object, of an operation of headers alone.
 fn put_route(h: Heading, begun: Gathered, srm: bool, confirm: bool) -> Route
     ensures { λ r. ⌜ r ≡ putRoute h begun srm confirm ⌝ }
 {
@@ -203,6 +209,16 @@ fn get_route(h: Heading, begun: Gathered, srm: bool, confirm: bool) -> Route
     }
 }
 
+fn send_route(h: Heading, outgoing: Outgoing, srm: bool) -> Route
+    ensures { λ r. ⌜ r ≡ sendRoute h outgoing srm ⌝ }
+{
+    Route::Send {
+        outgoing,
+        srm,
+        wait: h.survey.wait,
+    }
+}
+
 fn headers_route(h: Heading, opcode: Opcode, begun: Gathered) -> Route
     ensures { λ r. ⌜ r ≡ headersRoute h opcode begun ⌝ }
 {
@@ -222,6 +238,7 @@ fn ask(awaits: Await, request: Request) -> Route
     Route::Plain(Brief::Ask { awaits, request })
 }
 
+// A packet that is admitted.
 fn dispatch(e: Engine, h: Heading) -> Route
     ensures { λ r. ⌜ r ≡ dispatchRoute (h .opcode) e h ⌝ }
 {
@@ -261,6 +278,7 @@ fn dispatch(e: Engine, h: Heading) -> Route
     }
 }
 
+// Nothing is open. Connect is not turned away.
 fn open_route(e: Engine, h: Heading) -> Route
     requires { ⌜ e .peer .count ≤ 64 ⌝ }
     ensures { λ r. ⌜ r ≡ openRoute e h ⌝ }
@@ -297,6 +315,7 @@ fn interrupts() -> Route
     })
 }
 
+// An operation that is turned away is read to its final packet.
 fn draining(h: Heading, code: u8) -> Route
     ensures { λ r. ⌜ r ≡ drainingRoute h code ⌝ }
 {
@@ -306,6 +325,7 @@ fn draining(h: Heading, code: u8) -> Route
     Route::Plain(Brief::Drain { code })
 }
 
+// By what is open.
 fn inside(e: Engine, h: Heading) -> Route
     requires { ⌜ e .peer .count ≤ 64 ⌝ }
     ensures { λ r. ⌜ r ≡ insideRoute (e .operation) e h ⌝ }
@@ -329,15 +349,7 @@ fn inside(e: Engine, h: Heading) -> Route
             chunk: _,
             srm,
             wait: _,
-        } => continued(
-            h,
-            Opcode::Get,
-            Route::Send {
-                outgoing,
-                srm,
-                wait: h.survey.wait,
-            },
-        ),
+        } => continued(h, Opcode::Get, send_route(h, outgoing, srm)),
         Operation::Gathering { opcode, gathered } => continued(
             h,
             opcode,
@@ -364,6 +376,7 @@ pub fn heading_route(e: Engine, h: Heading) -> Route
     inside(e, h)
 }
 
+// An operation is open.
 fn busy(operation: Operation) -> bool
     ensures { λ r. ⌜ r ≡ busyWith operation ⌝ }
 {
@@ -414,6 +427,7 @@ pub fn unreadable(e: Engine, unknown: bool) -> Route
 
 // ---- acting on it, without the stores
 
+// A step of few bytes.
 pub fn brief_plan(e: Engine, brief: Brief) -> Plan
     ensures { λ r. ⌜ r ≡ briefPlan e brief ⌝ }
 {
@@ -425,6 +439,7 @@ pub fn brief_plan(e: Engine, brief: Brief) -> Plan
     }
 }
 
+// Which headers are kept.
 pub fn keep(kind: Kind) -> Keep
     ensures { λ r. ⌜ r ≡ keepOf kind ⌝ }
 {
@@ -435,6 +450,7 @@ pub fn keep(kind: Kind) -> Keep
     }
 }
 
+// A packet that is gathered.
 pub fn kind_plan(
     e: Engine,
     kind: Kind,

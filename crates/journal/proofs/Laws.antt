@@ -34,9 +34,6 @@ body-length (some a) (some b) = length-append a b
 pub joined-bare : (c : Carried) → joined c bare ≡ c
 joined-bare c = ap₂ (λ (h : List ℕ) (b : Option (List ℕ)). record { headers = h; body = b }) (append-nil (c .headers)) (body-none (c .body))
 
-pub bare-joined : (c : Carried) → joined bare c ≡ c
-bare-joined c = refl
-
 pub joined-assoc : (c d e : Carried) → joined (joined c d) e ≡ joined c (joined d e)
 joined-assoc c d e =
     ap₂ (λ (h : List ℕ) (b : Option (List ℕ)). record { headers = h; body = b })
@@ -63,12 +60,9 @@ step-on p ys r = go (ltb (length p) 3) (ltb (be16 p 1) 3) (leb (be16 p 1) (lengt
     go false false true = refl
     go false false false = refl
 
--- fed in two pieces or at once, bytes read the same
+-- Said for whoever reads the journal, and cited nowhere: fed in two pieces or at once, bytes read the same.
 pub read-append : (p xs ys : List ℕ) → readUp p (xs ++ ys) ≡ readOn (readUp p xs) ys
 unfolding readUp
 read-append p [] ys = refl
 read-append p (x ∷ xs) ys =
     ap (readStep (p ++ (x ∷ []))) (read-append (p ++ (x ∷ [])) xs ys) ∙ step-on (p ++ (x ∷ [])) ys (readUp (p ++ (x ∷ [])) xs)
-
-pub read-more : (p q xs ys : List ℕ) → readUp p xs ≡ more q → readUp p (xs ++ ys) ≡ readUp q ys
-read-more p q xs ys e = read-append p xs ys ∙ ap (λ (r : Read). readOn r ys) e

@@ -20,6 +20,10 @@ use Rattle.journal.proofs.Laws.{joined-bare, joined-assoc, size-joined}
 -- ---- the forms, found in one pass: `run` follows a Put that began at `at` and has n packets that carry c, `forms` starts one at each
 -- packet that may begin one; places count from i
 
+-- what is carried, with a packet more
+abbrev pub adds : Carried → Marked → Carried
+adds c p = joined c (carriedIn (p .bytes))
+
 abbrev pub closing : ℕ → ℕ → ℕ → Carried → List Form
 closing limit at n c = pick (leb (sizeOf c) limit) (record { first = at; count = n; given = c } ∷ []) []
 
@@ -27,7 +31,7 @@ abbrev pub run : ℕ → ℕ → ℕ → Carried → List Marked → List Form
 run limit at n c [] = []
 run limit at n c (p ∷ ps) =
     pick (readablePut (p .bytes))
-    (pick (isFinal (p .bytes)) (closing limit at (n + 1) (joined c (carriedIn (p .bytes)))) (run limit at (n + 1) (joined c (carriedIn (p .bytes))) ps))
+    (pick (isFinal (p .bytes)) (closing limit at (n + 1) (adds c p)) (run limit at (n + 1) (adds c p) ps))
     []
 
 abbrev pub mayBegin : Marked → Bool
@@ -46,7 +50,7 @@ past limit at n c [] h = refl
 past limit at n c (p ∷ ps) h = go (readablePut (p .bytes)) (isFinal (p .bytes)) refl refl (past limit at (n + 1) total ps longer)
   where
     total : Carried
-    total = joined c (carriedIn (p .bytes))
+    total = adds c p
 
     longer : limit < sizeOf total
     longer = omega (arith, size-joined c (carriedIn (p .bytes)))
@@ -100,7 +104,7 @@ puts-cons p (q ∷ l) e j w = (e, j, w)
 
 module _ (limit at n : ℕ) (c : Carried) (p : Marked) (ps : List Marked) (f : Form) where
   abbrev total : Carried
-  total = joined c (carriedIn (p .bytes))
+  total = adds c p
 
   module _ (e : readablePut (p .bytes) ≡ true) where
     found-here : isFinal (p .bytes) ≡ true → leb (sizeOf total) limit ≡ true → (f ≡ record { first = at; count = n + 1; given = total }) ⊎ ⊥ → Found limit at n c (p ∷ ps) f
@@ -132,10 +136,10 @@ module _ (limit at n : ℕ) (c : Carried) (p : Marked) (ps : List Marked) (f : F
 run-sound : (limit at n : ℕ) (c : Carried) (ps : List Marked) (f : Form) → In f (run limit at n c ps) → Found limit at n c ps f
 run-sound limit at n c [] f w = absurd w
 run-sound limit at n c (p ∷ ps) f w =
-    go (readablePut (p .bytes)) (isFinal (p .bytes)) (leb (sizeOf (joined c (carriedIn (p .bytes)))) limit) refl refl refl w (run-sound limit at (n + 1) (joined c (carriedIn (p .bytes))) ps f)
+    go (readablePut (p .bytes)) (isFinal (p .bytes)) (leb (sizeOf (adds c p)) limit) refl refl refl w (run-sound limit at (n + 1) (adds c p) ps f)
   where
-    go : (t u v : Bool) → readablePut (p .bytes) ≡ t → isFinal (p .bytes) ≡ u → leb (sizeOf (joined c (carriedIn (p .bytes)))) limit ≡ v → In f (run limit at n c (p ∷ ps))
-        → (In f (run limit at (n + 1) (joined c (carriedIn (p .bytes))) ps) → Found limit at (n + 1) (joined c (carriedIn (p .bytes))) ps f) → Found limit at n c (p ∷ ps) f
+    go : (t u v : Bool) → readablePut (p .bytes) ≡ t → isFinal (p .bytes) ≡ u → leb (sizeOf (adds c p)) limit ≡ v → In f (run limit at n c (p ∷ ps))
+        → (In f (run limit at (n + 1) (adds c p) ps) → Found limit at (n + 1) (adds c p) ps f) → Found limit at n c (p ∷ ps) f
     go false u v e j g k ih = absurd (simp e at k)
     go true true true e j g k ih = found-here limit at n c p ps f e j g (simp (e, j, g) at k)
     go true true false e j g k ih = absurd (simp (e, j, g) at k)
@@ -146,17 +150,18 @@ run-complete : (limit at n : ℕ) (c : Carried) (ps : List Marked) (f : Form) (k
 run-complete limit at n c [] f zero a b s w l g = absurd w
 run-complete limit at n c [] f (suc k) a b s w l g = absurd w
 run-complete limit at n c (p ∷ ps) f zero a b s w l g = absurd w
-run-complete limit at n c (p ∷ ps) f (suc k) a b s w l g = go (take k ps) refl (run-complete limit at (n + 1) (joined c (carriedIn (p .bytes))) ps f k a (omega arith))
+run-complete limit at n c (p ∷ ps) f (suc k) a b s w l g = go (take k ps) refl (run-complete limit at (n + 1) (adds c p) ps f k a (omega arith))
   where
     go : (r : List Marked) → take k ps ≡ r
-        → (length (take k ps) ≡ k → Puts (take k ps) → sizeOf (f .given) ≤ limit → f .given ≡ joined (joined c (carriedIn (p .bytes))) (carried (take k ps)) → In f (run limit at (n + 1) (joined c (carriedIn (p .bytes))) ps))
+        → (length (take k ps) ≡ k → Puts (take k ps) → sizeOf (f .given) ≤ limit → f .given ≡ joined (adds c p) (carried (take k ps))
+        → In f (run limit at (n + 1) (adds c p) ps))
         → In f (run limit at n c (p ∷ ps))
     go [] e ih =
         let v : Puts (p ∷ []) = rw e at w in
         let z : k ≡ 0 = omega (arith, s, ap length e) in
-        let y : f .given ≡ joined c (carriedIn (p .bytes)) = g ∙ ap (λ (r : List Marked). joined c (joined (carriedIn (p .bytes)) (carried r))) e ∙ ap (joined c) (joined-bare (carriedIn (p .bytes))) in
-        let x : sizeOf (joined c (carriedIn (p .bytes))) ≤ limit = rw y at l in
-        simp (v .0, v .1, le-leb _ _ x) (inl (form-eq f at (n + 1) (joined c (carriedIn (p .bytes))) a (omega arith) y))
+        let y : f .given ≡ adds c p = g ∙ ap (λ (r : List Marked). joined c (joined (carriedIn (p .bytes)) (carried r))) e ∙ ap (joined c) (joined-bare (carriedIn (p .bytes))) in
+        let x : sizeOf (adds c p) ≤ limit = rw y at l in
+        simp (v .0, v .1, le-leb _ _ x) (inl (form-eq f at (n + 1) (adds c p) a (omega arith) y))
     go (q ∷ r) e ih =
         let v : Puts (p ∷ q ∷ r) = rw e at w in
         simp (v .0, v .1) (ih (omega arith) (rw e (v .2)) l (g ∙ sym (joined-assoc c (carriedIn (p .bytes)) (carried (take k ps)))))
@@ -224,7 +229,8 @@ forms-complete limit whole f w (p ∷ ps) i d h = go (eqb i (f .first)) refl (fo
         let q : f .first ≡ i = sym (eqb-true _ _ e) in
         let runs : runOf whole f ≡ take (f .count) (p ∷ ps) = ap (λ (x : ℕ). take (f .count) (drop x whole)) q ∙ ap (take (f .count)) d in
         let one : OnePut limit (take (f .count) (p ∷ ps)) (f .given) = subst (λ (l : List Marked). OnePut limit l (f .given)) runs (w .one) in
-        let m : In f (run limit i 0 bare (p ∷ ps)) = run-complete limit i 0 bare (p ∷ ps) f (f .count) q (omega arith) (ap length (sym runs) ∙ w .there) (one .puts) (one .within) (one .is) in
+        let m : In f (run limit i 0 bare (p ∷ ps)) =
+        run-complete limit i 0 bare (p ∷ ps) f (f .count) q (omega arith) (ap length (sym runs) ∙ w .there) (one .puts) (one .within) (one .is) in
         in-left f (begins limit i p ps) (forms limit (i + 1) ps)
         (subst (λ (t : Bool). In f (pick t (run limit i 0 bare (p ∷ ps)) [])) (sym (starts-may p (take-starts (f .count) p ps (one .puts) (one .starts)))) m)
 
@@ -269,8 +275,11 @@ only (f ∷ k) (g ∷ l) m n a b p q i j =
     (λ h w. in-rest f h k (omega (arith, begins-late (g .first + g .count) l h (b .1) w, q g (inl refl))) (j h (inr w))) in
     ap₂ (λ (x : Form) (y : List Form). x ∷ y) e r
 
+-- Said for whoever reads `Exactly`, and cited nowhere.
 pub exactly-one : OneList
 exactly-one limit ps rs qs a b =
+    let m : (f : Form) → In f (a .forms) → 0 < f .count = λ f w. takes-one (a .each f w) in
+    let n : (f : Form) → In f (b .forms) → 0 < f .count = λ f w. takes-one (b .each f w) in
     a .records
-    ∙ ap (map (λ (f : Form). f .given)) (only (a .forms) (b .forms) 0 0 (a .apart) (b .apart) (λ f w. takes-one (a .each f w)) (λ f w. takes-one (b .each f w)) (λ f w. b .all f (a .each f w)) (λ f w. a .all f (b .each f w)))
+    ∙ ap (map (λ (f : Form). f .given)) (only (a .forms) (b .forms) 0 0 (a .apart) (b .apart) m n (λ f w. b .all f (a .each f w)) (λ f w. a .all f (b .each f w)))
     ∙ sym (b .records)

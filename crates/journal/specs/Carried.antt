@@ -1,12 +1,12 @@
 -- What the packets of a Put carry (document 01, Put): the headers that are kept, as received, and the body.
 use Prim.Native.Nat.{ℕ}
 use mathlib.Core.List.{List, [], _∷_, _++_}
-use mathlib.Core.Bool.{Bool, true, false, _||_}
+use mathlib.Core.Bool.{Bool, _||_}
 use mathlib.Core.Option.{Option, none, some}
 use lib.ListN.{length}
 use lib.Dec.{eqb}
 use Rattle.base.specs.Pick.{pick}
-use Rattle.packet.specs.Header.{Header, bytesOf, allBytes}
+use Rattle.packet.specs.Header.{Header, bytesOf}
 
 -- ---- ids
 
@@ -27,11 +27,13 @@ pub record Carried : Type 0 where
 abbrev pub bare : Carried
 bare = record { headers = []; body = none }
 
+-- a body that came in two parts
 abbrev pub joinBody : Option (List ℕ) → Option (List ℕ) → Option (List ℕ)
 joinBody none b = b
 joinBody (some a) none = some a
 joinBody (some a) (some b) = some (a ++ b)
 
+-- what two packets carry
 abbrev pub joined : Carried → Carried → Carried
 joined c d = record { headers = c .headers ++ d .headers; body = joinBody (c .body) (d .body) }
 
@@ -49,6 +51,7 @@ carriedOne h =
     pick (isBody (h .id)) (record { headers = []; body = some (h .value) })
     (pick (isSrm (h .id)) bare (record { headers = bytesOf h; body = none }))
 
+-- all headers of a packet
 unfoldable pub carriedBy : List Header → Carried
 carriedBy [] = bare
 carriedBy (h ∷ hs) = joined (carriedOne h) (carriedBy hs)

@@ -16,7 +16,7 @@ use Rattle.packet.specs.Packet.{Request, requestOf}
 use Rattle.packet.specs.Auth.{Response, responseOf, verified}
 use Rattle.packet.specs.declared.opcode.Opcode.{Opcode}
 use Rattle.packet.specs.declared.opcode.Opcode.the-variants.{Connect, Disconnect, Put, Get, SetPath, Action, Session, Abort, UserDefined}
-use Rattle.journal.specs.Carried.{Carried, bare, joined, sizeOf, carriedBy, keptByGet}
+use Rattle.journal.specs.Carried.{Carried, joined, sizeOf, carriedBy, keptByGet}
 use Rattle.journal.specs.Ids.{member, without, newId}
 use Rattle.journal.specs.Calls.{Call, bytesOffered, streamEnded, replyTaken, replyGiven, objectGiven, bodyGiven, bodyFailed, abortAcknowledged, passwordGiven, nonceGiven, credentialsGiven, Verdict, goes, refused, Fed}
 
@@ -46,6 +46,7 @@ pub data Opened : Type 0 where
   gathering : Opcode → List ℕ → Opened
   draining : Opened
 
+-- an operation is open
 abbrev pub busy : Opened → Bool
 busy nothing = false
 busy (putting c s) = true
@@ -75,7 +76,7 @@ fresh st =
       ended = false;
     }
 
--- ---- a step: the journal afterwards, and the records handed over
+-- ---- a step: the journal afterwards, and the records handed over; then what a step may change, each in turn
 
 pub record Entry : Type 0 where
   pub next : Journal
@@ -84,6 +85,7 @@ pub record Entry : Type 0 where
 abbrev pub unchanged : Journal → Entry
 unchanged j = record { next = j; given = [] }
 
+-- these bytes of a packet have come
 abbrev pub begin : Journal → List ℕ → Journal
 begin j p =
     record { settings = j .settings; begun = p; last = j .last; opened = j .opened; standing = j .standing; ended = j .ended }
@@ -92,14 +94,17 @@ begin j p =
 abbrev pub after : Journal → Option Request → Opened → Journal
 after j r o = record { settings = j .settings; begun = []; last = r; opened = o; standing = j .standing; ended = j .ended }
 
+-- this is open now
 abbrev pub opens : Journal → Opened → Journal
 opens j o =
     record { settings = j .settings; begun = j .begun; last = j .last; opened = o; standing = j .standing; ended = j .ended }
 
+-- its standing is this now
 abbrev pub stands : Journal → Standing → Journal
 stands j s =
     record { settings = j .settings; begun = j .begun; last = j .last; opened = j .opened; standing = s; ended = j .ended }
 
+-- nothing is read any more
 abbrev pub end : Journal → Journal
 end j =
     record { settings = j .settings; begun = []; last = j .last; opened = j .opened; standing = j .standing; ended = true }
@@ -118,6 +123,7 @@ abbrev pub notOpen : List ℕ → Option (List ℕ) → Bool
 notOpen ids none = false
 notOpen ids (some v) = not (member (be32 v 0) ids)
 
+-- what a packet that opens an operation must pass
 unfoldable pub admitted : Settings → Standing → Request → Bool
 admitted st s r = not (unauthorized st s (r .opcode)) && not (notOpen (s .ids) (first 0xCB (r .headers)))
 
@@ -126,6 +132,7 @@ abbrev pub isEnable : Option (List ℕ) → Bool
 isEnable none = false
 isEnable (some v) = eqb (getD v 0 0) 1
 
+-- and SRM is supported
 unfoldable pub asksSrm : Settings → List Header → Bool
 asksSrm st hs = st .srm && isEnable (first 0x97 hs)
 
@@ -147,6 +154,7 @@ gatherRead j r o k = unchanged (after j (some r) (pick (r .final) nothing (gathe
 abbrev pub turnedAway : Journal → Request → Entry
 turnedAway j r = unchanged (after j (some r) (pick (j .standing .srm && not (r .final)) draining nothing))
 
+-- read, and nothing is open afterwards
 abbrev pub dropped : Journal → Request → Entry
 dropped j r = unchanged (after j (some r) nothing)
 
@@ -171,6 +179,7 @@ firstRead (UserDefined x) j r =
 abbrev pub stopped : Journal → Entry
 stopped j = unchanged (end j)
 
+-- a packet that can be read, by what is open
 abbrev pub requestRead : Opened → Journal → Request → Entry
 requestRead nothing j r = firstRead (r .opcode) j r
 requestRead (putting c s) j r =
@@ -187,26 +196,31 @@ abbrev pub packetRead : Option Request → Journal → Entry
 packetRead none j = unchanged (pick (busy (j .opened)) (end j) (after j none nothing))
 packetRead (some r) j = pick (sameOpcode (r .opcode) Abort) (dropped j r) (requestRead (j .opened) j r)
 
+-- a whole packet
 unfoldable pub journalPacket : Journal → List ℕ → Entry
 journalPacket j p = packetRead (requestOf p) j
 
 -- ---- bytes up to a packet's end; a length under 3 ends the journal at the third byte
 
+-- the bytes of a packet that goes on; a whole packet; a length that is too short
 pub data Read : Type 0 where
   more : List ℕ → Read
   whole : List ℕ → Read
   short : Read
 
+-- by the bytes p that have come: what they are, else `rest`
 unfoldable pub readStep : List ℕ → Read → Read
 readStep p rest =
     pick (ltb (length p) 3) rest
     (pick (ltb (be16 p 1) 3) short
     (pick (leb (be16 p 1) (length p)) (whole p) rest))
 
+-- byte by byte after p; what follows a packet's end is not looked at
 unfoldable pub readUp : List ℕ → List ℕ → Read
 readUp p [] = more p
 readUp p (x ∷ xs) = readStep (p ++ (x ∷ [])) (readUp (p ++ (x ∷ [])) xs)
 
+-- by what the bytes are
 abbrev pub bytesRead : Journal → Read → Entry
 bytesRead j (more p) = unchanged (begin j p)
 bytesRead j (whole p) = journalPacket j p
@@ -214,24 +228,29 @@ bytesRead j short = unchanged (end j)
 
 -- ---- the host's answers
 
+-- other ids, counter and SRM
+abbrev pub withIds : Standing → List ℕ → ℕ → Bool → Standing
+withIds s ids next srm = record { authenticated = s .authenticated; challenge = s .challenge; ids = ids; next = next; srm = srm }
+
 -- the id is opened where it is not, with a counter; a 65th leaves all as it was, SRM too
 unfoldable pub openId : Standing → Bool → ℕ → ℕ → Standing
 openId s srm id next =
-    pick (member id (s .ids)) (record { authenticated = s .authenticated; challenge = s .challenge; ids = s .ids; next = s .next; srm = srm })
+    pick (member id (s .ids)) (withIds s (s .ids) (s .next) srm)
     (pick (leb 64 (length (s .ids))) s
-    (record { authenticated = s .authenticated; challenge = s .challenge; ids = s .ids ++ (id ∷ []); next = next; srm = srm }))
+    (withIds s (s .ids ++ (id ∷ [])) next srm))
 
 -- after success: the answer's first ConnectionID is opened, else for a Target the one that the search yields; then SRM
 abbrev pub opensFor : Standing → Bool → Option (List ℕ) → Option (List ℕ) → Standing
 opensFor s srm (some v) target = openId s srm (be32 v 0) (s .next)
 opensFor s srm none (some t) = openId s srm (newId (s .ids) (s .next)) ((newId (s .ids) (s .next) + 1) % 2 ^ 32)
-opensFor s srm none none =
-    record { authenticated = s .authenticated; challenge = s .challenge; ids = s .ids; next = s .next; srm = srm }
+opensFor s srm none none = withIds s (s .ids) (s .next) srm
 
+-- none where they cannot be read
 abbrev pub listOf : Option (List Header) → List Header
 listOf none = []
 listOf (some hs) = hs
 
+-- the host's answer to a Connect: any code but success changes nothing
 unfoldable pub connected : Settings → Standing → List Header → ℕ → List Header → Standing
 connected st s request code answer =
     pick (isSuccess code) (opensFor s (s .srm || asksSrm st request) (first 0xCB answer) (first 0x46 request)) s
@@ -242,8 +261,7 @@ cleared s = record { authenticated = false; challenge = s .challenge; ids = []; 
 
 abbrev pub leaves : Standing → List ℕ → Standing
 leaves s [] = cleared s
-leaves s (i ∷ is) =
-    record { authenticated = s .authenticated; challenge = s .challenge; ids = i ∷ is; next = s .next; srm = s .srm }
+leaves s (i ∷ is) = withIds s (i ∷ is) (s .next) (s .srm)
 
 abbrev pub disconnected : Standing → Option (List ℕ) → Standing
 disconnected s none = cleared s
@@ -261,6 +279,7 @@ replyTo Session j r code hs = j
 replyTo Abort j r code hs = j
 replyTo (UserDefined x) j r code hs = j
 
+-- nothing changes where that could not be read
 abbrev pub replyLast : Option Request → Journal → ℕ → List ℕ → Journal
 replyLast none j code hs = j
 replyLast (some r) j code hs = replyTo (r .opcode) j r code hs
@@ -274,6 +293,7 @@ replied sending j code hs = j
 replied (gathering o k) j code hs = j
 replied draining j code hs = j
 
+-- a Get's object is sent from now on
 abbrev pub objectSent : Opened → Journal → Journal
 objectSent (getting k) j = opens j sending
 objectSent nothing j = j
@@ -302,6 +322,7 @@ abbrev pub responseIn : Option (List ℕ) → Option Response
 responseIn none = none
 responseIn (some v) = responseOf v
 
+-- none where the packet could not be read
 abbrev pub headersOf : Option Request → List Header
 headersOf none = []
 headersOf (some r) = r .headers
@@ -309,10 +330,12 @@ headersOf (some r) = r .headers
 unfoldable pub passes : Journal → Option (List ℕ) → Bool
 passes j p = passesWith (j .standing .challenge) (responseIn (first 0x4E (headersOf (j .last)))) p
 
+-- right: the password is given from now on, and the challenge is used up
 abbrev pub passwordChecked : Standing → Bool → Standing
 passwordChecked s true = record { authenticated = true; challenge = none; ids = s .ids; next = s .next; srm = s .srm }
 passwordChecked s false = s
 
+-- a new challenge: the password is given no longer
 abbrev pub challenged : Standing → List ℕ → Standing
 challenged s n = record { authenticated = false; challenge = some n; ids = s .ids; next = s .next; srm = s .srm }
 
@@ -336,6 +359,7 @@ abbrev pub journalFed : Journal → Call → Verdict → ℕ → Entry
 journalFed j c (refused n) b = unchanged j
 journalFed j c goes b = pick (j .ended) (unchanged j) (journalCall j c b)
 
+-- a call as it is fed
 unfoldable pub journalStep : Journal → Fed → Entry
 journalStep j f = journalFed j (f .call) (f .verdict) (f .reply)
 
@@ -355,6 +379,7 @@ readIn j (more p) = []
 readIn j (whole p) = record { before = j; bytes = p } ∷ []
 readIn j short = []
 
+-- by the call
 abbrev pub callReads : Journal → Call → List Marked
 callReads j (bytesOffered i) = readIn j (readUp (j .begun) i)
 callReads j streamEnded = []
@@ -372,6 +397,7 @@ abbrev pub fedReads : Journal → Call → Verdict → List Marked
 fedReads j c (refused n) = []
 fedReads j c goes = pick (j .ended) [] (callReads j c)
 
+-- of a list of calls
 abbrev pub packets : Journal → List Fed → List Marked
 packets j [] = []
 packets j (f ∷ fs) = fedReads j (f .call) (f .verdict) ++ packets (journalStep j f .next) fs

@@ -1,5 +1,5 @@
--- The Put form (the mission's demand 3): which consecutive packets are one Put, and the record that they stand for. It names packets,
--- and of the journal only whether anything was open or all had ended before the first, and whether that one is admitted. No engine.
+-- The Put form (the mission's demand 3): which consecutive packets are one Put, and the record that they stand for. It names packets, and
+-- of the journal only whether anything was open or all had ended before the first, and whether that one is admitted. No engine.
 use Prim.Native.Nat.{ℕ, _+_, _≤_}
 use mathlib.Core.Path.{_≡_}
 use mathlib.Core.List.{List, [], _∷_, map}
@@ -27,6 +27,7 @@ abbrev pub finalRequest : Option Request → Bool
 finalRequest none = false
 finalRequest (some r) = r .final
 
+-- a final packet
 unfoldable pub isFinal : List ℕ → Bool
 isFinal p = finalRequest (requestOf p)
 
@@ -42,6 +43,7 @@ abbrev pub admittedRequest : Journal → Option Request → Bool
 admittedRequest j none = false
 admittedRequest j (some r) = admitted (j .settings) (j .standing) r
 
+-- a packet that is admitted
 unfoldable pub admits : Journal → List ℕ → Bool
 admits j p = admittedRequest j (requestOf p)
 
@@ -78,6 +80,7 @@ pub record Form : Type 0 where
   pub count : ℕ
   pub given : Carried
 
+-- its packets
 abbrev pub runOf : List Marked → Form → List Marked
 runOf ps f = take (f .count) (drop (f .first) ps)
 
@@ -86,6 +89,7 @@ pub record IsForm (limit : ℕ) (ps : List Marked) (f : Form) : Type 0 where
   pub there : length (runOf ps f) ≡ f .count
   pub one : OnePut limit (runOf ps f) (f .given)
 
+-- it is in the list
 abbrev pub In : Form → List Form → Type 0
 In f [] = ⊥
 In f (g ∷ l) = (f ≡ g) ⊎ In f l

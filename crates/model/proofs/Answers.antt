@@ -15,7 +15,7 @@ use Rattle.packet.specs.Auth.{Challenge as PeerChallenge, Response}
 use Rattle.packet.specs.declared.opcode.Opcode.{Opcode}
 use Rattle.packet.specs.declared.opcode.Opcode.the-variants as op
 use Rattle.journal.specs.Calls.{Credentials}
-use Rattle.journal.specs.Journal.{Settings as JournalSettings, Standing, Opened, Journal, unchanged, stands, asksSrm, opensFor, connected, disconnected, replyTo, replyLast, replied, passesWith, responseIn as journalResponse, passes, headersOf, passwordChecked, challenged}
+use Rattle.journal.specs.Journal.{Settings as JournalSettings, Standing, Opened, Journal, unchanged, stands, asksSrm, opensFor, connected, disconnected, replyTo, replyLast, replied, passesWith, responseIn, passes, headersOf, passwordChecked, challenged, listOf}
 use Rattle.incoming.specs.Survey.{surveyOf}
 use Rattle.connection.specs.Send.{fieldsOf, sendBytes, front}
 use Rattle.connection.specs.Peer.{verifiedPeer, challengedPeer, openedFor, disconnectedPeer}
@@ -23,7 +23,7 @@ use Rattle.connection.specs.Connect.{answeredChallenge}
 use Rattle.connection.specs.declared.peer.Challenge.{Challenge}
 use Rattle.connection.specs.declared.peer.Challenge.the-variants.{Stored, Absent}
 use Rattle.connection.specs.declared.peer.Peer.{Peer}
-use Rattle.model.specs.Model.{Stores, withHeaders, asks, sent, sends, sendsConnect, lastPacket, lastHeaders, clientResponse, srmAsked, connectSends, frontFor, listOf, credentialsFor, connectChallenged, connectOpened, connectAnswer, checks, passwordAnswer, nonceAnswer}
+use Rattle.model.specs.Model.{Stores, withHeaders, asks, sent, sends, sendsConnect, lastPacket, lastHeaders, clientResponse, srmAsked, connectSends, frontFor, credentialsFor, connectChallenged, connectOpened, connectAnswer, checks, passwordAnswer, nonceAnswer}
 use Rattle.model.specs.Claims.{settingsOf}
 use Rattle.model.specs.declared.server.Operation.the-variants.{Nothing, Connecting}
 use Rattle.connection.specs.declared.peer.ConnectionId.{ConnectionId}
@@ -152,9 +152,9 @@ module _ (e : Engine) (s : Stores) (j : Journal) (o : Opcode) (w : AskedBy (e .s
   passes-is : (p : Option (List ℕ)) → passes j p ≡ checks (e .peer .challenge) (clientResponse e s) p
   unfolding passes clientResponse
   passes-is p =
-      ap₂ (λ (x : Standing) (y : Option Packet). passesWith (x .challenge) (journalResponse (first 0x4E (headersOf y))) p)
+      ap₂ (λ (x : Standing) (y : Option Packet). passesWith (x .challenge) (responseIn (first 0x4E (headersOf y))) p)
       (w .held .fixed .standing) (w .last)
-      ∙ ap (λ (y : List Header). passesWith (challengeBytes (e .peer .challenge)) (journalResponse (first 0x4E y)) p) headers-are
+      ∙ ap (λ (y : List Header). passesWith (challengeBytes (e .peer .challenge)) (responseIn (first 0x4E y)) p) headers-are
       ∙ checks-are (e .peer .challenge) _ p
 
   pub password-told : o ≡ op.Connect → (p : Option (List ℕ))

@@ -1,6 +1,6 @@
 -- Each row of the table of cases is what the definitions compute. Assumes nothing.
 use mathlib.Core.Path.{_≡_, refl}
-use mathlib.Core.List.{List, map}
+use mathlib.Core.List.{map}
 use Rattle.digest.specs.Unicode.{upToZero, codes, allKept, sizes, whole, units, isPair, first16, paired, pieces16, scalars16, wellFormed16, need, low, high, inside, first8, split8, pieces8, lossy, scalars8, wellFormed8, utf8, utf16, joined}
 use Rattle.digest.specs.Md5.{stepOf, word, steps, blockOf, le, padded, blocks, outputOf, digestOf, leValue, be, beValue, octets16, numbers16, requestDigest}
 use Rattle.packet.specs.FirstByte.{named, firstByte, byteOf, sameOpcode}
@@ -21,8 +21,20 @@ use Rattle.connection.specs.Send.{sendBytes}
 use Rattle.connection.specs.Peer.{peerWith, opened, disconnectedPeer}
 use Rattle.connection.specs.Connect.{challenges, answeredChallenge, connectHeaders, challengeHeader}
 use Rattle.model.specs.Model.{engineWith, sends, sendsConnect, lastPacket, lastHeaders, putPacket, getPacket, headersPacket, sendsNext, clientResponse, userPlace, connectPacket, connectSends, connectAnswer, passwordAnswer, nonceAnswer, rejection, dispatch, packetDone, short, sound, bytesStep, endStep, takenStep, badHeaders, badReply, replyAnswer, replyStep, objectStep, bodyStep, bodyFailedStep, acknowledgeStep, passwordStep, nonceStep, credentialsStep, started, startStep}
-use Rattle.model.specs.Cases.{comesOf, evaluated, Row, table}
+use Rattle.model.specs.Cases.{comesOf, evaluated, table}
 
 pub cases : map evaluated table ≡ table
-unfolding upToZero codes allKept sizes whole units isPair first16 paired pieces16 scalars16 wellFormed16 need low high inside first8 split8 pieces8 lossy scalars8 wellFormed8 utf8 utf16 joined stepOf word steps blockOf le padded blocks outputOf digestOf leValue be beValue octets16 numbers16 requestDigest named firstByte byteOf sameOpcode isCode isSuccess isMode isParameter additional wait isAction tagsBy tags tagAt lastFrom lastUnder lastValue lastBytes writeTags putTag encodingOf tagged allowed encodedAt headerAt walk readHeaders first firstFrom firstPlace bytesOf allBytes requestOf requestAt connectLimit backup noCreate packetBytes responseFrom responseOf challengeFrom challengeOf realmPlace userIdRequired readOnly same verified challengeTags responseTags rewritten canonical isBody isSrm carriedOne carriedBy keptByGet without firstFree frameEnd framed surveyOf keepBytes storeBytes gatherOne gatherAll fill fillPacket fullChunk nextPacket bodyGiven sendBytes peerWith opened disconnectedPeer challenges answeredChallenge connectHeaders challengeHeader engineWith sends sendsConnect lastPacket lastHeaders putPacket getPacket headersPacket sendsNext clientResponse userPlace connectPacket connectSends connectAnswer passwordAnswer nonceAnswer rejection dispatch packetDone short sound bytesStep endStep takenStep badHeaders badReply replyAnswer replyStep objectStep bodyStep bodyFailedStep acknowledgeStep passwordStep nonceStep credentialsStep started startStep comesOf evaluated
+unfolding upToZero codes allKept sizes whole units isPair first16 paired pieces16 scalars16 wellFormed16 need low high inside
+    first8 split8 pieces8 lossy scalars8 wellFormed8 utf8 utf16 joined stepOf word steps blockOf le padded blocks outputOf
+    digestOf leValue be beValue octets16 numbers16 requestDigest named firstByte byteOf sameOpcode isCode isSuccess isMode
+    isParameter additional wait isAction tagsBy tags tagAt lastFrom lastUnder lastValue lastBytes writeTags putTag encodingOf
+    tagged allowed encodedAt headerAt walk readHeaders first firstFrom firstPlace bytesOf allBytes requestOf requestAt
+    connectLimit backup noCreate packetBytes responseFrom responseOf challengeFrom challengeOf realmPlace userIdRequired
+    readOnly same verified challengeTags responseTags rewritten canonical isBody isSrm carriedOne carriedBy keptByGet without
+    firstFree frameEnd framed surveyOf keepBytes storeBytes gatherOne gatherAll fill fillPacket fullChunk nextPacket bodyGiven
+    sendBytes peerWith opened disconnectedPeer challenges answeredChallenge connectHeaders challengeHeader engineWith sends
+    sendsConnect lastPacket lastHeaders putPacket getPacket headersPacket sendsNext clientResponse userPlace connectPacket
+    connectSends connectAnswer passwordAnswer nonceAnswer rejection dispatch packetDone short sound bytesStep endStep takenStep
+    badHeaders badReply replyAnswer replyStep objectStep bodyStep bodyFailedStep acknowledgeStep passwordStep nonceStep
+    credentialsStep started startStep comesOf evaluated
 cases = refl

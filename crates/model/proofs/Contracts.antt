@@ -1,9 +1,9 @@
 -- The claims of `Demand3` over contracts: what a contract says of a call is the model's step, so a run by contracts is a run of the model.
 -- Assumes nothing.
 use mathlib.Core.Path.{_≡_, refl, sym, ap, _∙_, subst}
-use mathlib.Core.List.{List, [], _∷_, _++_}
+use mathlib.Core.List.{List, _∷_, _++_}
 use mathlib.Core.Bool.{Bool, true, false}
-use Prim.Native.Nat.{ℕ, _≤_}
+use Prim.Native.Nat.{ℕ}
 use native.Mathlib.Omega.{arith}
 use lib.Dec.{ltb}
 use borrow.Author.Tests.{ltb-false}
@@ -11,13 +11,12 @@ use Rattle.journal.specs.Carried.{Carried}
 use Rattle.journal.specs.Calls.{Call, Verdict}
 use Rattle.journal.specs.Journal.{fresh, packets}
 use Rattle.journal.specs.PutForm.{Exactly}
-use Rattle.model.specs.Model.{Stores, Stepped, stepped, short, started, startStep}
-use Rattle.model.specs.Runs.{State, stateOf, stepOf, handed, records, Started}
+use Rattle.model.specs.Model.{Stores, Stepped, short, startStep}
+use Rattle.model.specs.Runs.{State, stateOf, handed, records, Started}
 use Rattle.model.specs.Refusal.{bytes, verdictOf, returned, feedOf}
 use Rattle.model.specs.Claims.{settingsOf}
-use Rattle.model.specs.Contracts.{state, Ran, none, call, Accepted, ContractsUphold}
+use Rattle.model.specs.Contracts.{state, Ran, none, call, ContractsUphold}
 use Rattle.model.specs.declared.server.Settings.{Settings}
-use Rattle.model.specs.declared.server.Took.{Took}
 use Rattle.model.specs.declared.server.Outcome.the-variants as outcome
 use Rattle.model.proofs.Demand3.{demand3, refusals}
 

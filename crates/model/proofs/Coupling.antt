@@ -14,12 +14,12 @@ use Rattle.packet.specs.Packet.{Request as Packet, requestOf, packetBytes}
 use Rattle.packet.specs.declared.opcode.Opcode.{Opcode}
 use Rattle.packet.specs.declared.opcode.Opcode.the-variants as op
 use Rattle.journal.specs.Carried.{Carried}
-use Rattle.journal.specs.Journal.{Opened, nothing, putting, getting, sending, gathering, draining, Journal, Entry, unchanged, opens, replyTo, replyLast, takenAt}
+use Rattle.journal.specs.Journal.{Opened, nothing, putting, getting, sending, gathering, draining, Journal, Entry, unchanged, opens, replyTo, replyLast, takenAt, headersOf as headersIn}
 use Rattle.incoming.specs.Gather.{gathering as gatheringOf}
 use Rattle.incoming.specs.declared.gather.Gathered.{Gathered}
 use Rattle.connection.specs.Send.{front}
 use Rattle.connection.specs.declared.peer.Peer.{Peer}
-use Rattle.model.specs.Model.{Stores, withReply, engineWith, Done, done, wants, ends, replies, repliesCode, headersIn}
+use Rattle.model.specs.Model.{Stores, withReply, engineWith, Done, done, wants, ends, replies, repliesCode}
 use Rattle.model.specs.Runs.{handed}
 use Rattle.model.specs.Claims.{settingsOf}
 use Rattle.model.specs.declared.server.Settings.{Settings}

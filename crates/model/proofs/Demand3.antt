@@ -1,6 +1,7 @@
--- The mission's demand 3. For every list of calls from an accepted start, the state and the stores passed on: the calls refused are those that
--- are due to be, the records handed over are the journal's, and those are exactly the records of the Put forms. By induction over the list:
--- each call agrees with what is due and with the journal. Assumes nothing.
+-- The mission's demand 3. For every list of calls from an accepted start, the state and the stores passed on: the calls refused are those
+-- that are due to be, the records handed over are the journal's, and those are exactly the records of the Put forms. By induction over the
+-- list: each call agrees with what is due and with the journal.
+-- Assumes nothing.
 use mathlib.Core.Path.{_≡_, refl, sym, ap, ap₂, _∙_, subst}
 use mathlib.Core.List.{List, [], _∷_, _++_}
 use native.Mathlib.Omega.{arith}
@@ -99,17 +100,21 @@ module _ (st : Settings) (s : State) (h : Started st s) where
       subst (λ (e : Engine). Coupled e (s .stores) (fresh (settingsOf st))) (sym (h .fresh))
       (record { fixed = record { settings = refl; standing = refl; ended = refl }; begun = refl; opened = refl })
 
+-- each call is refused exactly where it is due to be
 pub refusals : Refusals
 refusals st s h cs o = run-refused cs bytes s (start-sits st s h) (start-waits st s h) o
 
+-- Said for whoever asks what a refused call leaves, and cited by no other proof.
 pub refused-unmoved : RefusedUnmoved
 refused-unmoved st s h cs o = run-unmoved cs bytes s (start-sits st s h) (start-waits st s h) o
 
+-- the records that are handed over are the journal's
 pub in-journal : (st : Settings) (s : State) → Started st s → (cs : List Call) → AllOctets cs
     → Kept (packets (fresh (settingsOf st)) (feedOf bytes s cs))
     → records s cs ≡ journalRecords (fresh (settingsOf st)) (feedOf bytes s cs)
 in-journal st s h cs o k = run-entered cs bytes s (fresh (settingsOf st)) (start-sits st s h) (start-waits st s h) (start-coupled st s h) o k
 
+-- and so exactly the Put forms of the packets
 pub demand3 : Demand3
 demand3 st s h cs o k =
     let i = in-journal st s h cs o k in

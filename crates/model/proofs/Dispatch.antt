@@ -15,7 +15,7 @@ use Rattle.packet.specs.declared.opcode.Opcode.{Opcode}
 use Rattle.packet.specs.declared.opcode.Opcode.the-variants as op
 use Rattle.journal.specs.Carried.{bare, carriedBy}
 use Rattle.journal.specs.Ids.{member}
-use Rattle.journal.specs.Journal.{Standing, nothing, draining, Journal, Entry, unchanged, after, unauthorized, notOpen, admitted, asksSrm, putRead, gatherRead, turnedAway, dropped, firstRead}
+use Rattle.journal.specs.Journal.{Standing, nothing, draining, Journal, Entry, unchanged, after, unauthorized, notOpen, admitted, asksSrm, putRead, gatherRead, turnedAway, dropped, firstRead, headersOf as headersIn}
 use Rattle.incoming.specs.Survey.{idOf, present, surveyOf}
 use Rattle.incoming.specs.Gather.{gathering as gatheringOf}
 use Rattle.incoming.specs.declared.survey.Survey.{Survey}
@@ -23,7 +23,7 @@ use Rattle.connection.specs.Peer.{idsOf, limited}
 use Rattle.connection.specs.declared.peer.Challenge.{Challenge}
 use Rattle.connection.specs.declared.peer.Challenge.the-variants.{Stored, Absent}
 use Rattle.connection.specs.declared.peer.Peer.{Peer}
-use Rattle.model.specs.Model.{Stores, Done, wants, asks, repliesCode, putPacket, headersPacket, headersIn, lastPacket, limitOf, nothingGathered, clientResponse, userPlace, verifies, connectPacket, Rejection, admits, rejects, rejection, drains, rejected, confirms, dispatches, admittedAs, dispatch}
+use Rattle.model.specs.Model.{Stores, Done, wants, asks, repliesCode, putPacket, headersPacket, lastPacket, limitOf, nothingGathered, clientResponse, userPlace, verifies, connectPacket, Rejection, admits, rejects, rejection, drains, rejected, confirms, dispatches, admittedAs, dispatch}
 use Rattle.model.specs.Runs.{handedBy}
 use Rattle.model.specs.declared.server.Operation.the-variants.{Nothing, Draining}
 use Rattle.model.specs.declared.server.Await.{Await}

@@ -5,7 +5,7 @@ use mathlib.Core.List.{List, []}
 use mathlib.Core.Bool.{Bool, true, false, _&&_, _||_, false≢true, true≢false}
 use Prim.Native.Nat.{ℕ, _≤_, _<_}
 use native.Mathlib.Omega.{arith}
-use lib.ListN.{length, take, length-append, length-drop}
+use lib.ListN.{length, take}
 use lib.Dec.{ltb}
 use borrow.Author.Tests.{ltb-false, lt-ltb, le-ltb, le-leb}
 use Rattle.base.specs.Pick.{pick}
@@ -30,6 +30,7 @@ use Rattle.model.specs.declared.server.Engine.{Engine}
 use Rattle.model.specs.declared.server.Request.{Request}
 use Rattle.model.specs.declared.server.Outcome.{Outcome}
 use Rattle.model.specs.declared.server.Outcome.the-variants as outcome
+use Rattle.connection.proofs.Front.{front-length}
 use Rattle.connection.proofs.Standings.{PeerFits}
 use Rattle.incoming.proofs.Frames.{Octets}
 
@@ -74,10 +75,6 @@ room limit s h =
 pub not-short : (limit : ℕ) (s : Stores) → Room limit s → short limit s ≡ false
 unfolding short
 not-short limit s r = simp (le-ltb _ _ (r .packet), le-ltb _ _ (r .headers), le-ltb _ _ (r .reply), le-ltb _ _ (r .body))
-
--- bytes at the front of a store keep its length
-pub front-length : (q y : List ℕ) → length q ≤ length y → length (front q y) ≡ length y
-front-length q y h = simp (length-append, length-drop) (omega arith)
 
 pub room-reply : (limit : ℕ) (s : Stores) (y : List ℕ) → length y ≡ length (s .reply) → Room limit s → Room limit (withReply s y)
 room-reply limit s y e r = record { packet = r .packet; headers = r .headers; reply = rw e (r .reply); body = r .body }

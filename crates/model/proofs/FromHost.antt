@@ -14,12 +14,12 @@ use Rattle.packet.specs.Codes.{isCode}
 use Rattle.packet.specs.Header.{readHeaders}
 use Rattle.packet.specs.declared.opcode.Opcode.the-variants as op
 use Rattle.journal.specs.Calls.{Call, replyGiven, objectGiven, bodyGiven, bodyFailed, abortAcknowledged, passwordGiven, nonceGiven, credentialsGiven, Credentials, goes, refused}
-use Rattle.journal.specs.Journal.{Opened, nothing, getting, sending, Journal, unchanged, opens, replied, objectSent, journalCall, journalFed}
+use Rattle.journal.specs.Journal.{Opened, nothing, getting, sending, Journal, unchanged, opens, replied, objectSent, journalCall, journalFed, listOf}
 use Rattle.outgoing.specs.Outgoing.{bodyGiven as givenBody}
 use Rattle.outgoing.specs.declared.body.Outgoing.{Outgoing}
 use Rattle.outgoing.specs.declared.body.Chunk.{Chunk}
 use Rattle.connection.specs.Send.{front}
-use Rattle.model.specs.Model.{Stores, withHeaders, connectSends, Done, refuse, after, limitOf, listOf, sends, sendsPacket, sendsNext, awaited, badHeaders, badReply, checked, replyAnswer, objectOf, objectFor, bodyFor, longUser, credentialsWith, soundOperation}
+use Rattle.model.specs.Model.{Stores, withHeaders, connectSends, Done, refuse, after, limitOf, sends, sendsPacket, sendsNext, awaited, badHeaders, badReply, checked, replyAnswer, objectOf, objectFor, bodyFor, longUser, credentialsWith, soundOperation}
 use Rattle.model.specs.Runs.{State}
 use Rattle.model.specs.Refusal.{Waits, roomIn, bad}
 use Rattle.model.specs.declared.server.Operation.{Operation}
@@ -36,11 +36,11 @@ use Rattle.model.proofs.Moments.{awaited-is, range-is, inRange, Agree, 
 use Rattle.model.proofs.FromPeer.{coupled-at}
 
 -- an answer's headers that are not refused fit the header store
-headers-fit : (hs : List ℕ) → badHeaders hs ≡ false → length hs ≤ 65535
+pub headers-fit : (hs : List ℕ) → badHeaders hs ≡ false → length hs ≤ 65535
 unfolding badHeaders
 headers-fit hs b = ltb-false _ _ (or-left _ _ b)
 
-reply-headers-fit : (code : ℕ) (hs : List ℕ) → badReply code hs ≡ false → length hs ≤ 65535
+pub reply-headers-fit : (code : ℕ) (hs : List ℕ) → badReply code hs ≡ false → length hs ≤ 65535
 unfolding badReply
 reply-headers-fit code hs b = headers-fit hs (or-right (not (isCode code)) _ b)
 
@@ -133,21 +133,21 @@ module _ (w : Waits) (s : State) (h : Sits (s .engine) (s .stores)) (k : w ≡ w
         record { room = room-headers (limitOf e) st hs l (h .base .room); peer = h .base .peer; realm = h .base .realm; last = h .base .last }
 
     object-told : length hs ≤ 65535 → (srm confirm wait : Bool) → e .awaits ≡ await.Get → (j : Journal) → Coupled e st j
-        → Told (sendsNext e (objectOf hs confirm has) srm wait z) (journalFed j (objectGiven hs has) goes (getD (st .reply) 0 0))
+        → Told (sendsNext e (objectOf (length hs) confirm has) srm wait z) (journalFed j (objectGiven hs has) goes (getD (st .reply) 0 0))
     object-told l srm confirm wait at j x =
         let y = coupled-at w s h k await.Get j at x in
         let g = get-open at j (y .opened) in
         entered (objectGiven hs has) j _ (y .fixed .ended)
-        (subst (λ (u : Opened). Told (sendsNext e (objectOf hs confirm has) srm wait z) (unchanged (objectSent u j))) (sym (g .is))
+        (subst (λ (u : Opened). Told (sendsNext e (objectOf (length hs) confirm has) srm wait z) (unchanged (objectSent u j))) (sym (g .is))
         (next-told e z (opens j sending) (record { settings = y .fixed .settings; standing = y .fixed .standing; ended = y .fixed .ended }) (y .begun) refl
-        (object-base l) (objectOf hs confirm has) srm wait (omega arith) l))
+        (object-base l) (objectOf (length hs) confirm has) srm wait (omega arith) l))
 
     object-at : (at : e .awaits ≡ await.Get) → IsGetting (e .operation)
         → Agree w s (objectGiven hs has) (pick (badHeaders hs) (refused 8) goes) (objectFor (e .operation) e hs has st)
     object-at at v =
         subst (λ (o : Operation). Agree w s (objectGiven hs has) (pick (badHeaders hs) (refused 8) goes) (objectFor o e hs has st)) (sym (v .is))
-        (checked-agrees (objectGiven hs has) (badHeaders hs) (sendsNext e (objectOf hs (v .confirm) has) (v .srm || v .confirm) (v .wait) z)
-        (λ b. sends-next-fine e z (object-base (headers-fit hs b)) (objectOf hs (v .confirm) has) (v .srm || v .confirm) (v .wait) (omega arith)
+        (checked-agrees (objectGiven hs has) (badHeaders hs) (sendsNext e (objectOf (length hs) (v .confirm) has) (v .srm || v .confirm) (v .wait) z)
+        (λ b. sends-next-fine e z (object-base (headers-fit hs b)) (objectOf (length hs) (v .confirm) has) (v .srm || v .confirm) (v .wait) (omega arith)
         (headers-fit hs b))
         (λ b j y. object-told (headers-fit hs b) (v .srm || v .confirm) (v .confirm) (v .wait) at j y))
 

@@ -1,4 +1,4 @@
--- A packet of a Put, a Get, or an operation of headers alone, and a packet of an object that is sent: the engine and the journal go together.
+-- A packet of a Put, a Get or an operation of headers alone, and a packet of an object that is sent: engine and journal agree.
 -- Assumes nothing.
 use mathlib.Core.Path.{_≡_, refl, sym, ap, ap₂, _∙_, subst}
 use mathlib.Core.List.{List, [], _∷_, _++_}

@@ -1,5 +1,6 @@
--- A call is taken where what is awaited lies in the call's range, and that is where the call fits what waits. What remains of a call is then
--- one step, or a refusal. Assumes nothing.
+-- A call is taken where what is awaited lies in the call's range, and that is where the call fits what waits. What remains of a call is
+-- then one step, or a refusal.
+-- Assumes nothing.
 use mathlib.Core.Path.{_≡_, refl, sym, ap, ap₂, _∙_, subst}
 use mathlib.Core.Bool.{Bool, true, false, _&&_}
 use Prim.Native.Nat.{ℕ, _≤_}

@@ -87,7 +87,8 @@ module _ (e : Engine) (s : Stores) (j : Journal) (f : Fixed (e .settings) (e .pe
         let a = w .carries in
         subst (λ (y : Opened). length (keptWith y r) ≤ 65535 → Told (inside (Putting g srm) e r v s) (requestRead y j r)) (sym (w .is))
         (λ l. goes-on op.Put _ _ (a .headers ++ carriedBy (r .headers) .headers) l
-        (λ l′ i. subst (λ (t : Bool). Told (putPacket e r v srm false g s) (putRead j r srm t (joined a (carriedBy (r .headers))))) (srm-stays srm) (put-packet e s j f r v srm false g a (w .agrees) l′ i)))
+        (λ l′ i. subst (λ (t : Bool). Told (putPacket e r v srm false g s) (putRead j r srm t (joined a (carriedBy (r .headers))))) (srm-stays srm)
+        (put-packet e s j f r v srm false g a (w .agrees) l′ i)))
         k
     inside-told (Getting g srm confirm wait) x w c k n =
         let a = w .keeps in
@@ -135,7 +136,9 @@ module _ (e : Engine) (s : Stores) (j : Journal) (f : Fixed (e .settings) (e .pe
       short = omega (arith, request-headers (take (e .length) (s .packet)) r o i, length-take (e .length) (s .packet), h .last)
 
       go : (t : Bool) → sameOpcode (r .opcode) op.Abort ≡ t
-          → Told (pick t (asks e (e .peer) Nothing await.Acknowledgement (request.Abort (e .length)) s) (inside (e .operation) e r (surveyOf (some (r .headers))) s)) (pick t (dropped j r) (requestRead (j .opened) j r))
+          → Told
+          (pick t (asks e (e .peer) Nothing await.Acknowledgement (request.Abort (e .length)) s) (inside (e .operation) e r (surveyOf (some (r .headers))) s))
+          (pick t (dropped j r) (requestRead (j .opened) j r))
       go true m =
           told-done e (e .peer) Nothing await.Acknowledgement (outcome.Request (request.Abort (e .length))) s (after j (some r) nothing) []
           (held-after e s j f r Nothing nothing s refl) refl

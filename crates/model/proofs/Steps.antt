@@ -35,7 +35,8 @@ use Rattle.connection.specs.Connect.{answeredChallenge}
 use Rattle.connection.specs.declared.peer.Challenge.{Challenge}
 use Rattle.connection.specs.declared.peer.Challenge.the-variants.{Stored, Absent}
 use Rattle.connection.specs.declared.peer.Peer.{Peer}
-use Rattle.model.specs.Model.{Stores, withReply, withHeaders, withGathered, sent, sends, sendsConnect, lastPacket, lastHeaders, limitOf, nothingGathered, gathers, putBody, putContinues, putPacket, getContinues, getPacket, headersRequest, headersPacket, capacityOf, sendsMade, sendsPacket, sendsNext, clientResponse, userPlace, verifies, connectPacket, connectSends, frontFor, listOf, credentialsFor, connectChallenged, connectOpened, connectAnswer, checks, passwordAnswer, nonceAnswer, Rejection, admits, rejects, rejection, drains, dispatches, admittedAs, dispatch, interrupts, inside, busy, readAs, soundGathered, soundOutgoing, soundOperation, replyAnswer, awaited, srmAsked}
+use Rattle.journal.specs.Journal.{listOf}
+use Rattle.model.specs.Model.{Stores, withReply, withHeaders, withGathered, sent, sends, sendsConnect, lastPacket, lastHeaders, limitOf, nothingGathered, gathers, putBody, putContinues, putPacket, getContinues, getPacket, headersRequest, headersPacket, capacityOf, sendsMade, sendsPacket, sendsNext, clientResponse, userPlace, verifies, connectPacket, connectSends, frontFor, credentialsFor, connectChallenged, connectOpened, connectAnswer, checks, passwordAnswer, nonceAnswer, Rejection, admits, rejects, rejection, drains, dispatches, admittedAs, dispatch, interrupts, inside, busy, readAs, soundGathered, soundOutgoing, soundOperation, replyAnswer, awaited, srmAsked}
 use Rattle.model.specs.Runs.{handedBy}
 use Rattle.model.specs.Refusal.{reply, asked}
 use Rattle.model.specs.declared.server.Operation.{Operation}
@@ -54,7 +55,7 @@ use Rattle.model.proofs.Fit.{and-left, and-right, Room, room-reply, roo
 
 -- ---- counts
 
-gathered-within : (limit : ℕ) (g : Gathered) → soundGathered limit g ≡ true → (g .kept ≤ 65535) × (g .body ≤ limit)
+pub gathered-within : (limit : ℕ) (g : Gathered) → soundGathered limit g ≡ true → (g .kept ≤ 65535) × (g .body ≤ limit)
 gathered-within limit g h = (leb-true _ _ (and-left _ _ h), leb-true _ _ (and-right (leb (g .kept) 65535) _ h))
 
 gathered-sound : (limit : ℕ) (g : Gathered) → g .kept ≤ 65535 → g .body ≤ limit → soundGathered limit g ≡ true

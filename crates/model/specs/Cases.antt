@@ -1,8 +1,8 @@
 -- The proved cases, P1 to P12 of document 01, as one table of rows: what is given, and what the definitions make of it.
 use Prim.Native.Nat.{ℕ}
 use mathlib.Core.List.{List, [], _∷_, _++_}
-use mathlib.Core.Bool.{Bool, true, false}
-use mathlib.Core.Option.{Option, none, some}
+use mathlib.Core.Bool.{true, false}
+use mathlib.Core.Option.{none, some}
 use lib.ListN.{take, replicate}
 use Rattle.digest.specs.Unicode.{scalars16}
 use Rattle.packet.specs.FirstByte.{firstByte}
@@ -12,9 +12,8 @@ use Rattle.packet.specs.declared.opcode.Opcode.the-variants as op
 use Rattle.journal.specs.Ids.{newId}
 use Rattle.journal.specs.Carried.{Carried}
 use Rattle.journal.specs.Calls.{Call, bytesOffered, replyTaken, objectGiven, bodyGiven}
-use Rattle.model.specs.Model.{Stores, Stepped, started, defaultSettings}
+use Rattle.model.specs.Model.{Stores, started, defaultSettings}
 use Rattle.model.specs.Runs.{State, stepOf, stateOf, records}
-use Rattle.model.specs.declared.server.Settings.{Settings}
 use Rattle.model.specs.declared.server.Outcome.{Outcome}
 use Rattle.model.specs.declared.server.Outcome.the-variants as outcome
 
@@ -52,12 +51,14 @@ pub data Comes : Type 0 where
   scalars : List ℕ → Comes
   session : List (List ℕ) → List Carried → Comes
 
+-- what the definitions make of it
 unfoldable pub comesOf : Given → Comes
 comesOf (byte b) = operation (firstByte b)
 comesOf (counter ids c) = id (newId ids c)
 comesOf (text s) = scalars (scalars16 s)
 comesOf (calls limit cs) = session (replies (freshState limit) cs) (records (freshState limit) cs)
 
+-- a row of the table
 pub record Row : Type 0 where
   pub given : Given
   pub comes : Comes
@@ -65,12 +66,14 @@ pub record Row : Type 0 where
 abbrev pub row : Given → Comes → Row
 row g c = record { given = g; comes = c }
 
+-- with what the definitions make of what it is given
 unfoldable pub evaluated : Row → Row
 evaluated r = row (r .given) (comesOf (r .given))
 
 abbrev pub putBody : List ℕ → Carried
 putBody b = record { headers = []; body = some b }
 
+-- the cases
 abbrev pub table : List Row
 table =
     -- P1, P2

@@ -24,6 +24,7 @@ pub record Holds (st : Settings) (s : State) (cs : List Call) : Type 0 where
   pub journal : records s cs ≡ journalRecords (fresh (settingsOf st)) (feedOf bytes s cs)
   pub forms : Exactly (st .«max_object_size») (packets (fresh (settingsOf st)) (feedOf bytes s cs)) (records s cs)
 
+-- demand 3: for every accepted start and every list of calls
 abbrev pub Demand3 : Type 0
 Demand3 =
     (st : Settings) (s : State) → Started st s → (cs : List Call) → AllOctets cs

@@ -1,5 +1,4 @@
 -- The claims over contracts: a run of calls of which is known only what the calls' contracts say, the state and the stores passed on.
-use Prim.Native.Nat.{ℕ}
 use mathlib.Core.Path.{_≡_}
 use mathlib.Core.List.{List, [], _∷_, _++_}
 use Rattle.journal.specs.Carried.{Carried}
@@ -39,6 +38,7 @@ pub record Upholds (st : Settings) (s : State) (cs : List Call) (vs : List Verdi
   pub forms : Kept (packets (fresh (settingsOf st)) (feedOf bytes s cs))
       → Exactly (st .«max_object_size») (packets (fresh (settingsOf st)) (feedOf bytes s cs)) ls
 
+-- for every list of calls from an accepted start, of which only the contracts are known
 abbrev pub ContractsUphold : Type 0
 ContractsUphold =
     (st : Settings) (s t : Stores) (r : Took) (cs : List Call) (vs : List Verdict) (ls : List Carried) → Accepted st s r t → AllOctets cs

@@ -24,6 +24,7 @@ use Rattle.packet.specs.declared.opcode.FirstByte.{FirstByte}
 use Rattle.packet.specs.declared.opcode.FirstByte.the-variants.{Known, Unknown}
 use Rattle.journal.specs.Calls.{Credentials}
 use Rattle.journal.specs.Ids.{member}
+use Rattle.journal.specs.Journal.{listOf, responseIn, headersOf as headersIn}
 use Rattle.incoming.specs.Frame.{Frames, framed}
 use Rattle.incoming.specs.Survey.{surveyOf}
 use Rattle.incoming.specs.Gather.{Gathering, gathering, gatherAll}
@@ -63,6 +64,7 @@ use Rattle.model.specs.declared.server.Took.{Took}
 
 -- ---- state and stores
 
+-- the four stores that the host lends
 pub record Stores : Type 0 where
   pub packet : List ℕ
   pub headers : List ℕ
@@ -128,6 +130,7 @@ abbrev pub sent : Engine → Peer → Option (List ℕ) → Stores → Done
 sent e p none s = ends e p 7 s
 sent e p (some q) s = replies e p Nothing await.Taken q s
 
+-- without fields, and with Connect's
 unfoldable pub sends : Engine → Peer → ℕ → List ℕ → Stores → Done
 sends e p code hs s = sent e p (sendBytes (p .«remote_max_packet_length») code [] hs) s
 
@@ -136,10 +139,6 @@ sendsConnect e p code hs s =
     sent e p (sendBytes (p .«remote_max_packet_length») code (fieldsOf (e .settings .«max_packet_length»)) hs) s
 
 -- the last whole packet, read again
-abbrev pub headersIn : Option Packet → List Header
-headersIn none = []
-headersIn (some r) = r .headers
-
 unfoldable pub lastPacket : Engine → Stores → List ℕ
 lastPacket e s = take (e .length) (s .packet)
 
@@ -148,15 +147,19 @@ lastHeaders e s = headersIn (requestOf (lastPacket e s))
 
 -- ---- gathering: Put, Get, and the operations of headers alone
 
+-- the Put limit
 abbrev pub limitOf : Engine → ℕ
 limitOf e = e .settings .«max_object_size»
 
+-- before the first packet of an operation
 abbrev pub nothingGathered : Gathered
 nothingGathered = record { kept = 0; body = 0; came = false; over = false; full = false }
 
+-- the headers of a packet, gathered into the header and body store
 abbrev pub gathers : Engine → Keep → List Header → Gathered → Stores → Gathering
 gathers e k hs g s = gatherAll k (limitOf e) hs (gathering g (s .headers) (s .body))
 
+-- none where no body header came
 abbrev pub putBody : Gathered → Body
 putBody g = pick (g .came) (body.Bytes (g .body)) body.Missing
 
@@ -167,6 +170,7 @@ putContinues e g true confirm additional s =
 putContinues e g false confirm additional s =
     pick (g .over) (repliesCode e (e .peer) Nothing 0x4D s) (continues e (Putting g confirm) confirm s)
 
+-- Put, final: past the limit 0x4D, else the host gets the record
 abbrev pub putFinal : Engine → Gathered → Stores → Done
 putFinal e g s =
     pick (g .over) (repliesCode e (e .peer) Nothing 0x4D s)
@@ -187,6 +191,7 @@ abbrev pub getContinues : Engine → Gathered → Bool → Bool → Bool → Sto
 getContinues e g true confirm wait s = wants e (e .peer) (Getting g true confirm wait) s
 getContinues e g false confirm wait s = continues e (Getting g confirm false wait) confirm s
 
+-- number 6 comes first
 abbrev pub getGathered : Engine → Packet → Survey → Bool → Bool → Gathering → Stores → Done
 getGathered e r v srm confirm g s =
     pick (g .got .full) (ends e (e .peer) 6 (withGathered s g))
@@ -220,6 +225,7 @@ headersPacket e r o g s = headersGathered e r o (gathers e keep.All (r .headers)
 
 -- ---- sending an object
 
+-- what a packet to the peer may hold after its first three bytes
 abbrev pub capacityOf : Engine → ℕ
 capacityOf e = e .peer .«remote_max_packet_length» - 3
 
@@ -239,14 +245,11 @@ sendsMade e srm wait next.TooLarge m s = repliesCode e (e .peer) Nothing 0x50 (w
 abbrev pub sendsPacket : Engine → Bool → Bool → Made → Stores → Done
 sendsPacket e srm wait m s = sendsMade e srm wait (m .packet .next) m s
 
+-- the next packet of an object
 unfoldable pub sendsNext : Engine → Outgoing → Bool → Bool → Stores → Done
 sendsNext e o srm wait s = sendsPacket e srm wait (nextPacket (capacityOf e) o (s .headers) (s .reply)) s
 
 -- ---- Connect
-
-abbrev pub responseIn : Option (List ℕ) → Option Response
-responseIn none = none
-responseIn (some v) = responseOf v
 
 -- the first AuthenticateResponse of the last packet
 unfoldable pub clientResponse : Engine → Stores → Option Response
@@ -257,6 +260,7 @@ abbrev pub placedAt : ℕ → Found → Found
 placedAt n place.Missing = place.Missing
 placedAt n (place.At a b) = place.At (n + a) (n + b)
 
+-- where the user id of the response stands
 abbrev pub userIn : List ℕ → Found → Found
 userIn q place.Missing = place.Missing
 userIn q (place.At a b) = placedAt a (lastValue (part q a b) 1)
@@ -294,14 +298,12 @@ frontFor p (some v) target = front-id.Missing
 frontFor p none none = front-id.Missing
 frontFor p none (some t) = front-id.Id (searched p)
 
-abbrev pub listOf : Option (List Header) → List Header
-listOf none = []
-listOf (some hs) = hs
-
+-- where the realm of the peer's challenge stands in the packet
 abbrev pub realmIn : List ℕ → Found → Found
 realmIn q place.Missing = place.Missing
 realmIn q (place.At a b) = placedAt a (realmPlace (part q a b))
 
+-- what the host is told of the peer's challenge
 abbrev pub credentialsFor : List ℕ → PeerChallenge → Request
 credentialsFor q c =
     request.Credentials (numbers16 (c .nonce)) (userIdRequired (c .options)) (readOnly (c .options)) (realmIn q (firstPlace 0x4D q 7))
@@ -333,6 +335,7 @@ checks (Stored n) none p = false
 checks (Stored n) (some r) none = false
 checks (Stored n) (some r) (some p) = verified (octets16 n) r p
 
+-- the host's answer to the request for a password
 unfoldable pub passwordAnswer : Engine → Option (List ℕ) → Stores → Done
 passwordAnswer e p s =
     pick (checks (e .peer .challenge) (clientResponse e s) p)
@@ -347,6 +350,7 @@ bit true = 1
 abbrev pub optionsOf : Settings → ℕ
 optionsOf st = bit (st .«user_id_required») + 2 * bit (st .«read_only»)
 
+-- the realm, after its charset
 abbrev pub realmOf : Settings → List ℕ → Option (List ℕ)
 realmOf st l = pick (st .«has_realm») (some (st .charset ∷ take (st .«realm_length») l)) none
 
@@ -371,14 +375,17 @@ rejection e o v =
 abbrev pub drains : Opcode → Bool
 drains o = sameOpcode o op.Put || sameOpcode o op.Get
 
+-- the reply to a packet that is turned away
 abbrev pub rejected : Engine → Packet → ℕ → Stores → Done
 rejected e r code s =
     pick (e .peer .«srm_enabled» && (drains (r .opcode) && not (r .final))) (wants e (e .peer) (Draining code) s)
     (repliesCode e (e .peer) Nothing code s)
 
+-- SRM is granted with the next Continue
 abbrev pub confirms : Engine → Survey → Bool
 confirms e v = not (e .peer .«srm_enabled») && srmAsked e v
 
+-- a packet that is admitted
 abbrev pub dispatches : Opcode → Engine → Packet → Survey → Stores → Done
 dispatches op.Connect e r v s = connectPacket e s
 dispatches op.Abort e r v s = asks e (e .peer) Nothing await.Acknowledgement (request.Abort (e .length)) s
@@ -395,6 +402,7 @@ abbrev pub admittedAs : Rejection → Engine → Packet → Survey → Stores �
 admittedAs admits e r v s = dispatches (r .opcode) e r v s
 admittedAs (rejects code) e r v s = rejected e r code s
 
+-- Connect is not turned away
 unfoldable pub dispatch : Engine → Packet → Survey → Stores → Done
 dispatch e r v s =
     pick (sameOpcode (r .opcode) op.Connect) (connectPacket e s) (admittedAs (rejection e (r .opcode) v) e r v s)
@@ -405,6 +413,7 @@ dispatch e r v s =
 abbrev pub interrupts : Engine → Stores → Done
 interrupts e s = replies e (e .peer) Nothing await.Last (packetBytes (sentCode 0x40) [] []) s
 
+-- by what is open
 abbrev pub inside : Operation → Engine → Packet → Survey → Stores → Done
 inside Nothing e r v s = dispatch e r v s
 inside (Putting g srm) e r v s = pick (sameOpcode (r .opcode) op.Put) (putPacket e r v srm false g s) (interrupts e s)
@@ -420,6 +429,7 @@ abbrev pub unknownByte : FirstByte → Bool
 unknownByte Unknown = true
 unknownByte (Known o f) = false
 
+-- an operation is open
 abbrev pub busy : Operation → Bool
 busy Nothing = false
 busy (Putting g srm) = true
@@ -434,6 +444,7 @@ unreadable e q s =
     pick (busy (e .operation)) (ends e (e .peer) 4 s)
     (repliesCode e (e .peer) Nothing (pick (unknownByte (firstByte (getD q 0 0))) 0x51 0x40) s)
 
+-- Abort goes before all else
 abbrev pub readAs : Option Packet → Engine → List ℕ → Stores → Done
 readAs none e q s = unreadable e q s
 readAs (some r) e q s =
@@ -461,6 +472,7 @@ stepped r s = record { took = r; stores = s }
 abbrev pub refuse : ℕ → Engine → Stores → Stepped
 refuse n e s = stepped (record { engine = e; taken = 0; outcome = outcome.Refused n }) s
 
+-- so many bytes were taken
 abbrev pub after : ℕ → Done → Stepped
 after t d = stepped (record { engine = d .engine; taken = t; outcome = d .outcome }) (d .stores)
 
@@ -486,6 +498,7 @@ soundOperation limit (GatheringOp o g) = soundGathered limit g
 soundOperation limit (Connecting code f n) = leb n 65535
 soundOperation limit (Draining code) = true
 
+-- of the whole state
 unfoldable pub sound : Engine → Bool
 sound e =
     ltb (e .begun) 65535 && (leb (e .length) 65535 && (leb (e .peer .count) 64 && (leb 255 (e .peer .«remote_max_packet_length»)
@@ -515,6 +528,7 @@ guarded from to e s go =
 
 -- ---- bytes, end of stream, reply taken
 
+-- by where the frame stands: begun, taken
 abbrev pub framedAs : Frame → Engine → ℕ → ℕ → Stores → Stepped
 framedAs More e b t s =
     stepped (record { engine = engineWith (e .settings) (e .peer) (e .operation) (e .awaits) b (e .length); taken = t; outcome = outcome.WantsBytes }) s
@@ -524,9 +538,11 @@ framedAs Whole e b t s = after t (packetDone e b s)
 abbrev pub withPacket : Stores → List ℕ → Stores
 withPacket s p = stores p (s .headers) (s .body) (s .reply)
 
+-- bytes that were read into the packet store
 abbrev pub offers : Engine → Frames → Stores → Stepped
 offers e f s = framedAs (f .result .frame) e (f .result .begun) (f .result .taken) (withPacket s (f .packet))
 
+-- bytes from the peer
 unfoldable pub bytesStep : Engine → List ℕ → Stores → Stepped
 bytesStep e i s = guarded 0 0 e s (offers e (framed (s .packet) (e .begun) 0 i) s)
 
@@ -544,6 +560,7 @@ goesOn (GatheringOp o g) e s = wants e (e .peer) (e .operation) s
 goesOn (Connecting code f n) e s = wants e (e .peer) (e .operation) s
 goesOn (Draining code) e s = wants e (e .peer) (e .operation) s
 
+-- the host took the reply; number 5 after the last one
 unfoldable pub takenStep : Engine → Stores → Stepped
 takenStep e s =
     guarded 1 2 e s (after 0 (pick (eqb (awaited (e .awaits)) 1) (goesOn (e .operation) e s) (ends e (e .peer) 5 s)))
@@ -557,6 +574,7 @@ badHeaders hs = ltb 65535 (length hs) || not (canonical hs)
 unfoldable pub badReply : ℕ → List ℕ → Bool
 badReply code hs = not (isCode code) || badHeaders hs
 
+-- 8 where the answer is bad
 abbrev pub checked : Bool → Engine → Stores → Done → Stepped
 checked bad e s d = pick bad (refuse 8 e s) (after 0 d)
 
@@ -567,17 +585,18 @@ replyAnswer e code hs s =
     (pick (eqb (awaited (e .awaits)) 4) (sends e (disconnectedPeer (e .peer) (first 0xCB (lastHeaders e s))) code hs s)
     (sends e (e .peer) code hs s))
 
+-- the host's reply
 unfoldable pub replyStep : Engine → ℕ → List ℕ → Stores → Stepped
 replyStep e code hs s = guarded 3 6 e s (checked (badReply code hs) e s (replyAnswer e code hs s))
 
--- an object for a Get: SRM that was not granted yet goes in front of its headers
-abbrev pub objectOf : List ℕ → Bool → Bool → Outgoing
-objectOf hs confirm has =
-    record { total = length hs; sent = 0; lead = confirm; «has_body» = has; «has_pending» = false; pending = 0 }
+-- an object with so many header bytes; SRM that was not granted yet goes in front of them
+abbrev pub objectOf : ℕ → Bool → Bool → Outgoing
+objectOf n lead has = record { total = n; sent = 0; lead = lead; «has_body» = has; «has_pending» = false; pending = 0 }
 
+-- an object for a Get
 abbrev pub objectFor : Operation → Engine → List ℕ → Bool → Stores → Stepped
 objectFor (Getting g srm confirm wait) e hs has s =
-    checked (badHeaders hs) e s (sendsNext e (objectOf hs confirm has) (srm || confirm) wait (withHeaders s (front hs (s .headers))))
+    checked (badHeaders hs) e s (sendsNext e (objectOf (length hs) confirm has) (srm || confirm) wait (withHeaders s (front hs (s .headers))))
 objectFor Nothing e hs has s = refuse 9 e s
 objectFor (Putting g srm) e hs has s = refuse 9 e s
 objectFor (Sending o c srm wait) e hs has s = refuse 9 e s
@@ -585,6 +604,7 @@ objectFor (GatheringOp o g) e hs has s = refuse 9 e s
 objectFor (Connecting code f n) e hs has s = refuse 9 e s
 objectFor (Draining code) e hs has s = refuse 9 e s
 
+-- the host's object
 unfoldable pub objectStep : Engine → List ℕ → Bool → Stores → Stepped
 objectStep e hs has s = guarded 5 5 e s (objectFor (e .operation) e hs has s)
 
@@ -599,9 +619,11 @@ bodyFor (GatheringOp o g) e d s = refuse 9 e s
 bodyFor (Connecting code f n) e d s = refuse 9 e s
 bodyFor (Draining code) e d s = refuse 9 e s
 
+-- bytes of its body
 unfoldable pub bodyStep : Engine → List ℕ → Stores → Stepped
 bodyStep e d s = guarded 11 11 e s (bodyFor (e .operation) e d s)
 
+-- its body cannot be read on
 unfoldable pub bodyFailedStep : Engine → Stores → Stepped
 bodyFailedStep e s = guarded 11 11 e s (after 0 (repliesCode e (e .peer) Nothing 0x50 s))
 
@@ -609,9 +631,11 @@ bodyFailedStep e s = guarded 11 11 e s (after 0 (repliesCode e (e .peer) Nothing
 unfoldable pub acknowledgeStep : Engine → Stores → Stepped
 acknowledgeStep e s = guarded 7 7 e s (after 0 (repliesCode e (e .peer) Nothing 0x20 s))
 
+-- the host's password, or none
 unfoldable pub passwordStep : Engine → Option (List ℕ) → Stores → Stepped
 passwordStep e p s = guarded 8 8 e s (after 0 (passwordAnswer e p s))
 
+-- the host's nonce, and the realm's bytes
 unfoldable pub nonceStep : Engine → Octets16 → List ℕ → Stores → Stepped
 nonceStep e n l s = guarded 9 9 e s (after 0 (nonceAnswer e n l s))
 
@@ -624,6 +648,7 @@ abbrev pub longUser : Option Credentials → Bool
 longUser none = false
 longUser (some c) = longId (c .user)
 
+-- for the Connect that waits
 abbrev pub credentialsWith : Operation → Engine → Option Credentials → Stores → Stepped
 credentialsWith (Connecting code f n) e c s =
     checked (longUser c) e s (connectSends e (e .peer) code f (listOf (readHeaders (take n (s .headers)) 0)) c s)
@@ -634,6 +659,7 @@ credentialsWith (Sending o k srm wait) e c s = refuse 9 e s
 credentialsWith (GatheringOp o g) e c s = refuse 9 e s
 credentialsWith (Draining code) e c s = refuse 9 e s
 
+-- the host's credentials, or none
 unfoldable pub credentialsStep : Engine → Option Credentials → Stores → Stepped
 credentialsStep e c s = guarded 10 10 e s (credentialsWith (e .operation) e c s)
 

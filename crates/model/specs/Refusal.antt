@@ -3,12 +3,11 @@
 use Prim.Native.Nat.{ℕ}
 use mathlib.Core.List.{List, [], _∷_}
 use mathlib.Core.Bool.{Bool, true, false}
-use mathlib.Core.Option.{Option, none, some}
 use lib.ListN.{length, getD}
-use lib.Dec.{ltb, eqb, leb}
+use lib.Dec.{eqb, leb}
 use Rattle.base.specs.Pick.{pick}
 use Rattle.journal.specs.Calls.{Call, bytesOffered, streamEnded, replyTaken, replyGiven, objectGiven, bodyGiven, bodyFailed, abortAcknowledged, passwordGiven, nonceGiven, credentialsGiven, Credentials, Verdict, goes, refused, Fed}
-use Rattle.model.specs.Model.{Stores, short, badReply, badHeaders, longUser}
+use Rattle.model.specs.Model.{short, badReply, badHeaders, longUser}
 use Rattle.model.specs.Runs.{State, stepOf, stateOf}
 use Rattle.model.specs.declared.server.Request.{Request}
 use Rattle.model.specs.declared.server.Request.the-variants as request
@@ -22,6 +21,7 @@ pub data Waits : Type 0 where
   -- body bytes, at most so many
   reading : ℕ → Waits
 
+-- by the request
 abbrev pub asked : Request → Waits
 asked (request.Connect n) = reply
 asked (request.Disconnect n) = reply
@@ -102,6 +102,7 @@ bad (nonceGiven n l) = false
 unfoldable pub verdict : Bool → Waits → Call → Verdict
 verdict s w c = pick s (refused 10) (pick (fits c w) (pick (bad c) (refused 8) goes) (refused 9))
 
+-- by the stores that are lent
 abbrev pub verdictAt : Waits → State → Call → Verdict
 verdictAt w s c = verdict (short (s .engine .settings .«max_object_size») (s .stores)) w c
 
@@ -120,6 +121,7 @@ abbrev pub due : Waits → State → List Call → List Verdict
 due w s [] = []
 due w s (c ∷ cs) = verdictAt w s c ∷ due (told w (stepOf s c .took .outcome)) (stateOf (stepOf s c)) cs
 
+-- by the results
 abbrev pub returned : State → List Call → List Verdict
 returned s [] = []
 returned s (c ∷ cs) = verdictOf (stepOf s c .took .outcome) ∷ returned (stateOf (stepOf s c)) cs

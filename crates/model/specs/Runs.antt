@@ -2,7 +2,7 @@
 use Prim.Native.Nat.{ℕ, _<_, _≤_}
 use mathlib.Core.Path.{_≡_}
 use mathlib.Core.List.{List, [], _∷_, _++_}
-use mathlib.Core.Bool.{Bool, true, false}
+use mathlib.Core.Bool.{false}
 use mathlib.Core.Option.{Option, none, some}
 use lib.ListN.{getD, take}
 use Rattle.journal.specs.Carried.{Carried}
@@ -22,6 +22,7 @@ pub record State : Type 0 where
   pub engine : Engine
   pub stores : Stores
 
+-- a call is the model's step
 abbrev pub stepOf : State → Call → Stepped
 stepOf s (bytesOffered i) = bytesStep (s .engine) i (s .stores)
 stepOf s streamEnded = endStep (s .engine) (s .stores)
@@ -59,6 +60,7 @@ handedBy request.Nonce s = []
 handedBy (request.Credentials n u r p) s = []
 handedBy (request.Read n) s = []
 
+-- by what a call returns
 abbrev pub handed : Outcome → Stores → List Carried
 handed (outcome.Request r) s = handedBy r s
 handed outcome.WantsBytes s = []
@@ -81,6 +83,7 @@ pub record Started (st : Settings) (s : State) : Type 0 where
 abbrev pub Octets : List ℕ → Type 0
 Octets l = (k : ℕ) → getD l k 0 < 256
 
+-- the bytes of a call
 abbrev pub Octet : Call → Type 0
 Octet (bytesOffered i) = Octets i
 Octet streamEnded = Unit {0}

@@ -1,4 +1,5 @@
--- `engine::accept::accepted` meets its contract: the two ways are those of the definition, by the challenge that is answered. Assumes nothing.
+-- `engine::accept::accepted` meets its contract: the two ways are those of the definition, by the challenge that is answered.
+-- Assumes nothing.
 use mathlib.Core.Path.{_∙_}
 use native.Mathlib.Omega.{arith}
 use Rattle.engine.proofs.Objects.{store-front}
@@ -19,8 +20,8 @@ enum-known-nonce c = search needs
 enum-told : tie.Need-enum-told
 enum-told c = search needs
 
-connect-sends-requires : tie.Need-connect-sends-requires
-connect-sends-requires c κs = search needs
+unchallenged-requires : tie.Need-unchallenged-requires
+unchallenged-requires c κs = search needs
 
 same-length : tie.Need-same-length
 same-length c = search needs
@@ -34,7 +35,7 @@ returns c =
     let k = l .before .before .before .before .before .args in
     not-challenged (k .e) (k .peer) (k .code) (k .front) (k .packet .now) (k .header-bytes .now) (k .reply .now) (k .headers .now) _
     (challenge-known (k .packet .now) _ _ _ (l .last-from .ensures) (a .answered-challenge .ensures) (t .enum-told .given .1))
-    (s .connect-sends .ensures)
+    (s .unchallenged .ensures)
 
 copy-into-requires : tie.Need-copy-into-requires
 copy-into-requires c κs = search needs
@@ -73,7 +74,7 @@ accepted-spec =
     answered-challenge-requires
     enum-known-nonce
     enum-told
-    connect-sends-requires
+    unchallenged-requires
     same-length
     returns
     copy-into-requires

@@ -1,4 +1,5 @@
--- `engine::accept::challenge_realm` meets its contract: the first challenge's place holds the list that the realm is read from. Assumes nothing.
+-- `engine::accept::challenge_realm` meets its contract: the first challenge's place holds the list that the realm is read from.
+-- Assumes nothing.
 use mathlib.Core.Path.{sym, ap, _∙_}
 use native.Mathlib.Omega.{arith}
 use Rattle.packet.specs.Header.{part}

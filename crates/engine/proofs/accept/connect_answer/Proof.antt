@@ -20,7 +20,8 @@ returns c =
     let i = s .before .before in
     let b = i .before in
     let k = b .before .before .before .before .before .args in
-    answer-declined (k .e) (k .code) (k .header-bytes .now) (k .packet .now) (k .headers .now) (k .reply .now) _ (b .is-success .ensures) (not-true (b .is-success .result) (i .if1 .taken)) _ (s .sends-connect .ensures)
+    answer-declined (k .e) (k .code) (k .header-bytes .now) (k .packet .now) (k .headers .now) (k .reply .now) _ (b .is-success .ensures)
+    (not-true (b .is-success .result) (i .if1 .taken)) _ (s .sends-connect .ensures)
 
 opens-requires : tie.Need-opens-requires
 opens-requires c κs = search needs
@@ -42,8 +43,8 @@ returns-2 c =
     let i = o .before in
     let b = i .before in
     let k = b .before .before .before .before .before .args in
-    answer-full (k .e) (k .code) (k .header-bytes .now) (k .packet .now) (k .headers .now) (k .reply .now) _ (b .is-success .ensures) (not-false (b .is-success .result) (i .if1 .left)) (o .opens .result) (o .opens .ensures) (f .if2 .taken) _
-    (s .sends-connect2 .ensures)
+    answer-full (k .e) (k .code) (k .header-bytes .now) (k .packet .now) (k .headers .now) (k .reply .now) _ (b .is-success .ensures)
+    (not-false (b .is-success .result) (i .if1 .left)) (o .opens .result) (o .opens .ensures) (f .if2 .taken) _ (s .sends-connect2 .ensures)
 
 accepted-requires : tie.Need-accepted-requires
 accepted-requires c κs = search needs
@@ -62,8 +63,8 @@ returns-3 c =
     let i = o .before in
     let b = i .before in
     let k = b .before .before .before .before .before .args in
-    answer-accepted (k .e) (k .code) (k .header-bytes .now) (k .packet .now) (k .headers .now) (k .reply .now) _ (b .is-success .ensures) (not-false (b .is-success .result) (i .if1 .left)) (o .opens .result) (o .opens .ensures) (f .if2 .left) _
-    (s .accepted .ensures)
+    answer-accepted (k .e) (k .code) (k .header-bytes .now) (k .packet .now) (k .headers .now) (k .reply .now) _ (b .is-success .ensures)
+    (not-false (b .is-success .result) (i .if1 .left)) (o .opens .result) (o .opens .ensures) (f .if2 .left) _ (s .accepted .ensures)
 
 pub connect-answer-spec : {M : Type 1} → statement M
 connect-answer-spec =

@@ -1,11 +1,12 @@
--- `engine::arrival::act` meets its contract: each way has its plan, and what is known on it meets what the plan requires (proofs/Ready.antt). Assumes nothing.
+-- `engine::arrival::act` meets its contract: each way has its plan, whose needs are known on that way (proofs/Ready.antt).
+-- Assumes nothing.
 use mathlib.Core.Path.{_∙_, sym, ap}
 use native.Mathlib.Omega.{arith}
 use Rattle.model.specs.Model.{stores}
 use Rattle.engine.specs.Plan.{planned}
 use Rattle.engine.specs.declared.plan.Plan.{Plan}
 use Rattle.engine.proofs.Arrivals.{by-route, ready-at}
-use Rattle.engine.proofs.Guards.{sendable}
+use Rattle.model.proofs.Steps.{outgoing-within}
 use Rattle.engine.proofs.Turns.{sent-turn}
 use borrow.Author.Needs.{needs}
 use Rattle.engine.proofs.arrival.act.Statement.{statement}
@@ -44,7 +45,7 @@ object-plan-requires : tie.Need-object-plan-requires
 object-plan-requires c κs = let k = c .before .before .before in
     let a = k .before .before .before .before .before .before .before in
     let y = ready-at (a .args .e) (a .args .p .now) _ (sym (k .before .before .route .ensures) ∙ k .outgoing .given .1) (a .pre .3) in
-    let z = sendable (k .outgoing .given .0 .0) (y .0) (y .1) in
+    let z = outgoing-within (k .outgoing .given .0 .0) (y .0) (y .1) in
     (a .pre .2, omega (arith, z .total, a .pre .4), a .pre .6)
 
 returns : tie.Need-returns

@@ -1,14 +1,37 @@
--- `engine::arrival::bytes` meets its contract. The guard refuses as the model does, and each end of the frame is the model's (proofs/Arrivals.antt). Assumes nothing.
-use mathlib.Core.Path.{ap}
-use native.Mathlib.Omega.{arith}
-use Rattle.model.specs.Model.{stores, stepped, withPacket, bytesStep}
-use Rattle.model.specs.declared.server.Took.{Took}
-use Rattle.engine.proofs.Carried.{refused-call}
-use Rattle.engine.proofs.Guards.{going}
-use Rattle.engine.proofs.Arrivals.{framed-call, taken-after, short-took}
+-- `engine::arrival::bytes` meets its contract: the guard and each end of the frame are the model's (proofs/Arrivals.antt).
+-- Assumes nothing.
 use borrow.Author.Needs.{needs}
+use native.Mathlib.Omega.{arith}
+use mathlib.Core.Path.{_≡_, ap}
+use Rattle.incoming.specs.declared.io.Frame.{Frame}
+use Rattle.model.specs.Model.{Stores, Stepped, stores, stepped, withPacket, framedAs, bytesStep}
+use Rattle.model.specs.declared.server.Took.{Took}
+use Rattle.engine.proofs.Guards.{Goes, going}
+use Rattle.engine.proofs.Carried.{refused-call}
+use Rattle.engine.proofs.Arrivals.{framed-call, taken-after, short-took}
 use Rattle.engine.proofs.arrival.bytes.Statement.{statement}
 use Rattle.engine.proofs.arrival.bytes.Tie as tie
+
+abbrev start : tie.After-refused → tie.Start
+start k = k .before .before .before .before .before .before
+
+-- the stores that are lent
+abbrev lent : tie.After-refused → Stores
+lent k = let a = start k .args in stores (a .packet .now) (a .headers .now) (a .body .now) (a .reply .now)
+
+-- the guard lets the call go on
+goes : (k : tie.Else1) → Goes 0 0 (start (k .before) .args .e) (lent (k .before))
+goes k = going 0 0 _ _ _ (k .before .refused .ensures) (k .if1 .left)
+
+-- the stores once bytes were read
+abbrev read : tie.After-read-packet → Stores
+read r = withPacket (lent (r .before .before .before)) (r .read-packet .last .1 .1 .0)
+
+-- what follows where the frame stands is the model's step
+ending : (r : tie.After-read-packet) (x : Frame) (d : Stepped) → let a = start (r .before .before .before) .args in
+    r .read-packet .result .frame ≡ x → d ≡ framedAs x (a .e) (r .read-packet .result .begun) (r .read-packet .result .taken) (read r)
+    → d ≡ bytesStep (a .e) (a .input .now) (lent (r .before .before .before))
+ending r x d k w = framed-call _ _ _ (r .read-packet .result) _ x d (goes (r .before .before)) (r .read-packet .ensures .1) k w
 
 refused-requires : tie.Need-refused-requires
 refused-requires c κs = search needs
@@ -18,19 +41,12 @@ refuse-requires c κs = search needs
 
 returns : tie.Need-returns
 unfolding bytesStep
-returns c = let d = c .before .before in
-    let a = d .before .before .before .before .before .before in
-    let k = a .args in
-    let s = stores (k .packet .now) (k .headers .now) (k .body .now) (k .reply .now) in
-    refused-call 0 0 (k .e) s _ _ _ (c .refuse .ensures) (d .refused .ensures) (c .before .if1 .taken)
+returns c =
+    let k = c .before .before in
+    refused-call 0 0 (start k .args .e) (lent k) _ _ _ (c .refuse .ensures) (k .refused .ensures) (c .before .if1 .taken)
 
 read-packet-requires : tie.Need-read-packet-requires
-read-packet-requires c κs = let d = c .before .before in
-    let a = d .before .before .before .before .before .before in
-    let k = a .args in
-    let s = stores (k .packet .now) (k .headers .now) (k .body .now) (k .reply .now) in
-    let g = going 0 0 (k .e) s _ (d .refused .ensures) (c .before .if1 .left) in
-    (g .bounds .begun, g .room .packet)
+read-packet-requires c κs = let g = goes (c .before) in (g .bounds .begun, g .room .packet)
 
 enum-told : tie.Need-enum-told
 enum-told c = search needs
@@ -54,14 +70,13 @@ enum-told-3 : tie.Need-enum-told-3
 enum-told-3 c = search needs
 
 packet-done-requires : tie.Need-packet-done-requires
-packet-done-requires c κs = let r = c .before .before .before .before .before .before .before .before in
-    let d = r .before .before .before in
-    let a = d .before .before .before .before .before .before in
-    let k = a .args in
-    let s = stores (k .packet .now) (k .headers .now) (k .body .now) (k .reply .now) in
-    let g = going 0 0 (k .e) s _ (d .refused .ensures) (r .before .before .if1 .left) in
-    let w = r .read-packet .ensures .0 (c .before .before .before .before .enum-told3 .given .1) in
-    (omega (arith, w .0), omega (arith, w .1, g .room .packet, c .before .before .before .before .before .before .before .packet .given), g .bounds .count, g .bounds .remote, g .bounds .operation, g .room .headers, g .room .body, g .room .reply)
+packet-done-requires c κs =
+    let t = c .before .before .before .before in
+    let p = t .before .before .before in
+    let r = p .before in
+    let g = goes (r .before .before) in
+    let w = r .read-packet .ensures .0 (t .enum-told3 .given .1) in
+    (omega (arith, w .0), omega (arith, w .1, g .room .packet, p .packet .given), g .bounds .count, g .bounds .remote, g .bounds .operation, g .room .headers, g .room .body, g .room .reply)
 
 with-taken-requires-2 : tie.Need-with-taken-requires-2
 with-taken-requires-2 c κs = search needs
@@ -70,32 +85,24 @@ same-length : tie.Need-same-length
 same-length c = search needs
 
 returns-2 : tie.Need-returns-2
-returns-2 c = let r = c .before .before .before .before .before in
-    let d = r .before .before .before in
-    let a = d .before .before .before .before .before .before in
-    let k = a .args in
-    let s = stores (k .packet .now) (k .headers .now) (k .body .now) (k .reply .now) in
-    let g = going 0 0 (k .e) s _ (d .refused .ensures) (r .before .before .if1 .left) in
-    let q = r .read-packet .last .1 .1 .0 in
-    framed-call (k .e) (k .input .now) s (r .read-packet .result) q _ _ g (r .read-packet .ensures .1) (c .before .enum-told .given .1)
-    (ap (λ (x : Took). stepped x (withPacket s q)) (c .more .ensures))
+returns-2 c =
+    let r = c .before .before .before .before .before in
+    ending r _ _ (c .before .enum-told .given .1) (ap (λ (x : Took). stepped x (read r)) (c .more .ensures))
 
 same-length-2 : tie.Need-same-length-2
 same-length-2 c = search needs
 
 returns-3 : tie.Need-returns-3
-returns-3 c = let r = c .before .before .before .before .before .before .before in
-    let d = r .before .before .before in
-    let a = d .before .before .before .before .before .before in
-    let k = a .args in
-    let s = stores (k .packet .now) (k .headers .now) (k .body .now) (k .reply .now) in
-    let g = going 0 0 (k .e) s _ (d .refused .ensures) (r .before .before .if1 .left) in
-    let q = r .read-packet .last .1 .1 .0 in
-    framed-call (k .e) (k .input .now) s (r .read-packet .result) q _ _ g (r .read-packet .ensures .1) (c .before .before .before .enum-told2 .given .1)
-    (taken-after _ _ _ (withPacket s q) _ (c .with-taken .ensures) (short-took (k .e) _ _ (withPacket s q) (c .before .took .ensures) (c .before .before .ends .ensures)))
+returns-3 c =
+    let t = c .before .before .before in
+    let r = t .before .before .before .before in
+    ending r _ _ (t .enum-told2 .given .1)
+    (taken-after _ _ _ (read r) _ (c .with-taken .ensures) (short-took (start (r .before .before .before) .args .e) _ _ (read r) (c .before .took .ensures) (c .before .before .ends .ensures)))
 
 same-length-3 : tie.Need-same-length-3
-same-length-3 c = let h = c .before .before .before .before .before .before .before .before .before .before .before .before .before .before .before .packet .given in omega (arith, h)
+same-length-3 c =
+    let d = c .before .before .before .before .before .before .before in
+    omega (arith, d .before .before .before .before .before .before .before .before .packet .given)
 
 same-length-4 : tie.Need-same-length-4
 same-length-4 c = search needs
@@ -107,16 +114,10 @@ same-length-6 : tie.Need-same-length-6
 same-length-6 c = search needs
 
 returns-4 : tie.Need-returns-4
-returns-4 c = let z = c .before .before .before .before .before .before .before in
-    let r = z .before .before .before .before .before .before .before .before .before in
-    let d = r .before .before .before in
-    let a = d .before .before .before .before .before .before in
-    let k = a .args in
-    let s = stores (k .packet .now) (k .headers .now) (k .body .now) (k .reply .now) in
-    let g = going 0 0 (k .e) s _ (d .refused .ensures) (r .before .before .if1 .left) in
-    let q = r .read-packet .last .1 .1 .0 in
-    framed-call (k .e) (k .input .now) s (r .read-packet .result) q _ _ g (r .read-packet .ensures .1) (z .before .before .before .before .before .enum-told3 .given .1)
-    (taken-after _ _ _ _ _ (c .with-taken2 .ensures) (z .packet-done .ensures))
+returns-4 c =
+    let d = c .before .before .before .before .before .before .before in
+    let t = d .before .before .before .before .before in
+    ending (t .before .before .before .before) _ _ (t .enum-told3 .given .1) (taken-after _ _ _ _ _ (c .with-taken2 .ensures) (d .packet-done .ensures))
 
 pub bytes-spec : {M : Type 1} → statement M
 bytes-spec =

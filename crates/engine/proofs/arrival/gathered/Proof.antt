@@ -1,6 +1,6 @@
 -- `engine::arrival::gathered` meets its contract: what `gather` gives is what the model gathers (proofs/Arrivals.antt). Assumes nothing.
 use Rattle.model.specs.Model.{stores, limitOf}
-use Rattle.engine.proofs.Guards.{gathered-bounds}
+use Rattle.model.proofs.Steps.{gathered-within}
 use Rattle.engine.proofs.Arrivals.{gathered-way, gathered-planned}
 use borrow.Author.Needs.{needs}
 use Rattle.engine.proofs.arrival.gathered.Statement.{statement}
@@ -19,7 +19,7 @@ gather-requires : tie.Need-gather-requires
 gather-requires c κs =
     let k = c .before .before .before .before in
     let a = k .before .before .before .before in
-    let g = gathered-bounds (limitOf (a .args .e)) (a .args .begun) (a .pre .1) in
+    let g = gathered-within (limitOf (a .args .e)) (a .args .begun) (a .pre .1) in
     let w = c .before .before .wide .ensures in
     (rw (k .from .ensures, a .pre .0), g .0, a .pre .2, rw w (g .1), rw w (a .pre .3))
 
@@ -39,7 +39,8 @@ returns c = λ q y.
     let a = f .before .before .before .before in
     let s = stores q (a .args .headers .now) (a .args .body .now) y in
     gathered-planned _ _ _ _ _ _ _ _ _ s _ _
-    (gathered-way (a .args .e) (a .args .kind) _ _ _ s _ _ _ _ (k .gather .ensures .0) (f .from .ensures) (k .before .before .before .before .keep .ensures) (k .before .before .before .wide .ensures) (a .pre .0))
+    (gathered-way (a .args .e) (a .args .kind) _ _ _ s _ _ _ _ (k .gather .ensures .0) (f .from .ensures)
+    (k .before .before .before .before .keep .ensures) (k .before .before .before .wide .ensures) (a .pre .0))
     (c .kind-plan .ensures)
 
 pub gathered-spec : {M : Type 1} → statement M

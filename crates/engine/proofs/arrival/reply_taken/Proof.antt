@@ -1,12 +1,24 @@
--- `engine::arrival::reply_taken` meets its contract. The guard refuses as the model does, and the plan is the model's step. Assumes nothing.
-use native.Mathlib.Omega.{arith}
-use Rattle.model.specs.Model.{stores, takenStep}
-use Rattle.engine.proofs.Carried.{refused-call}
-use Rattle.engine.proofs.Guards.{going}
-use Rattle.engine.proofs.Turns.{taken-call}
+-- `engine::arrival::reply_taken` meets its contract. The guard refuses as the model does, and the plan is the model's step.
+-- Assumes nothing.
 use borrow.Author.Needs.{needs}
+use native.Mathlib.Omega.{arith}
+use Rattle.model.specs.Model.{Stores, stores, takenStep}
+use Rattle.engine.proofs.Guards.{Goes, going}
+use Rattle.engine.proofs.Carried.{refused-call}
+use Rattle.engine.proofs.Turns.{taken-call}
 use Rattle.engine.proofs.arrival.reply_taken.Statement.{statement}
 use Rattle.engine.proofs.arrival.reply_taken.Tie as tie
+
+abbrev start : tie.After-refused → tie.Start
+start k = k .before .before .before .before .before
+
+-- the stores that are lent
+abbrev lent : tie.After-refused → Stores
+lent k = let a = start k .args in stores (a .packet .now) (a .headers .now) (a .body .now) (a .reply .now)
+
+-- the guard lets the call go on
+goes : (k : tie.Else1) → Goes 1 2 (start (k .before) .args .e) (lent (k .before))
+goes k = going 1 2 _ _ _ (k .before .refused .ensures) (k .if1 .left)
 
 refused-requires : tie.Need-refused-requires
 refused-requires c κs = search needs
@@ -16,19 +28,17 @@ refuse-requires c κs = search needs
 
 returns : tie.Need-returns
 unfolding takenStep
-returns c = let k = c .before .before .before .before .before .before .before .args in
-    refused-call 1 2 (k .e) (stores (k .packet .now) (k .headers .now) (k .body .now) (k .reply .now)) _ _ _ (c .refuse .ensures) (c .before .before .refused .ensures) (c .before .if1 .taken)
+returns c =
+    let k = c .before .before in
+    refused-call 1 2 (start k .args .e) (lent k) _ _ _ (c .refuse .ensures) (k .refused .ensures) (c .before .if1 .taken)
 
 turn-plan-requires : tie.Need-turn-plan-requires
-turn-plan-requires c κs = let k = c .before .before .before .before .before .before .before .before .args in
-    let g = going 1 2 (k .e) (stores (k .packet .now) (k .headers .now) (k .body .now) (k .reply .now)) _ (c .before .before .before .refused .ensures) (c .before .before .if1 .left) in
-    (g .bounds .remote, g .bounds .operation, g .room .headers, g .room .reply)
+turn-plan-requires c κs = let g = goes (c .before .before) in (g .bounds .remote, g .bounds .operation, g .room .headers, g .room .reply)
 
 carry-out-requires : tie.Need-carry-out-requires
-carry-out-requires c κs = let d = c .before .before .before .before .before .before in
-    let k = d .before .before .before .before .before .before .args in
-    let g = going 1 2 (k .e) (stores (k .packet .now) (k .headers .now) (k .body .now) (k .reply .now)) _ (d .before .refused .ensures) (d .if1 .left) in
-    omega (arith, g .room .reply, c .before .before .reply .given)
+carry-out-requires c κs =
+    let t = c .before .before .before in
+    omega (arith, goes (t .before .before .before) .room .reply, c .before .before .reply .given)
 
 same-length : tie.Need-same-length
 same-length c = search needs
@@ -37,12 +47,13 @@ same-length-2 : tie.Need-same-length-2
 same-length-2 c = search needs
 
 returns-2 : tie.Need-returns-2
-returns-2 c = let d = c .before .before .before .before .before .before .before .before .before in
-    let k = d .before .before .before .before .before .before .args in
-    let g = going 1 2 (k .e) (stores (k .packet .now) (k .headers .now) (k .body .now) (k .reply .now)) _ (d .before .refused .ensures) (d .if1 .left) in
-    let t = c .before .before .before .before .before .before .turn-plan in
-    taken-call (k .e) (stores (k .packet .now) (k .headers .now) (k .body .now) (k .reply .now)) (t .result) (t .last .1 .1 .0) _ g (c .before .before .carry-out .ensures)
-    (t .ensures (k .packet .now) (k .body .now))
+returns-2 c =
+    let y = c .before .before in
+    let t = y .before .before .before .before in
+    let z = t .before .before .before in
+    let k = start (z .before) .args in
+    taken-call (k .e) (lent (z .before)) (t .turn-plan .result) (t .turn-plan .last .1 .1 .0) _ (goes z) (y .carry-out .ensures)
+    (t .turn-plan .ensures (k .packet .now) (k .body .now))
 
 pub reply-taken-spec : {M : Type 1} → statement M
 reply-taken-spec =

@@ -1,4 +1,5 @@
--- `engine::arrival::route` meets its contract: what `parse_packet` gives decides as the definition does (proofs/Arrivals.antt). Assumes nothing.
+-- `engine::arrival::route` meets its contract: what `parse_packet` gives decides as the definition does (proofs/Arrivals.antt).
+-- Assumes nothing.
 use mathlib.Core.Path.{_∙_, sym}
 use Rattle.engine.proofs.Arrivals.{unreadable-way, heading-way}
 use borrow.Author.Needs.{needs}

@@ -1,5 +1,5 @@
 -- `engine::arrival::turn_plan` meets its contract: each turn that `next_turn` tells has its plan (proofs/Turns.antt). Assumes nothing.
-use mathlib.Core.Path.{_≡_, _∙_, sym, ap, subst}
+use mathlib.Core.Path.{_∙_, sym, ap, subst}
 use native.Mathlib.Omega.{arith}
 use Rattle.model.specs.Model.{stores}
 use Rattle.engine.specs.Plan.{planned}

@@ -1,6 +1,5 @@
 -- `engine::carry::packet_plan` meets its contract. The arms of the code are those of the definition.
 use borrow.Author.Needs.{needs}
-use mathlib.Core.Path.{sym, _∙_}
 use Rattle.engine.specs.Carry.{packetPlan}
 use Rattle.engine.proofs.carry.packet_plan.Statement.{statement}
 use Rattle.engine.proofs.carry.packet_plan.Tie as tie

@@ -21,9 +21,12 @@ same-length : tie.Need-same-length
 same-length c = search needs
 
 returns : tie.Need-returns
-returns c = let k = c .before .before .before .before .before .before .before .before .before .args in
-    sent-written (k .e) (k .peer) (k .code) (fieldsOf (k .e .settings .«max_packet_length»)) (k .header-bytes .now) (k .reply .now) _ _ _ _ (c .before .before .before .before .send-connect .ensures) (c .before .before .before .before .before .before .wide16 .ensures .0)
-    (c .before .sent-plan .ensures) (c .took .ensures)
+returns c =
+    let z = c .before .before .before .before in
+    let w = z .before .before in
+    let k = w .before .before .before .args in
+    sent-written (k .e) (k .peer) (k .code) (fieldsOf (k .e .settings .«max_packet_length»)) (k .header-bytes .now) (k .reply .now) _ _ _ _
+    (z .send-connect .ensures) (w .wide16 .ensures .0) (c .before .sent-plan .ensures) (c .took .ensures)
 
 pub sends-connect-spec : {M : Type 1} → statement M
 sends-connect-spec =

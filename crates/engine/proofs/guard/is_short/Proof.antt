@@ -1,7 +1,6 @@
 -- `engine::guard::is_short` meets its contract. Each `return` rewrites with the tests that led there.
 use borrow.Author.Needs.{needs}
-use native.Mathlib.Omega.{arith}
-use borrow.Author.Tests.{lt-ltb, le-ltb, lt-leb, le-leb}
+use borrow.Author.Tests.{lt-ltb, le-ltb}
 use Rattle.engine.specs.Guard.{shortBy}
 use Rattle.engine.proofs.guard.is_short.Statement.{statement}
 use Rattle.engine.proofs.guard.is_short.Tie as tie

@@ -1,12 +1,22 @@
 -- `engine::guard::refused` meets its contract. Each `return` rewrites with the tests that led there.
 use borrow.Author.Needs.{needs}
-use native.Mathlib.Omega.{arith}
-use borrow.Author.Tests.{lt-ltb, le-ltb, lt-leb, le-leb}
-use mathlib.Core.Path.{sym, _∙_}
-use borrow.Author.Tests.{not-true, not-false}
-use Rattle.engine.specs.Guard.{refusedBy}
+use borrow.Author.Tests.{lt-leb, le-leb, not-true, not-false}
+use mathlib.Core.Path.{_≡_, sym, _∙_}
+use mathlib.Core.Bool.{true, false}
+use Rattle.model.specs.Model.{limitOf, sound}
+use Rattle.engine.specs.Guard.{shortBy, refusedBy}
 use Rattle.engine.proofs.guard.refused.Statement.{statement}
 use Rattle.engine.proofs.guard.refused.Tie as tie
+
+abbrev start : tie.Else2 → tie.Start
+start z = z .before .before .before .before
+
+-- no store is too short, and the state is one that a call can leave
+long : (z : tie.Else2) → let a = start z .args in shortBy (limitOf (a .e)) (a .packet) (a .headers) (a .body) (a .reply) ≡ false
+long z = let i = z .before .before in sym (i .before .is-short .ensures) ∙ i .if1 .left
+
+whole : (z : tie.Else2) → sound (start z .args .e) ≡ true
+whole z = sym (z .before .is-sound .ensures) ∙ not-false _ (z .if2 .left)
 
 is-short-requires : tie.Need-is-short-requires
 is-short-requires c κs = search needs
@@ -20,22 +30,31 @@ is-sound-requires c κs = search needs
 
 returns-2 : tie.Need-returns-2
 unfolding refusedBy
-returns-2 c = simp (sym (c .before .before .before .is-short .ensures) ∙ c .before .before .if1 .left, sym (c .before .is-sound .ensures) ∙ not-true _ (c .if2 .taken))
+returns-2 c =
+    let s = c .before in
+    let i = s .before in
+    simp (sym (i .before .is-short .ensures) ∙ i .if1 .left, sym (s .is-sound .ensures) ∙ not-true _ (c .if2 .taken))
 
 awaited-requires : tie.Need-awaited-requires
 awaited-requires c κs = search needs
 
 returns-3 : tie.Need-returns-3
 unfolding refusedBy
-returns-3 c = simp (sym (c .before .before .before .before .before .is-short .ensures) ∙ c .before .before .before .before .if1 .left, sym (c .before .before .before .is-sound .ensures) ∙ not-false _ (c .before .before .if2 .left), ← c .before .awaited .ensures, lt-leb _ _ (c .if3 .taken))
+returns-3 c = let z = c .before .before in simp (long z, whole z, ← c .before .awaited .ensures, lt-leb _ _ (c .if3 .taken))
 
 returns-4 : tie.Need-returns-4
 unfolding refusedBy
-returns-4 c = simp (sym (c .before .before .before .before .before .before .is-short .ensures) ∙ c .before .before .before .before .before .if1 .left, sym (c .before .before .before .before .is-sound .ensures) ∙ not-false _ (c .before .before .before .if2 .left), ← c .before .before .awaited .ensures, le-leb _ _ (c .before .if3 .left), lt-leb _ _ (c .if4 .taken))
+returns-4 c =
+    let n = c .before .before in
+    let z = n .before in
+    simp (long z, whole z, ← n .awaited .ensures, le-leb _ _ (c .before .if3 .left), lt-leb _ _ (c .if4 .taken))
 
 returns-5 : tie.Need-returns-5
 unfolding refusedBy
-returns-5 c = simp (sym (c .before .before .before .before .before .before .is-short .ensures) ∙ c .before .before .before .before .before .if1 .left, sym (c .before .before .before .before .is-sound .ensures) ∙ not-false _ (c .before .before .before .if2 .left), ← c .before .before .awaited .ensures, le-leb _ _ (c .before .if3 .left), le-leb _ _ (c .if4 .left))
+returns-5 c =
+    let n = c .before .before in
+    let z = n .before in
+    simp (long z, whole z, ← n .awaited .ensures, le-leb _ _ (c .before .if3 .left), le-leb _ _ (c .if4 .left))
 
 pub refused-spec : {M : Type 1} → statement M
 refused-spec =

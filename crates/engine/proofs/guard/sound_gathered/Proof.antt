@@ -1,7 +1,6 @@
 -- `engine::guard::sound_gathered` meets its contract. Each `return` rewrites with the tests that led there.
 use borrow.Author.Needs.{needs}
-use native.Mathlib.Omega.{arith}
-use borrow.Author.Tests.{lt-ltb, le-ltb, lt-leb, le-leb}
+use borrow.Author.Tests.{lt-leb, le-leb}
 use Rattle.engine.proofs.guard.sound_gathered.Statement.{statement}
 use Rattle.engine.proofs.guard.sound_gathered.Tie as tie
 

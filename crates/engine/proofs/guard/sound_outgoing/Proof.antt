@@ -5,7 +5,7 @@ use Prim.Native.Nat.{ℕ, _+_, _-_, _≤_, _<_}
 use mathlib.Core.Path.{_≡_, refl, sym}
 use mathlib.Core.Bool.{Bool, true, false}
 use lib.Dec.{leb}
-use borrow.Author.Tests.{lt-ltb, le-ltb, lt-leb, le-leb, leb-true, leb-false}
+use borrow.Author.Tests.{lt-leb, le-leb, leb-true, leb-false}
 use Rattle.engine.proofs.guard.sound_outgoing.Statement.{statement}
 use Rattle.engine.proofs.guard.sound_outgoing.Tie as tie
 
@@ -24,10 +24,20 @@ returns-2 : tie.Need-returns-2
 returns-2 c = simp (le-leb _ _ (c .before .before .if1 .left), lt-leb _ _ (c .if2 .taken))
 
 returns-3 : tie.Need-returns-3
-returns-3 c = let k = c .before .before .before .before .before .before .args .c in let f : 65532 < k .at + k .got = omega arith in simp (le-leb _ _ (c .before .before .before .before .if1 .left), le-leb _ _ (c .before .before .if2 .left), lt-leb _ _ f)
+returns-3 c =
+    let s = c .before .before in
+    let r = s .before .before in
+    let k = r .before .before .args .c in
+    let f : 65532 < k .at + k .got = omega arith in
+    simp (le-leb _ _ (r .if1 .left), le-leb _ _ (s .if2 .left), lt-leb _ _ f)
 
 returns-4 : tie.Need-returns-4
-returns-4 c = let k = c .before .before .before .before .before .before .before .before .before .args .c in let f : 65532 < k .at + k .got = omega arith in simp (le-leb _ _ (c .before .before .before .before .before .before .before .if1 .left), le-leb _ _ (c .before .before .before .before .before .if2 .left), lt-leb _ _ f)
+returns-4 c =
+    let s = c .before .before .before .before .before in
+    let r = s .before .before in
+    let k = r .before .before .args .c in
+    let f : 65532 < k .at + k .got = omega arith in
+    simp (le-leb _ _ (r .if1 .left), le-leb _ _ (s .if2 .left), lt-leb _ _ f)
 
 sub-result : tie.Need-sub-result
 sub-result c = search needs
@@ -36,7 +46,12 @@ sub-result-2 : tie.Need-sub-result-2
 sub-result-2 c = search needs
 
 returns-5 : tie.Need-returns-5
-returns-5 c = let k = c .before .before .before .before .before .before .before .before .before .before .before .before .args .c in let f : k .at + k .got ≤ 65532 = omega arith in simp (le-leb _ _ (c .before .before .before .before .before .before .before .before .before .before .if1 .left), le-leb _ _ (c .before .before .before .before .before .before .before .before .if2 .left), le-leb _ _ f) (within (k .at) (k .got) (k .room) f)
+returns-5 c =
+    let s = c .before .before .before .before .before .before .before .before in
+    let r = s .before .before in
+    let k = r .before .before .args .c in
+    let f : k .at + k .got ≤ 65532 = omega arith in
+    simp (le-leb _ _ (r .if1 .left), le-leb _ _ (s .if2 .left), le-leb _ _ f) (within (k .at) (k .got) (k .room) f)
 
 pub sound-outgoing-spec : {M : Type 1} → statement M
 sound-outgoing-spec =

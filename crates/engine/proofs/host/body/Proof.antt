@@ -1,16 +1,25 @@
 -- `engine::host::body` meets its contract. The guard refuses as the model does; then the ways of the code are those of `bodyFor`.
 use borrow.Author.Needs.{needs}
 use native.Mathlib.Omega.{arith}
-use mathlib.Core.Path.{_≡_, sym, ap, _∙_}
-use Rattle.model.specs.Model.{stores, after, bodyStep, bodyFor, sendsPacket, stepped}
-use Rattle.model.specs.declared.server.Await.the-variants as await
-use Rattle.engine.proofs.Guards.{going}
-use Rattle.engine.proofs.Carried.{refused-call}
+use mathlib.Core.Path.{sym, ap, _∙_}
+use Rattle.model.specs.Model.{Stores, stores, stepped, bodyStep}
 use Rattle.model.specs.declared.server.Took.{Took}
-use Rattle.outgoing.specs.Outgoing.{Made, made, bodyGiven}
+use Rattle.engine.proofs.Guards.{Goes, going}
+use Rattle.engine.proofs.Carried.{refused-call}
 use Rattle.engine.proofs.Objects.{body-other, sending-bounds, body-much, body-goes, packet-sent, packet-call}
 use Rattle.engine.proofs.host.body.Statement.{statement}
 use Rattle.engine.proofs.host.body.Tie as tie
+
+abbrev start : tie.After-refused → tie.Start
+start k = k .before .before .before .before .before .before
+
+-- the stores that are lent
+abbrev lent : tie.After-refused → Stores
+lent k = let a = start k .args in stores (a .packet .now) (a .headers .now) (a .body .now) (a .reply .now)
+
+-- the guard lets the call go on
+goes : (k : tie.Else1) → Goes 11 11 (start (k .before) .args .e) (lent (k .before))
+goes k = going 11 11 _ _ _ (k .before .refused .ensures) (k .if1 .left)
 
 refused-requires : tie.Need-refused-requires
 refused-requires c κs = search needs
@@ -20,7 +29,9 @@ refuse-requires c κs = search needs
 
 returns : tie.Need-returns
 unfolding bodyStep
-returns c = let k = c .before .before .before .before .before .before .before .before .args in refused-call 11 11 (k .e) (stores (k .packet .now) (k .headers .now) (k .body .now) (k .reply .now)) _ _ _ (c .refuse .ensures) (c .before .before .refused .ensures) (c .before .if1 .taken)
+returns c =
+    let k = c .before .before in
+    refused-call 11 11 (start k .args .e) (lent k) _ _ _ (c .refuse .ensures) (k .refused .ensures) (c .before .if1 .taken)
 
 enum-known-operation : tie.Need-enum-known-operation
 enum-known-operation c = search needs
@@ -30,30 +41,58 @@ refuse-requires-2 c κs = search needs
 
 returns-2 : tie.Need-returns-2
 unfolding bodyStep
-returns-2 c = let k = c .before .before .before .before .before .before .before .before .before .args in let g = going 11 11 (k .e) (stores (k .packet .now) (k .headers .now) (k .body .now) (k .reply .now)) _ (c .before .before .before .refused .ensures) (c .before .before .if1 .left) in ap (λ (r : Took). stepped r (stores (k .packet .now) (k .headers .now) (k .body .now) (k .reply .now))) (c .refuse2 .ensures) ∙ body-other (k .e .operation) (k .e) (k .d .now) (stores (k .packet .now) (k .headers .now) (k .body .now) (k .reply .now)) (c .before .match .keys2) ∙ sym (g .whole _)
+returns-2 c =
+    let z = c .before .before in
+    let k = start (z .before) .args in
+    let s = lent (z .before) in
+    ap (λ (r : Took). stepped r s) (c .refuse2 .ensures) ∙ body-other (k .e .operation) (k .e) (k .d .now) s (c .before .match .keys2) ∙ sym (goes z .whole _)
 
 refuse-requires-3 : tie.Need-refuse-requires-3
 refuse-requires-3 c κs = search needs
 
 returns-3 : tie.Need-returns-3
 unfolding bodyStep
-returns-3 c = let k = c .before .before .before .before .before .before .before .before .before .before .before .before .before .args in let g = going 11 11 (k .e) (stores (k .packet .now) (k .headers .now) (k .body .now) (k .reply .now)) _ (c .before .before .before .before .before .before .before .refused .ensures) (c .before .before .before .before .before .before .if1 .left) in ap (λ (r : Took). stepped r (stores (k .packet .now) (k .headers .now) (k .body .now) (k .reply .now))) (c .refuse3 .ensures) ∙ body-much (k .e .operation) _ _ _ _ (c .before .before .before .before .operation .given .1) (k .e) (k .d .now) (stores (k .packet .now) (k .headers .now) (k .body .now) (k .reply .now)) (c .before .if2 .taken) ∙ sym (g .whole _)
+returns-3 c =
+    let o = c .before .before .before .before in
+    let z = o .before .before in
+    let k = start (z .before) .args in
+    let s = lent (z .before) in
+    ap (λ (r : Took). stepped r s) (c .refuse3 .ensures)
+    ∙ body-much (k .e .operation) _ _ _ _ (o .operation .given .1) (k .e) (k .d .now) s (c .before .if2 .taken)
+    ∙ sym (goes z .whole _)
 
 body-given-requires : tie.Need-body-given-requires
-body-given-requires c κs = let k = c .before .before .before .before .before .before .before .before .before .before .before .before .before .args in let g = going 11 11 (k .e) (stores (k .packet .now) (k .headers .now) (k .body .now) (k .reply .now)) _ (c .before .before .before .before .before .before .before .refused .ensures) (c .before .before .before .before .before .before .if1 .left) in let b = sending-bounds (k .e .operation) _ _ _ _ (c .before .before .before .before .operation .given .1) _ (g .bounds .operation) in (c .before .if2 .left, b .asked, b .chunk, g .room .reply)
+body-given-requires c κs =
+    let o = c .before .before .before .before in
+    let g = goes (o .before .before) in
+    let b = sending-bounds _ _ _ _ _ (o .operation .given .1) _ (g .bounds .operation) in
+    (c .before .if2 .left, b .chunk, b .begun, g .room .reply)
 
 packet-plan-requires : tie.Need-packet-plan-requires
 packet-plan-requires c κs = search needs
 
 carry-out-requires : tie.Need-carry-out-requires
-carry-out-requires c κs = let k = c .before .before .before .before .before .before .before .before .before .before .before .before .before .before .before .before .before .before .args in let g = going 11 11 (k .e) (stores (k .packet .now) (k .headers .now) (k .body .now) (k .reply .now)) _ (c .before .before .before .before .before .before .before .before .before .before .before .before .refused .ensures) (c .before .before .before .before .before .before .before .before .before .before .before .if1 .left) in omega (arith, g .room .reply)
+carry-out-requires c κs =
+    let u = c .before .before .before .before .before .before in
+    omega (arith, goes (u .before .before .before .before .before) .room .reply)
 
 same-length : tie.Need-same-length
 same-length c = search needs
 
 returns-4 : tie.Need-returns-4
 unfolding bodyStep
-returns-4 c = let k = c .before .before .before .before .before .before .before .before .before .before .before .before .before .before .before .before .before .before .before .before .before .args in let g = going 11 11 (k .e) (stores (k .packet .now) (k .headers .now) (k .body .now) (k .reply .now)) _ (c .before .before .before .before .before .before .before .before .before .before .before .before .before .before .before .refused .ensures) (c .before .before .before .before .before .before .before .before .before .before .before .before .before .before .if1 .left) in packet-call (k .e) (stores (k .packet .now) (k .headers .now) (k .body .now) (k .reply .now)) _ _ _ _ (packet-sent (k .e) _ _ _ _ _ _ (c .before .before .carry-out .ensures) (c .before .before .before .before .packet-plan .ensures) (c .before .before .before .before .before .before .before .body-given .ensures)) ∙ body-goes (k .e .operation) _ _ _ _ (c .before .before .before .before .before .before .before .before .before .before .before .before .operation .given .1) (k .e) (k .d .now) (stores (k .packet .now) (k .headers .now) (k .body .now) (k .reply .now)) (c .before .before .before .before .before .before .before .before .before .if2 .left) ∙ sym (g .whole _)
+returns-4 c =
+    let y = c .before .before in
+    let p = y .before .before in
+    let b = p .before .before .before in
+    let u = b .before .before in
+    let o = u .before .before .before in
+    let z = o .before .before in
+    let k = start (z .before) .args in
+    let s = lent (z .before) in
+    packet-call (k .e) s _ _ _ _ (packet-sent (k .e) _ _ _ _ _ _ (y .carry-out .ensures) (p .packet-plan .ensures) (b .body-given .ensures))
+    ∙ body-goes (k .e .operation) _ _ _ _ (o .operation .given .1) (k .e) (k .d .now) s (u .if2 .left)
+    ∙ sym (goes z .whole _)
 
 pub body-spec : {M : Type 1} → statement M
 body-spec =

@@ -1,14 +1,24 @@
 -- `engine::host::body_failed` meets its contract. The guard refuses as the model does, and the plan is the model's step.
 use borrow.Author.Needs.{needs}
 use native.Mathlib.Omega.{arith}
-use mathlib.Core.Path.{_≡_, sym, ap, _∙_}
-use Rattle.model.specs.Model.{stores, after, bodyFailedStep}
+use Rattle.model.specs.Model.{Stores, stores, bodyFailedStep}
 use Rattle.model.specs.declared.server.Await.the-variants as await
-use Rattle.engine.proofs.Guards.{going}
+use Rattle.engine.proofs.Guards.{Goes, going}
 use Rattle.engine.proofs.Carried.{refused-call, carried-call}
 use Rattle.engine.proofs.Plans.{code-planned}
 use Rattle.engine.proofs.host.body_failed.Statement.{statement}
 use Rattle.engine.proofs.host.body_failed.Tie as tie
+
+abbrev start : tie.After-refused → tie.Start
+start k = k .before .before .before .before .before
+
+-- the stores that are lent
+abbrev lent : tie.After-refused → Stores
+lent k = let a = start k .args in stores (a .packet .now) (a .headers .now) (a .body .now) (a .reply .now)
+
+-- the guard lets the call go on
+goes : (k : tie.Else1) → Goes 11 11 (start (k .before) .args .e) (lent (k .before))
+goes k = going 11 11 _ _ _ (k .before .refused .ensures) (k .if1 .left)
 
 refused-requires : tie.Need-refused-requires
 refused-requires c κs = search needs
@@ -18,20 +28,28 @@ refuse-requires c κs = search needs
 
 returns : tie.Need-returns
 unfolding bodyFailedStep
-returns c = let k = c .before .before .before .before .before .before .before .args in refused-call 11 11 (k .e) (stores (k .packet .now) (k .headers .now) (k .body .now) (k .reply .now)) _ _ _ (c .refuse .ensures) (c .before .before .refused .ensures) (c .before .if1 .taken)
+returns c =
+    let k = c .before .before in
+    refused-call 11 11 (start k .args .e) (lent k) _ _ _ (c .refuse .ensures) (k .refused .ensures) (c .before .if1 .taken)
 
 code-requires : tie.Need-code-requires
 code-requires c κs = search needs
 
 carry-out-requires : tie.Need-carry-out-requires
-carry-out-requires c κs = let k = c .before .before .before .before .before .before .before .before .args in let g = going 11 11 (k .e) (stores (k .packet .now) (k .headers .now) (k .body .now) (k .reply .now)) _ (c .before .before .before .refused .ensures) (c .before .before .if1 .left) in omega (arith, g .room .reply)
+carry-out-requires c κs = omega (arith, goes (c .before .before) .room .reply)
 
 same-length : tie.Need-same-length
 same-length c = search needs
 
 returns-2 : tie.Need-returns-2
 unfolding bodyFailedStep
-returns-2 c = let k = c .before .before .before .before .before .before .before .before .before .before .before .args in let g = going 11 11 (k .e) (stores (k .packet .now) (k .headers .now) (k .body .now) (k .reply .now)) _ (c .before .before .before .before .before .before .refused .ensures) (c .before .before .before .before .before .if1 .left) in carried-call 11 11 (k .e) (stores (k .packet .now) (k .headers .now) (k .body .now) (k .reply .now)) _ _ _ _ g (c .before .before .carry-out .ensures) (c .before .before .before .before .code .ensures) (code-planned (k .e) (k .e .peer) await.Taken 0xD0 (stores (k .packet .now) (k .headers .now) (k .body .now) (k .reply .now)))
+returns-2 c =
+    let o = c .before .before in
+    let p = o .before .before in
+    let z = p .before in
+    let e = start (z .before) .args .e in
+    let s = lent (z .before) in
+    carried-call 11 11 e s _ _ _ _ (goes z) (o .carry-out .ensures) (p .code .ensures) (code-planned e (e .peer) await.Taken 0xD0 s)
 
 pub body-failed-spec : {M : Type 1} → statement M
 body-failed-spec =

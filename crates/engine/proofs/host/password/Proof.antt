@@ -1,15 +1,22 @@
--- `engine::host::password` meets its contract. The guard refuses as the model does, and the plan is by the check of the last packet's response.
+-- `engine::host::password` meets its contract: the guard is the model's, and so is the check of the last packet's response.
 use borrow.Author.Needs.{needs}
-use lib.ListN.{length-take}
-use native.Mathlib.Omega.{arith}
-use mathlib.Core.Path.{_≡_, sym, ap, _∙_}
-use Rattle.model.specs.Model.{stores, after, passwordStep}
-use Rattle.model.specs.declared.server.Await.the-variants as await
-use Rattle.engine.proofs.Guards.{going}
+use Rattle.model.specs.Model.{Stores, stores, passwordStep}
+use Rattle.engine.proofs.Guards.{Goes, going}
 use Rattle.engine.proofs.Carried.{refused-call}
 use Rattle.engine.proofs.LastPacket.{password-call}
 use Rattle.engine.proofs.host.password.Statement.{statement}
 use Rattle.engine.proofs.host.password.Tie as tie
+
+abbrev start : tie.After-refused → tie.Start
+start k = k .before .before .before .before .before .before
+
+-- the stores that are lent
+abbrev lent : tie.After-refused → Stores
+lent k = let a = start k .args in stores (a .packet .now) (a .headers .now) (a .body .now) (a .reply .now)
+
+-- the guard lets the call go on
+goes : (k : tie.Else1) → Goes 8 8 (start (k .before) .args .e) (lent (k .before))
+goes k = going 8 8 _ _ _ (k .before .refused .ensures) (k .if1 .left)
 
 refused-requires : tie.Need-refused-requires
 refused-requires c κs = search needs
@@ -19,13 +26,15 @@ refuse-requires c κs = search needs
 
 returns : tie.Need-returns
 unfolding passwordStep
-returns c = let k = c .before .before .before .before .before .before .before .before .args in refused-call 8 8 (k .e) (stores (k .packet .now) (k .headers .now) (k .body .now) (k .reply .now)) _ _ _ (c .refuse .ensures) (c .before .before .refused .ensures) (c .before .if1 .taken)
+returns c =
+    let k = c .before .before in
+    refused-call 8 8 (start k .args .e) (lent k) _ _ _ (c .refuse .ensures) (k .refused .ensures) (c .before .if1 .taken)
 
 slice-reshare-prefix-is-right : tie.Need-slice-reshare-prefix-is-right
-slice-reshare-prefix-is-right c = let k = c .before .before .before .before .before .before .before .before .args in let g = going 8 8 (k .e) (stores (k .packet .now) (k .headers .now) (k .body .now) (k .reply .now)) _ (c .before .before .refused .ensures) (c .before .if1 .left) in omega (arith, g .bounds .length, g .room .packet)
+slice-reshare-prefix-is-right c = goes (c .before) .last .inside
 
 slice-aggregate-is-right : tie.Need-slice-aggregate-is-right
-slice-aggregate-is-right c = let k = c .before .before .before .before .before .before .before .before .before .args in let g = going 8 8 (k .e) (stores (k .packet .now) (k .headers .now) (k .body .now) (k .reply .now)) _ (c .before .before .before .refused .ensures) (c .before .before .if1 .left) in omega (arith, length-take (k .e .length) (k .packet .now), g .bounds .length, g .room .packet)
+slice-aggregate-is-right c = goes (c .before .before) .last .count
 
 is-right-requires : tie.Need-is-right-requires
 is-right-requires c κs = search needs
@@ -41,7 +50,10 @@ same-length c = search needs
 
 returns-2 : tie.Need-returns-2
 unfolding passwordStep
-returns-2 c = let k = c .before .before .before .before .before .before .before .before .before .before .before .before .args in let g = going 8 8 (k .e) (stores (k .packet .now) (k .headers .now) (k .body .now) (k .reply .now)) _ (c .before .before .before .before .before .before .refused .ensures) (c .before .before .before .before .before .if1 .left) in password-call (k .e) (stores (k .packet .now) (k .headers .now) (k .body .now) (k .reply .now)) _ _ _ _ g (c .took .ensures) (c .before .password-plan .ensures) (c .before .before .is-right .ensures)
+returns-2 c =
+    let r = c .before .before in
+    let z = r .before .before .before in
+    password-call (start (z .before) .args .e) (lent (z .before)) _ _ _ _ (goes z) (c .took .ensures) (c .before .password-plan .ensures) (r .is-right .ensures)
 
 pub password-spec : {M : Type 1} → statement M
 password-spec =

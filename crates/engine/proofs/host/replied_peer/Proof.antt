@@ -20,7 +20,11 @@ disconnected-requires : tie.Need-disconnected-requires
 disconnected-requires c κs = search needs
 
 returns-2 : tie.Need-returns-2
-returns-2 c = let k = c .before .before .before .before .before .before .args in replied-closing (k .e) (k .packet .now) _ (c .before .before .before .before .awaited .ensures) (c .before .before .before .if1 .left) _ _ _ (c .before .before .last-from .ensures) (c .before .first-id .ensures) (c .disconnected .ensures)
+returns-2 c =
+    let l = c .before .before in
+    let u = l .before in
+    let k = u .before .before .before .args in
+    replied-closing (k .e) (k .packet .now) _ (u .before .awaited .ensures) (u .if1 .left) _ _ _ (l .last-from .ensures) (c .before .first-id .ensures) (c .disconnected .ensures)
 
 pub replied-peer-spec : {M : Type 1} → statement M
 replied-peer-spec =

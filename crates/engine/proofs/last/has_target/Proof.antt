@@ -17,10 +17,16 @@ enum-told-2 : tie.Need-enum-told-2
 enum-told-2 c = search needs
 
 returns : tie.Need-returns
-returns c = given-missing 0x46 (c .before .before .before .before .before .args .q .now) (found-last 0x46 _ _ _ _ (c .before .before .before .last-from .ensures) (c .before .before .first-in .ensures) (c .enum-told2 .given .1))
+returns c =
+    let f = c .before .before in
+    let l = f .before in
+    given-missing 0x46 (l .before .before .args .q .now) (found-last 0x46 _ _ _ _ (l .last-from .ensures) (f .first-in .ensures) (c .enum-told2 .given .1))
 
 returns-2 : tie.Need-returns-2
-returns-2 c = given-at 0x46 (c .before .before .before .before .before .args .q .now) _ _ (found-last 0x46 _ _ _ _ (c .before .before .before .last-from .ensures) (c .before .before .first-in .ensures) (c .enum-told .given .1))
+returns-2 c =
+    let f = c .before .before in
+    let l = f .before in
+    given-at 0x46 (l .before .before .args .q .now) _ _ (found-last 0x46 _ _ _ _ (l .last-from .ensures) (f .first-in .ensures) (c .enum-told .given .1))
 
 pub has-target-spec : {M : Type 1} → statement M
 has-target-spec =

@@ -20,11 +20,17 @@ enum-told c = search needs
 
 returns : tie.Need-returns
 unfolding lastFrom parsePacket
-returns c = let q = c .before .before .before .before .args .q .now in from-unreadable (requestOf q) (length q) (sym (c .before .before .parse-packet .ensures) ∙ c .enum-told .given .1)
+returns c =
+    let k = c .before .before in
+    let q = k .before .before .args .q .now in
+    from-unreadable (requestOf q) (length q) (sym (k .parse-packet .ensures) ∙ c .enum-told .given .1)
 
 returns-2 : tie.Need-returns-2
 unfolding lastFrom parsePacket
-returns-2 c = let q = c .before .before .before .before .before .args .q .now in from-parsed (requestOf q) (length q) _ _ _ _ (sym (c .before .before .before .parse-packet .ensures) ∙ c .before .headers .given .1)
+returns-2 c =
+    let k = c .before .before .before in
+    let q = k .before .before .args .q .now in
+    from-parsed (requestOf q) (length q) _ _ _ _ (sym (k .parse-packet .ensures) ∙ c .before .headers .given .1)
 
 pub last-from-spec : {M : Type 1} → statement M
 last-from-spec =

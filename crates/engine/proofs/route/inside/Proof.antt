@@ -30,6 +30,9 @@ continued-requires-2 c κs = search needs
 enum-known-operation-3 : tie.Need-enum-known-operation-3
 enum-known-operation-3 c = search needs
 
+send-route-requires : tie.Need-send-route-requires
+send-route-requires c κs = search needs
+
 continued-requires-3 : tie.Need-continued-requires-3
 continued-requires-3 c κs = search needs
 
@@ -64,7 +67,7 @@ returns-3 : tie.Need-returns-3
 returns-3 c = simp (c .before .before .before .operation2 .given .1, c .continued2 .ensures, c .before .get-route .ensures)
 
 returns-4 : tie.Need-returns-4
-returns-4 c = simp (c .before .before .operation3 .given .1, c .continued3 .ensures)
+returns-4 c = simp (c .before .before .before .operation3 .given .1, c .continued3 .ensures, c .before .send-route .ensures)
 
 returns-5 : tie.Need-returns-5
 returns-5 c = simp (c .before .before .before .operation4 .given .1, c .continued4 .ensures, c .before .headers-route .ensures)
@@ -88,6 +91,7 @@ inside-spec =
     get-route-requires
     continued-requires-2
     enum-known-operation-3
+    send-route-requires
     continued-requires-3
     enum-known-operation-4
     headers-route-requires

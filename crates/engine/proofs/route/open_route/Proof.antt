@@ -1,9 +1,16 @@
 -- `engine::route::open_route` meets its contract: the tests of the code are those of the definition. Assumes nothing.
-use mathlib.Core.Path.{_∙_, sym}
+use mathlib.Core.Path.{_≡_, _∙_, sym}
+use mathlib.Core.Bool.{false}
+use Rattle.packet.specs.FirstByte.{sameOpcode}
+use Rattle.packet.specs.declared.opcode.Opcode.the-variants as op
 use Rattle.engine.specs.Route.{openRoute}
 use borrow.Author.Needs.{needs}
 use Rattle.engine.proofs.route.open_route.Statement.{statement}
 use Rattle.engine.proofs.route.open_route.Tie as tie
+
+-- it is no Connect
+another : (k : tie.Else1) → sameOpcode (k .before .before .args .h .opcode) op.Connect ≡ false
+another k = sym (k .before .same .ensures) ∙ k .if1 .left
 
 same-requires : tie.Need-same-requires
 same-requires c κs = search needs
@@ -29,11 +36,15 @@ rejected-requires c κs = search needs
 
 returns-2 : tie.Need-returns-2
 unfolding openRoute
-returns-2 c = simp (sym (c .before .before .before .before .before .same .ensures) ∙ c .before .before .before .before .if1 .left, sym (c .before .before .before .rejection .ensures) ∙ c .before .enum-told .given .1, c .dispatch .ensures)
+returns-2 c =
+    let r = c .before .before .before in
+    simp (another (r .before), sym (r .rejection .ensures) ∙ c .before .enum-told .given .1, c .dispatch .ensures)
 
 returns-3 : tie.Need-returns-3
 unfolding openRoute
-returns-3 c = simp (sym (c .before .before .before .before .before .before .same .ensures) ∙ c .before .before .before .before .before .if1 .left, sym (c .before .before .before .before .rejection .ensures) ∙ c .before .before .code .given .1, c .rejected .ensures)
+returns-3 c =
+    let r = c .before .before .before .before in
+    simp (another (r .before), sym (r .rejection .ensures) ∙ c .before .before .code .given .1, c .rejected .ensures)
 
 pub open-route-spec : {M : Type 1} → statement M
 open-route-spec =

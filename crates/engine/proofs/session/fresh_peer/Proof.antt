@@ -1,5 +1,4 @@
 -- `engine::session::fresh_peer` meets its contract. The fields are those of the definition.
-use borrow.Author.Needs.{needs}
 use mathlib.Core.Path.{refl}
 use Rattle.connection.specs.Peer.{peerWith}
 use Rattle.engine.proofs.session.fresh_peer.Statement.{statement}

@@ -1,8 +1,8 @@
--- `engine::arrival::object_plan` meets its contract: the plan is the one for what `next_packet` gives. Assumes nothing.
-use Rattle.engine.proofs.Turns.{object-made}
+-- `engine::carry::object_plan` meets its contract: the plan is the one for what `next_packet` gives. Assumes nothing.
+use Rattle.engine.proofs.Carried.{object-made}
 use borrow.Author.Needs.{needs}
-use Rattle.engine.proofs.arrival.object_plan.Statement.{statement}
-use Rattle.engine.proofs.arrival.object_plan.Tie as tie
+use Rattle.engine.proofs.carry.object_plan.Statement.{statement}
+use Rattle.engine.proofs.carry.object_plan.Tie as tie
 
 wide16-requires : tie.Need-wide16-requires
 wide16-requires c κs = search needs
