@@ -84,7 +84,8 @@ module _ (e : Engine) (p : Peer) (code : ℕ) (f : ConnectionId) (q hs y : List 
   made c n r b =
       sentInto (sendBytes n code (fieldsOf (e .settings .«max_packet_length»)) (allBytes (connectHeaders (idGiven f) r (headersFrom hs 0) c b))) y
 
-  pub accepted-sent : (c : Option Credentials) (n m : ℕ) (b : Bool) (z : Sent) (x : Plan) (r : Took) → z ≡ made c n (headersFrom q m) b → n ≡ p .«remote_max_packet_length» → m ≡ lastFrom q
+  pub accepted-sent : (c : Option Credentials) (n m : ℕ) (b : Bool) (z : Sent) (x : Plan) (r : Took)
+      → z ≡ made c n (headersFrom q m) b → n ≡ p .«remote_max_packet_length» → m ≡ lastFrom q
       → b ≡ srmAskedBy e q → x ≡ sentPlan e p (z .answer) → r ≡ tookBy x
       → written r (z .reply) ≡ connectReplies e p code (acceptedHeaders e f q hs c) y
   unfolding acceptedHeaders
@@ -296,7 +297,8 @@ module _ (has named m : Bool) (is : m ≡ has && named) (user password : List �
       go true z = z
       go false z = refl
 
-  module _ (o : Operation) (code : ℕ) (f : ConnectionId) (n : ℕ) (waits : o ≡ Connecting code f n) (e : Engine) (q h y : List ℕ) (t : Bool) (long : t ≡ (m && ltb 255 (length user))) where
+  module _ (o : Operation) (code : ℕ) (f : ConnectionId) (n : ℕ) (waits : o ≡ Connecting code f n) (e : Engine) (q h y : List ℕ)
+      (t : Bool) (long : t ≡ (m && ltb 255 (length user))) where
     pub credentials-long : t ≡ true → (r : Took) → r ≡ refusal 8 e → written r y ≡ credentialsBy o e told q h y
     credentials-long k r i = ap (λ (r : Took). written r y) i ∙ sym (simp (waits, sym long-is ∙ sym long ∙ k))
 

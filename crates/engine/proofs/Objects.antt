@@ -76,7 +76,8 @@ module _ (p : Operation) (o : Outgoing) (c : Chunk) (srm wait : Bool) (is : p �
 pub store-front : (hs y : List ℕ) → length hs ≤ length y → paste y 0 hs (length hs) ≡ front hs y
 store-front hs y h = front-paste [] y hs (omega arith)
 
-pub object-other : (o : Operation) (e : Engine) (hs : List ℕ) (has : Bool) (s : Stores) → OneOf (0 ∷ 1 ∷ 3 ∷ 4 ∷ 5 ∷ 6 ∷ []) (tagOf the-type o) → refuse 9 e s ≡ objectFor o e hs has s
+pub object-other : (o : Operation) (e : Engine) (hs : List ℕ) (has : Bool) (s : Stores) → OneOf (0 ∷ 1 ∷ 3 ∷ 4 ∷ 5 ∷ 6 ∷ []) (tagOf the-type o)
+    → refuse 9 e s ≡ objectFor o e hs has s
 object-other Nothing e hs has s k = refl
 object-other (Putting g srm) e hs has s k = refl
 object-other (Sending o c srm wait) e hs has s k = refl
@@ -89,7 +90,8 @@ object-other (Getting g srm confirm wait) e hs has s k = absurd (miss (0 ∷ 1 �
 pub good-length : (hs : List ℕ) (t : Bool) → t ≡ badHeaders hs → t ≡ false → length hs ≤ 65535
 good-length hs t h k = headers-fit hs (sym h ∙ k)
 
-module _ (p : Operation) (g : Gathered) (srm confirm wait : Bool) (is : p ≡ Getting g srm confirm wait) (e : Engine) (hs : List ℕ) (t : Bool) (bad : t ≡ badHeaders hs) (has : Bool) (s : Stores) where
+module _ (p : Operation) (g : Gathered) (srm confirm wait : Bool) (is : p ≡ Getting g srm confirm wait) (e : Engine) (hs : List ℕ)
+    (t : Bool) (bad : t ≡ badHeaders hs) (has : Bool) (s : Stores) where
   pub object-bad : t ≡ true → refuse 8 e s ≡ objectFor p e hs has s
   object-bad h = simp (is, sym bad ∙ h)
 

@@ -98,7 +98,9 @@ module _ (e : Engine) (q : List ℕ) (r : Packet) where
 
     open-ready : Ready (openRoute e (headingOf r)) e q (r .headers)
     unfolding openRoute
-    open-ready = ready-pick e q (r .headers) (sameOpcode (r .opcode) op.Connect) _ _ (from-open op.Connect) (admitted-ready (admissionOf (rejection e (r .opcode) (surveyOf (some (r .headers))))))
+    open-ready =
+        ready-pick e q (r .headers) (sameOpcode (r .opcode) op.Connect) _ _ (from-open op.Connect)
+        (admitted-ready (admissionOf (rejection e (r .opcode) (surveyOf (some (r .headers))))))
 
     inside-ready : (o : Operation) → soundOperation (limitOf e) o ≡ true → Ready (insideRoute o e (headingOf r)) e q (r .headers)
     inside-ready Nothing s = open-ready

@@ -146,6 +146,7 @@ pub credentials-says : (κs : Lfts 6) (a : ArgsD credentials.signature κs) (r :
     → credentials-reads.Learnt κs a r x
     → let p = a .1 .1 .1 .1 .1 in
     let q = x .1 .1 .1 .1 .1 in
-    Says (before (a .0) (stores (now (p .0)) (now (p .1 .0)) (now (p .1 .1 .0)) (now (p .1 .1 .1 .0)))) (credentialsGiven (credentialsOf (a .1 .0) (given (a .1 .1 .0) (now (a .1 .1 .1 .0))) (now (a .1 .1 .1 .1 .0)))) r
+    let c = credentialsOf (a .1 .0) (given (a .1 .1 .0) (now (a .1 .1 .1 .0))) (now (a .1 .1 .1 .1 .0)) in
+    Says (before (a .0) (stores (now (p .0)) (now (p .1 .0)) (now (p .1 .1 .0)) (now (p .1 .1 .1 .0)))) (credentialsGiven c) r
     (stores (now (q .0)) (now (q .1 .0)) (now (q .1 .1 .0)) (now (q .1 .1 .1 .0)))
 credentials-says κs a r x h = h

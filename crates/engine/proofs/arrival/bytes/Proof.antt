@@ -96,8 +96,9 @@ returns-3 : tie.Need-returns-3
 returns-3 c =
     let t = c .before .before .before in
     let r = t .before .before .before .before in
+    let e = start (r .before .before .before) .args .e in
     ending r _ _ (t .enum-told2 .given .1)
-    (taken-after _ _ _ (read r) _ (c .with-taken .ensures) (short-took (start (r .before .before .before) .args .e) _ _ (read r) (c .before .took .ensures) (c .before .before .ends .ensures)))
+    (taken-after _ _ _ (read r) _ (c .with-taken .ensures) (short-took e _ _ (read r) (c .before .took .ensures) (c .before .before .ends .ensures)))
 
 same-length-3 : tie.Need-same-length-3
 same-length-3 c =

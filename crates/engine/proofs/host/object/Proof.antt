@@ -96,7 +96,8 @@ sends-next-requires c κs =
     let u = w .before .before in
     let z = waits u in
     let k = start (z .before) .args in
-    let h = ap (λ (x : List ℕ). length x) (w .copy-into .ensures ∙ store-front (k .header-bytes .now) (k .headers .now) (fits u)) ∙ front-length (k .header-bytes .now) (k .headers .now) (fits u) in
+    let f = w .copy-into .ensures ∙ store-front (k .header-bytes .now) (k .headers .now) (fits u) in
+    let h = ap (λ (x : List ℕ). length x) f ∙ front-length (k .header-bytes .now) (k .headers .now) (fits u) in
     let t = ap (λ (x : Outgoing). x .total) (c .before .before .before .object-of .ensures) in
     (goes z .bounds .remote, omega (arith, h, t, fits u), goes z .room .reply)
 
@@ -116,7 +117,8 @@ returns-4 c =
     let b = u .before in
     let z = waits u in
     let k = start (z .before) .args in
-    object-goes (k .e .operation) _ _ _ _ (b .before .before .operation .given .1) (k .e) (k .header-bytes .now) _ (b .bad-headers .ensures) (k .has-body) (lent (z .before)) (u .if2 .left) _ _ _ _
+    object-goes (k .e .operation) _ _ _ _ (b .before .before .operation .given .1)
+    (k .e) (k .header-bytes .now) _ (b .bad-headers .ensures) (k .has-body) (lent (z .before)) (u .if2 .left) _ _ _ _
     (n .sends-next .ensures) (i .before .object-of .ensures) (i .either .ensures) (w .copy-into .ensures ∙ store-front (k .header-bytes .now) (k .headers .now) (fits u))
     ∙ sym (goes z .whole _)
 

@@ -11,7 +11,10 @@ wide16-requires : tie.Need-wide16-requires
 wide16-requires c κs = search needs
 
 array-share-prefix-realm : tie.Need-array-share-prefix-realm
-array-share-prefix-realm c = let e : length (c .before .before .before .args .t2) ≡ 254 = c .before .before .before .good .1 .0 .1 .0 .1 in omega (arith, c .before .before .before .pre .0)
+array-share-prefix-realm c =
+    let a = c .before .before .before in
+    let e : length (a .args .t2) ≡ 254 = a .good .1 .0 .1 .0 .1 in
+    omega (arith, a .pre .0)
 
 slice-aggregate-challenge-reply : tie.Need-slice-aggregate-challenge-reply
 slice-aggregate-challenge-reply c =

@@ -12,7 +12,8 @@ use Rattle.engine.proofs.last.is_right.Statement.{statement}
 use Rattle.engine.proofs.last.is_right.Tie as tie
 
 -- the response that is found stands in the packet
-here : (c : tie.After-known-told) → let v = c .before .start .given .0 in (v .0 ≤ v .1 .0) × (v .1 .0 ≤ length (c .before .before .before .before .before .before .before .args .q .now))
+here : (c : tie.After-known-told) → let v = c .before .start .given .0 in
+    (v .0 ≤ v .1 .0) × (v .1 .0 ≤ length (c .before .before .before .before .before .before .before .args .q .now))
 here c = first-bounds 0x4E _ _ _ _ (sym (c .before .before .before .first-in .ensures) ∙ c .before .start .given .1)
 
 last-from-requires : tie.Need-last-from-requires
