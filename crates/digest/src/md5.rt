@@ -435,7 +435,8 @@ fn fill(prefix: &[u8], rest: &[u8], at: usize) -> [u8; 64]
 
 // The registers after the blocks before to, by blocks that are laid out anew.
 fn filled_blocks(prefix: &[u8], rest: &[u8], from: usize, to: usize, start: Regs) -> Regs
-    requires { ⌜ (length (now prefix) < 64) × (from ≤ to) × (64 * to ≤ length (padded (now prefix ++ now rest))) × (start ≡ blocks (padded (now prefix ++ now rest)) from) ⌝ }
+    requires { ⌜ (length (now prefix) < 64) × (from ≤ to) × (64 * to ≤ length (padded (now prefix ++ now rest)))
+        × (start ≡ blocks (padded (now prefix ++ now rest)) from) ⌝ }
     ensures { λ r. ⌜ r ≡ blocks (padded (now (prefix .entry) ++ now (rest .entry))) to ⌝ }
 {
     let mut s = start;
@@ -450,7 +451,8 @@ fn filled_blocks(prefix: &[u8], rest: &[u8], from: usize, to: usize, start: Regs
 
 // The same by blocks that lie in rest, where they stand.
 fn whole_blocks(prefix: &[u8], rest: &[u8], from: usize, to: usize, start: Regs) -> Regs
-    requires { ⌜ (length (now prefix) ≤ 64 * from) × (64 * to ≤ length (now prefix) + length (now rest)) × (length (now prefix) < 64) × (start ≡ blocks (padded (now prefix ++ now rest)) from) ⌝ }
+    requires { ⌜ (length (now prefix) ≤ 64 * from) × (64 * to ≤ length (now prefix) + length (now rest)) × (length (now prefix) < 64)
+        × (start ≡ blocks (padded (now prefix ++ now rest)) from) ⌝ }
     ensures { λ r. ⌜ r ≡ blocks (padded (now (prefix .entry) ++ now (rest .entry))) (max from to) ⌝ }
 {
     let mut s = start;
@@ -466,7 +468,8 @@ fn whole_blocks(prefix: &[u8], rest: &[u8], from: usize, to: usize, start: Regs)
 // The registers after all blocks of the message prefix and then rest.
 fn all_blocks(prefix: &[u8], rest: &[u8]) -> Regs
     requires { ⌜ length (now prefix) < 64 ⌝ }
-    ensures { λ r. ⌜ r ≡ blocks (padded (now (prefix .entry) ++ now (rest .entry))) (length (padded (now (prefix .entry) ++ now (rest .entry))) / 64) ⌝ }
+    ensures { λ r. ⌜ r ≡ blocks (padded (now (prefix .entry) ++ now (rest .entry)))
+        (length (padded (now (prefix .entry) ++ now (rest .entry))) / 64) ⌝ }
 {
     let n = prefix.len() + rest.len();
     let head = (prefix.len() + 63) / 64;

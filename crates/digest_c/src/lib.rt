@@ -18,7 +18,8 @@ pub extern "C" fn digest_md5(message: &[u8], out: &mut [u8; 16])
 
 #[no_mangle]
 pub extern "C" fn digest_request(first: u64, second: u64, password: &[u8]) -> Value
-    ensures { λ r. ⌜ record { first = r .first; second = r .second } ≡ numbers16 (requestDigest (octets16 (record { first = first; second = second })) (now (password .entry))) ⌝ }
+    ensures { λ r. ⌜ record { first = r .first; second = r .second }
+        ≡ numbers16 (requestDigest (octets16 (record { first = first; second = second })) (now (password .entry))) ⌝ }
 {
     let d = digest::md5::request_digest(Octets16 { first, second }, password);
     Value {

@@ -97,8 +97,11 @@ pub fn connect_sends(
     password: &[u8],
     reply: &mut [u8],
 ) -> Took
-    requires { ⌜ (65535 ≤ length (now reply)) × (length (now packet) ≤ 65535) × (length (now «header_bytes») ≤ 65535) × (overlong (given «has_user» (now user)) ≡ false) ⌝ }
-    ensures { λ r. ⌜ written r (now (reply .exit)) ≡ connectReplies e peer code (acceptedHeaders e front (now (packet .entry)) (now («header_bytes» .entry)) (credentialsOf «has_credentials» (given «has_user» (now (user .entry))) (now (password .entry)))) (now (reply .entry)) ⌝ }
+    requires { ⌜ (65535 ≤ length (now reply)) × (length (now packet) ≤ 65535) × (length (now «header_bytes») ≤ 65535)
+        × (overlong (given «has_user» (now user)) ≡ false) ⌝ }
+    ensures { λ r. ⌜ written r (now (reply .exit))
+        ≡ connectReplies e peer code (acceptedHeaders e front (now (packet .entry)) (now («header_bytes» .entry))
+        (credentialsOf «has_credentials» (given «has_user» (now (user .entry))) (now (password .entry)))) (now (reply .entry)) ⌝ }
 {
     let sent = connect_reply(
         reply,
@@ -129,7 +132,9 @@ fn unchallenged(
     reply: &mut [u8],
 ) -> Took
     requires { ⌜ (65535 ≤ length (now reply)) × (length (now packet) ≤ 65535) × (length (now «header_bytes») ≤ 65535) ⌝ }
-    ensures { λ r. ⌜ written r (now (reply .exit)) ≡ connectReplies e peer code (acceptedHeaders e front (now (packet .entry)) (now («header_bytes» .entry)) none) (now (reply .entry)) ⌝ }
+    ensures { λ r. ⌜ written r (now (reply .exit))
+        ≡ connectReplies e peer code (acceptedHeaders e front (now (packet .entry)) (now («header_bytes» .entry)) none)
+        (now (reply .entry)) ⌝ }
 {
     connect_sends(
         e,
@@ -157,8 +162,11 @@ fn accepted(
     headers: &mut [u8],
     reply: &mut [u8],
 ) -> Took
-    requires { ⌜ (65535 ≤ length (now reply)) × (65535 ≤ length (now headers)) × (length (now packet) ≤ 65535) × (length (now «header_bytes») ≤ 65535) ⌝ }
-    ensures { λ r. ⌜ answering r (now (headers .exit)) (now (reply .exit)) ≡ challengedBy (answeredIn (headersOf (now (packet .entry)))) e peer code front (now («header_bytes» .entry)) (now (packet .entry)) (now (headers .entry)) (now (reply .entry)) ⌝ }
+    requires { ⌜ (65535 ≤ length (now reply)) × (65535 ≤ length (now headers)) × (length (now packet) ≤ 65535)
+        × (length (now «header_bytes») ≤ 65535) ⌝ }
+    ensures { λ r. ⌜ answering r (now (headers .exit)) (now (reply .exit))
+        ≡ challengedBy (answeredIn (headersOf (now (packet .entry)))) e peer code front (now («header_bytes» .entry))
+        (now (packet .entry)) (now (headers .entry)) (now (reply .entry)) ⌝ }
 {
     let DigestChallenge::Challenge {
         nonce,
@@ -193,8 +201,10 @@ pub fn connect_answer(
     headers: &mut [u8],
     reply: &mut [u8],
 ) -> Took
-    requires { ⌜ (e .peer .count ≤ 64) × (65535 ≤ length (now reply)) × (65535 ≤ length (now headers)) × (length (now packet) ≤ 65535) × (length (now «header_bytes») ≤ 65535) ⌝ }
-    ensures { λ r. ⌜ answering r (now (headers .exit)) (now (reply .exit)) ≡ acceptedBy e code (now («header_bytes» .entry)) (now (packet .entry)) (now (headers .entry)) (now (reply .entry)) ⌝ }
+    requires { ⌜ (e .peer .count ≤ 64) × (65535 ≤ length (now reply)) × (65535 ≤ length (now headers)) × (length (now packet) ≤ 65535)
+        × (length (now «header_bytes») ≤ 65535) ⌝ }
+    ensures { λ r. ⌜ answering r (now (headers .exit)) (now (reply .exit))
+        ≡ acceptedBy e code (now («header_bytes» .entry)) (now (packet .entry)) (now (headers .entry)) (now (reply .entry)) ⌝ }
 {
     if !is_success(code) {
         return sends_connect(e, e.peer, code, header_bytes, reply);

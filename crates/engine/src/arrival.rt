@@ -114,8 +114,11 @@ fn gathered(
     headers: &mut [u8],
     body: &mut [u8],
 ) -> Plan
-    requires { ⌜ (readHeaders (now p) (fromOf kind) ≡ some (headersIn (requestOf (now p)))) × (soundGathered (limitOf e) begun ≡ true) × (65535 ≤ length (now headers)) × (limitOf e ≤ length (now body)) ⌝ }
-    ensures { λ r. ⌜ ((q y : List ℕ) → planned r (stores q (now (headers .exit)) (now (body .exit)) y) ≡ actsGathered e kind «is_final» asked srm confirm (gathers e (keepOf kind) (headersIn (requestOf (now (p .entry)))) begun (stores q (now (headers .entry)) (now (body .entry)) y)) (stores q (now (headers .entry)) (now (body .entry)) y)) ⌝ }
+    requires { ⌜ (readHeaders (now p) (fromOf kind) ≡ some (headersIn (requestOf (now p)))) × (soundGathered (limitOf e) begun ≡ true)
+        × (65535 ≤ length (now headers)) × (limitOf e ≤ length (now body)) ⌝ }
+    ensures { λ r. ⌜ ((q y : List ℕ) → planned r (stores q (now (headers .exit)) (now (body .exit)) y)
+        ≡ actsGathered e kind «is_final» asked srm confirm (gathers e (keepOf kind) (headersIn (requestOf (now (p .entry)))) begun
+        (stores q (now (headers .entry)) (now (body .entry)) y)) (stores q (now (headers .entry)) (now (body .entry)) y)) ⌝ }
 {
     let g = gather(
         p,
@@ -208,8 +211,10 @@ fn next_turn(e: Engine) -> Turn
 
 // What follows a reply that was taken; number 5 after the last one.
 fn turn_plan(e: Engine, headers: &[u8], reply: &mut [u8]) -> Plan
-    requires { ⌜ (255 ≤ e .peer .«remote_max_packet_length») × (soundOperation (limitOf e) (e .operation) ≡ true) × (65535 ≤ length (now headers)) × (65535 ≤ length (now reply)) ⌝ }
-    ensures { λ r. ⌜ ((q b : List ℕ) → planned r (stores q (now (headers .entry)) b (now (reply .exit))) ≡ turnActs (turnOf e) e (stores q (now (headers .entry)) b (now (reply .entry)))) ⌝ }
+    requires { ⌜ (255 ≤ e .peer .«remote_max_packet_length») × (soundOperation (limitOf e) (e .operation) ≡ true)
+        × (65535 ≤ length (now headers)) × (65535 ≤ length (now reply)) ⌝ }
+    ensures { λ r. ⌜ ((q b : List ℕ) → planned r (stores q (now (headers .entry)) b (now (reply .exit)))
+        ≡ turnActs (turnOf e) e (stores q (now (headers .entry)) b (now (reply .entry)))) ⌝ }
 {
     match next_turn(e) {
         Turn::Send {
@@ -233,7 +238,8 @@ pub fn reply_taken(
     body: &mut [u8],
     reply: &mut [u8],
 ) -> Took
-    ensures { λ r. ⌜ stepped r (stores (now (packet .exit)) (now (headers .exit)) (now (body .exit)) (now (reply .exit))) ≡ takenStep e (stores (now (packet .entry)) (now (headers .entry)) (now (body .entry)) (now (reply .entry))) ⌝ }
+    ensures { λ r. ⌜ stepped r (stores (now (packet .exit)) (now (headers .exit)) (now (body .exit)) (now (reply .exit)))
+        ≡ takenStep e (stores (now (packet .entry)) (now (headers .entry)) (now (body .entry)) (now (reply .entry))) ⌝ }
 {
     let number = refused(
         e,
@@ -255,8 +261,12 @@ pub fn reply_taken(
 
 // A packet, acted on: the plan that is still to be carried out.
 fn act(e: Engine, p: &[u8], headers: &mut [u8], body: &mut [u8], reply: &mut [u8]) -> Plan
-    requires { ⌜ (1 ≤ length (now p)) × (e .peer .count ≤ 64) × (255 ≤ e .peer .«remote_max_packet_length») × (soundOperation (limitOf e) (e .operation) ≡ true) × (65535 ≤ length (now headers)) × (limitOf e ≤ length (now body)) × (65535 ≤ length (now reply)) ⌝ }
-    ensures { λ r. ⌜ ((q : List ℕ) → planned r (stores q (now (headers .exit)) (now (body .exit)) (now (reply .exit))) ≡ acts (packetRoute e (now (p .entry))) e (now (p .entry)) (stores q (now (headers .entry)) (now (body .entry)) (now (reply .entry)))) ⌝ }
+    requires { ⌜ (1 ≤ length (now p)) × (e .peer .count ≤ 64) × (255 ≤ e .peer .«remote_max_packet_length»)
+        × (soundOperation (limitOf e) (e .operation) ≡ true) × (65535 ≤ length (now headers)) × (limitOf e ≤ length (now body))
+        × (65535 ≤ length (now reply)) ⌝ }
+    ensures { λ r. ⌜ ((q : List ℕ) → planned r (stores q (now (headers .exit)) (now (body .exit)) (now (reply .exit)))
+        ≡ acts (packetRoute e (now (p .entry))) e (now (p .entry))
+        (stores q (now (headers .entry)) (now (body .entry)) (now (reply .entry)))) ⌝ }
 {
     match route(e, p) {
         Route::Plain(brief) => brief_plan(e, brief),
@@ -306,8 +316,11 @@ fn packet_done(
     body: &mut [u8],
     reply: &mut [u8],
 ) -> Took
-    requires { ⌜ (1 ≤ n) × (n ≤ length (now packet)) × (e .peer .count ≤ 64) × (255 ≤ e .peer .«remote_max_packet_length») × (soundOperation (limitOf e) (e .operation) ≡ true) × (65535 ≤ length (now headers)) × (limitOf e ≤ length (now body)) × (65535 ≤ length (now reply)) ⌝ }
-    ensures { λ r. ⌜ stepped r (stores (now (packet .entry)) (now (headers .exit)) (now (body .exit)) (now (reply .exit))) ≡ after 0 (packetDone e n (stores (now (packet .entry)) (now (headers .entry)) (now (body .entry)) (now (reply .entry)))) ⌝ }
+    requires { ⌜ (1 ≤ n) × (n ≤ length (now packet)) × (e .peer .count ≤ 64) × (255 ≤ e .peer .«remote_max_packet_length»)
+        × (soundOperation (limitOf e) (e .operation) ≡ true) × (65535 ≤ length (now headers)) × (limitOf e ≤ length (now body))
+        × (65535 ≤ length (now reply)) ⌝ }
+    ensures { λ r. ⌜ stepped r (stores (now (packet .entry)) (now (headers .exit)) (now (body .exit)) (now (reply .exit)))
+        ≡ after 0 (packetDone e n (stores (now (packet .entry)) (now (headers .entry)) (now (body .entry)) (now (reply .entry)))) ⌝ }
 {
     let at = whole(e, n);
     let plan = act(at, &packet[..n], headers, body, reply);
@@ -348,7 +361,9 @@ pub fn bytes(
     body: &mut [u8],
     reply: &mut [u8],
 ) -> Took
-    ensures { λ r. ⌜ stepped r (stores (now (packet .exit)) (now (headers .exit)) (now (body .exit)) (now (reply .exit))) ≡ bytesStep e (now (input .entry)) (stores (now (packet .entry)) (now (headers .entry)) (now (body .entry)) (now (reply .entry))) ⌝ }
+    ensures { λ r. ⌜ stepped r (stores (now (packet .exit)) (now (headers .exit)) (now (body .exit)) (now (reply .exit)))
+        ≡ bytesStep e (now (input .entry)) (stores (now (packet .entry)) (now (headers .entry)) (now (body .entry))
+        (now (reply .entry))) ⌝ }
 {
     let number = refused(
         e,

@@ -111,7 +111,8 @@ pub fn sends(e: Engine, peer: Peer, code: u8, header_bytes: &[u8], reply: &mut [
 // A reply with Connect's fields and headers.
 pub fn sends_connect(e: Engine, peer: Peer, code: u8, header_bytes: &[u8], reply: &mut [u8]) -> Took
     requires { ⌜ 65535 ≤ length (now reply) ⌝ }
-    ensures { λ r. ⌜ written r (now (reply .exit)) ≡ repliesBy e peer code (fieldsOf (e .settings .«max_packet_length»)) (now («header_bytes» .entry)) (now (reply .entry)) ⌝ }
+    ensures { λ r. ⌜ written r (now (reply .exit))
+        ≡ repliesBy e peer code (fieldsOf (e .settings .«max_packet_length»)) (now («header_bytes» .entry)) (now (reply .entry)) ⌝ }
 {
     let remote = wide16(peer.remote_max_packet_length);
     let limit = e.settings.max_packet_length;
@@ -171,7 +172,8 @@ pub fn object_plan(
     reply: &mut [u8],
 ) -> Plan
     requires { ⌜ (255 ≤ e .peer .«remote_max_packet_length») × (o .total ≤ length (now headers)) × (65535 ≤ length (now reply)) ⌝ }
-    ensures { λ r. ⌜ planMade r (now (reply .exit)) ≡ objectPlan e srm wait (nextPacket (capacityOf e) o (now (headers .entry)) (now (reply .entry))) ⌝ }
+    ensures { λ r. ⌜ planMade r (now (reply .exit))
+        ≡ objectPlan e srm wait (nextPacket (capacityOf e) o (now (headers .entry)) (now (reply .entry))) ⌝ }
 {
     let capacity = wide16(e.peer.remote_max_packet_length) - 3;
     packet_plan(e, srm, wait, next_packet(capacity, o, headers, reply))

@@ -59,7 +59,8 @@ pub fn acknowledge(
     body: &mut [u8],
     reply: &mut [u8],
 ) -> Took
-    ensures { λ r. ⌜ stepped r (stores (now (packet .exit)) (now (headers .exit)) (now (body .exit)) (now (reply .exit))) ≡ acknowledgeStep e (stores (now (packet .entry)) (now (headers .entry)) (now (body .entry)) (now (reply .entry))) ⌝ }
+    ensures { λ r. ⌜ stepped r (stores (now (packet .exit)) (now (headers .exit)) (now (body .exit)) (now (reply .exit)))
+        ≡ acknowledgeStep e (stores (now (packet .entry)) (now (headers .entry)) (now (body .entry)) (now (reply .entry))) ⌝ }
 {
     let number = refused(
         e,
@@ -84,7 +85,8 @@ pub fn body_failed(
     body: &mut [u8],
     reply: &mut [u8],
 ) -> Took
-    ensures { λ r. ⌜ stepped r (stores (now (packet .exit)) (now (headers .exit)) (now (body .exit)) (now (reply .exit))) ≡ bodyFailedStep e (stores (now (packet .entry)) (now (headers .entry)) (now (body .entry)) (now (reply .entry))) ⌝ }
+    ensures { λ r. ⌜ stepped r (stores (now (packet .exit)) (now (headers .exit)) (now (body .exit)) (now (reply .exit)))
+        ≡ bodyFailedStep e (stores (now (packet .entry)) (now (headers .entry)) (now (body .entry)) (now (reply .entry))) ⌝ }
 {
     let number = refused(
         e,
@@ -121,7 +123,8 @@ pub fn sends_next(
     reply: &mut [u8],
 ) -> Took
     requires { ⌜ (255 ≤ e .peer .«remote_max_packet_length») × (o .total ≤ length (now headers)) × (65535 ≤ length (now reply)) ⌝ }
-    ensures { λ r. ⌜ written r (now (reply .exit)) ≡ packetSent e srm wait (nextPacket (capacityOf e) o (now (headers .entry)) (now (reply .entry))) ⌝ }
+    ensures { λ r. ⌜ written r (now (reply .exit))
+        ≡ packetSent e srm wait (nextPacket (capacityOf e) o (now (headers .entry)) (now (reply .entry))) ⌝ }
 {
     let plan = object_plan(e, o, srm, wait, headers, reply);
     carry_out(plan, reply)
@@ -160,7 +163,9 @@ pub fn object(
     body: &mut [u8],
     reply: &mut [u8],
 ) -> Took
-    ensures { λ r. ⌜ stepped r (stores (now (packet .exit)) (now (headers .exit)) (now (body .exit)) (now (reply .exit))) ≡ objectStep e (now («header_bytes» .entry)) «has_body» (stores (now (packet .entry)) (now (headers .entry)) (now (body .entry)) (now (reply .entry))) ⌝ }
+    ensures { λ r. ⌜ stepped r (stores (now (packet .exit)) (now (headers .exit)) (now (body .exit)) (now (reply .exit)))
+        ≡ objectStep e (now («header_bytes» .entry)) «has_body»
+        (stores (now (packet .entry)) (now (headers .entry)) (now (body .entry)) (now (reply .entry))) ⌝ }
 {
     let number = refused(
         e,
@@ -201,7 +206,8 @@ pub fn body(
     body: &mut [u8],
     reply: &mut [u8],
 ) -> Took
-    ensures { λ r. ⌜ stepped r (stores (now (packet .exit)) (now (headers .exit)) (now (body .exit)) (now (reply .exit))) ≡ bodyStep e (now (d .entry)) (stores (now (packet .entry)) (now (headers .entry)) (now (body .entry)) (now (reply .entry))) ⌝ }
+    ensures { λ r. ⌜ stepped r (stores (now (packet .exit)) (now (headers .exit)) (now (body .exit)) (now (reply .exit)))
+        ≡ bodyStep e (now (d .entry)) (stores (now (packet .entry)) (now (headers .entry)) (now (body .entry)) (now (reply .entry))) ⌝ }
 {
     let number = refused(
         e,
@@ -241,7 +247,9 @@ fn send_challenge(
     reply: &mut [u8],
 ) -> Sent
     requires { ⌜ (settings .«realm_length» ≤ 254) × (65535 ≤ length (now reply)) ⌝ }
-    ensures { λ r. ⌜ sending r (now (reply .exit)) ≡ sentInto (sendBytes remote 0x41 (fieldsOf (settings .«max_packet_length»)) (bytesOf (challengeHeader (octets16 nonce) (optionsOf settings) (realmOf settings realm)))) (now (reply .entry)) ⌝ }
+    ensures { λ r. ⌜ sending r (now (reply .exit))
+        ≡ sentInto (sendBytes remote 0x41 (fieldsOf (settings .«max_packet_length»))
+        (bytesOf (challengeHeader (octets16 nonce) (optionsOf settings) (realmOf settings realm)))) (now (reply .entry)) ⌝ }
 {
     let n = settings.realm_length;
     challenge_reply(
@@ -267,7 +275,8 @@ pub fn nonce(
     body: &mut [u8],
     reply: &mut [u8],
 ) -> Took
-    ensures { λ r. ⌜ stepped r (stores (now (packet .exit)) (now (headers .exit)) (now (body .exit)) (now (reply .exit))) ≡ nonceStep e n realm (stores (now (packet .entry)) (now (headers .entry)) (now (body .entry)) (now (reply .entry))) ⌝ }
+    ensures { λ r. ⌜ stepped r (stores (now (packet .exit)) (now (headers .exit)) (now (body .exit)) (now (reply .exit)))
+        ≡ nonceStep e n realm (stores (now (packet .entry)) (now (headers .entry)) (now (body .entry)) (now (reply .entry))) ⌝ }
 {
     let number = refused(
         e,
@@ -312,7 +321,9 @@ pub fn password(
     body: &mut [u8],
     reply: &mut [u8],
 ) -> Took
-    ensures { λ r. ⌜ stepped r (stores (now (packet .exit)) (now (headers .exit)) (now (body .exit)) (now (reply .exit))) ≡ passwordStep e (given «has_password» (now (password .entry))) (stores (now (packet .entry)) (now (headers .entry)) (now (body .entry)) (now (reply .entry))) ⌝ }
+    ensures { λ r. ⌜ stepped r (stores (now (packet .exit)) (now (headers .exit)) (now (body .exit)) (now (reply .exit)))
+        ≡ passwordStep e (given «has_password» (now (password .entry)))
+        (stores (now (packet .entry)) (now (headers .entry)) (now (body .entry)) (now (reply .entry))) ⌝ }
 {
     let number = refused(
         e,
@@ -365,7 +376,9 @@ pub fn reply(
     body: &mut [u8],
     reply: &mut [u8],
 ) -> Took
-    ensures { λ r. ⌜ stepped r (stores (now (packet .exit)) (now (headers .exit)) (now (body .exit)) (now (reply .exit))) ≡ replyStep e code (now («header_bytes» .entry)) (stores (now (packet .entry)) (now (headers .entry)) (now (body .entry)) (now (reply .entry))) ⌝ }
+    ensures { λ r. ⌜ stepped r (stores (now (packet .exit)) (now (headers .exit)) (now (body .exit)) (now (reply .exit)))
+        ≡ replyStep e code (now («header_bytes» .entry)) (stores (now (packet .entry)) (now (headers .entry)) (now (body .entry))
+        (now (reply .entry))) ⌝ }
 {
     let number = refused(
         e,
@@ -412,8 +425,11 @@ fn credentials_given(
     headers: &[u8],
     reply: &mut [u8],
 ) -> Took
-    requires { ⌜ (soundOperation (limitOf e) (e .operation) ≡ true) × (length (now packet) ≤ 65535) × (65535 ≤ length (now headers)) × (65535 ≤ length (now reply)) ⌝ }
-    ensures { λ r. ⌜ written r (now (reply .exit)) ≡ credentialsBy (e .operation) e (credentialsOf «has_credentials» (given «has_user» (now (user .entry))) (now (password .entry))) (now (packet .entry)) (now (headers .entry)) (now (reply .entry)) ⌝ }
+    requires { ⌜ (soundOperation (limitOf e) (e .operation) ≡ true) × (length (now packet) ≤ 65535) × (65535 ≤ length (now headers))
+        × (65535 ≤ length (now reply)) ⌝ }
+    ensures { λ r. ⌜ written r (now (reply .exit))
+        ≡ credentialsBy (e .operation) e (credentialsOf «has_credentials» (given «has_user» (now (user .entry)))
+        (now (password .entry))) (now (packet .entry)) (now (headers .entry)) (now (reply .entry)) ⌝ }
 {
     let operation = e.operation;
     let Operation::Connecting {
@@ -455,7 +471,9 @@ pub fn credentials(
     body: &mut [u8],
     reply: &mut [u8],
 ) -> Took
-    ensures { λ r. ⌜ stepped r (stores (now (packet .exit)) (now (headers .exit)) (now (body .exit)) (now (reply .exit))) ≡ credentialsStep e (credentialsOf «has_credentials» (given «has_user» (now (user .entry))) (now (password .entry))) (stores (now (packet .entry)) (now (headers .entry)) (now (body .entry)) (now (reply .entry))) ⌝ }
+    ensures { λ r. ⌜ stepped r (stores (now (packet .exit)) (now (headers .exit)) (now (body .exit)) (now (reply .exit)))
+        ≡ credentialsStep e (credentialsOf «has_credentials» (given «has_user» (now (user .entry))) (now (password .entry)))
+        (stores (now (packet .entry)) (now (headers .entry)) (now (body .entry)) (now (reply .entry))) ⌝ }
 {
     let number = refused(
         e,

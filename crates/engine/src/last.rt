@@ -71,7 +71,8 @@ pub fn is_enabling(q: &[u8]) -> bool
 
 // Whether the password is right for the stored challenge and the packet's first AuthenticateResponse.
 pub fn is_right(stored: Challenge, q: &[u8], has_password: bool, password: &[u8]) -> bool
-    ensures { λ r. ⌜ r ≡ checks stored (responseIn (first 0x4E (headersIn (requestOf (now (q .entry)))))) (given «has_password» (now (password .entry))) ⌝ }
+    ensures { λ r. ⌜ r ≡ checks stored (responseIn (first 0x4E (headersIn (requestOf (now (q .entry))))))
+        (given «has_password» (now (password .entry))) ⌝ }
 {
     let Found::At { start, end } = first_in(q, last_from(q), AUTHENTICATE_RESPONSE) else {
         return false;

@@ -87,7 +87,8 @@ pub fn start(
     body: &mut [u8],
     reply: &mut [u8],
 ) -> Took
-    ensures { λ r. ⌜ stepped r (stores (now (packet .exit)) (now (headers .exit)) (now (body .exit)) (now (reply .exit))) ≡ startStep settings (stores (now (packet .entry)) (now (headers .entry)) (now (body .entry)) (now (reply .entry))) ⌝ }
+    ensures { λ r. ⌜ stepped r (stores (now (packet .exit)) (now (headers .exit)) (now (body .exit)) (now (reply .exit)))
+        ≡ startStep settings (stores (now (packet .entry)) (now (headers .entry)) (now (body .entry)) (now (reply .entry))) ⌝ }
 {
     let number = start_number(
         settings.max_object_size,
@@ -125,7 +126,8 @@ pub fn end_of_stream(
     body: &mut [u8],
     reply: &mut [u8],
 ) -> Took
-    ensures { λ r. ⌜ stepped r (stores (now (packet .exit)) (now (headers .exit)) (now (body .exit)) (now (reply .exit))) ≡ endStep e (stores (now (packet .entry)) (now (headers .entry)) (now (body .entry)) (now (reply .entry))) ⌝ }
+    ensures { λ r. ⌜ stepped r (stores (now (packet .exit)) (now (headers .exit)) (now (body .exit)) (now (reply .exit)))
+        ≡ endStep e (stores (now (packet .entry)) (now (headers .entry)) (now (body .entry)) (now (reply .entry))) ⌝ }
 {
     let number = refused(
         e,

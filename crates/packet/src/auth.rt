@@ -226,8 +226,10 @@ pub fn is_long(there: bool, n: usize) -> bool
 
 // The realm, where there is one, with its charset in front.
 fn put_realm(store: &mut [u8], at: usize, there: bool, charset: u8, value: &[u8])
-    requires { ⌜ (overlong (given there (charset ∷ now value)) ≡ false) × (at + length (writeTags (realmTag (given there (charset ∷ now value)))) ≤ length (now store)) ⌝ }
-    ensures { λ r. ⌜ now (store .exit) ≡ laid (now (store .entry)) at (writeTags (realmTag (given there (charset ∷ now (value .entry))))) ⌝ }
+    requires { ⌜ (overlong (given there (charset ∷ now value)) ≡ false)
+        × (at + length (writeTags (realmTag (given there (charset ∷ now value)))) ≤ length (now store)) ⌝ }
+    ensures { λ r. ⌜ now (store .exit)
+        ≡ laid (now (store .entry)) at (writeTags (realmTag (given there (charset ∷ now (value .entry))))) ⌝ }
 {
     if !there {
         return;
@@ -240,7 +242,8 @@ fn put_realm(store: &mut [u8], at: usize, there: bool, charset: u8, value: &[u8]
 
 // A user id, where there is one.
 fn put_user(store: &mut [u8], at: usize, there: bool, user: &[u8])
-    requires { ⌜ (overlong (given there (now user)) ≡ false) × (at + length (writeTags (userTag (given there (now user)))) ≤ length (now store)) ⌝ }
+    requires { ⌜ (overlong (given there (now user)) ≡ false)
+        × (at + length (writeTags (userTag (given there (now user)))) ≤ length (now store)) ⌝ }
     ensures { λ r. ⌜ now (store .exit) ≡ laid (now (store .entry)) at (writeTags (userTag (given there (now (user .entry))))) ⌝ }
 {
     if !there {
@@ -259,8 +262,11 @@ fn put_challenge(
     charset: u8,
     value: &[u8],
 )
-    requires { ⌜ (overlong (given «has_realm» (charset ∷ now value)) ≡ false) × (at + length (writeTags (challengeTags (octets16 nonce) bits (given «has_realm» (charset ∷ now value)))) ≤ length (now store)) ⌝ }
-    ensures { λ r. ⌜ now (store .exit) ≡ laid (now (store .entry)) at (writeTags (challengeTags (octets16 nonce) bits (given «has_realm» (charset ∷ now (value .entry))))) ⌝ }
+    requires { ⌜ (overlong (given «has_realm» (charset ∷ now value)) ≡ false)
+        × (at + length (writeTags (challengeTags (octets16 nonce) bits (given «has_realm» (charset ∷ now value)))) ≤ length (now store)) ⌝ }
+    ensures { λ r. ⌜ now (store .exit)
+        ≡ laid (now (store .entry)) at (writeTags (challengeTags (octets16 nonce) bits
+        (given «has_realm» (charset ∷ now (value .entry))))) ⌝ }
 {
     let bytes = octets(nonce);
     put_tag(store, at, CHALLENGE_NONCE_TAG, &bytes);
@@ -279,7 +285,9 @@ pub fn write_challenge(
     charset: u8,
     value: &[u8],
 ) -> Put
-    ensures { λ r. ⌜ putting r (now (store .exit)) ≡ writeChallenge (now (store .entry)) at nonce (flagBits «user_id_required» «read_only») (given «has_realm» (charset ∷ now (value .entry))) ⌝ }
+    ensures { λ r. ⌜ putting r (now (store .exit))
+        ≡ writeChallenge (now (store .entry)) at nonce (flagBits «user_id_required» «read_only»)
+        (given «has_realm» (charset ∷ now (value .entry))) ⌝ }
 {
     let n = value.len() + 1;
     let need = 21 + tag_len(has_realm, n);
@@ -301,8 +309,11 @@ fn put_response(
     user: &[u8],
     nonce: Octets16,
 )
-    requires { ⌜ (overlong (given «has_user» (now user)) ≡ false) × (at + length (writeTags (answerTags (octets16 digest) (given «has_user» (now user)) (octets16 nonce))) ≤ length (now store)) ⌝ }
-    ensures { λ r. ⌜ now (store .exit) ≡ laid (now (store .entry)) at (writeTags (answerTags (octets16 digest) (given «has_user» (now (user .entry))) (octets16 nonce))) ⌝ }
+    requires { ⌜ (overlong (given «has_user» (now user)) ≡ false)
+        × (at + length (writeTags (answerTags (octets16 digest) (given «has_user» (now user)) (octets16 nonce))) ≤ length (now store)) ⌝ }
+    ensures { λ r. ⌜ now (store .exit)
+        ≡ laid (now (store .entry)) at (writeTags (answerTags (octets16 digest) (given «has_user» (now (user .entry)))
+        (octets16 nonce))) ⌝ }
 {
     let first = octets(digest);
     put_tag(store, at, RESPONSE_DIGEST_TAG, &first);
@@ -325,7 +336,8 @@ pub fn respond(
     user: &[u8],
     password: &[u8],
 ) -> Put
-    ensures { λ r. ⌜ putting r (now (store .exit)) ≡ writeDigestResponse (now (store .entry)) at nonce (given «has_user» (now (user .entry))) (now (password .entry)) ⌝ }
+    ensures { λ r. ⌜ putting r (now (store .exit))
+        ≡ writeDigestResponse (now (store .entry)) at nonce (given «has_user» (now (user .entry))) (now (password .entry)) ⌝ }
 {
     let need = 36 + tag_len(has_user, user.len());
     let answer = room(store.len(), at, need, is_long(has_user, user.len()));

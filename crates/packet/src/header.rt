@@ -450,14 +450,16 @@ fn put_text(store: &mut [u8], at: usize, id: u8, text: &[u8], form: TextForm) ->
 
 // A header with UTF-16 text: a zero unit at its end, unless it is empty.
 pub fn put_unicode(store: &mut [u8], at: usize, id: u8, text: &[u8]) -> Put
-    ensures { λ r. ⌜ putting r (now (store .exit)) ≡ putHeader (now (store .entry)) at (header id (terminated16 (lossy (now (text .entry))))) ⌝ }
+    ensures { λ r. ⌜ putting r (now (store .exit))
+        ≡ putHeader (now (store .entry)) at (header id (terminated16 (lossy (now (text .entry))))) ⌝ }
 {
     put_text(store, at, id, text, TextForm::Wide)
 }
 
 // Type: the text up to a zero, and always a zero byte.
 pub fn put_type(store: &mut [u8], at: usize, text: &[u8]) -> Put
-    ensures { λ r. ⌜ putting r (now (store .exit)) ≡ putHeader (now (store .entry)) at (header 0x42 (asciiText (now (text .entry)) ++ (0 ∷ []))) ⌝ }
+    ensures { λ r. ⌜ putting r (now (store .exit))
+        ≡ putHeader (now (store .entry)) at (header 0x42 (asciiText (now (text .entry)) ++ (0 ∷ []))) ⌝ }
 {
     put_text(store, at, 0x42, text, TextForm::Ended)
 }

@@ -201,7 +201,8 @@ pub fn put_prefix(store: &mut [u8], byte: u8, size: usize)
 
 // A packet that fits.
 fn put_packet(store: &mut [u8], byte: u8, fields: &[u8], headers: &[u8])
-    requires { ⌜ (3 + length (now fields) + length (now headers) ≤ length (now store)) × (3 + length (now fields) + length (now headers) < 65536) ⌝ }
+    requires { ⌜ (3 + length (now fields) + length (now headers) ≤ length (now store))
+        × (3 + length (now fields) + length (now headers) < 65536) ⌝ }
     ensures { λ r. ⌜ now (store .exit) ≡ laid (now (store .entry)) 0 (packetBytes byte (now (fields .entry)) (now (headers .entry))) ⌝ }
 {
     let n = PACKET_PREFIX_LENGTH + fields.len();
@@ -213,7 +214,8 @@ fn put_packet(store: &mut [u8], byte: u8, fields: &[u8], headers: &[u8])
 // A packet at the front of the store. Its fields are the first n of four bytes.
 fn write_packet(store: &mut [u8], byte: u8, fields: [u8; 4], n: usize, headers: &[u8]) -> Put
     requires { ⌜ (length fields ≡ 4) × (n ≤ 4) ⌝ }
-    ensures { λ r. ⌜ putting r (now (store .exit)) ≡ writePacket (now (store .entry)) (packetBytes byte (take n fields) (now (headers .entry))) ⌝ }
+    ensures { λ r. ⌜ putting r (now (store .exit))
+        ≡ writePacket (now (store .entry)) (packetBytes byte (take n fields) (now (headers .entry))) ⌝ }
 {
     let need = PACKET_PREFIX_LENGTH + n + headers.len();
     let answer = room(store.len(), 0, need, MAXIMUM_PACKET_LENGTH < need);
