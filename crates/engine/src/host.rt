@@ -16,7 +16,6 @@ ghost use Rattle.engine.specs.Accept.{repliedPeer, credentialsBy};
 use crate::accept::connect_answer;
 use crate::accept::connect_sends;
 use crate::carry::carry_out;
-use crate::carry::object_plan;
 use crate::carry::packet_plan;
 use crate::carry::sends;
 use crate::carry::sent_plan;
@@ -47,6 +46,7 @@ use model::server::Settings;
 use model::server::Took;
 use outgoing::body::Outgoing;
 use outgoing::body::body_given;
+use outgoing::body::next_packet;
 use packet::auth::is_long;
 use packet::header::is_canonical;
 use packet::response::is_code;
@@ -126,8 +126,9 @@ pub fn sends_next(
     ensures { λ r. ⌜ written r (now (reply .exit))
         ≡ packetSent e srm wait (nextPacket (capacityOf e) o (now (headers .entry)) (now (reply .entry))) ⌝ }
 {
-    let plan = object_plan(e, o, srm, wait, headers, reply);
-    carry_out(plan, reply)
+    let capacity = wide16(e.peer.remote_max_packet_length) - 3;
+    let k = next_packet(capacity, o, headers, reply);
+    carry_out(packet_plan(e, srm, wait, k), reply)
 }
 
 // SRM that was not granted yet goes in front of the object's headers.
