@@ -15,7 +15,7 @@ use Rattle.packet.specs.Tags.{lastValue}
 use Rattle.packet.specs.Header.{Header, readHeaders, first, firstPlace, part, bytesOf, allBytes}
 use Rattle.packet.specs.Packet.{Request as Packet, requestOf, connectLimit, backup, noCreate, packetBytes}
 use Rattle.packet.specs.Canonical.{canonical}
-use Rattle.packet.specs.Auth.{Challenge as PeerChallenge, Response, responseOf, verified, userIdRequired, readOnly, realmPlace}
+use Rattle.packet.specs.Auth.{Challenge as PeerChallenge, Response, verified, userIdRequired, readOnly, realmPlace}
 use Rattle.packet.specs.declared.tlv.Found.{Found}
 use Rattle.packet.specs.declared.tlv.Found.the-variants as place
 use Rattle.packet.specs.declared.opcode.Opcode.{Opcode}

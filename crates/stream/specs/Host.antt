@@ -4,7 +4,7 @@ use mathlib.Core.List.{[]}
 use mathlib.Core.Option.{none}
 use Rattle.journal.specs.Calls.{Call, replyGiven, abortAcknowledged, bodyFailed, passwordGiven, credentialsGiven}
 use Rattle.model.specs.Model.{Stores, Stepped}
-use Rattle.model.specs.Runs.{State, stepOf}
+use Rattle.model.specs.Runs.{stepOf}
 use Rattle.model.specs.declared.server.Engine.{Engine}
 use Rattle.model.specs.declared.server.Request.{Request}
 use Rattle.model.specs.declared.server.Request.the-variants as request

@@ -6,7 +6,6 @@ use model::server::Engine;
 use model::server::Outcome;
 use model::server::Took;
 ghost use mathlib.Core.Path.{_≡_};
-ghost use Prim.Native.Nat.{_≤_};
 ghost use lib.ListN.{length};
 ghost use Rattle.stream.specs.Rest.{Within, endedBy};
 

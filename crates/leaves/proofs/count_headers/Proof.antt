@@ -1,9 +1,7 @@
 -- leaves::count_headers meets its contract. There are at most as many headers as bytes.
 use borrow.Author.Needs.{needs}
-use native.Mathlib.Omega.{arith}
-use Prim.Native.Nat.{ℕ, _+_, _-_, _*_, _≤_, _<_}
-use mathlib.Core.Path.{_≡_}
-use lib.ListN.{length, length-set}
+use Prim.Native.Nat.{_-_, _≤_}
+use lib.ListN.{length}
 use Rattle.leaves.proofs.count_headers.Statement.{statement}
 use Rattle.leaves.proofs.count_headers.Tie as tie
 

@@ -1,9 +1,7 @@
 -- leaves::each_header meets its contract. Each turn passes a header.
 use borrow.Author.Needs.{needs}
-use native.Mathlib.Omega.{arith}
-use Prim.Native.Nat.{ℕ, _+_, _-_, _*_, _≤_, _<_}
-use mathlib.Core.Path.{_≡_}
-use lib.ListN.{length, length-set}
+use Prim.Native.Nat.{_-_, _≤_}
+use lib.ListN.{length}
 use Rattle.leaves.proofs.each_header.Statement.{statement}
 use Rattle.leaves.proofs.each_header.Tie as tie
 

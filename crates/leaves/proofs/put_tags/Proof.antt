@@ -1,9 +1,7 @@
 -- leaves::put_tags meets its contract. Each turn passes a tag.
 use borrow.Author.Needs.{needs}
-use native.Mathlib.Omega.{arith}
-use Prim.Native.Nat.{ℕ, _+_, _-_, _*_, _≤_, _<_}
-use mathlib.Core.Path.{_≡_}
-use lib.ListN.{length, length-set}
+use Prim.Native.Nat.{_-_, _≤_}
+use lib.ListN.{length}
 use Rattle.leaves.proofs.put_tags.Statement.{statement}
 use Rattle.leaves.proofs.put_tags.Tie as tie
 

@@ -1,9 +1,8 @@
 -- leaves::turns meets its contract. The turns are counted down.
 use borrow.Author.Needs.{needs}
-use native.Mathlib.Omega.{arith}
-use Prim.Native.Nat.{ℕ, _+_, _-_, _*_, _≤_, _<_}
+use Prim.Native.Nat.{_-_, _≤_}
 use mathlib.Core.Path.{_≡_}
-use lib.ListN.{length, length-set}
+use lib.ListN.{length}
 use Rattle.leaves.proofs.turns.Statement.{statement}
 use Rattle.leaves.proofs.turns.Tie as tie
 

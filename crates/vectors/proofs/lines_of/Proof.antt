@@ -1,9 +1,7 @@
 -- `vectors::lines_of` goes on past each line. Assumes nothing.
 use borrow.Author.Needs.{needs}
-use native.Mathlib.Omega.{arith}
-use Prim.Native.Nat.{ℕ, _+_, _-_, _*_, _≤_, _<_}
-use mathlib.Core.Path.{_≡_}
-use lib.ListN.{length, length-set}
+use Prim.Native.Nat.{_-_}
+use lib.ListN.{length}
 use Rattle.vectors.proofs.lines_of.Statement.{statement}
 use Rattle.vectors.proofs.lines_of.Tie as tie
 

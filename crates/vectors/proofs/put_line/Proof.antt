@@ -1,9 +1,8 @@
 -- `vectors::put_line` reads each byte of its slice. Assumes nothing.
 use borrow.Author.Needs.{needs}
-use native.Mathlib.Omega.{arith}
-use Prim.Native.Nat.{ℕ, _+_, _-_, _*_, _≤_, _<_}
+use Prim.Native.Nat.{_-_, _≤_}
 use mathlib.Core.Path.{_≡_}
-use lib.ListN.{length, length-set}
+use lib.ListN.{length}
 use Rattle.vectors.proofs.put_line.Statement.{statement}
 use Rattle.vectors.proofs.put_line.Tie as tie
 

@@ -1,8 +1,8 @@
 -- `engine::host::sends_next` meets its contract. The packet that the lower layer makes is sent by its plan.
 use borrow.Author.Needs.{needs}
-use mathlib.Core.Path.{_≡_, ap, _∙_}
+use mathlib.Core.Path.{ap, _∙_}
 use Prim.Native.Nat.{ℕ, _-_}
-use Rattle.outgoing.specs.Outgoing.{Made, made, nextPacket}
+use Rattle.outgoing.specs.Outgoing.{nextPacket}
 use Rattle.engine.proofs.Objects.{packet-sent}
 use Rattle.engine.proofs.host.sends_next.Statement.{statement}
 use Rattle.engine.proofs.host.sends_next.Tie as tie
