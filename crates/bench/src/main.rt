@@ -4,7 +4,7 @@ mod shown;
 use engine::arrival;
 use engine::session;
 use engine::session::default_settings;
-use model::server::Outcome;
+use server::Outcome;
 use stream::feed::Rest;
 use stream::feed::Step;
 use stream::feed::feed;

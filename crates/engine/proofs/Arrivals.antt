@@ -24,9 +24,11 @@ use Rattle.model.specs.Model.{Stores, stores, Done, Stepped, stepped, ends, aft
 use Rattle.engine.specs.Plan.{planned, endsPlan}
 use Rattle.engine.specs.Carry.{Written, carried, tookBy}
 use Rattle.engine.specs.Route.{unreadableRoute, headingRoute, routeAs, packetRoute, keepOf, fromOf, kindPlan, actsGathered, acts}
-use Rattle.model.specs.declared.server.Engine.{Engine}
+use Rattle.server.specs.declared.CallKind.the-variants as kind
+use Rattle.server.specs.declared.End.the-variants as end
+use Rattle.server.specs.declared.Engine.{Engine}
 use Rattle.engine.specs.Turn.{withTaken}
-use Rattle.model.specs.declared.server.Took.{Took}
+use Rattle.server.specs.declared.CallResult.{CallResult}
 use Rattle.engine.specs.declared.plan.Plan.{Plan}
 use Rattle.engine.specs.declared.route.Kind.{Kind}
 use Rattle.engine.specs.declared.route.Route.{Route}
@@ -92,7 +94,7 @@ done-call e n s at p h b y w l k c =
 -- ---- bytes
 
 -- a call that goes on, by where the frame stands
-pub framed-call : (e : Engine) (i : List ℕ) (s : Stores) (f : Framed) (q : List ℕ) (x : Frame) (d : Stepped) → Goes 0 0 e s
+pub framed-call : (e : Engine) (i : List ℕ) (s : Stores) (f : Framed) (q : List ℕ) (x : Frame) (d : Stepped) → Goes kind.FromPeer e s
     → frames f q ≡ framed (s .packet) (e .begun) 0 i → f .frame ≡ x → d ≡ framedAs x e (f .begun) (f .taken) (withPacket s q) → d ≡ bytesStep e i s
 unfolding bytesStep
 framed-call e i s f q x d g h k w =
@@ -100,10 +102,10 @@ framed-call e i s f q x d g h k w =
     ∙ sym (g .whole (offers e (framed (s .packet) (e .begun) 0 i) s))
 
 -- so many bytes were taken
-pub taken-after : (r w : Took) (t : ℕ) (s : Stores) (d : Done) → w ≡ withTaken r t → stepped r s ≡ after 0 d → stepped w s ≡ after t d
-taken-after r w t s d h k = ap (λ (x : Took). stepped x s) h ∙ ap (λ (x : Stepped). stepped (withTaken (x .took) t) (x .stores)) k
+pub taken-after : (r w : CallResult) (t : ℕ) (s : Stores) (d : Done) → w ≡ withTaken r t → stepped r s ≡ after 0 d → stepped w s ≡ after t d
+taken-after r w t s d h k = ap (λ (x : CallResult). stepped x s) h ∙ ap (λ (x : Stepped). stepped (withTaken (x .took) t) (x .stores)) k
 
 -- number 3 has no reply to write
-pub short-took : (e : Engine) (r : Took) (p : Plan) (s : Stores) → r ≡ tookBy p → p ≡ endsPlan e (e .peer) 3 → stepped r s ≡ after 0 (ends e (e .peer) 3 s)
+pub short-took : (e : Engine) (r : CallResult) (p : Plan) (s : Stores) → r ≡ tookBy p → p ≡ endsPlan e (e .peer) end.LengthTooSmall → stepped r s ≡ after 0 (ends e (e .peer) end.LengthTooSmall s)
 unfolding endsPlan
-short-took e r p s h k = ap (λ (x : Took). stepped x s) (h ∙ ap (λ (x : Plan). tookBy x) k)
+short-took e r p s h k = ap (λ (x : CallResult). stepped x s) (h ∙ ap (λ (x : Plan). tookBy x) k)

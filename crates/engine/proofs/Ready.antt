@@ -22,9 +22,9 @@ use Rattle.outgoing.specs.declared.body.Chunk.{Chunk}
 use Rattle.journal.specs.Journal.{headersOf as headersIn}
 use Rattle.model.specs.Model.{limitOf, nothingGathered, soundGathered, soundOutgoing, soundOperation, rejection, busy}
 use Rattle.engine.specs.Route.{headingOf, admissionOf, drainedBy, rejectedRoute, dispatchRoute, admittedRoute, openRoute, insideRoute, headingRoute, routeAs, packetRoute, fromOf}
-use Rattle.model.specs.declared.server.Operation.{Operation}
-use Rattle.model.specs.declared.server.Operation.the-variants.{Nothing, Putting, Getting, Sending, Gathering as GatheringOp, Connecting, Draining}
-use Rattle.model.specs.declared.server.Engine.{Engine}
+use Rattle.server.specs.declared.Operation.{Operation}
+use Rattle.server.specs.declared.Operation.the-variants.{Nothing, Putting, Getting, Sending, Gathering as GatheringOp, Connecting, Draining}
+use Rattle.server.specs.declared.Engine.{Engine}
 use Rattle.engine.specs.declared.route.Route.{Route}
 use Rattle.engine.specs.declared.route.Route.the-variants.{Plain, Connect, Gather, Send}
 use Rattle.engine.specs.declared.route.Admission.{Admission}

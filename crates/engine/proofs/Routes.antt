@@ -23,13 +23,15 @@ use Rattle.connection.specs.declared.peer.Peer.{Peer}
 use Rattle.journal.specs.Journal.{responseIn, headersOf as headersIn}
 use Rattle.model.specs.Model.{Stores, Done, engineWith, lastPacket, lastHeaders, clientResponse, userPlace, verifies, wants, asks, ends, replies, repliesCode, nothingGathered, gathers, putPacket, getPacket, headersPacket, connectPacket, Rejection, admits, rejects, rejection, drains, rejected, dispatches, admittedAs, dispatch, interrupts, inside, busy, readAs, lengthOf, packetDone}
 use Rattle.engine.specs.Route.{headingOf, askRoute, codeRoute, admissionOf, rejectedRoute, putRoute, getRoute, headersRoute, dispatchRoute, admittedRoute, openRoute, interruptsRoute, insideRoute, headingRoute, routeAs, packetRoute, briefPlan, keepOf, kindPlan, actsGathered, answeredAs, verifiesPlan, limitedPlan, connectPlan, acts}
-use Rattle.model.specs.declared.server.Operation.{Operation}
-use Rattle.model.specs.declared.server.Operation.the-variants.{Nothing, Putting, Getting, Sending, Gathering as GatheringOp, Connecting, Draining}
-use Rattle.model.specs.declared.server.Await.{Await}
-use Rattle.model.specs.declared.server.Await.the-variants as await
-use Rattle.model.specs.declared.server.Engine.{Engine}
-use Rattle.model.specs.declared.server.Request.{Request}
-use Rattle.model.specs.declared.server.Request.the-variants as request
+use Rattle.server.specs.declared.Operation.{Operation}
+use Rattle.server.specs.declared.Operation.the-variants.{Nothing, Putting, Getting, Sending, Gathering as GatheringOp, Connecting, Draining}
+use Rattle.server.specs.declared.Await.{Await}
+use Rattle.server.specs.declared.Await.the-variants as await
+use Rattle.server.specs.declared.End.{End}
+use Rattle.server.specs.declared.End.the-variants as end
+use Rattle.server.specs.declared.Engine.{Engine}
+use Rattle.server.specs.declared.HostRequest.{HostRequest}
+use Rattle.server.specs.declared.HostRequest.the-variants as request
 use Rattle.engine.specs.declared.route.Brief.the-variants as brief
 use Rattle.engine.specs.declared.route.Kind.{Kind}
 use Rattle.engine.specs.declared.route.Kind.the-variants as kind
@@ -49,7 +51,7 @@ pick-acts false a b = b
 -- ---- steps of few bytes
 
 module _ (e : Engine) (q : List ℕ) (s : Stores) where
-  ask-acts : (a : Await) (r : Request) → Acts (askRoute a r) e q s (asks e (e .peer) Nothing a r s)
+  ask-acts : (a : Await) (r : HostRequest) → Acts (askRoute a r) e q s (asks e (e .peer) Nothing a r s)
   unfolding briefPlan
   ask-acts a r = record { is = asks-planned e (e .peer) Nothing a r s .is }
 
@@ -61,9 +63,9 @@ module _ (e : Engine) (q : List ℕ) (s : Stores) where
   unfolding briefPlan
   drain-acts code = record { is = wants-planned e (e .peer) (Draining code) s .is }
 
-  end-acts : (n : ℕ) → Acts (Plain (brief.End n)) e q s (ends e (e .peer) n s)
+  end-acts : (x : End) → Acts (Plain (brief.End x)) e q s (ends e (e .peer) x s)
   unfolding briefPlan
-  end-acts n = record { is = ends-planned e (e .peer) n s .is }
+  end-acts x = record { is = ends-planned e (e .peer) x s .is }
 
   code-acts : (code : ℕ) → Acts (codeRoute code) e q s (repliesCode e (e .peer) Nothing code s)
   code-acts code = byte-acts await.Taken (sentCode code)
@@ -159,7 +161,7 @@ module _ (e : Engine) (r : Packet) (s : Stores) (known : requestOf (lastPacket e
 
 read-acts : (e : Engine) (s : Stores) (x : Option Packet) → requestOf (lastPacket e s) ≡ x
     → Acts (routeAs x e (lastPacket e s)) e (lastPacket e s) s (readAs x e (lastPacket e s) s)
-read-acts e s none h = pick-acts (busy (e .operation)) (end-acts e (lastPacket e s) s 4) (code-acts e (lastPacket e s) s _)
+read-acts e s none h = pick-acts (busy (e .operation)) (end-acts e (lastPacket e s) s end.Unreadable) (code-acts e (lastPacket e s) s _)
 read-acts e s (some r) h = heading-acts e r s h
 
 pub packet-acts : (e : Engine) (n : ℕ) (s : Stores)

@@ -13,7 +13,7 @@ use Rattle.journal.specs.Calls.{bytesOffered, streamEnded, replyTaken, replyGiv
 use Rattle.model.specs.Model.{Stores, stores, stepped, startStep}
 use Rattle.model.specs.Runs.{State}
 use Rattle.model.specs.Contracts.{Says}
-use Rattle.model.specs.declared.server.Engine.{Engine}
+use Rattle.server.specs.declared.Engine.{Engine}
 use Rattle.engine.proofs.arrival.bytes
 use Rattle.engine.proofs.arrival.bytes.Kinds as bytes-kinds
 use Rattle.engine.proofs.arrival.bytes.Reads as bytes-reads

@@ -5,7 +5,6 @@ use mathlib.Core.List.{List, []}
 use mathlib.Core.Bool.{Bool, _||_}
 use mathlib.Core.Option.{Option, none, some}
 use lib.ListN.{length, take}
-use lib.Dec.{eqb}
 use Rattle.base.specs.Pick.{pick}
 use Rattle.packet.specs.Codes.{isSuccess}
 use Rattle.packet.specs.Header.{Header, first, firstPlace, allBytes}
@@ -22,24 +21,25 @@ use Rattle.connection.specs.declared.peer.Peer.{Peer}
 use Rattle.connection.specs.declared.peer.Answer.{Answer}
 use Rattle.connection.specs.declared.peer.ConnectionId.{ConnectionId}
 use Rattle.journal.specs.Journal.{headersOf as headersIn}
-use Rattle.model.specs.Model.{Stores, Stepped, stepped, stores, srmAsked, realmIn, longUser, awaited}
+use Rattle.model.specs.Model.{Stores, Stepped, stepped, stores, srmAsked, realmIn, longUser, sameAwait}
 use Rattle.engine.specs.Plan.{asksPlan}
-use Rattle.engine.specs.Guard.{refusal}
+use Rattle.engine.specs.Guard.{refusedWith}
 use Rattle.engine.specs.Carry.{Written, written, tookBy, repliesBy}
-use Rattle.model.specs.declared.server.Operation.{Operation}
-use Rattle.model.specs.declared.server.Operation.the-variants.{Nothing, Putting, Getting, Sending, Gathering as GatheringOp, Connecting, Draining}
-use Rattle.model.specs.declared.server.Await.the-variants as await
-use Rattle.model.specs.declared.server.Engine.{Engine}
-use Rattle.model.specs.declared.server.Request.the-variants as request
-use Rattle.model.specs.declared.server.Took.{Took}
+use Rattle.server.specs.declared.Operation.{Operation}
+use Rattle.server.specs.declared.Operation.the-variants.{Nothing, Putting, Getting, Sending, Gathering as GatheringOp, Connecting, Draining}
+use Rattle.server.specs.declared.Await.the-variants as await
+use Rattle.server.specs.declared.Refusal.the-variants as refusal
+use Rattle.server.specs.declared.Engine.{Engine}
+use Rattle.server.specs.declared.HostRequest.the-variants as request
+use Rattle.server.specs.declared.CallResult.{CallResult}
 
 -- what a call gives, and the header and reply stores afterwards
 pub record Answering : Type 0 where
-  pub took : Took
+  pub took : CallResult
   pub headers : List ℕ
   pub reply : List ℕ
 
-abbrev pub answering : Took → List ℕ → List ℕ → Answering
+abbrev pub answering : CallResult → List ℕ → List ℕ → Answering
 answering r h y = record { took = r; headers = h; reply = y }
 
 -- the header store stays
@@ -95,15 +95,15 @@ acceptedBy e code hs q h y =
 
 -- the peer when a reply is made: Disconnect closes ids before it
 unfoldable pub repliedPeer : Engine → List ℕ → Peer
-repliedPeer e q = pick (eqb (awaited (e .awaits)) 4) (disconnectedPeer (e .peer) (first 0xCB (headersOf q))) (e .peer)
+repliedPeer e q = pick (sameAwait (e .awaits) await.Disconnect) (disconnectedPeer (e .peer) (first 0xCB (headersOf q))) (e .peer)
 
 -- credentials for the Connect that waits, whose headers stand in front of the header store; a long user id is 8, no such Connect 9
 abbrev pub credentialsBy : Operation → Engine → Option Credentials → List ℕ → List ℕ → List ℕ → Written
 credentialsBy (Connecting code f n) e c q h y =
-    pick (longUser c) (written (refusal 8 e) y) (connectReplies e (e .peer) code (acceptedHeaders e f q (take n h) c) y)
-credentialsBy Nothing e c q h y = written (refusal 9 e) y
-credentialsBy (Putting g srm) e c q h y = written (refusal 9 e) y
-credentialsBy (Getting g srm confirm wait) e c q h y = written (refusal 9 e) y
-credentialsBy (Sending o k srm wait) e c q h y = written (refusal 9 e) y
-credentialsBy (GatheringOp o g) e c q h y = written (refusal 9 e) y
-credentialsBy (Draining code) e c q h y = written (refusal 9 e) y
+    pick (longUser c) (written (refusedWith refusal.BadAnswer e) y) (connectReplies e (e .peer) code (acceptedHeaders e f q (take n h) c) y)
+credentialsBy Nothing e c q h y = written (refusedWith refusal.WrongMoment e) y
+credentialsBy (Putting g srm) e c q h y = written (refusedWith refusal.WrongMoment e) y
+credentialsBy (Getting g srm confirm wait) e c q h y = written (refusedWith refusal.WrongMoment e) y
+credentialsBy (Sending o k srm wait) e c q h y = written (refusedWith refusal.WrongMoment e) y
+credentialsBy (GatheringOp o g) e c q h y = written (refusedWith refusal.WrongMoment e) y
+credentialsBy (Draining code) e c q h y = written (refusedWith refusal.WrongMoment e) y

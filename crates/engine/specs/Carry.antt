@@ -15,22 +15,23 @@ use Rattle.outgoing.specs.declared.body.Next.{Next}
 use Rattle.outgoing.specs.declared.body.Next.the-variants as next
 use Rattle.model.specs.Model.{Stores, Stepped, stepped, withReply, engineWith}
 use Rattle.engine.specs.Plan.{smallBytes, plan, endsPlan, asksPlan, codePlan}
-use Rattle.model.specs.declared.server.Operation.{Operation}
-use Rattle.model.specs.declared.server.Operation.the-variants.{Nothing, Sending}
-use Rattle.model.specs.declared.server.Await.the-variants as await
-use Rattle.model.specs.declared.server.Engine.{Engine}
-use Rattle.model.specs.declared.server.Request.the-variants as request
-use Rattle.model.specs.declared.server.Outcome.the-variants as outcome
-use Rattle.model.specs.declared.server.Took.{Took}
+use Rattle.server.specs.declared.Operation.{Operation}
+use Rattle.server.specs.declared.Operation.the-variants.{Nothing, Sending}
+use Rattle.server.specs.declared.Await.the-variants as await
+use Rattle.server.specs.declared.End.the-variants as end
+use Rattle.server.specs.declared.Engine.{Engine}
+use Rattle.server.specs.declared.HostRequest.the-variants as request
+use Rattle.server.specs.declared.Outcome.the-variants as outcome
+use Rattle.server.specs.declared.CallResult.{CallResult}
 use Rattle.engine.specs.declared.plan.Plan.{Plan}
 use Rattle.engine.specs.declared.plan.Small.the-variants.{Silent}
 
 -- what a call gives, and the reply store afterwards
 pub record Written : Type 0 where
-  pub took : Took
+  pub took : CallResult
   pub reply : List ℕ
 
-abbrev pub written : Took → List ℕ → Written
+abbrev pub written : CallResult → List ℕ → Written
 written r y = record { took = r; reply = y }
 
 -- the other stores stay
@@ -38,7 +39,7 @@ abbrev pub within : Written → Stores → Stepped
 within w s = stepped (w .took) (withReply s (w .reply))
 
 -- what a call gives by its plan
-abbrev pub tookBy : Plan → Took
+abbrev pub tookBy : Plan → CallResult
 tookBy p = record { engine = p .engine; taken = 0; outcome = p .outcome }
 
 -- the plan carried out: its small reply is at the front of the reply store
@@ -47,7 +48,7 @@ carried p y = written (tookBy p) (front (smallBytes (p .small)) y)
 
 -- a reply that was sent, or is too large
 unfoldable pub sentPlan : Engine → Peer → Sent → Plan
-sentPlan e p sent.TooLarge = endsPlan e p 7
+sentPlan e p sent.TooLarge = endsPlan e p end.ReplyTooLarge
 sentPlan e p (sent.Reply n) =
     plan (engineWith (e .settings) p Nothing await.Taken 0 (e .length)) (outcome.Reply n) Silent
 

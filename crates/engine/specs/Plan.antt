@@ -10,15 +10,17 @@ use Rattle.connection.specs.Send.{front}
 use Rattle.connection.specs.declared.peer.Peer.{Peer}
 use Rattle.incoming.specs.declared.gather.Gathered.{Gathered}
 use Rattle.model.specs.Model.{Stores, Done, done, withReply, engineWith, headersRequest, putBody}
-use Rattle.model.specs.declared.server.Operation.{Operation}
-use Rattle.model.specs.declared.server.Operation.the-variants.{Nothing, Putting, Getting, Gathering as GatheringOp}
-use Rattle.model.specs.declared.server.Await.{Await}
-use Rattle.model.specs.declared.server.Await.the-variants as await
-use Rattle.model.specs.declared.server.Engine.{Engine}
-use Rattle.model.specs.declared.server.Request.{Request}
-use Rattle.model.specs.declared.server.Request.the-variants as request
-use Rattle.model.specs.declared.server.Outcome.{Outcome}
-use Rattle.model.specs.declared.server.Outcome.the-variants as outcome
+use Rattle.server.specs.declared.Operation.{Operation}
+use Rattle.server.specs.declared.Operation.the-variants.{Nothing, Putting, Getting, Gathering as GatheringOp}
+use Rattle.server.specs.declared.Await.{Await}
+use Rattle.server.specs.declared.Await.the-variants as await
+use Rattle.server.specs.declared.End.{End}
+use Rattle.server.specs.declared.End.the-variants as end
+use Rattle.server.specs.declared.Engine.{Engine}
+use Rattle.server.specs.declared.HostRequest.{HostRequest}
+use Rattle.server.specs.declared.HostRequest.the-variants as request
+use Rattle.server.specs.declared.Outcome.{Outcome}
+use Rattle.server.specs.declared.Outcome.the-variants as outcome
 use Rattle.engine.specs.declared.plan.Small.{Small}
 use Rattle.engine.specs.declared.plan.Small.the-variants.{Silent, Byte, Grant}
 use Rattle.engine.specs.declared.plan.Plan.{Plan}
@@ -41,12 +43,12 @@ unfoldable pub wantsPlan : Engine → Peer → Operation → Plan
 wantsPlan e p o = plan (engineWith (e .settings) p o await.Bytes 0 (e .length)) outcome.WantsBytes Silent
 
 -- the host is asked
-unfoldable pub asksPlan : Engine → Peer → Operation → Await → Request → Plan
+unfoldable pub asksPlan : Engine → Peer → Operation → Await → HostRequest → Plan
 asksPlan e p o a r = plan (engineWith (e .settings) p o a 0 (e .length)) (outcome.Request r) Silent
 
 -- the engine ends with a number
-unfoldable pub endsPlan : Engine → Peer → ℕ → Plan
-endsPlan e p n = plan (engineWith (e .settings) p Nothing await.Nothing 0 (e .length)) (outcome.End n) Silent
+unfoldable pub endsPlan : Engine → Peer → End → Plan
+endsPlan e p x = plan (engineWith (e .settings) p Nothing await.Nothing 0 (e .length)) (outcome.End x) Silent
 
 -- a reply of a first byte alone
 unfoldable pub codePlan : Engine → Peer → Await → ℕ → Plan
@@ -81,7 +83,7 @@ putFinalPlan e g =
 -- a Put packet: number 6 comes before 0x4D
 unfoldable pub putPlan : Engine → Gathered → Bool → Bool → Bool → Bool → Plan
 putPlan e g final additional srm confirm =
-    pick (g .full) (endsPlan e (e .peer) 6) (pick final (putFinalPlan e g) (putContinuePlan e g srm confirm additional))
+    pick (g .full) (endsPlan e (e .peer) end.HeadersTooLarge) (pick final (putFinalPlan e g) (putContinuePlan e g srm confirm additional))
 
 -- a Get packet that is not final: first under SRM, then without
 abbrev pub getContinuePlan : Engine → Gathered → Bool → Bool → Bool → Plan
@@ -91,13 +93,13 @@ getContinuePlan e g false confirm wait = continuePlan e (Getting g confirm false
 -- a Get packet of the request
 unfoldable pub getPlan : Engine → Gathered → Bool → Bool → Bool → Bool → Plan
 getPlan e g final wait srm confirm =
-    pick (g .full) (endsPlan e (e .peer) 6)
+    pick (g .full) (endsPlan e (e .peer) end.HeadersTooLarge)
     (pick final (asksPlan e (e .peer) (Getting g srm confirm wait) await.Get (request.Get (g .kept)))
     (getContinuePlan e g srm confirm wait))
 
 -- a packet of Action, Session or a user-defined operation
 unfoldable pub headersPlan : Engine → Opcode → Gathered → Bool → Plan
 headersPlan e o g final =
-    pick (g .full) (endsPlan e (e .peer) 6)
+    pick (g .full) (endsPlan e (e .peer) end.HeadersTooLarge)
     (pick final (asksPlan e (e .peer) Nothing await.Reply (headersRequest o (g .kept)))
     (continuePlan e (GatheringOp o g) false))

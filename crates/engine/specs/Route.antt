@@ -28,13 +28,14 @@ use Rattle.connection.specs.declared.peer.Peer.{Peer}
 use Rattle.journal.specs.Journal.{headersOf as headersIn, responseIn}
 use Rattle.model.specs.Model.{Stores, Done, withGathered, userIn, nothingGathered, gathers, sendsNext, Rejection, admits, rejects, rejection, drains, confirms, unknownByte, busy}
 use Rattle.engine.specs.Plan.{planned, wantsPlan, asksPlan, endsPlan, codePlan, putPlan, getPlan, headersPlan}
-use Rattle.model.specs.declared.server.Operation.{Operation}
-use Rattle.model.specs.declared.server.Operation.the-variants.{Nothing, Putting, Getting, Sending, Gathering as GatheringOp, Connecting, Draining}
-use Rattle.model.specs.declared.server.Await.{Await}
-use Rattle.model.specs.declared.server.Await.the-variants as await
-use Rattle.model.specs.declared.server.Engine.{Engine}
-use Rattle.model.specs.declared.server.Request.{Request}
-use Rattle.model.specs.declared.server.Request.the-variants as request
+use Rattle.server.specs.declared.Operation.{Operation}
+use Rattle.server.specs.declared.Operation.the-variants.{Nothing, Putting, Getting, Sending, Gathering as GatheringOp, Connecting, Draining}
+use Rattle.server.specs.declared.Await.{Await}
+use Rattle.server.specs.declared.Await.the-variants as await
+use Rattle.server.specs.declared.End.the-variants as end
+use Rattle.server.specs.declared.Engine.{Engine}
+use Rattle.server.specs.declared.HostRequest.{HostRequest}
+use Rattle.server.specs.declared.HostRequest.the-variants as request
 use Rattle.engine.specs.declared.plan.Plan.{Plan}
 use Rattle.engine.specs.declared.connecting.Answered.{Answered}
 use Rattle.engine.specs.declared.connecting.Answered.the-variants.{Missing, User}
@@ -61,7 +62,7 @@ headingOf r =
     }
 
 -- the host is asked
-abbrev pub askRoute : Await → Request → Route
+abbrev pub askRoute : Await → HostRequest → Route
 askRoute a r = Plain (brief.Ask a r)
 
 -- a reply of a code
@@ -149,7 +150,7 @@ headingRoute e h =
 
 -- an unreadable packet, by whether its first byte is unknown
 abbrev pub unreadableRoute : Operation → Bool → Route
-unreadableRoute o unknown = pick (busy o) (Plain (brief.End 4)) (codeRoute (pick unknown 0x51 0x40))
+unreadableRoute o unknown = pick (busy o) (Plain (brief.End end.Unreadable)) (codeRoute (pick unknown 0x51 0x40))
 
 -- readable or not
 abbrev pub routeAs : Option Packet → Engine → List ℕ → Route

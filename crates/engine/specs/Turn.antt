@@ -2,15 +2,16 @@
 -- and `proofs/Arrivals.antt` say that they are these.
 use Prim.Native.Nat.{ℕ}
 use mathlib.Core.Bool.{Bool, _&&_, not}
-use lib.Dec.{eqb}
 use Rattle.base.specs.Pick.{pick}
 use Rattle.outgoing.specs.declared.body.Outgoing.{Outgoing}
-use Rattle.model.specs.Model.{Stores, Done, engineWith, wants, ends, awaited, sendsNext}
-use Rattle.model.specs.declared.server.Operation.{Operation}
-use Rattle.model.specs.declared.server.Operation.the-variants.{Nothing, Putting, Getting, Sending, Gathering as GatheringOp, Connecting, Draining}
-use Rattle.model.specs.declared.server.Engine.{Engine}
-use Rattle.model.specs.declared.server.Outcome.the-variants as outcome
-use Rattle.model.specs.declared.server.Took.{Took}
+use Rattle.model.specs.Model.{Stores, Done, engineWith, wants, ends, sameAwait, sendsNext}
+use Rattle.server.specs.declared.Operation.{Operation}
+use Rattle.server.specs.declared.Operation.the-variants.{Nothing, Putting, Getting, Sending, Gathering as GatheringOp, Connecting, Draining}
+use Rattle.server.specs.declared.Await.the-variants as await
+use Rattle.server.specs.declared.End.the-variants as end
+use Rattle.server.specs.declared.Engine.{Engine}
+use Rattle.server.specs.declared.Outcome.the-variants as outcome
+use Rattle.server.specs.declared.CallResult.{CallResult}
 use Rattle.engine.specs.declared.arrival.Turn.{Turn}
 use Rattle.engine.specs.declared.arrival.Turn.the-variants.{Send, Wait, End}
 
@@ -30,22 +31,22 @@ goesTurn (Draining code) = Wait
 
 -- what follows a reply that is taken
 abbrev pub turnOf : Engine → Turn
-turnOf e = pick (eqb (awaited (e .awaits)) 1) (goesTurn (e .operation)) End
+turnOf e = pick (sameAwait (e .awaits) await.Taken) (goesTurn (e .operation)) End
 
 -- what it does
 abbrev pub turnActs : Turn → Engine → Stores → Done
 turnActs (Send o srm wait) e s = sendsNext e o srm wait s
 turnActs Wait e s = wants e (e .peer) (e .operation) s
-turnActs End e s = ends e (e .peer) 5 s
+turnActs End e s = ends e (e .peer) end.OtherOperation s
 
 -- ---- what `bytes` gives
 
 -- so many bytes were taken
-abbrev pub withTaken : Took → ℕ → Took
+abbrev pub withTaken : CallResult → ℕ → CallResult
 withTaken r t = record { engine = r .engine; taken = t; outcome = r .outcome }
 
 -- more bytes of the packet are wanted
-abbrev pub moreTook : Engine → ℕ → ℕ → Took
+abbrev pub moreTook : Engine → ℕ → ℕ → CallResult
 moreTook e b t =
     record {
       engine = engineWith (e .settings) (e .peer) (e .operation) (e .awaits) b (e .length);

@@ -28,11 +28,11 @@ use connection::peer::Answer;
 use connection::peer::ConnectionId;
 use connection::peer::Peer;
 use connection::peer::opened_for;
-use model::server::Await;
-use model::server::Engine;
-use model::server::Operation;
-use model::server::Request;
-use model::server::Took;
+use server::Await;
+use server::Engine;
+use server::Operation;
+use server::HostRequest;
+use server::CallResult;
 use packet::auth::DigestChallenge;
 use packet::auth::realm;
 use packet::header::first_header;
@@ -96,7 +96,7 @@ pub fn connect_sends(
     user: &[u8],
     password: &[u8],
     reply: &mut [u8],
-) -> Took
+) -> CallResult
     requires { ⌜ (65535 ≤ length (now reply)) × (length (now packet) ≤ 65535) × (length (now «header_bytes») ≤ 65535)
         × (overlong (given «has_user» (now user)) ≡ false) ⌝ }
     ensures { λ r. ⌜ written r (now (reply .exit))
@@ -130,7 +130,7 @@ fn unchallenged(
     header_bytes: &[u8],
     packet: &[u8],
     reply: &mut [u8],
-) -> Took
+) -> CallResult
     requires { ⌜ (65535 ≤ length (now reply)) × (length (now packet) ≤ 65535) × (length (now «header_bytes») ≤ 65535) ⌝ }
     ensures { λ r. ⌜ written r (now (reply .exit))
         ≡ connectReplies e peer code (acceptedHeaders e front (now (packet .entry)) (now («header_bytes» .entry)) none)
@@ -161,7 +161,7 @@ fn accepted(
     packet: &[u8],
     headers: &mut [u8],
     reply: &mut [u8],
-) -> Took
+) -> CallResult
     requires { ⌜ (65535 ≤ length (now reply)) × (65535 ≤ length (now headers)) × (length (now packet) ≤ 65535)
         × (length (now «header_bytes») ≤ 65535) ⌝ }
     ensures { λ r. ⌜ answering r (now (headers .exit)) (now (reply .exit))
@@ -183,7 +183,7 @@ fn accepted(
         front,
         length: header_bytes.len(),
     };
-    let request = Request::Credentials {
+    let request = HostRequest::Credentials {
         nonce,
         user_id_required,
         read_only,
@@ -200,7 +200,7 @@ pub fn connect_answer(
     packet: &[u8],
     headers: &mut [u8],
     reply: &mut [u8],
-) -> Took
+) -> CallResult
     requires { ⌜ (e .peer .count ≤ 64) × (65535 ≤ length (now reply)) × (65535 ≤ length (now headers)) × (length (now packet) ≤ 65535)
         × (length (now «header_bytes») ≤ 65535) ⌝ }
     ensures { λ r. ⌜ answering r (now (headers .exit)) (now (reply .exit))

@@ -17,9 +17,10 @@ use crate::carry::carry_out;
 use crate::carry::object_plan;
 use crate::carry::took;
 use crate::connecting::connect_plan;
-use crate::guard::awaited;
+use crate::guard::same_await;
 use crate::guard::refuse;
-use crate::guard::refused;
+use crate::guard::Guarded;
+use crate::guard::guard;
 use crate::guard::wide;
 use crate::plan::Plan;
 use crate::plan::ends;
@@ -38,10 +39,13 @@ use incoming::gather::gather;
 use incoming::io::Frame;
 use incoming::io::read_packet;
 use incoming::survey::survey_headers;
-use model::server::Engine;
-use model::server::Operation;
-use model::server::Outcome;
-use model::server::Took;
+use server::Await;
+use server::CallKind;
+use server::End;
+use server::Engine;
+use server::Operation;
+use server::Outcome;
+use server::CallResult;
 use outgoing::body::Outgoing;
 use packet::opcode::FirstByte;
 use packet::opcode::from_byte;
@@ -202,7 +206,7 @@ fn next_turn(e: Engine) -> Turn
     ensures { λ r. ⌜ r ≡ turnOf e ⌝ }
 {
     let awaits = e.awaits;
-    if awaited(awaits) == 1 {
+    if same_await(awaits, Await::Taken) {
         let operation = e.operation;
         return goes_on(operation);
     }
@@ -226,7 +230,7 @@ fn turn_plan(e: Engine, headers: &[u8], reply: &mut [u8]) -> Plan
             let operation = e.operation;
             wants(e, e.peer, operation)
         }
-        Turn::End => ends(e, e.peer, 5),
+        Turn::End => ends(e, e.peer, End::OtherOperation),
     }
 }
 
@@ -237,21 +241,19 @@ pub fn reply_taken(
     headers: &mut [u8],
     body: &mut [u8],
     reply: &mut [u8],
-) -> Took
+) -> CallResult
     ensures { λ r. ⌜ stepped r (stores (now (packet .exit)) (now (headers .exit)) (now (body .exit)) (now (reply .exit)))
         ≡ takenStep e (stores (now (packet .entry)) (now (headers .entry)) (now (body .entry)) (now (reply .entry))) ⌝ }
 {
-    let number = refused(
+    if let Guarded::Refuse(refusal) = guard(
         e,
+        CallKind::ReplyTaken,
         packet.len(),
         headers.len(),
         body.len(),
         reply.len(),
-        1,
-        2,
-    );
-    if number != 0 {
-        return refuse(e, number);
+    ) {
+        return refuse(e, refusal);
     }
     let plan = turn_plan(e, &headers[..], reply);
     carry_out(plan, reply)
@@ -315,7 +317,7 @@ fn packet_done(
     headers: &mut [u8],
     body: &mut [u8],
     reply: &mut [u8],
-) -> Took
+) -> CallResult
     requires { ⌜ (1 ≤ n) × (n ≤ length (now packet)) × (e .peer .count ≤ 64) × (255 ≤ e .peer .«remote_max_packet_length»)
         × (soundOperation (limitOf e) (e .operation) ≡ true) × (65535 ≤ length (now headers)) × (limitOf e ≤ length (now body))
         × (65535 ≤ length (now reply)) ⌝ }
@@ -327,12 +329,12 @@ fn packet_done(
     carry_out(plan, reply)
 }
 
-fn with_taken(r: Took, taken: usize) -> Took
+fn with_taken(r: CallResult, taken: usize) -> CallResult
     ensures { λ w. ⌜ w ≡ withTaken r taken ⌝ }
 {
     let engine = r.engine;
     let outcome = r.outcome;
-    Took {
+    CallResult {
         engine,
         taken,
         outcome,
@@ -340,12 +342,12 @@ fn with_taken(r: Took, taken: usize) -> Took
 }
 
 // More bytes of the packet are wanted.
-fn more(e: Engine, begun: usize, taken: usize) -> Took
+fn more(e: Engine, begun: usize, taken: usize) -> CallResult
     ensures { λ r. ⌜ r ≡ moreTook e begun taken ⌝ }
 {
     let operation = e.operation;
     let awaits = e.awaits;
-    Took {
+    CallResult {
         engine: engine_with(e.settings, e.peer, operation, awaits, begun, e.length),
         taken,
         outcome: Outcome::WantsBytes,
@@ -360,28 +362,26 @@ pub fn bytes(
     headers: &mut [u8],
     body: &mut [u8],
     reply: &mut [u8],
-) -> Took
+) -> CallResult
     ensures { λ r. ⌜ stepped r (stores (now (packet .exit)) (now (headers .exit)) (now (body .exit)) (now (reply .exit)))
         ≡ bytesStep e (now (input .entry)) (stores (now (packet .entry)) (now (headers .entry)) (now (body .entry))
         (now (reply .entry))) ⌝ }
 {
-    let number = refused(
+    if let Guarded::Refuse(refusal) = guard(
         e,
+        CallKind::FromPeer,
         packet.len(),
         headers.len(),
         body.len(),
         reply.len(),
-        0,
-        0,
-    );
-    if number != 0 {
-        return refuse(e, number);
+    ) {
+        return refuse(e, refusal);
     }
     let f = read_packet(e.begun, input, packet);
     let frame = f.frame;
     match frame {
         Frame::More => more(e, f.begun, f.taken),
-        Frame::Short => with_taken(took(ends(e, e.peer, 3)), f.taken),
+        Frame::Short => with_taken(took(ends(e, e.peer, End::LengthTooSmall)), f.taken),
         Frame::Whole => with_taken(
             packet_done(e, f.begun, &packet[..], headers, body, reply),
             f.taken,

@@ -20,12 +20,13 @@ use connection::send::put_continue;
 use connection::send::put_reply_code;
 use connection::send::send;
 use connection::send::send_connect;
-use model::server::Await;
-use model::server::Engine;
-use model::server::Operation;
-use model::server::Outcome;
-use model::server::Request;
-use model::server::Took;
+use server::Await;
+use server::End;
+use server::Engine;
+use server::Operation;
+use server::Outcome;
+use server::HostRequest;
+use server::CallResult;
 use outgoing::body::Next;
 use outgoing::body::Outgoing;
 use outgoing::body::Packet;
@@ -48,12 +49,12 @@ pub fn write_small(small: Small, reply: &mut [u8])
 }
 
 // What a call gives that takes no bytes.
-pub fn took(p: Plan) -> Took
+pub fn took(p: Plan) -> CallResult
     ensures { λ r. ⌜ r ≡ tookBy p ⌝ }
 {
     let engine = p.engine;
     let outcome = p.outcome;
-    Took {
+    CallResult {
         engine,
         taken: 0,
         outcome,
@@ -61,7 +62,7 @@ pub fn took(p: Plan) -> Took
 }
 
 // The small reply is written, and the rest handed back.
-pub fn carry_out(p: Plan, reply: &mut [u8]) -> Took
+pub fn carry_out(p: Plan, reply: &mut [u8]) -> CallResult
     requires { ⌜ 5 ≤ length (now reply) ⌝ }
     ensures { λ r. ⌜ written r (now (reply .exit)) ≡ carried p (now (reply .entry)) ⌝ }
 {
@@ -75,7 +76,7 @@ pub fn sent_plan(e: Engine, peer: Peer, sent: Sent) -> Plan
     ensures { λ r. ⌜ r ≡ sentPlan e peer sent ⌝ }
 {
     match sent {
-        Sent::TooLarge => ends(e, peer, 7),
+        Sent::TooLarge => ends(e, peer, End::ReplyTooLarge),
         Sent::Reply(length) => Plan {
             engine: engine_with(
                 e.settings,
@@ -99,7 +100,7 @@ pub fn wide16(n: u16) -> usize
 }
 
 // A reply with headers.
-pub fn sends(e: Engine, peer: Peer, code: u8, header_bytes: &[u8], reply: &mut [u8]) -> Took
+pub fn sends(e: Engine, peer: Peer, code: u8, header_bytes: &[u8], reply: &mut [u8]) -> CallResult
     requires { ⌜ 65535 ≤ length (now reply) ⌝ }
     ensures { λ r. ⌜ written r (now (reply .exit)) ≡ repliesBy e peer code [] (now («header_bytes» .entry)) (now (reply .entry)) ⌝ }
 {
@@ -109,7 +110,7 @@ pub fn sends(e: Engine, peer: Peer, code: u8, header_bytes: &[u8], reply: &mut [
 }
 
 // A reply with Connect's fields and headers.
-pub fn sends_connect(e: Engine, peer: Peer, code: u8, header_bytes: &[u8], reply: &mut [u8]) -> Took
+pub fn sends_connect(e: Engine, peer: Peer, code: u8, header_bytes: &[u8], reply: &mut [u8]) -> CallResult
     requires { ⌜ 65535 ≤ length (now reply) ⌝ }
     ensures { λ r. ⌜ written r (now (reply .exit))
         ≡ repliesBy e peer code (fieldsOf (e .settings .«max_packet_length»)) (now («header_bytes» .entry)) (now (reply .entry)) ⌝ }
@@ -156,7 +157,7 @@ pub fn packet_plan(e: Engine, srm: bool, wait: bool, k: Packet) -> Plan
             e.peer,
             sending(k, false, srm, wait),
             Await::Body,
-            Request::Read { room: k.chunk.room },
+            HostRequest::Read { room: k.chunk.room },
         ),
         Next::TooLarge => code(e, e.peer, Await::Taken, 0xD0),
     }

@@ -12,10 +12,10 @@ use crate::plan::asks;
 use connection::peer::Challenge;
 use connection::peer::Peer;
 use connection::peer::limited;
-use model::server::Await;
-use model::server::Engine;
-use model::server::Operation;
-use model::server::Request;
+use server::Await;
+use server::Engine;
+use server::Operation;
+use server::HostRequest;
 use packet::auth::DigestResponse;
 use packet::auth::read_response;
 use packet::header::first_header;
@@ -68,16 +68,16 @@ fn verifies(e: Engine, peer: Peer, challenge: Challenge, a: Answered) -> Plan
     ensures { λ r. ⌜ r ≡ verifiesPlan e peer challenge a ⌝ }
 {
     let Challenge::Stored(_) = challenge else {
-        return asks(e, peer, Operation::Nothing, Await::Nonce, Request::Nonce);
+        return asks(e, peer, Operation::Nothing, Await::Nonce, HostRequest::Nonce);
     };
     match a {
-        Answered::Missing => asks(e, peer, Operation::Nothing, Await::Nonce, Request::Nonce),
+        Answered::Missing => asks(e, peer, Operation::Nothing, Await::Nonce, HostRequest::Nonce),
         Answered::User(user_id) => asks(
             e,
             peer,
             Operation::Nothing,
             Await::Password,
-            Request::Password { user_id },
+            HostRequest::Password { user_id },
         ),
     }
 }
@@ -95,7 +95,7 @@ fn limited_plan(e: Engine, peer: Peer, a: Answered) -> Plan
         peer,
         Operation::Nothing,
         Await::Connect,
-        Request::Connect { length: e.length },
+        HostRequest::Connect { length: e.length },
     )
 }
 

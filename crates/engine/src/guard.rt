@@ -1,20 +1,23 @@
 // Which calls are refused, decided by the state and the lengths of the lent stores: 10 where a store is short, then 9 where the state is
 // none that a call can leave, or where another call is awaited.
 ghost use mathlib.Core.Path.{_≡_};
-ghost use Rattle.model.specs.Model.{awaited, sound, soundGathered, soundOutgoing, soundOperation};
-ghost use Rattle.engine.specs.Guard.{shortBy, refusedBy, refusal};
+ghost use Rattle.model.specs.Model.{awaitNumber, sameAwait, fits, sound, soundGathered, soundOutgoing, soundOperation};
+ghost use Rattle.server.specs.declared.CallKind.the-variants as kind;
+ghost use Rattle.engine.specs.Guard.{shortBy, guardedBy, guardedStart, refusedWith};
 use incoming::gather::Gathered;
-use model::server::Await;
-use model::server::Engine;
-use model::server::Operation;
-use model::server::Outcome;
-use model::server::Took;
+use server::Await;
+use server::CallKind;
+use server::Engine;
+use server::Operation;
+use server::Outcome;
+use server::Refusal;
+use server::CallResult;
 use outgoing::body::Chunk;
 use outgoing::body::Outgoing;
 
-// What is awaited, as a number: the calls that fit go by ranges of it.
-pub fn awaited(a: Await) -> u8
-    ensures { λ r. ⌜ r ≡ awaited a ⌝ }
+// A number for each thing awaited, by which two of them are told apart.
+fn await_number(a: Await) -> u8
+    ensures { λ r. ⌜ r ≡ awaitNumber a ⌝ }
 {
     match a {
         Await::Bytes => 0,
@@ -30,6 +33,56 @@ pub fn awaited(a: Await) -> u8
         Await::Credentials => 10,
         Await::Body => 11,
         Await::Nothing => 12,
+    }
+}
+
+// Whether the engine waits for the same thing in `a` and `b`.
+pub(crate) fn same_await(a: Await, b: Await) -> bool
+    ensures { λ r. ⌜ r ≡ sameAwait a b ⌝ }
+{
+    await_number(a) == await_number(b)
+}
+
+// Whether the host's reply is awaited: to a Connect, a Disconnect, a Get or any other request.
+fn awaits_reply(a: Await) -> bool
+    ensures { λ r. ⌜ r ≡ fits kind.ReplyGiven a ⌝ }
+{
+    if same_await(a, Await::Connect) {
+        return true;
+    }
+    if same_await(a, Await::Disconnect) {
+        return true;
+    }
+    if same_await(a, Await::Get) {
+        return true;
+    }
+    same_await(a, Await::Reply)
+}
+
+// Whether the engine waits for a reply to be sent. The reply may be the last one.
+fn awaits_taken(a: Await) -> bool
+    ensures { λ r. ⌜ r ≡ fits kind.ReplyTaken a ⌝ }
+{
+    if same_await(a, Await::Taken) {
+        return true;
+    }
+    same_await(a, Await::Last)
+}
+
+// Whether a call of kind `k` may come while the engine waits for `a`.
+fn is_awaited(k: CallKind, a: Await) -> bool
+    ensures { λ r. ⌜ r ≡ fits k a ⌝ }
+{
+    match k {
+        CallKind::FromPeer => same_await(a, Await::Bytes),
+        CallKind::ReplyTaken => awaits_taken(a),
+        CallKind::ReplyGiven => awaits_reply(a),
+        CallKind::ObjectGiven => same_await(a, Await::Get),
+        CallKind::AbortAcknowledged => same_await(a, Await::Acknowledgement),
+        CallKind::PasswordGiven => same_await(a, Await::Password),
+        CallKind::NonceGiven => same_await(a, Await::Nonce),
+        CallKind::CredentialsGiven => same_await(a, Await::Credentials),
+        CallKind::FromBody => same_await(a, Await::Body),
     }
 }
 
@@ -138,42 +191,65 @@ pub fn is_sound(e: Engine) -> bool
     sound_operation(e.settings.max_object_size, operation)
 }
 
-// 10, 9, or 0 where the call goes on: what is awaited lies between two numbers.
-pub fn refused(
+// What the guard says of a call.
+pub(crate) enum Guarded {
+    Proceed,
+    Refuse(Refusal),
+}
+
+// Returns the refusal of a call of kind `k`, or says that it may proceed. A short store comes before a wrong moment, and a state that no
+// call can have left counts as a wrong moment, as after the end.
+pub(crate) fn guard(
     e: Engine,
+    k: CallKind,
     packet: usize,
     headers: usize,
     body: usize,
     reply: usize,
-    from: u8,
-    to: u8,
-) -> u8
-    ensures { λ r. ⌜ r ≡ refusedBy from to e packet headers body reply ⌝ }
+) -> Guarded
+    ensures { λ r. ⌜ r ≡ guardedBy k e packet headers body reply ⌝ }
 {
     if is_short(e.settings.max_object_size, packet, headers, body, reply) {
-        return 10;
+        return Guarded::Refuse(Refusal::StoreTooShort);
     }
     if !is_sound(e) {
-        return 9;
+        return Guarded::Refuse(Refusal::WrongMoment);
     }
     let awaits = e.awaits;
-    let a = awaited(awaits);
-    if a < from {
-        return 9;
+    if is_awaited(k, awaits) {
+        return Guarded::Proceed;
     }
-    if to < a {
-        return 9;
-    }
-    0
+    Guarded::Refuse(Refusal::WrongMoment)
 }
 
-// What a refused call gives: the state as it was.
-pub fn refuse(e: Engine, number: u8) -> Took
-    ensures { λ r. ⌜ r ≡ refusal number e ⌝ }
+// Returns the refusal of a start, or says that it may proceed: a short store comes before a realm of over 254 bytes, the most that fit
+// beside the charset.
+pub(crate) fn guard_start(
+    limit: u32,
+    realm: usize,
+    packet: usize,
+    headers: usize,
+    body: usize,
+    reply: usize,
+) -> Guarded
+    ensures { λ r. ⌜ r ≡ guardedStart limit realm packet headers body reply ⌝ }
 {
-    Took {
+    if is_short(limit, packet, headers, body, reply) {
+        return Guarded::Refuse(Refusal::StoreTooShort);
+    }
+    if realm > 254 {
+        return Guarded::Refuse(Refusal::BadAnswer);
+    }
+    Guarded::Proceed
+}
+
+// What a refused call returns: the state as it was, and `refusal`.
+pub(crate) fn refuse(e: Engine, refusal: Refusal) -> CallResult
+    ensures { λ r. ⌜ r ≡ refusedWith refusal e ⌝ }
+{
+    CallResult {
         engine: e,
         taken: 0,
-        outcome: Outcome::Refused(number),
+        outcome: Outcome::Refused(refusal),
     }
 }

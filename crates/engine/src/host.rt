@@ -21,9 +21,10 @@ use crate::carry::sends;
 use crate::carry::sent_plan;
 use crate::carry::took;
 use crate::carry::wide16;
-use crate::guard::awaited;
+use crate::guard::same_await;
 use crate::guard::refuse;
-use crate::guard::refused;
+use crate::guard::Guarded;
+use crate::guard::guard;
 use crate::last::first_id;
 use crate::last::is_right;
 use crate::last::last_from;
@@ -38,12 +39,14 @@ use connection::peer::disconnected;
 use connection::peer::verified;
 use connection::send::Sent;
 use digest::md5::Octets16;
-use model::server::Await;
-use model::server::Engine;
-use model::server::Operation;
-use model::server::Request;
-use model::server::Settings;
-use model::server::Took;
+use server::Await;
+use server::CallKind;
+use server::Engine;
+use server::Operation;
+use server::HostRequest;
+use server::Refusal;
+use server::Settings;
+use server::CallResult;
 use outgoing::body::Outgoing;
 use outgoing::body::body_given;
 use outgoing::body::next_packet;
@@ -58,21 +61,19 @@ pub fn acknowledge(
     headers: &mut [u8],
     body: &mut [u8],
     reply: &mut [u8],
-) -> Took
+) -> CallResult
     ensures { λ r. ⌜ stepped r (stores (now (packet .exit)) (now (headers .exit)) (now (body .exit)) (now (reply .exit)))
         ≡ acknowledgeStep e (stores (now (packet .entry)) (now (headers .entry)) (now (body .entry)) (now (reply .entry))) ⌝ }
 {
-    let number = refused(
+    if let Guarded::Refuse(refusal) = guard(
         e,
+        CallKind::AbortAcknowledged,
         packet.len(),
         headers.len(),
         body.len(),
         reply.len(),
-        7,
-        7,
-    );
-    if number != 0 {
-        return refuse(e, number);
+    ) {
+        return refuse(e, refusal);
     }
     carry_out(code(e, e.peer, Await::Taken, 0xA0), reply)
 }
@@ -84,21 +85,19 @@ pub fn body_failed(
     headers: &mut [u8],
     body: &mut [u8],
     reply: &mut [u8],
-) -> Took
+) -> CallResult
     ensures { λ r. ⌜ stepped r (stores (now (packet .exit)) (now (headers .exit)) (now (body .exit)) (now (reply .exit)))
         ≡ bodyFailedStep e (stores (now (packet .entry)) (now (headers .entry)) (now (body .entry)) (now (reply .entry))) ⌝ }
 {
-    let number = refused(
+    if let Guarded::Refuse(refusal) = guard(
         e,
+        CallKind::FromBody,
         packet.len(),
         headers.len(),
         body.len(),
         reply.len(),
-        11,
-        11,
-    );
-    if number != 0 {
-        return refuse(e, number);
+    ) {
+        return refuse(e, refusal);
     }
     carry_out(code(e, e.peer, Await::Taken, 0xD0), reply)
 }
@@ -121,7 +120,7 @@ pub fn sends_next(
     wait: bool,
     headers: &[u8],
     reply: &mut [u8],
-) -> Took
+) -> CallResult
     requires { ⌜ (255 ≤ e .peer .«remote_max_packet_length») × (o .total ≤ length (now headers)) × (65535 ≤ length (now reply)) ⌝ }
     ensures { λ r. ⌜ written r (now (reply .exit))
         ≡ packetSent e srm wait (nextPacket (capacityOf e) o (now (headers .entry)) (now (reply .entry))) ⌝ }
@@ -163,22 +162,20 @@ pub fn object(
     headers: &mut [u8],
     body: &mut [u8],
     reply: &mut [u8],
-) -> Took
+) -> CallResult
     ensures { λ r. ⌜ stepped r (stores (now (packet .exit)) (now (headers .exit)) (now (body .exit)) (now (reply .exit)))
         ≡ objectStep e (now («header_bytes» .entry)) «has_body»
         (stores (now (packet .entry)) (now (headers .entry)) (now (body .entry)) (now (reply .entry))) ⌝ }
 {
-    let number = refused(
+    if let Guarded::Refuse(refusal) = guard(
         e,
+        CallKind::ObjectGiven,
         packet.len(),
         headers.len(),
         body.len(),
         reply.len(),
-        5,
-        5,
-    );
-    if number != 0 {
-        return refuse(e, number);
+    ) {
+        return refuse(e, refusal);
     }
     let operation = e.operation;
     let Operation::Getting {
@@ -188,10 +185,10 @@ pub fn object(
         wait,
     } = operation
     else {
-        return refuse(e, 9);
+        return refuse(e, Refusal::WrongMoment);
     };
     if bad_headers(header_bytes) {
-        return refuse(e, 8);
+        return refuse(e, Refusal::BadAnswer);
     }
     copy_into(headers, 0, header_bytes);
     let o = object_of(header_bytes.len(), confirm_srm, has_body);
@@ -206,21 +203,19 @@ pub fn body(
     headers: &mut [u8],
     body: &mut [u8],
     reply: &mut [u8],
-) -> Took
+) -> CallResult
     ensures { λ r. ⌜ stepped r (stores (now (packet .exit)) (now (headers .exit)) (now (body .exit)) (now (reply .exit)))
         ≡ bodyStep e (now (d .entry)) (stores (now (packet .entry)) (now (headers .entry)) (now (body .entry)) (now (reply .entry))) ⌝ }
 {
-    let number = refused(
+    if let Guarded::Refuse(refusal) = guard(
         e,
+        CallKind::FromBody,
         packet.len(),
         headers.len(),
         body.len(),
         reply.len(),
-        11,
-        11,
-    );
-    if number != 0 {
-        return refuse(e, number);
+    ) {
+        return refuse(e, refusal);
     }
     let operation = e.operation;
     let Operation::Sending {
@@ -230,10 +225,10 @@ pub fn body(
         wait,
     } = operation
     else {
-        return refuse(e, 9);
+        return refuse(e, Refusal::WrongMoment);
     };
     if chunk.room < d.len() {
-        return refuse(e, 9);
+        return refuse(e, Refusal::WrongMoment);
     }
     let k = body_given(outgoing, chunk, d, reply);
     carry_out(packet_plan(e, srm, wait, k), reply)
@@ -275,21 +270,19 @@ pub fn nonce(
     headers: &mut [u8],
     body: &mut [u8],
     reply: &mut [u8],
-) -> Took
+) -> CallResult
     ensures { λ r. ⌜ stepped r (stores (now (packet .exit)) (now (headers .exit)) (now (body .exit)) (now (reply .exit)))
         ≡ nonceStep e n realm (stores (now (packet .entry)) (now (headers .entry)) (now (body .entry)) (now (reply .entry))) ⌝ }
 {
-    let number = refused(
+    if let Guarded::Refuse(refusal) = guard(
         e,
+        CallKind::NonceGiven,
         packet.len(),
         headers.len(),
         body.len(),
         reply.len(),
-        9,
-        9,
-    );
-    if number != 0 {
-        return refuse(e, number);
+    ) {
+        return refuse(e, refusal);
     }
     let peer = challenged(e.peer, n);
     let sent = send_challenge(e.settings, realm, peer.remote_max_packet_length, n, reply);
@@ -306,10 +299,10 @@ fn password_plan(e: Engine, right: bool) -> Plan
             verified(e.peer),
             Operation::Nothing,
             Await::Connect,
-            Request::Connect { length: e.length },
+            HostRequest::Connect { length: e.length },
         );
     }
-    asks(e, e.peer, Operation::Nothing, Await::Nonce, Request::Nonce)
+    asks(e, e.peer, Operation::Nothing, Await::Nonce, HostRequest::Nonce)
 }
 
 // The password for the user id that was told, or none.
@@ -321,22 +314,20 @@ pub fn password(
     headers: &mut [u8],
     body: &mut [u8],
     reply: &mut [u8],
-) -> Took
+) -> CallResult
     ensures { λ r. ⌜ stepped r (stores (now (packet .exit)) (now (headers .exit)) (now (body .exit)) (now (reply .exit)))
         ≡ passwordStep e (given «has_password» (now (password .entry)))
         (stores (now (packet .entry)) (now (headers .entry)) (now (body .entry)) (now (reply .entry))) ⌝ }
 {
-    let number = refused(
+    if let Guarded::Refuse(refusal) = guard(
         e,
+        CallKind::PasswordGiven,
         packet.len(),
         headers.len(),
         body.len(),
         reply.len(),
-        8,
-        8,
-    );
-    if number != 0 {
-        return refuse(e, number);
+    ) {
+        return refuse(e, refusal);
     }
     let length = e.length;
     let peer = e.peer;
@@ -361,7 +352,7 @@ fn replied_peer(e: Engine, packet: &[u8]) -> Peer
     ensures { λ r. ⌜ r ≡ repliedPeer e (now (packet .entry)) ⌝ }
 {
     let awaits = e.awaits;
-    if awaited(awaits) != 4 {
+    if !same_await(awaits, Await::Disconnect) {
         return e.peer;
     }
     disconnected(e.peer, first_id(packet, last_from(packet)))
@@ -376,29 +367,27 @@ pub fn reply(
     headers: &mut [u8],
     body: &mut [u8],
     reply: &mut [u8],
-) -> Took
+) -> CallResult
     ensures { λ r. ⌜ stepped r (stores (now (packet .exit)) (now (headers .exit)) (now (body .exit)) (now (reply .exit)))
         ≡ replyStep e code (now («header_bytes» .entry)) (stores (now (packet .entry)) (now (headers .entry)) (now (body .entry))
         (now (reply .entry))) ⌝ }
 {
-    let number = refused(
+    if let Guarded::Refuse(refusal) = guard(
         e,
+        CallKind::ReplyGiven,
         packet.len(),
         headers.len(),
         body.len(),
         reply.len(),
-        3,
-        6,
-    );
-    if number != 0 {
-        return refuse(e, number);
+    ) {
+        return refuse(e, refusal);
     }
     if bad_reply(code, header_bytes) {
-        return refuse(e, 8);
+        return refuse(e, Refusal::BadAnswer);
     }
     let length = e.length;
     let awaits = e.awaits;
-    if awaited(awaits) == 3 {
+    if same_await(awaits, Await::Connect) {
         return connect_answer(e, code, header_bytes, &packet[..length], headers, reply);
     }
     let peer = replied_peer(e, &packet[..length]);
@@ -425,7 +414,7 @@ fn credentials_given(
     packet: &[u8],
     headers: &[u8],
     reply: &mut [u8],
-) -> Took
+) -> CallResult
     requires { ⌜ (soundOperation (limitOf e) (e .operation) ≡ true) × (length (now packet) ≤ 65535) × (65535 ≤ length (now headers))
         × (65535 ≤ length (now reply)) ⌝ }
     ensures { λ r. ⌜ written r (now (reply .exit))
@@ -439,11 +428,11 @@ fn credentials_given(
         length: kept,
     } = operation
     else {
-        return refuse(e, 9);
+        return refuse(e, Refusal::WrongMoment);
     };
     let named = both(has_credentials, has_user);
     if is_long(named, user.len()) {
-        return refuse(e, 8);
+        return refuse(e, Refusal::BadAnswer);
     }
     connect_sends(
         e,
@@ -471,22 +460,20 @@ pub fn credentials(
     headers: &mut [u8],
     body: &mut [u8],
     reply: &mut [u8],
-) -> Took
+) -> CallResult
     ensures { λ r. ⌜ stepped r (stores (now (packet .exit)) (now (headers .exit)) (now (body .exit)) (now (reply .exit)))
         ≡ credentialsStep e (credentialsOf «has_credentials» (given «has_user» (now (user .entry))) (now (password .entry)))
         (stores (now (packet .entry)) (now (headers .entry)) (now (body .entry)) (now (reply .entry))) ⌝ }
 {
-    let number = refused(
+    if let Guarded::Refuse(refusal) = guard(
         e,
+        CallKind::CredentialsGiven,
         packet.len(),
         headers.len(),
         body.len(),
         reply.len(),
-        10,
-        10,
-    );
-    if number != 0 {
-        return refuse(e, number);
+    ) {
+        return refuse(e, refusal);
     }
     let length = e.length;
     credentials_given(

@@ -4,13 +4,14 @@ ghost use Rattle.model.specs.Model.{engineWith, putBody, headersRequest};
 ghost use Rattle.engine.specs.Plan.{wantsPlan, asksPlan, endsPlan, codePlan, continuePlan, putContinuePlan, putFinalPlan, putPlan, getPlan, headersPlan};
 use connection::peer::Peer;
 use incoming::gather::Gathered;
-use model::server::Await;
-use model::server::Body;
-use model::server::Engine;
-use model::server::Operation;
-use model::server::Outcome;
-use model::server::Request;
-use model::server::Settings;
+use server::Await;
+use server::Body;
+use server::End;
+use server::Engine;
+use server::Operation;
+use server::Outcome;
+use server::HostRequest;
+use server::Settings;
 use packet::opcode::Opcode;
 
 // A reply of a few bytes.
@@ -62,7 +63,7 @@ pub fn wants(e: Engine, peer: Peer, operation: Operation) -> Plan
 }
 
 // The host is asked.
-pub fn asks(e: Engine, peer: Peer, operation: Operation, awaits: Await, request: Request) -> Plan
+pub fn asks(e: Engine, peer: Peer, operation: Operation, awaits: Await, request: HostRequest) -> Plan
     ensures { λ r. ⌜ r ≡ asksPlan e peer operation awaits request ⌝ }
 {
     Plan {
@@ -72,9 +73,9 @@ pub fn asks(e: Engine, peer: Peer, operation: Operation, awaits: Await, request:
     }
 }
 
-// The engine ends with a number.
-pub fn ends(e: Engine, peer: Peer, number: u8) -> Plan
-    ensures { λ r. ⌜ r ≡ endsPlan e peer number ⌝ }
+// The engine ends with `end`.
+pub fn ends(e: Engine, peer: Peer, end: End) -> Plan
+    ensures { λ r. ⌜ r ≡ endsPlan e peer end ⌝ }
 {
     Plan {
         engine: engine_with(
@@ -85,7 +86,7 @@ pub fn ends(e: Engine, peer: Peer, number: u8) -> Plan
             0,
             e.length,
         ),
-        outcome: Outcome::End(number),
+        outcome: Outcome::End(end),
         small: Small::Silent,
     }
 }
@@ -170,7 +171,7 @@ fn put_final(e: Engine, g: Gathered) -> Plan
         e.peer,
         Operation::Nothing,
         Await::Reply,
-        Request::Put {
+        HostRequest::Put {
             kept: g.kept,
             body: put_body(g),
         },
@@ -189,7 +190,7 @@ pub fn put_plan(
     ensures { λ r. ⌜ r ≡ putPlan e g «is_final» additional srm confirm ⌝ }
 {
     if g.full {
-        return ends(e, e.peer, 6);
+        return ends(e, e.peer, End::HeadersTooLarge);
     }
     if is_final {
         return put_final(e, g);
@@ -209,7 +210,7 @@ pub fn get_plan(
     ensures { λ r. ⌜ r ≡ getPlan e g «is_final» wait srm confirm ⌝ }
 {
     if g.full {
-        return ends(e, e.peer, 6);
+        return ends(e, e.peer, End::HeadersTooLarge);
     }
     let going = Operation::Getting {
         gathered: g,
@@ -218,7 +219,7 @@ pub fn get_plan(
         wait,
     };
     if is_final {
-        return asks(e, e.peer, going, Await::Get, Request::Get { kept: g.kept });
+        return asks(e, e.peer, going, Await::Get, HostRequest::Get { kept: g.kept });
     }
     if srm {
         return wants(e, e.peer, going);
@@ -236,22 +237,22 @@ pub fn get_plan(
 }
 
 // The request for an operation of headers alone.
-fn headers_request(opcode: Opcode, kept: usize) -> Request
+fn headers_request(opcode: Opcode, kept: usize) -> HostRequest
     ensures { λ r. ⌜ r ≡ headersRequest opcode kept ⌝ }
 {
     match opcode {
-        Opcode::Action => Request::Action { kept },
-        Opcode::Session => Request::Session { kept },
-        Opcode::UserDefined(value) => Request::UserDefined {
+        Opcode::Action => HostRequest::Action { kept },
+        Opcode::Session => HostRequest::Session { kept },
+        Opcode::UserDefined(value) => HostRequest::UserDefined {
             opcode: value,
             kept,
         },
-        Opcode::Connect => Request::UserDefined { opcode: 0x00, kept },
-        Opcode::Disconnect => Request::UserDefined { opcode: 0x01, kept },
-        Opcode::Put => Request::UserDefined { opcode: 0x02, kept },
-        Opcode::Get => Request::UserDefined { opcode: 0x03, kept },
-        Opcode::SetPath => Request::UserDefined { opcode: 0x05, kept },
-        Opcode::Abort => Request::UserDefined { opcode: 0x7F, kept },
+        Opcode::Connect => HostRequest::UserDefined { opcode: 0x00, kept },
+        Opcode::Disconnect => HostRequest::UserDefined { opcode: 0x01, kept },
+        Opcode::Put => HostRequest::UserDefined { opcode: 0x02, kept },
+        Opcode::Get => HostRequest::UserDefined { opcode: 0x03, kept },
+        Opcode::SetPath => HostRequest::UserDefined { opcode: 0x05, kept },
+        Opcode::Abort => HostRequest::UserDefined { opcode: 0x7F, kept },
     }
 }
 
@@ -260,7 +261,7 @@ pub fn headers_plan(e: Engine, opcode: Opcode, g: Gathered, is_final: bool) -> P
     ensures { λ r. ⌜ r ≡ headersPlan e opcode g «is_final» ⌝ }
 {
     if g.full {
-        return ends(e, e.peer, 6);
+        return ends(e, e.peer, End::HeadersTooLarge);
     }
     if is_final {
         return asks(

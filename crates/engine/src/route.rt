@@ -15,10 +15,11 @@ use connection::peer::is_open;
 use incoming::gather::Gathered;
 use incoming::gather::Keep;
 use incoming::survey::Survey;
-use model::server::Await;
-use model::server::Engine;
-use model::server::Operation;
-use model::server::Request;
+use server::Await;
+use server::End;
+use server::Engine;
+use server::Operation;
+use server::HostRequest;
 use outgoing::body::Outgoing;
 use packet::opcode::Opcode;
 use packet::opcode::same;
@@ -44,12 +45,12 @@ pub enum Kind {
 // A step of few bytes.
 pub enum Brief {
     // The host is asked, and nothing is open.
-    Ask { awaits: Await, request: Request },
+    Ask { awaits: Await, request: HostRequest },
     // A reply of a first byte alone, and nothing is open.
     Code { awaits: Await, byte: u8 },
     // The packets of an operation that is turned away are read first.
     Drain { code: u8 },
-    End { number: u8 },
+    End(End),
 }
 
 // Which way a packet goes.
@@ -232,7 +233,7 @@ fn headers_route(h: Heading, opcode: Opcode, begun: Gathered) -> Route
     }
 }
 
-fn ask(awaits: Await, request: Request) -> Route
+fn ask(awaits: Await, request: HostRequest) -> Route
     ensures { λ r. ⌜ r ≡ askRoute awaits request ⌝ }
 {
     Route::Plain(Brief::Ask { awaits, request })
@@ -246,11 +247,11 @@ fn dispatch(e: Engine, h: Heading) -> Route
     let opcode = h.opcode;
     match opcode {
         Opcode::Connect => Route::Connect,
-        Opcode::Abort => ask(Await::Acknowledgement, Request::Abort { length }),
-        Opcode::Disconnect => ask(Await::Disconnect, Request::Disconnect { length }),
+        Opcode::Abort => ask(Await::Acknowledgement, HostRequest::Abort { length }),
+        Opcode::Disconnect => ask(Await::Disconnect, HostRequest::Disconnect { length }),
         Opcode::SetPath => ask(
             Await::Reply,
-            Request::SetPath {
+            HostRequest::SetPath {
                 length,
                 backup: h.backup,
                 no_create: h.no_create,
@@ -371,7 +372,7 @@ pub fn heading_route(e: Engine, h: Heading) -> Route
 {
     let opcode = h.opcode;
     if same(opcode, Opcode::Abort) {
-        return ask(Await::Acknowledgement, Request::Abort { length: e.length });
+        return ask(Await::Acknowledgement, HostRequest::Abort { length: e.length });
     }
     inside(e, h)
 }
@@ -417,7 +418,7 @@ pub fn unreadable(e: Engine, unknown: bool) -> Route
 {
     let operation = e.operation;
     if busy(operation) {
-        return Route::Plain(Brief::End { number: 4 });
+        return Route::Plain(Brief::End(End::Unreadable));
     }
     if unknown {
         return reply_code(response::NOT_IMPLEMENTED);
@@ -435,7 +436,7 @@ pub fn brief_plan(e: Engine, brief: Brief) -> Plan
         Brief::Ask { awaits, request } => asks(e, e.peer, Operation::Nothing, awaits, request),
         Brief::Code { awaits, byte } => code(e, e.peer, awaits, byte),
         Brief::Drain { code } => wants(e, e.peer, Operation::Draining { code }),
-        Brief::End { number } => ends(e, e.peer, number),
+        Brief::End(end) => ends(e, e.peer, end),
     }
 }
 

@@ -12,11 +12,11 @@ use lines::output::put_number;
 use lines::output::write;
 use lines::word::byte_at;
 use lines::word::number;
-use model::server::Body;
-use model::server::Engine;
-use model::server::Outcome;
-use model::server::Request;
-use model::server::Took;
+use server::Body;
+use server::Engine;
+use server::Outcome;
+use server::HostRequest;
+use server::CallResult;
 use std::num::wrapping_add_usize;
 
 // The longest body of a Put, and the object's length.
@@ -125,11 +125,11 @@ fn read_object(p: Progress, room: usize) -> Progress {
     q
 }
 
-fn asked(p: Progress, request: Request, body: &[u8]) -> Progress {
+fn asked(p: Progress, request: HostRequest, body: &[u8]) -> Progress {
     match request {
-        Request::Put { kept: _, body: b } => count_record(p, last_of(b, body)),
-        Request::Get { kept: _ } => begin_object(p),
-        Request::Read { room } => read_object(p, room),
+        HostRequest::Put { kept: _, body: b } => count_record(p, last_of(b, body)),
+        HostRequest::Get { kept: _ } => begin_object(p),
+        HostRequest::Read { room } => read_object(p, room),
         _ => p,
     }
 }
@@ -156,15 +156,15 @@ fn noted(
 // Success for everything, the object for a Get.
 fn answer(
     e: Engine,
-    request: Request,
+    request: HostRequest,
     chunk: &[u8],
     packet: &mut [u8],
     headers: &mut [u8],
     body: &mut [u8],
     reply: &mut [u8],
-) -> Took {
+) -> CallResult {
     match request {
-        Request::Get { kept: _ } => host::object(
+        HostRequest::Get { kept: _ } => host::object(
             e,
             &chunk[0..0],
             true,
@@ -173,8 +173,8 @@ fn answer(
             body,
             reply,
         ),
-        Request::Read { room: _ } => host::body(e, chunk, packet, headers, body, reply),
-        Request::Abort { length: _ } => host::acknowledge(e, packet, headers, body, reply),
+        HostRequest::Read { room: _ } => host::body(e, chunk, packet, headers, body, reply),
+        HostRequest::Abort { length: _ } => host::acknowledge(e, packet, headers, body, reply),
         _ => host::reply(e, 0x20, &chunk[0..0], packet, headers, body, reply),
     }
 }
@@ -189,7 +189,7 @@ fn call(
     headers: &mut [u8],
     body: &mut [u8],
     reply: &mut [u8],
-) -> Took {
+) -> CallResult {
     match outcome {
         Outcome::Request(request) => answer(e, request, chunk, packet, headers, body, reply),
         Outcome::Reply { length: _ } => arrival::reply_taken(e, packet, headers, body, reply),
@@ -213,7 +213,7 @@ fn next(
     headers: &mut [u8],
     body: &mut [u8],
     reply: &mut [u8],
-) -> Took {
+) -> CallResult {
     let to = least(p.to, input.len());
     let from = least(p.from, to);
     let given = least(p.given, zeros.len());

@@ -16,8 +16,8 @@ use Rattle.model.specs.Runs.{State, stateOf, handed, records, Started}
 use Rattle.model.specs.Refusal.{bytes, verdictOf, returned, feedOf}
 use Rattle.model.specs.Claims.{settingsOf}
 use Rattle.model.specs.Contracts.{state, Ran, none, call, ContractsUphold}
-use Rattle.model.specs.declared.server.Settings.{Settings}
-use Rattle.model.specs.declared.server.Outcome.the-variants as outcome
+use Rattle.server.specs.declared.Settings.{Settings}
+use Rattle.server.specs.declared.Outcome.the-variants as outcome
 use Rattle.model.proofs.Demand3.{demand3, refusals}
 
 ran-records : {s : State} {cs : List Call} {vs : List Verdict} {ls : List Carried} → Ran s cs vs ls → ls ≡ records s cs

@@ -22,14 +22,15 @@ use Rattle.connection.specs.declared.peer.Peer.{Peer}
 use Rattle.model.specs.Model.{Stores, withReply, engineWith, Done, done, wants, ends, replies, repliesCode}
 use Rattle.model.specs.Runs.{handed}
 use Rattle.model.specs.Claims.{settingsOf}
-use Rattle.model.specs.declared.server.Settings.{Settings}
-use Rattle.model.specs.declared.server.Operation.{Operation}
-use Rattle.model.specs.declared.server.Operation.the-variants.{Nothing, Putting, Getting, Sending, Gathering as GatheringOp, Connecting, Draining}
-use Rattle.model.specs.declared.server.Await.{Await}
-use Rattle.model.specs.declared.server.Await.the-variants as await
-use Rattle.model.specs.declared.server.Engine.{Engine}
-use Rattle.model.specs.declared.server.Outcome.{Outcome}
-use Rattle.model.specs.declared.server.Outcome.the-variants as outcome
+use Rattle.server.specs.declared.Settings.{Settings}
+use Rattle.server.specs.declared.Operation.{Operation}
+use Rattle.server.specs.declared.Operation.the-variants.{Nothing, Putting, Getting, Sending, Gathering as GatheringOp, Connecting, Draining}
+use Rattle.server.specs.declared.Await.{Await}
+use Rattle.server.specs.declared.Await.the-variants as await
+use Rattle.server.specs.declared.End.{End}
+use Rattle.server.specs.declared.Engine.{Engine}
+use Rattle.server.specs.declared.Outcome.{Outcome}
+use Rattle.server.specs.declared.Outcome.the-variants as outcome
 use Rattle.connection.proofs.Standings.{standingOf}
 use Rattle.incoming.proofs.Gathers.{PutAgrees, KeptAgrees}
 
@@ -143,8 +144,8 @@ taken-still limit (Connecting c f n) h b x j y q w = absurd w
 taken-still limit (Draining c) h b x j y q w = ap (λ (u : Opened). takenAt u j y) w
 
 module _ (e : Engine) (p : Peer) (z : Stores) (j : Journal) where
-  pub told-ends : (n : ℕ) → Told (ends e p n z) (unchanged j)
-  told-ends n = told-done e p Nothing await.Nothing (outcome.End n) z j [] tt refl
+  pub told-ends : (x : End) → Told (ends e p x z) (unchanged j)
+  told-ends x = told-done e p Nothing await.Nothing (outcome.End x) z j [] tt refl
 
   pub told-wants : (o : Operation) → Held (e .settings) p o z [] j → Told (wants e p o z) (unchanged j)
   told-wants o w = told-done e p o await.Bytes outcome.WantsBytes z j [] w refl

@@ -14,8 +14,8 @@ use Rattle.model.specs.Model.{engineWith, started}
 use Rattle.model.specs.Runs.{State, stepOf, stateOf, records, Started, Octet, AllOctets}
 use Rattle.model.specs.Refusal.{Waits, bytes, told, verdictAt, due, returned, fedAt, feedOf}
 use Rattle.model.specs.Claims.{settingsOf, Kept, Demand3, Refusals, Unmoved, RefusedUnmoved}
-use Rattle.model.specs.declared.server.Settings.{Settings}
-use Rattle.model.specs.declared.server.Engine.{Engine}
+use Rattle.server.specs.declared.Settings.{Settings}
+use Rattle.server.specs.declared.Engine.{Engine}
 use Rattle.connection.proofs.Standings.{fresh-fits}
 use Rattle.journal.proofs.Forms.{put-forms}
 use Rattle.model.proofs.Fit.{room, waitsOf, none-begun, Sits}

@@ -25,13 +25,13 @@ use Rattle.connection.specs.declared.peer.Challenge.the-variants.{Stored, Absen
 use Rattle.connection.specs.declared.peer.Peer.{Peer}
 use Rattle.model.specs.Model.{Stores, Done, wants, asks, repliesCode, putPacket, headersPacket, lastPacket, limitOf, nothingGathered, clientResponse, userPlace, verifies, connectPacket, Rejection, admits, rejects, rejection, drains, rejected, confirms, dispatches, admittedAs, dispatch}
 use Rattle.model.specs.Runs.{handedBy}
-use Rattle.model.specs.declared.server.Operation.the-variants.{Nothing, Draining}
-use Rattle.model.specs.declared.server.Await.{Await}
-use Rattle.model.specs.declared.server.Await.the-variants as await
-use Rattle.model.specs.declared.server.Engine.{Engine}
-use Rattle.model.specs.declared.server.Request.{Request}
-use Rattle.model.specs.declared.server.Request.the-variants as request
-use Rattle.model.specs.declared.server.Outcome.the-variants as outcome
+use Rattle.server.specs.declared.Operation.the-variants.{Nothing, Draining}
+use Rattle.server.specs.declared.Await.{Await}
+use Rattle.server.specs.declared.Await.the-variants as await
+use Rattle.server.specs.declared.Engine.{Engine}
+use Rattle.server.specs.declared.HostRequest.{HostRequest}
+use Rattle.server.specs.declared.HostRequest.the-variants as request
+use Rattle.server.specs.declared.Outcome.the-variants as outcome
 use Rattle.connection.proofs.Standings.{standingOf, limited-standing}
 use Rattle.incoming.proofs.Gathers.{KeptAgrees, put-begins, carried-headers, kept-headers, kept-begins}
 use Rattle.model.proofs.Fit.{Base}
@@ -103,7 +103,7 @@ module _ (e : Engine) (s : Stores) (j : Journal) (f : Fixed (e .settings) (e .pe
 
   module _ (last : requestOf (take (e .length) (s .packet)) ≡ some r) where
     -- the host is asked about this packet
-    asks-told : (o : Opcode) (p : Peer) (a : Await) (q : Request) → r .opcode ≡ o → standingOf p ≡ standingOf (e .peer)
+    asks-told : (o : Opcode) (p : Peer) (a : Await) (q : HostRequest) → r .opcode ≡ o → standingOf p ≡ standingOf (e .peer)
         → (AskedBy (e .settings) p o (e .length) s (after j (some r) nothing) → CoupledAt a Nothing (e .settings) p 0 (e .length) s (after j (some r) nothing))
         → handedBy q s ≡ [] → Told (asks e p Nothing a q s) (dropped j r)
     asks-told o p a q i k w g =

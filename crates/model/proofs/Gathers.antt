@@ -28,13 +28,13 @@ use Rattle.outgoing.specs.declared.body.Next.the-variants as next
 use Rattle.connection.specs.Send.{front}
 use Rattle.model.specs.Model.{Stores, withReply, withGathered, repliesCode, limitOf, continueBytes, putBody, putGathered, putPacket, getGathered, getPacket, headersRequest, headersGathered, headersPacket, gathers, capacityOf, sendsMade, sendsPacket, sendsNext}
 use Rattle.model.specs.Runs.{bodyIn, handed}
-use Rattle.model.specs.declared.server.Operation.{Operation}
-use Rattle.model.specs.declared.server.Operation.the-variants.{Nothing, Putting, Getting, Sending, Gathering as GatheringOp}
-use Rattle.model.specs.declared.server.Await.the-variants as await
-use Rattle.model.specs.declared.server.Engine.{Engine}
-use Rattle.model.specs.declared.server.Body.the-variants as body
-use Rattle.model.specs.declared.server.Request.the-variants as request
-use Rattle.model.specs.declared.server.Outcome.the-variants as outcome
+use Rattle.server.specs.declared.Operation.{Operation}
+use Rattle.server.specs.declared.Operation.the-variants.{Nothing, Putting, Getting, Sending, Gathering as GatheringOp}
+use Rattle.server.specs.declared.Await.the-variants as await
+use Rattle.server.specs.declared.Engine.{Engine}
+use Rattle.server.specs.declared.Body.the-variants as body
+use Rattle.server.specs.declared.HostRequest.the-variants as request
+use Rattle.server.specs.declared.Outcome.the-variants as outcome
 use Rattle.incoming.proofs.Gathers.{PutAgrees, KeptAgrees, put-agrees, get-agrees, all-agrees}
 use Rattle.outgoing.proofs.Sent.{SendsFrom}
 use Rattle.model.proofs.Fit.{Base}

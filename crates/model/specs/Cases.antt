@@ -12,10 +12,11 @@ use Rattle.packet.specs.declared.opcode.Opcode.the-variants as op
 use Rattle.journal.specs.Ids.{newId}
 use Rattle.journal.specs.Carried.{Carried}
 use Rattle.journal.specs.Calls.{Call, bytesOffered, replyTaken, objectGiven, bodyGiven}
-use Rattle.model.specs.Model.{Stores, started, defaultSettings}
+use Rattle.model.specs.Model.{Stores, started}
+use Rattle.server.specs.Settings.{defaultSettings}
 use Rattle.model.specs.Runs.{State, stepOf, stateOf, records}
-use Rattle.model.specs.declared.server.Outcome.{Outcome}
-use Rattle.model.specs.declared.server.Outcome.the-variants as outcome
+use Rattle.server.specs.declared.Outcome.{Outcome}
+use Rattle.server.specs.declared.Outcome.the-variants as outcome
 
 -- a fresh engine with a Put limit and else the source's settings, and stores of zeros
 abbrev pub freshState : ℕ → State

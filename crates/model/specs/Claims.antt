@@ -8,7 +8,7 @@ use Rattle.journal.specs.Journal.{Settings as JournalSettings, journalRecords, 
 use Rattle.journal.specs.PutForm.{Exactly}
 use Rattle.model.specs.Runs.{State, stepOf, stateOf, records, Started, AllOctets}
 use Rattle.model.specs.Refusal.{bytes, verdictOf, due, returned, feedOf}
-use Rattle.model.specs.declared.server.Settings.{Settings}
+use Rattle.server.specs.declared.Settings.{Settings}
 
 -- the settings that the journal keeps
 abbrev pub settingsOf : Settings → JournalSettings

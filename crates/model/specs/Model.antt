@@ -48,19 +48,25 @@ use Rattle.connection.specs.declared.peer.Challenge.the-variants.{Stored, Absen
 use Rattle.connection.specs.declared.peer.Peer.{Peer}
 use Rattle.connection.specs.declared.peer.ConnectionId.{ConnectionId}
 use Rattle.connection.specs.declared.peer.ConnectionId.the-variants as front-id
-use Rattle.model.specs.declared.server.Settings.{Settings}
-use Rattle.model.specs.declared.server.Operation.{Operation}
-use Rattle.model.specs.declared.server.Operation.the-variants.{Nothing, Putting, Getting, Sending, Gathering as GatheringOp, Connecting, Draining}
-use Rattle.model.specs.declared.server.Await.{Await}
-use Rattle.model.specs.declared.server.Await.the-variants as await
-use Rattle.model.specs.declared.server.Engine.{Engine}
-use Rattle.model.specs.declared.server.Body.{Body}
-use Rattle.model.specs.declared.server.Body.the-variants as body
-use Rattle.model.specs.declared.server.Request.{Request}
-use Rattle.model.specs.declared.server.Request.the-variants as request
-use Rattle.model.specs.declared.server.Outcome.{Outcome}
-use Rattle.model.specs.declared.server.Outcome.the-variants as outcome
-use Rattle.model.specs.declared.server.Took.{Took}
+use Rattle.server.specs.declared.Settings.{Settings}
+use Rattle.server.specs.declared.Operation.{Operation}
+use Rattle.server.specs.declared.Operation.the-variants.{Nothing, Putting, Getting, Sending, Gathering as GatheringOp, Connecting, Draining}
+use Rattle.server.specs.declared.Await.{Await}
+use Rattle.server.specs.declared.Await.the-variants as await
+use Rattle.server.specs.declared.CallKind.{CallKind}
+use Rattle.server.specs.declared.CallKind.the-variants as kind
+use Rattle.server.specs.declared.End.{End}
+use Rattle.server.specs.declared.End.the-variants as end
+use Rattle.server.specs.declared.Refusal.{Refusal}
+use Rattle.server.specs.declared.Refusal.the-variants as refusal
+use Rattle.server.specs.declared.Engine.{Engine}
+use Rattle.server.specs.declared.Body.{Body}
+use Rattle.server.specs.declared.Body.the-variants as body
+use Rattle.server.specs.declared.HostRequest.{HostRequest}
+use Rattle.server.specs.declared.HostRequest.the-variants as request
+use Rattle.server.specs.declared.Outcome.{Outcome}
+use Rattle.server.specs.declared.Outcome.the-variants as outcome
+use Rattle.server.specs.declared.CallResult.{CallResult}
 
 -- ---- state and stores
 
@@ -101,12 +107,12 @@ abbrev pub wants : Engine → Peer → Operation → Stores → Done
 wants e p o s = done (engineWith (e .settings) p o await.Bytes 0 (e .length)) outcome.WantsBytes s
 
 -- the host is asked
-abbrev pub asks : Engine → Peer → Operation → Await → Request → Stores → Done
+abbrev pub asks : Engine → Peer → Operation → Await → HostRequest → Stores → Done
 asks e p o a r s = done (engineWith (e .settings) p o a 0 (e .length)) (outcome.Request r) s
 
 -- the engine ends with a number
-abbrev pub ends : Engine → Peer → ℕ → Stores → Done
-ends e p n s = done (engineWith (e .settings) p Nothing await.Nothing 0 (e .length)) (outcome.End n) s
+abbrev pub ends : Engine → Peer → End → Stores → Done
+ends e p x s = done (engineWith (e .settings) p Nothing await.Nothing 0 (e .length)) (outcome.End x) s
 
 -- a reply waits to be taken
 abbrev pub replies : Engine → Peer → Operation → Await → List ℕ → Stores → Done
@@ -127,7 +133,7 @@ continues e o grant s = replies e (e .peer) o await.Taken (continueBytes grant) 
 
 -- a reply from a code, Connect's fields or none, and headers; over 65,535 bytes the engine ends with 7
 abbrev pub sent : Engine → Peer → Option (List ℕ) → Stores → Done
-sent e p none s = ends e p 7 s
+sent e p none s = ends e p end.ReplyTooLarge s
 sent e p (some q) s = replies e p Nothing await.Taken q s
 
 -- without fields, and with Connect's
@@ -179,7 +185,7 @@ putFinal e g s =
 -- a Put packet: number 6 comes before 0x4D
 abbrev pub putGathered : Engine → Packet → Survey → Bool → Bool → Gathering → Stores → Done
 putGathered e r v srm confirm g s =
-    pick (g .got .full) (ends e (e .peer) 6 (withGathered s g))
+    pick (g .got .full) (ends e (e .peer) end.HeadersTooLarge (withGathered s g))
     (pick (r .final) (putFinal e (g .got) (withGathered s g))
     (putContinues e (g .got) srm confirm (v .additional) (withGathered s g)))
 
@@ -194,7 +200,7 @@ getContinues e g false confirm wait s = continues e (Getting g confirm false wai
 -- number 6 comes first
 abbrev pub getGathered : Engine → Packet → Survey → Bool → Bool → Gathering → Stores → Done
 getGathered e r v srm confirm g s =
-    pick (g .got .full) (ends e (e .peer) 6 (withGathered s g))
+    pick (g .got .full) (ends e (e .peer) end.HeadersTooLarge (withGathered s g))
     (pick (r .final)
     (asks e (e .peer) (Getting (g .got) srm confirm (v .wait)) await.Get (request.Get (g .got .kept)) (withGathered s g))
     (getContinues e (g .got) srm confirm (v .wait) (withGathered s g)))
@@ -203,7 +209,7 @@ unfoldable pub getPacket : Engine → Packet → Survey → Bool → Bool → Ga
 getPacket e r v srm confirm g s = getGathered e r v srm confirm (gathers e keep.Get (r .headers) g s) s
 
 -- Action, Session and user-defined operations
-abbrev pub headersRequest : Opcode → ℕ → Request
+abbrev pub headersRequest : Opcode → ℕ → HostRequest
 headersRequest op.Action n = request.Action n
 headersRequest op.Session n = request.Session n
 headersRequest (op.UserDefined x) n = request.UserDefined x n
@@ -216,7 +222,7 @@ headersRequest op.Abort n = request.UserDefined 0x7F n
 
 abbrev pub headersGathered : Engine → Packet → Opcode → Gathering → Stores → Done
 headersGathered e r o g s =
-    pick (g .got .full) (ends e (e .peer) 6 (withGathered s g))
+    pick (g .got .full) (ends e (e .peer) end.HeadersTooLarge (withGathered s g))
     (pick (r .final) (asks e (e .peer) Nothing await.Reply (headersRequest o (g .got .kept)) (withGathered s g))
     (continues e (GatheringOp o (g .got)) false (withGathered s g)))
 
@@ -304,7 +310,7 @@ realmIn q place.Missing = place.Missing
 realmIn q (place.At a b) = placedAt a (realmPlace (part q a b))
 
 -- what the host is told of the peer's challenge
-abbrev pub credentialsFor : List ℕ → PeerChallenge → Request
+abbrev pub credentialsFor : List ℕ → PeerChallenge → HostRequest
 credentialsFor q c =
     request.Credentials (numbers16 (c .nonce)) (userIdRequired (c .options)) (readOnly (c .options)) (realmIn q (firstPlace 0x4D q 7))
 
@@ -441,7 +447,7 @@ busy (Draining code) = true
 
 abbrev pub unreadable : Engine → List ℕ → Stores → Done
 unreadable e q s =
-    pick (busy (e .operation)) (ends e (e .peer) 4 s)
+    pick (busy (e .operation)) (ends e (e .peer) end.Unreadable s)
     (repliesCode e (e .peer) Nothing (pick (unknownByte (firstByte (getD q 0 0))) 0x51 0x40) s)
 
 -- Abort goes before all else
@@ -462,15 +468,15 @@ packetDone e n s = readAs (requestOf (take n (s .packet))) (lengthOf e n) (take 
 
 -- what a call gives, and the stores afterwards
 pub record Stepped : Type 0 where
-  pub took : Took
+  pub took : CallResult
   pub stores : Stores
 
-abbrev pub stepped : Took → Stores → Stepped
+abbrev pub stepped : CallResult → Stores → Stepped
 stepped r s = record { took = r; stores = s }
 
 -- refused, changing nothing
-abbrev pub refuse : ℕ → Engine → Stores → Stepped
-refuse n e s = stepped (record { engine = e; taken = 0; outcome = outcome.Refused n }) s
+abbrev pub refuse : Refusal → Engine → Stores → Stepped
+refuse r e s = stepped (record { engine = e; taken = 0; outcome = outcome.Refused r }) s
 
 -- so many bytes were taken
 abbrev pub after : ℕ → Done → Stepped
@@ -504,27 +510,42 @@ sound e =
     ltb (e .begun) 65535 && (leb (e .length) 65535 && (leb (e .peer .count) 64 && (leb 255 (e .peer .«remote_max_packet_length»)
     && (leb (e .settings .«realm_length») 254 && soundOperation (limitOf e) (e .operation)))))
 
--- what is awaited, as a number
-abbrev pub awaited : Await → ℕ
-awaited await.Bytes = 0
-awaited await.Taken = 1
-awaited await.Last = 2
-awaited await.Connect = 3
-awaited await.Disconnect = 4
-awaited await.Get = 5
-awaited await.Reply = 6
-awaited await.Acknowledgement = 7
-awaited await.Password = 8
-awaited await.Nonce = 9
-awaited await.Credentials = 10
-awaited await.Body = 11
-awaited await.Nothing = 12
+-- a number for each thing awaited, by which two of them are told apart
+abbrev pub awaitNumber : Await → ℕ
+awaitNumber await.Bytes = 0
+awaitNumber await.Taken = 1
+awaitNumber await.Last = 2
+awaitNumber await.Connect = 3
+awaitNumber await.Disconnect = 4
+awaitNumber await.Get = 5
+awaitNumber await.Reply = 6
+awaitNumber await.Acknowledgement = 7
+awaitNumber await.Password = 8
+awaitNumber await.Nonce = 9
+awaitNumber await.Credentials = 10
+awaitNumber await.Body = 11
+awaitNumber await.Nothing = 12
 
--- a call that fits where what is awaited lies between two numbers: 10 before 9
-abbrev pub guarded : ℕ → ℕ → Engine → Stores → Stepped → Stepped
-guarded from to e s go =
-    pick (short (limitOf e) s) (refuse 10 e s)
-    (pick (sound e && (leb from (awaited (e .awaits)) && leb (awaited (e .awaits)) to)) go (refuse 9 e s))
+abbrev pub sameAwait : Await → Await → Bool
+sameAwait a b = eqb (awaitNumber a) (awaitNumber b)
+
+-- the moments at which a call may come: a Get may be answered by a reply or by an object
+abbrev pub fits : CallKind → Await → Bool
+fits kind.FromPeer a = sameAwait a await.Bytes
+fits kind.ReplyTaken a = sameAwait a await.Taken || sameAwait a await.Last
+fits kind.ReplyGiven a = sameAwait a await.Connect || (sameAwait a await.Disconnect || (sameAwait a await.Get || sameAwait a await.Reply))
+fits kind.ObjectGiven a = sameAwait a await.Get
+fits kind.AbortAcknowledged a = sameAwait a await.Acknowledgement
+fits kind.PasswordGiven a = sameAwait a await.Password
+fits kind.NonceGiven a = sameAwait a await.Nonce
+fits kind.CredentialsGiven a = sameAwait a await.Credentials
+fits kind.FromBody a = sameAwait a await.Body
+
+-- a call goes on if every store is long enough, the state is sound and the call is awaited; a short store comes before a wrong moment
+abbrev pub guarded : CallKind → Engine → Stores → Stepped → Stepped
+guarded k e s go =
+    pick (short (limitOf e) s) (refuse refusal.StoreTooShort e s)
+    (pick (sound e && fits k (e .awaits)) go (refuse refusal.WrongMoment e s))
 
 -- ---- bytes, end of stream, reply taken
 
@@ -532,7 +553,7 @@ guarded from to e s go =
 abbrev pub framedAs : Frame → Engine → ℕ → ℕ → Stores → Stepped
 framedAs More e b t s =
     stepped (record { engine = engineWith (e .settings) (e .peer) (e .operation) (e .awaits) b (e .length); taken = t; outcome = outcome.WantsBytes }) s
-framedAs Short e b t s = after t (ends e (e .peer) 3 s)
+framedAs Short e b t s = after t (ends e (e .peer) end.LengthTooSmall s)
 framedAs Whole e b t s = after t (packetDone e b s)
 
 abbrev pub withPacket : Stores → List ℕ → Stores
@@ -544,11 +565,11 @@ offers e f s = framedAs (f .result .frame) e (f .result .begun) (f .result .take
 
 -- bytes from the peer
 unfoldable pub bytesStep : Engine → List ℕ → Stores → Stepped
-bytesStep e i s = guarded 0 0 e s (offers e (framed (s .packet) (e .begun) 0 i) s)
+bytesStep e i s = guarded kind.FromPeer e s (offers e (framed (s .packet) (e .begun) 0 i) s)
 
 -- the stream ends between packets (1), or inside one (2)
 unfoldable pub endStep : Engine → Stores → Stepped
-endStep e s = guarded 0 0 e s (after 0 (ends e (e .peer) (pick (eqb (e .begun) 0) 1 2) s))
+endStep e s = guarded kind.FromPeer e s (after 0 (ends e (e .peer) (pick (eqb (e .begun) 0) end.Disconnected end.Truncated) s))
 
 -- after a packet of an object: under SRM and without a wait the next follows at once
 abbrev pub goesOn : Operation → Engine → Stores → Done
@@ -563,7 +584,7 @@ goesOn (Draining code) e s = wants e (e .peer) (e .operation) s
 -- the host took the reply; number 5 after the last one
 unfoldable pub takenStep : Engine → Stores → Stepped
 takenStep e s =
-    guarded 1 2 e s (after 0 (pick (eqb (awaited (e .awaits)) 1) (goesOn (e .operation) e s) (ends e (e .peer) 5 s)))
+    guarded kind.ReplyTaken e s (after 0 (pick (sameAwait (e .awaits) await.Taken) (goesOn (e .operation) e s) (ends e (e .peer) end.OtherOperation s)))
 
 -- ---- the host's answers
 
@@ -576,18 +597,18 @@ badReply code hs = not (isCode code) || badHeaders hs
 
 -- 8 where the answer is bad
 abbrev pub checked : Bool → Engine → Stores → Done → Stepped
-checked bad e s d = pick bad (refuse 8 e s) (after 0 d)
+checked bad e s d = pick bad (refuse refusal.BadAnswer e s) (after 0 d)
 
 -- a reply: Disconnect closes ids before it is made; to a Get or any other request it is sent as it is
 unfoldable pub replyAnswer : Engine → ℕ → List ℕ → Stores → Done
 replyAnswer e code hs s =
-    pick (eqb (awaited (e .awaits)) 3) (connectAnswer e code hs s)
-    (pick (eqb (awaited (e .awaits)) 4) (sends e (disconnectedPeer (e .peer) (first 0xCB (lastHeaders e s))) code hs s)
+    pick (sameAwait (e .awaits) await.Connect) (connectAnswer e code hs s)
+    (pick (sameAwait (e .awaits) await.Disconnect) (sends e (disconnectedPeer (e .peer) (first 0xCB (lastHeaders e s))) code hs s)
     (sends e (e .peer) code hs s))
 
 -- the host's reply
 unfoldable pub replyStep : Engine → ℕ → List ℕ → Stores → Stepped
-replyStep e code hs s = guarded 3 6 e s (checked (badReply code hs) e s (replyAnswer e code hs s))
+replyStep e code hs s = guarded kind.ReplyGiven e s (checked (badReply code hs) e s (replyAnswer e code hs s))
 
 -- an object with so many header bytes; SRM that was not granted yet goes in front of them
 abbrev pub objectOf : ℕ → Bool → Bool → Outgoing
@@ -597,47 +618,47 @@ objectOf n lead has = record { total = n; sent = 0; lead = lead; «has_body» = 
 abbrev pub objectFor : Operation → Engine → List ℕ → Bool → Stores → Stepped
 objectFor (Getting g srm confirm wait) e hs has s =
     checked (badHeaders hs) e s (sendsNext e (objectOf (length hs) confirm has) (srm || confirm) wait (withHeaders s (front hs (s .headers))))
-objectFor Nothing e hs has s = refuse 9 e s
-objectFor (Putting g srm) e hs has s = refuse 9 e s
-objectFor (Sending o c srm wait) e hs has s = refuse 9 e s
-objectFor (GatheringOp o g) e hs has s = refuse 9 e s
-objectFor (Connecting code f n) e hs has s = refuse 9 e s
-objectFor (Draining code) e hs has s = refuse 9 e s
+objectFor Nothing e hs has s = refuse refusal.WrongMoment e s
+objectFor (Putting g srm) e hs has s = refuse refusal.WrongMoment e s
+objectFor (Sending o c srm wait) e hs has s = refuse refusal.WrongMoment e s
+objectFor (GatheringOp o g) e hs has s = refuse refusal.WrongMoment e s
+objectFor (Connecting code f n) e hs has s = refuse refusal.WrongMoment e s
+objectFor (Draining code) e hs has s = refuse refusal.WrongMoment e s
 
 -- the host's object
 unfoldable pub objectStep : Engine → List ℕ → Bool → Stores → Stepped
-objectStep e hs has s = guarded 5 5 e s (objectFor (e .operation) e hs has s)
+objectStep e hs has s = guarded kind.ObjectGiven e s (objectFor (e .operation) e hs has s)
 
 -- body bytes: more than were asked for is 9; a read that failed is 0x50
 abbrev pub bodyFor : Operation → Engine → List ℕ → Stores → Stepped
 bodyFor (Sending o c srm wait) e d s =
-    pick (ltb (c .room) (length d)) (refuse 9 e s) (after 0 (sendsPacket e srm wait (bodyGiven o c d (s .reply)) s))
-bodyFor Nothing e d s = refuse 9 e s
-bodyFor (Putting g srm) e d s = refuse 9 e s
-bodyFor (Getting g srm confirm wait) e d s = refuse 9 e s
-bodyFor (GatheringOp o g) e d s = refuse 9 e s
-bodyFor (Connecting code f n) e d s = refuse 9 e s
-bodyFor (Draining code) e d s = refuse 9 e s
+    pick (ltb (c .room) (length d)) (refuse refusal.WrongMoment e s) (after 0 (sendsPacket e srm wait (bodyGiven o c d (s .reply)) s))
+bodyFor Nothing e d s = refuse refusal.WrongMoment e s
+bodyFor (Putting g srm) e d s = refuse refusal.WrongMoment e s
+bodyFor (Getting g srm confirm wait) e d s = refuse refusal.WrongMoment e s
+bodyFor (GatheringOp o g) e d s = refuse refusal.WrongMoment e s
+bodyFor (Connecting code f n) e d s = refuse refusal.WrongMoment e s
+bodyFor (Draining code) e d s = refuse refusal.WrongMoment e s
 
 -- bytes of its body
 unfoldable pub bodyStep : Engine → List ℕ → Stores → Stepped
-bodyStep e d s = guarded 11 11 e s (bodyFor (e .operation) e d s)
+bodyStep e d s = guarded kind.FromBody e s (bodyFor (e .operation) e d s)
 
 -- its body cannot be read on
 unfoldable pub bodyFailedStep : Engine → Stores → Stepped
-bodyFailedStep e s = guarded 11 11 e s (after 0 (repliesCode e (e .peer) Nothing 0x50 s))
+bodyFailedStep e s = guarded kind.FromBody e s (after 0 (repliesCode e (e .peer) Nothing 0x50 s))
 
 -- an Abort is acknowledged without a code, and gets 0xA0
 unfoldable pub acknowledgeStep : Engine → Stores → Stepped
-acknowledgeStep e s = guarded 7 7 e s (after 0 (repliesCode e (e .peer) Nothing 0x20 s))
+acknowledgeStep e s = guarded kind.AbortAcknowledged e s (after 0 (repliesCode e (e .peer) Nothing 0x20 s))
 
 -- the host's password, or none
 unfoldable pub passwordStep : Engine → Option (List ℕ) → Stores → Stepped
-passwordStep e p s = guarded 8 8 e s (after 0 (passwordAnswer e p s))
+passwordStep e p s = guarded kind.PasswordGiven e s (after 0 (passwordAnswer e p s))
 
 -- the host's nonce, and the realm's bytes
 unfoldable pub nonceStep : Engine → Octets16 → List ℕ → Stores → Stepped
-nonceStep e n l s = guarded 9 9 e s (after 0 (nonceAnswer e n l s))
+nonceStep e n l s = guarded kind.NonceGiven e s (after 0 (nonceAnswer e n l s))
 
 -- credentials: a user id over 255 bytes is 8
 abbrev pub longId : Option (List ℕ) → Bool
@@ -652,33 +673,18 @@ longUser (some c) = longId (c .user)
 abbrev pub credentialsWith : Operation → Engine → Option Credentials → Stores → Stepped
 credentialsWith (Connecting code f n) e c s =
     checked (longUser c) e s (connectSends e (e .peer) code f (listOf (readHeaders (take n (s .headers)) 0)) c s)
-credentialsWith Nothing e c s = refuse 9 e s
-credentialsWith (Putting g srm) e c s = refuse 9 e s
-credentialsWith (Getting g srm confirm wait) e c s = refuse 9 e s
-credentialsWith (Sending o k srm wait) e c s = refuse 9 e s
-credentialsWith (GatheringOp o g) e c s = refuse 9 e s
-credentialsWith (Draining code) e c s = refuse 9 e s
+credentialsWith Nothing e c s = refuse refusal.WrongMoment e s
+credentialsWith (Putting g srm) e c s = refuse refusal.WrongMoment e s
+credentialsWith (Getting g srm confirm wait) e c s = refuse refusal.WrongMoment e s
+credentialsWith (Sending o k srm wait) e c s = refuse refusal.WrongMoment e s
+credentialsWith (GatheringOp o g) e c s = refuse refusal.WrongMoment e s
+credentialsWith (Draining code) e c s = refuse refusal.WrongMoment e s
 
 -- the host's credentials, or none
 unfoldable pub credentialsStep : Engine → Option Credentials → Stores → Stepped
-credentialsStep e c s = guarded 10 10 e s (credentialsWith (e .operation) e c s)
+credentialsStep e c s = guarded kind.CredentialsGiven e s (credentialsWith (e .operation) e c s)
 
 -- ---- the start
-
--- the source's settings, but for the Put limit
-abbrev pub defaultSettings : ℕ → Settings
-defaultSettings limit =
-    record {
-      «realm_length» = 0;
-      «max_object_size» = limit;
-      «max_packet_length» = 65535;
-      charset = 0;
-      «has_realm» = false;
-      «srm_supported» = false;
-      authentication = false;
-      «user_id_required» = false;
-      «read_only» = false;
-    }
 
 -- a fresh engine
 unfoldable pub started : Settings → Engine
@@ -687,6 +693,6 @@ started st = engineWith st freshPeer Nothing await.Bytes 0 0
 -- refused: a lent store is short (10), then a realm over 254 bytes after its charset (8); the state is then ended
 unfoldable pub startStep : Settings → Stores → Stepped
 startStep st s =
-    pick (short (st .«max_object_size») s) (refuse 10 (engineWith st freshPeer Nothing await.Nothing 0 0) s)
-    (pick (ltb 254 (st .«realm_length»)) (refuse 8 (engineWith st freshPeer Nothing await.Nothing 0 0) s)
+    pick (short (st .«max_object_size») s) (refuse refusal.StoreTooShort (engineWith st freshPeer Nothing await.Nothing 0 0) s)
+    (pick (ltb 254 (st .«realm_length»)) (refuse refusal.BadAnswer (engineWith st freshPeer Nothing await.Nothing 0 0) s)
     (stepped (record { engine = started st; taken = 0; outcome = outcome.WantsBytes }) s))

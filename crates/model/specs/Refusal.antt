@@ -2,17 +2,18 @@
 -- waits since the last call that was not refused (9), and by the answer itself (8). The engine's state is not asked.
 use Prim.Native.Nat.{ℕ}
 use mathlib.Core.List.{List, [], _∷_}
-use mathlib.Core.Bool.{Bool, true, false}
+use mathlib.Core.Bool.{Bool, true, false, _&&_, _||_}
 use lib.ListN.{length, getD}
 use lib.Dec.{eqb, leb}
 use Rattle.base.specs.Pick.{pick}
 use Rattle.journal.specs.Calls.{Call, bytesOffered, streamEnded, replyTaken, replyGiven, objectGiven, bodyGiven, bodyFailed, abortAcknowledged, passwordGiven, nonceGiven, credentialsGiven, Credentials, Verdict, goes, refused, Fed}
 use Rattle.model.specs.Model.{short, badReply, badHeaders, longUser}
 use Rattle.model.specs.Runs.{State, stepOf, stateOf}
-use Rattle.model.specs.declared.server.Request.{Request}
-use Rattle.model.specs.declared.server.Request.the-variants as request
-use Rattle.model.specs.declared.server.Outcome.{Outcome}
-use Rattle.model.specs.declared.server.Outcome.the-variants as outcome
+use Rattle.server.specs.Numbers.{refusalNumber}
+use Rattle.server.specs.declared.HostRequest.{HostRequest}
+use Rattle.server.specs.declared.HostRequest.the-variants as request
+use Rattle.server.specs.declared.Outcome.{Outcome}
+use Rattle.server.specs.declared.Outcome.the-variants as outcome
 
 -- ---- what waits: bytes, that a reply is taken, an answer, nothing any more
 
@@ -22,7 +23,7 @@ pub data Waits : Type 0 where
   reading : ℕ → Waits
 
 -- by the request
-abbrev pub asked : Request → Waits
+abbrev pub asked : HostRequest → Waits
 asked (request.Connect n) = reply
 asked (request.Disconnect n) = reply
 asked (request.SetPath n u c) = reply
@@ -45,19 +46,23 @@ told w (outcome.Request r) = asked r
 told w (outcome.End n) = nothing
 told w (outcome.Refused n) = w
 
--- what waits, as a number, and how many body bytes may come
-abbrev pub waiting : Waits → ℕ
-waiting bytes = 0
-waiting taking = 1
-waiting reply = 2
-waiting object = 3
-waiting acknowledgement = 4
-waiting password = 5
-waiting nonce = 6
-waiting credentials = 7
-waiting (reading n) = 8
-waiting nothing = 9
+-- a number for each kind of wait, by which two of them are told apart
+abbrev pub waitNumber : Waits → ℕ
+waitNumber bytes = 0
+waitNumber taking = 1
+waitNumber reply = 2
+waitNumber object = 3
+waitNumber acknowledgement = 4
+waitNumber password = 5
+waitNumber nonce = 6
+waitNumber credentials = 7
+waitNumber (reading n) = 8
+waitNumber nothing = 9
 
+abbrev pub sameWait : Waits → Waits → Bool
+sameWait w v = eqb (waitNumber w) (waitNumber v)
+
+-- how many body bytes may come
 abbrev pub roomIn : Waits → ℕ
 roomIn bytes = 0
 roomIn taking = 0
@@ -70,19 +75,19 @@ roomIn credentials = 0
 roomIn (reading n) = n
 roomIn nothing = 0
 
--- the call is one that is waited for; a Get may be answered by a reply or an object
-unfoldable pub fits : Call → Waits → Bool
-fits (bytesOffered i) w = eqb (waiting w) 0
-fits streamEnded w = eqb (waiting w) 0
-fits replyTaken w = eqb (waiting w) 1
-fits (replyGiven code hs) w = pick (eqb (waiting w) 2) true (eqb (waiting w) 3)
-fits (objectGiven hs b) w = eqb (waiting w) 3
-fits abortAcknowledged w = eqb (waiting w) 4
-fits (passwordGiven p) w = eqb (waiting w) 5
-fits (nonceGiven n l) w = eqb (waiting w) 6
-fits (credentialsGiven c) w = eqb (waiting w) 7
-fits (bodyGiven d) w = pick (eqb (waiting w) 8) (leb (length d) (roomIn w)) false
-fits bodyFailed w = eqb (waiting w) 8
+-- the call is one that is waited for: a Get may be answered by a reply or by an object, and a read by no more bytes than were asked for
+unfoldable pub expected : Call → Waits → Bool
+expected (bytesOffered i) w = sameWait w bytes
+expected streamEnded w = sameWait w bytes
+expected replyTaken w = sameWait w taking
+expected (replyGiven code hs) w = sameWait w reply || sameWait w object
+expected (objectGiven hs b) w = sameWait w object
+expected abortAcknowledged w = sameWait w acknowledgement
+expected (passwordGiven p) w = sameWait w password
+expected (nonceGiven n l) w = sameWait w nonce
+expected (credentialsGiven c) w = sameWait w credentials
+expected (bodyGiven d) w = sameWait w (reading 0) && leb (length d) (roomIn w)
+expected bodyFailed w = sameWait w (reading 0)
 
 -- the answer is none that may be given
 unfoldable pub bad : Call → Bool
@@ -100,7 +105,7 @@ bad (nonceGiven n l) = false
 
 -- 10 before 9, 9 before 8
 unfoldable pub verdict : Bool → Waits → Call → Verdict
-verdict s w c = pick s (refused 10) (pick (fits c w) (pick (bad c) (refused 8) goes) (refused 9))
+verdict s w c = pick s (refused 10) (pick (expected c w) (pick (bad c) (refused 8) goes) (refused 9))
 
 -- by the stores that are lent
 abbrev pub verdictAt : Waits → State → Call → Verdict
@@ -108,7 +113,7 @@ verdictAt w s c = verdict (short (s .engine .settings .«max_object_size») (s .
 
 -- what a result says of it
 abbrev pub verdictOf : Outcome → Verdict
-verdictOf (outcome.Refused n) = refused n
+verdictOf (outcome.Refused r) = refused (refusalNumber r)
 verdictOf outcome.WantsBytes = goes
 verdictOf (outcome.Reply n) = goes
 verdictOf (outcome.Request r) = goes

@@ -8,14 +8,14 @@ use lib.ListN.{getD, take}
 use Rattle.journal.specs.Carried.{Carried}
 use Rattle.journal.specs.Calls.{Call, bytesOffered, streamEnded, replyTaken, replyGiven, objectGiven, bodyGiven, bodyFailed, abortAcknowledged, passwordGiven, nonceGiven, credentialsGiven}
 use Rattle.model.specs.Model.{Stores, Stepped, bytesStep, endStep, takenStep, replyStep, objectStep, bodyStep, bodyFailedStep, acknowledgeStep, passwordStep, nonceStep, credentialsStep, started, short}
-use Rattle.model.specs.declared.server.Settings.{Settings}
-use Rattle.model.specs.declared.server.Engine.{Engine}
-use Rattle.model.specs.declared.server.Body.{Body}
-use Rattle.model.specs.declared.server.Body.the-variants as body
-use Rattle.model.specs.declared.server.Request.{Request}
-use Rattle.model.specs.declared.server.Request.the-variants as request
-use Rattle.model.specs.declared.server.Outcome.{Outcome}
-use Rattle.model.specs.declared.server.Outcome.the-variants as outcome
+use Rattle.server.specs.declared.Settings.{Settings}
+use Rattle.server.specs.declared.Engine.{Engine}
+use Rattle.server.specs.declared.Body.{Body}
+use Rattle.server.specs.declared.Body.the-variants as body
+use Rattle.server.specs.declared.HostRequest.{HostRequest}
+use Rattle.server.specs.declared.HostRequest.the-variants as request
+use Rattle.server.specs.declared.Outcome.{Outcome}
+use Rattle.server.specs.declared.Outcome.the-variants as outcome
 
 -- the state and the stores between two calls
 pub record State : Type 0 where
@@ -45,7 +45,7 @@ abbrev pub bodyIn : Body → List ℕ → Option (List ℕ)
 bodyIn body.Missing b = none
 bodyIn (body.Bytes n) b = some (take n b)
 
-abbrev pub handedBy : Request → Stores → List Carried
+abbrev pub handedBy : HostRequest → Stores → List Carried
 handedBy (request.Put k b) s = record { headers = take k (s .headers); body = bodyIn b (s .body) } ∷ []
 handedBy (request.Connect n) s = []
 handedBy (request.Disconnect n) s = []

@@ -12,12 +12,12 @@ use engine::host;
 use engine::session;
 use lines::output::flush;
 use lines::output::least;
-use model::server::Engine;
-use model::server::Operation;
-use model::server::Outcome;
-use model::server::Request;
-use model::server::Settings;
-use model::server::Took;
+use server::Engine;
+use server::Operation;
+use server::Outcome;
+use server::HostRequest;
+use server::Settings;
+use server::CallResult;
 
 // ---- the start
 
@@ -88,7 +88,7 @@ fn start(
     headers: &mut [u8],
     body: &mut [u8],
     reply: &mut [u8],
-) -> Took {
+) -> CallResult {
     clear_stores(cleared(o), packet, headers, body, reply);
     session::start(settings_of(o), packet, headers, body, reply)
 }
@@ -104,7 +104,7 @@ fn peer_call(
     headers: &mut [u8],
     body: &mut [u8],
     reply: &mut [u8],
-) -> Took {
+) -> CallResult {
     match call {
         Call::Bytes => arrival::bytes(e, input, packet, headers, body, reply),
         Call::EndOfStream => session::end_of_stream(e, packet, headers, body, reply),
@@ -125,7 +125,7 @@ fn host_call(
     headers: &mut [u8],
     body: &mut [u8],
     reply: &mut [u8],
-) -> Took {
+) -> CallResult {
     match call {
         Call::Nonce(n) => host::nonce(e, n, realm, packet, headers, body, reply),
         Call::Reply(code) => host::reply(e, code, b, packet, headers, body, reply),
@@ -274,9 +274,9 @@ fn unless(hold: bool, call: Call) -> Call {
     call
 }
 
-fn answers(request: Request, hold: bool) -> Call {
+fn answers(request: HostRequest, hold: bool) -> Call {
     match request {
-        Request::Abort { length: _ } => unless(hold, Call::Acknowledge),
+        HostRequest::Abort { length: _ } => unless(hold, Call::Acknowledge),
         _ => Call::Nothing,
     }
 }

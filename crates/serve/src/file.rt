@@ -2,7 +2,7 @@
 use crate::log;
 use crate::name::is_file_name;
 use crate::name::name_in;
-use model::server::Body;
+use server::Body;
 use packet::response::FORBIDDEN;
 use packet::response::INTERNAL_SERVER_ERROR;
 use packet::response::NOT_FOUND;

@@ -4,15 +4,15 @@ use crate::file::Opened;
 use crate::file::front;
 use crate::log;
 use engine::host;
-use model::server::Body;
-use model::server::Engine;
-use model::server::Request;
-use model::server::Took;
+use server::Body;
+use server::Engine;
+use server::HostRequest;
+use server::CallResult;
 use packet::response::SUCCESS;
 
 // What the answer's call gave, and the file that is being sent from then on.
 pub struct Answered {
-    pub took: Took,
+    pub took: CallResult,
     pub file: i32,
 }
 
@@ -24,7 +24,7 @@ fn put(
     headers: &mut [u8],
     body: &mut [u8],
     reply: &mut [u8],
-) -> Took {
+) -> CallResult {
     let code = file::put_body(front(headers, kept), content, body);
     host::reply(e, code, b"", packet, headers, body, reply)
 }
@@ -95,15 +95,15 @@ fn read(
 // The answers that need no file. SetPath is granted and does nothing: clients send it first, and there is one folder.
 fn plain(
     e: Engine,
-    request: Request,
+    request: HostRequest,
     packet: &mut [u8],
     headers: &mut [u8],
     body: &mut [u8],
     reply: &mut [u8],
-) -> Took {
+) -> CallResult {
     log::request(request);
     match request {
-        Request::SetPath {
+        HostRequest::SetPath {
             length: _,
             backup: _,
             no_create: _,
@@ -114,7 +114,7 @@ fn plain(
 
 pub(crate) fn answer(
     e: Engine,
-    request: Request,
+    request: HostRequest,
     file: i32,
     packet: &mut [u8],
     headers: &mut [u8],
@@ -122,15 +122,15 @@ pub(crate) fn answer(
     reply: &mut [u8],
 ) -> Answered {
     match request {
-        Request::Put {
+        HostRequest::Put {
             kept,
             body: content,
         } => {
             let took = put(e, kept, content, packet, headers, body, reply);
             Answered { took, file }
         }
-        Request::Get { kept } => get(e, kept, packet, headers, body, reply),
-        Request::Read { room } => read(e, file, room, packet, headers, body, reply),
+        HostRequest::Get { kept } => get(e, kept, packet, headers, body, reply),
+        HostRequest::Read { room } => read(e, file, room, packet, headers, body, reply),
         _ => {
             let took = plain(e, request, packet, headers, body, reply);
             Answered {

@@ -3,7 +3,7 @@ use crate::file::Opened;
 use crate::file::front;
 use libc::STDERR_FILENO;
 use lines::output;
-use model::server::Request;
+use server::HostRequest;
 use packet::response::FORBIDDEN;
 use packet::response::INTERNAL_SERVER_ERROR;
 use packet::response::NOT_FOUND;
@@ -92,7 +92,7 @@ pub(crate) fn get(name: &[u8], opened: Opened) {
 }
 
 // A request by its name alone.
-pub(crate) fn request(request: Request) {
+pub(crate) fn request(request: HostRequest) {
     let mut out = [0u8; 32];
     let a = put_name(&mut out, 0, request);
     let n = output::put(&mut out, a, b"\n");

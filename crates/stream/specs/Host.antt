@@ -5,13 +5,13 @@ use mathlib.Core.Option.{none}
 use Rattle.journal.specs.Calls.{Call, replyGiven, abortAcknowledged, bodyFailed, passwordGiven, credentialsGiven}
 use Rattle.model.specs.Model.{Stores, Stepped}
 use Rattle.model.specs.Runs.{stepOf}
-use Rattle.model.specs.declared.server.Engine.{Engine}
-use Rattle.model.specs.declared.server.Request.{Request}
-use Rattle.model.specs.declared.server.Request.the-variants as request
+use Rattle.server.specs.declared.Engine.{Engine}
+use Rattle.server.specs.declared.HostRequest.{HostRequest}
+use Rattle.server.specs.declared.HostRequest.the-variants as request
 use Rattle.stream.specs.declared.host.Kind.{Kind}
 use Rattle.stream.specs.declared.host.Kind.the-variants as kind
 
-abbrev pub callFor : Request → Call
+abbrev pub callFor : HostRequest → Call
 callFor (request.Connect n) = replyGiven 0x20 []
 callFor (request.Disconnect n) = replyGiven 0x20 []
 callFor (request.SetPath n u c) = replyGiven 0x51 []

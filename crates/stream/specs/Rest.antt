@@ -1,7 +1,7 @@
 -- The part of an input store that is left, and the number at which a session is over.
 use Prim.Native.Nat.{ℕ, _≤_}
-use Rattle.model.specs.declared.server.Outcome.{Outcome}
-use Rattle.model.specs.declared.server.Outcome.the-variants as outcome
+use Rattle.server.specs.declared.Outcome.{Outcome}
+use Rattle.server.specs.declared.Outcome.the-variants as outcome
 use Rattle.stream.specs.declared.feed.Rest.{Rest}
 
 -- what is left lies in a store of some length

@@ -2,9 +2,9 @@
 use engine::arrival;
 use engine::session;
 use lines::input::read;
-use model::server::Engine;
-use model::server::Outcome;
-use model::server::Took;
+use server::Engine;
+use server::Outcome;
+use server::CallResult;
 ghost use mathlib.Core.Path.{_≡_};
 ghost use lib.ListN.{length};
 ghost use Rattle.stream.specs.Rest.{Within, endedBy};
@@ -17,7 +17,7 @@ pub struct Rest {
 
 // What the last call gave, and the input that is left.
 pub struct Step {
-    pub took: Took,
+    pub took: CallResult,
     pub rest: Rest,
 }
 

@@ -1,8 +1,8 @@
 // A host that keeps nothing: codes without headers, no password and no credentials.
 use engine::host;
-use model::server::Engine;
-use model::server::Request;
-use model::server::Took;
+use server::Engine;
+use server::HostRequest;
+use server::CallResult;
 use packet::response::NOT_IMPLEMENTED;
 use packet::response::SUCCESS;
 ghost use mathlib.Core.Path.{_≡_};
@@ -19,44 +19,44 @@ pub enum Kind {
     Never,
 }
 
-fn kind_of(request: Request) -> Kind
+fn kind_of(request: HostRequest) -> Kind
     ensures { λ r. ⌜ callBy r ≡ callFor request ⌝ }
 {
     match request {
-        Request::Connect { length: _ } => Kind::Reply(SUCCESS),
-        Request::Disconnect { length: _ } => Kind::Reply(SUCCESS),
-        Request::SetPath {
+        HostRequest::Connect { length: _ } => Kind::Reply(SUCCESS),
+        HostRequest::Disconnect { length: _ } => Kind::Reply(SUCCESS),
+        HostRequest::SetPath {
             length: _,
             backup: _,
             no_create: _,
         } => Kind::Reply(NOT_IMPLEMENTED),
-        Request::Abort { length: _ } => Kind::Acknowledge,
-        Request::Put { kept: _, body: _ } => Kind::Reply(SUCCESS),
-        Request::Get { kept: _ } => Kind::Reply(NOT_IMPLEMENTED),
-        Request::Action { kept: _ } => Kind::Reply(NOT_IMPLEMENTED),
-        Request::Session { kept: _ } => Kind::Reply(NOT_IMPLEMENTED),
-        Request::UserDefined { opcode: _, kept: _ } => Kind::Reply(NOT_IMPLEMENTED),
-        Request::Password { user_id: _ } => Kind::NoPassword,
-        Request::Nonce => Kind::Never,
-        Request::Credentials {
+        HostRequest::Abort { length: _ } => Kind::Acknowledge,
+        HostRequest::Put { kept: _, body: _ } => Kind::Reply(SUCCESS),
+        HostRequest::Get { kept: _ } => Kind::Reply(NOT_IMPLEMENTED),
+        HostRequest::Action { kept: _ } => Kind::Reply(NOT_IMPLEMENTED),
+        HostRequest::Session { kept: _ } => Kind::Reply(NOT_IMPLEMENTED),
+        HostRequest::UserDefined { opcode: _, kept: _ } => Kind::Reply(NOT_IMPLEMENTED),
+        HostRequest::Password { user_id: _ } => Kind::NoPassword,
+        HostRequest::Nonce => Kind::Never,
+        HostRequest::Credentials {
             nonce: _,
             user_id_required: _,
             read_only: _,
             realm: _,
         } => Kind::NoCredentials,
-        Request::Read { room: _ } => Kind::Never,
+        HostRequest::Read { room: _ } => Kind::Never,
     }
 }
 
 // The host's answer to a request.
 pub fn answer(
     e: Engine,
-    request: Request,
+    request: HostRequest,
     packet: &mut [u8],
     headers: &mut [u8],
     body: &mut [u8],
     reply: &mut [u8],
-) -> Took
+) -> CallResult
     ensures { λ r. ⌜ stepped r (stores (now (packet .exit)) (now (headers .exit)) (now (body .exit)) (now (reply .exit)))
         ≡ answered (callFor request) e (stores (now (packet .entry)) (now (headers .entry)) (now (body .entry)) (now (reply .entry))) ⌝ }
 {

@@ -5,36 +5,43 @@ use native.Mathlib.Omega.{arith}
 use mathlib.Core.Path.{_≡_, ap}
 use Rattle.incoming.specs.declared.io.Frame.{Frame}
 use Rattle.model.specs.Model.{Stores, Stepped, stores, stepped, withPacket, framedAs, bytesStep}
-use Rattle.model.specs.declared.server.Took.{Took}
+use Rattle.server.specs.declared.CallResult.{CallResult}
+use Rattle.server.specs.declared.CallKind.the-variants as kind
 use Rattle.engine.proofs.Guards.{Goes, going}
 use Rattle.engine.proofs.Carried.{refused-call}
 use Rattle.engine.proofs.Arrivals.{framed-call, taken-after, short-took}
 use Rattle.engine.proofs.arrival.bytes.Statement.{statement}
 use Rattle.engine.proofs.arrival.bytes.Tie as tie
 
-abbrev start : tie.After-refused → tie.Start
+abbrev start : tie.After-guard → tie.Start
 start k = k .before .before .before .before .before .before
 
 -- the stores that are lent
-abbrev lent : tie.After-refused → Stores
+abbrev lent : tie.After-guard → Stores
 lent k = let a = start k .args in stores (a .packet .now) (a .headers .now) (a .body .now) (a .reply .now)
 
--- the guard lets the call go on
-goes : (k : tie.Else1) → Goes 0 0 (start (k .before) .args .e) (lent (k .before))
-goes k = going 0 0 _ _ _ (k .before .refused .ensures) (k .if1 .left)
+-- the guard says that the call may proceed
+abbrev passed : tie.After-enum-told → tie.After-guard
+passed z = z .before .before
+
+goes : (z : tie.After-enum-told) → Goes kind.FromPeer (start (passed z) .args .e) (lent (passed z))
+goes z = going kind.FromPeer _ _ _ (passed z .guard .ensures) (z .enum-told .given .1)
 
 -- the stores once bytes were read
 abbrev read : tie.After-read-packet → Stores
-read r = withPacket (lent (r .before .before .before)) (r .read-packet .last .1 .1 .0)
+read r = withPacket (lent (passed (r .before .before))) (r .read-packet .last .1 .1 .0)
 
 -- what follows where the frame stands is the model's step
-ending : (r : tie.After-read-packet) (x : Frame) (d : Stepped) → let a = start (r .before .before .before) .args in
+ending : (r : tie.After-read-packet) (x : Frame) (d : Stepped) → let a = start (passed (r .before .before)) .args in
     r .read-packet .result .frame ≡ x → d ≡ framedAs x (a .e) (r .read-packet .result .begun) (r .read-packet .result .taken) (read r)
-    → d ≡ bytesStep (a .e) (a .input .now) (lent (r .before .before .before))
+    → d ≡ bytesStep (a .e) (a .input .now) (lent (passed (r .before .before)))
 ending r x d k w = framed-call _ _ _ (r .read-packet .result) _ x d (goes (r .before .before)) (r .read-packet .ensures .1) k w
 
-refused-requires : tie.Need-refused-requires
-refused-requires c κs = search needs
+guard-requires : tie.Need-guard-requires
+guard-requires c κs = search needs
+
+enum-known-refusal : tie.Need-enum-known-refusal
+enum-known-refusal c = search needs
 
 refuse-requires : tie.Need-refuse-requires
 refuse-requires c κs = search needs
@@ -42,20 +49,23 @@ refuse-requires c κs = search needs
 returns : tie.Need-returns
 unfolding bytesStep
 returns c =
-    let k = c .before .before in
-    refused-call 0 0 (start k .args .e) (lent k) _ _ _ (c .refuse .ensures) (k .refused .ensures) (c .before .if1 .taken)
-
-read-packet-requires : tie.Need-read-packet-requires
-read-packet-requires c κs = let g = goes (c .before) in (g .bounds .begun, g .room .packet)
+    let k = c .before .before .before .before in
+    refused-call kind.FromPeer (start k .args .e) (lent k) _ _ _ _ (c .refuse .ensures) (k .guard .ensures) (c .before .before .refusal .given .1)
 
 enum-told : tie.Need-enum-told
 enum-told c = search needs
 
-more-requires : tie.Need-more-requires
-more-requires c κs = search needs
+read-packet-requires : tie.Need-read-packet-requires
+read-packet-requires c κs = let g = goes (c .before) in (g .bounds .begun, g .room .packet)
 
 enum-told-2 : tie.Need-enum-told-2
 enum-told-2 c = search needs
+
+more-requires : tie.Need-more-requires
+more-requires c κs = search needs
+
+enum-told-3 : tie.Need-enum-told-3
+enum-told-3 c = search needs
 
 ends-requires : tie.Need-ends-requires
 ends-requires c κs = search needs
@@ -66,8 +76,8 @@ took-requires c κs = search needs
 with-taken-requires : tie.Need-with-taken-requires
 with-taken-requires c κs = search needs
 
-enum-told-3 : tie.Need-enum-told-3
-enum-told-3 c = search needs
+enum-told-4 : tie.Need-enum-told-4
+enum-told-4 c = search needs
 
 packet-done-requires : tie.Need-packet-done-requires
 packet-done-requires c κs =
@@ -75,7 +85,7 @@ packet-done-requires c κs =
     let p = t .before .before .before in
     let r = p .before in
     let g = goes (r .before .before) in
-    let w = r .read-packet .ensures .0 (t .enum-told3 .given .1) in
+    let w = r .read-packet .ensures .0 (t .enum-told4 .given .1) in
     (omega (arith, w .0), omega (arith, w .1, g .room .packet, p .packet .given), g .bounds .count, g .bounds .remote, g .bounds .operation, g .room .headers, g .room .body, g .room .reply)
 
 with-taken-requires-2 : tie.Need-with-taken-requires-2
@@ -87,7 +97,7 @@ same-length c = search needs
 returns-2 : tie.Need-returns-2
 returns-2 c =
     let r = c .before .before .before .before .before in
-    ending r _ _ (c .before .enum-told .given .1) (ap (λ (x : Took). stepped x (read r)) (c .more .ensures))
+    ending r _ _ (c .before .enum-told2 .given .1) (ap (λ (x : CallResult). stepped x (read r)) (c .more .ensures))
 
 same-length-2 : tie.Need-same-length-2
 same-length-2 c = search needs
@@ -96,8 +106,8 @@ returns-3 : tie.Need-returns-3
 returns-3 c =
     let t = c .before .before .before in
     let r = t .before .before .before .before in
-    let e = start (r .before .before .before) .args .e in
-    ending r _ _ (t .enum-told2 .given .1)
+    let e = start (passed (r .before .before)) .args .e in
+    ending r _ _ (t .enum-told3 .given .1)
     (taken-after _ _ _ (read r) _ (c .with-taken .ensures) (short-took e _ _ (read r) (c .before .took .ensures) (c .before .before .ends .ensures)))
 
 same-length-3 : tie.Need-same-length-3
@@ -118,23 +128,25 @@ returns-4 : tie.Need-returns-4
 returns-4 c =
     let d = c .before .before .before .before .before .before .before in
     let t = d .before .before .before .before .before in
-    ending (t .before .before .before .before) _ _ (t .enum-told3 .given .1) (taken-after _ _ _ _ _ (c .with-taken2 .ensures) (d .packet-done .ensures))
+    ending (t .before .before .before .before) _ _ (t .enum-told4 .given .1) (taken-after _ _ _ _ _ (c .with-taken2 .ensures) (d .packet-done .ensures))
 
 pub bytes-spec : {M : Type 1} → statement M
 bytes-spec =
     tie.close
     (tie.spec
-    refused-requires
+    guard-requires
+    enum-known-refusal
     refuse-requires
     returns
-    read-packet-requires
     enum-told
-    more-requires
+    read-packet-requires
     enum-told-2
+    more-requires
+    enum-told-3
     ends-requires
     took-requires
     with-taken-requires
-    enum-told-3
+    enum-told-4
     packet-done-requires
     with-taken-requires-2
     same-length

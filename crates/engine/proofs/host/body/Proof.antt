@@ -3,26 +3,33 @@ use borrow.Author.Needs.{needs}
 use native.Mathlib.Omega.{arith}
 use mathlib.Core.Path.{sym, ap, _∙_}
 use Rattle.model.specs.Model.{Stores, stores, stepped, bodyStep}
-use Rattle.model.specs.declared.server.Took.{Took}
+use Rattle.server.specs.declared.CallResult.{CallResult}
+use Rattle.server.specs.declared.CallKind.the-variants as kind
 use Rattle.engine.proofs.Guards.{Goes, going}
 use Rattle.engine.proofs.Carried.{refused-call}
 use Rattle.engine.proofs.Objects.{body-other, sending-bounds, body-much, body-goes, packet-sent, packet-call}
 use Rattle.engine.proofs.host.body.Statement.{statement}
 use Rattle.engine.proofs.host.body.Tie as tie
 
-abbrev start : tie.After-refused → tie.Start
+abbrev start : tie.After-guard → tie.Start
 start k = k .before .before .before .before .before .before
 
 -- the stores that are lent
-abbrev lent : tie.After-refused → Stores
+abbrev lent : tie.After-guard → Stores
 lent k = let a = start k .args in stores (a .packet .now) (a .headers .now) (a .body .now) (a .reply .now)
 
--- the guard lets the call go on
-goes : (k : tie.Else1) → Goes 11 11 (start (k .before) .args .e) (lent (k .before))
-goes k = going 11 11 _ _ _ (k .before .refused .ensures) (k .if1 .left)
+-- the guard says that the call may proceed
+abbrev passed : tie.After-enum-told → tie.After-guard
+passed z = z .before .before
 
-refused-requires : tie.Need-refused-requires
-refused-requires c κs = search needs
+goes : (z : tie.After-enum-told) → Goes kind.FromBody (start (passed z) .args .e) (lent (passed z))
+goes z = going kind.FromBody _ _ _ (passed z .guard .ensures) (z .enum-told .given .1)
+
+guard-requires : tie.Need-guard-requires
+guard-requires c κs = search needs
+
+enum-known-refusal : tie.Need-enum-known-refusal
+enum-known-refusal c = search needs
 
 refuse-requires : tie.Need-refuse-requires
 refuse-requires c κs = search needs
@@ -30,8 +37,11 @@ refuse-requires c κs = search needs
 returns : tie.Need-returns
 unfolding bodyStep
 returns c =
-    let k = c .before .before in
-    refused-call 11 11 (start k .args .e) (lent k) _ _ _ (c .refuse .ensures) (k .refused .ensures) (c .before .if1 .taken)
+    let k = c .before .before .before .before in
+    refused-call kind.FromBody (start k .args .e) (lent k) _ _ _ _ (c .refuse .ensures) (k .guard .ensures) (c .before .before .refusal .given .1)
+
+enum-told : tie.Need-enum-told
+enum-told c = search needs
 
 enum-known-operation : tie.Need-enum-known-operation
 enum-known-operation c = search needs
@@ -43,9 +53,9 @@ returns-2 : tie.Need-returns-2
 unfolding bodyStep
 returns-2 c =
     let z = c .before .before in
-    let k = start (z .before) .args in
-    let s = lent (z .before) in
-    ap (λ (r : Took). stepped r s) (c .refuse2 .ensures) ∙ body-other (k .e .operation) (k .e) (k .d .now) s (c .before .match .keys2) ∙ sym (goes z .whole _)
+    let k = start (passed z) .args in
+    let s = lent (passed z) in
+    ap (λ (r : CallResult). stepped r s) (c .refuse2 .ensures) ∙ body-other (k .e .operation) (k .e) (k .d .now) s (c .before .match2 .keys2) ∙ sym (goes z .whole _)
 
 refuse-requires-3 : tie.Need-refuse-requires-3
 refuse-requires-3 c κs = search needs
@@ -55,10 +65,10 @@ unfolding bodyStep
 returns-3 c =
     let o = c .before .before .before .before in
     let z = o .before .before in
-    let k = start (z .before) .args in
-    let s = lent (z .before) in
-    ap (λ (r : Took). stepped r s) (c .refuse3 .ensures)
-    ∙ body-much (k .e .operation) _ _ _ _ (o .operation .given .1) (k .e) (k .d .now) s (c .before .if2 .taken)
+    let k = start (passed z) .args in
+    let s = lent (passed z) in
+    ap (λ (r : CallResult). stepped r s) (c .refuse3 .ensures)
+    ∙ body-much (k .e .operation) _ _ _ _ (o .operation .given .1) (k .e) (k .d .now) s (c .before .if1 .taken)
     ∙ sym (goes z .whole _)
 
 body-given-requires : tie.Need-body-given-requires
@@ -66,7 +76,7 @@ body-given-requires c κs =
     let o = c .before .before .before .before in
     let g = goes (o .before .before) in
     let b = sending-bounds _ _ _ _ _ (o .operation .given .1) _ (g .bounds .operation) in
-    (c .before .if2 .left, b .chunk, b .begun, g .room .reply)
+    (c .before .if1 .left, b .chunk, b .begun, g .room .reply)
 
 packet-plan-requires : tie.Need-packet-plan-requires
 packet-plan-requires c κs = search needs
@@ -88,19 +98,21 @@ returns-4 c =
     let u = b .before .before in
     let o = u .before .before .before in
     let z = o .before .before in
-    let k = start (z .before) .args in
-    let s = lent (z .before) in
+    let k = start (passed z) .args in
+    let s = lent (passed z) in
     packet-call (k .e) s _ _ _ _ (packet-sent (k .e) _ _ _ _ _ _ (y .carry-out .ensures) (p .packet-plan .ensures) (b .body-given .ensures))
-    ∙ body-goes (k .e .operation) _ _ _ _ (o .operation .given .1) (k .e) (k .d .now) s (u .if2 .left)
+    ∙ body-goes (k .e .operation) _ _ _ _ (o .operation .given .1) (k .e) (k .d .now) s (u .if1 .left)
     ∙ sym (goes z .whole _)
 
 pub body-spec : {M : Type 1} → statement M
 body-spec =
     tie.close
     (tie.spec
-    refused-requires
+    guard-requires
+    enum-known-refusal
     refuse-requires
     returns
+    enum-told
     enum-known-operation
     refuse-requires-2
     returns-2

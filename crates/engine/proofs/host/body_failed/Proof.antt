@@ -2,26 +2,33 @@
 use borrow.Author.Needs.{needs}
 use native.Mathlib.Omega.{arith}
 use Rattle.model.specs.Model.{Stores, stores, bodyFailedStep}
-use Rattle.model.specs.declared.server.Await.the-variants as await
+use Rattle.server.specs.declared.Await.the-variants as await
+use Rattle.server.specs.declared.CallKind.the-variants as kind
 use Rattle.engine.proofs.Guards.{Goes, going}
 use Rattle.engine.proofs.Carried.{refused-call, carried-call}
 use Rattle.engine.proofs.Plans.{code-planned}
 use Rattle.engine.proofs.host.body_failed.Statement.{statement}
 use Rattle.engine.proofs.host.body_failed.Tie as tie
 
-abbrev start : tie.After-refused → tie.Start
+abbrev start : tie.After-guard → tie.Start
 start k = k .before .before .before .before .before
 
 -- the stores that are lent
-abbrev lent : tie.After-refused → Stores
+abbrev lent : tie.After-guard → Stores
 lent k = let a = start k .args in stores (a .packet .now) (a .headers .now) (a .body .now) (a .reply .now)
 
--- the guard lets the call go on
-goes : (k : tie.Else1) → Goes 11 11 (start (k .before) .args .e) (lent (k .before))
-goes k = going 11 11 _ _ _ (k .before .refused .ensures) (k .if1 .left)
+-- the guard says that the call may proceed
+abbrev passed : tie.After-enum-told → tie.After-guard
+passed z = z .before .before
 
-refused-requires : tie.Need-refused-requires
-refused-requires c κs = search needs
+goes : (z : tie.After-enum-told) → Goes kind.FromBody (start (passed z) .args .e) (lent (passed z))
+goes z = going kind.FromBody _ _ _ (passed z .guard .ensures) (z .enum-told .given .1)
+
+guard-requires : tie.Need-guard-requires
+guard-requires c κs = search needs
+
+enum-known-refusal : tie.Need-enum-known-refusal
+enum-known-refusal c = search needs
 
 refuse-requires : tie.Need-refuse-requires
 refuse-requires c κs = search needs
@@ -29,8 +36,11 @@ refuse-requires c κs = search needs
 returns : tie.Need-returns
 unfolding bodyFailedStep
 returns c =
-    let k = c .before .before in
-    refused-call 11 11 (start k .args .e) (lent k) _ _ _ (c .refuse .ensures) (k .refused .ensures) (c .before .if1 .taken)
+    let k = c .before .before .before .before in
+    refused-call kind.FromBody (start k .args .e) (lent k) _ _ _ _ (c .refuse .ensures) (k .guard .ensures) (c .before .before .refusal .given .1)
+
+enum-told : tie.Need-enum-told
+enum-told c = search needs
 
 code-requires : tie.Need-code-requires
 code-requires c κs = search needs
@@ -47,17 +57,19 @@ returns-2 c =
     let o = c .before .before in
     let p = o .before .before in
     let z = p .before in
-    let e = start (z .before) .args .e in
-    let s = lent (z .before) in
-    carried-call 11 11 e s _ _ _ _ (goes z) (o .carry-out .ensures) (p .code .ensures) (code-planned e (e .peer) await.Taken 0xD0 s)
+    let e = start (passed z) .args .e in
+    let s = lent (passed z) in
+    carried-call kind.FromBody e s _ _ _ _ (goes z) (o .carry-out .ensures) (p .code .ensures) (code-planned e (e .peer) await.Taken 0xD0 s)
 
 pub body-failed-spec : {M : Type 1} → statement M
 body-failed-spec =
     tie.close
     (tie.spec
-    refused-requires
+    guard-requires
+    enum-known-refusal
     refuse-requires
     returns
+    enum-told
     code-requires
     carry-out-requires
     same-length

@@ -1,6 +1,7 @@
 -- `engine::host::credentials` meets its contract: the guard and what `credentials_given` does are the model's.
 -- Assumes nothing.
 use Rattle.model.specs.Model.{Stores, stores, credentialsStep}
+use Rattle.server.specs.declared.CallKind.the-variants as kind
 use Rattle.engine.proofs.Guards.{Goes, going}
 use Rattle.engine.proofs.Carried.{refused-call}
 use Rattle.engine.proofs.Accepts.{credentials-call}
@@ -8,19 +9,25 @@ use borrow.Author.Needs.{needs}
 use Rattle.engine.proofs.host.credentials.Statement.{statement}
 use Rattle.engine.proofs.host.credentials.Tie as tie
 
-abbrev start : tie.After-refused → tie.Start
+abbrev start : tie.After-guard → tie.Start
 start k = k .before .before .before .before .before .before .before
 
 -- the stores that are lent
-abbrev lent : tie.After-refused → Stores
+abbrev lent : tie.After-guard → Stores
 lent k = let a = start k .args in stores (a .packet .now) (a .headers .now) (a .body .now) (a .reply .now)
 
--- the guard lets the call go on
-goes : (k : tie.Else1) → Goes 10 10 (start (k .before) .args .e) (lent (k .before))
-goes k = going 10 10 _ _ _ (k .before .refused .ensures) (k .if1 .left)
+-- the guard says that the call may proceed
+abbrev passed : tie.After-enum-told → tie.After-guard
+passed z = z .before .before
 
-refused-requires : tie.Need-refused-requires
-refused-requires c κs = search needs
+goes : (z : tie.After-enum-told) → Goes kind.CredentialsGiven (start (passed z) .args .e) (lent (passed z))
+goes z = going kind.CredentialsGiven _ _ _ (passed z .guard .ensures) (z .enum-told .given .1)
+
+guard-requires : tie.Need-guard-requires
+guard-requires c κs = search needs
+
+enum-known-refusal : tie.Need-enum-known-refusal
+enum-known-refusal c = search needs
 
 refuse-requires : tie.Need-refuse-requires
 refuse-requires c κs = search needs
@@ -28,8 +35,11 @@ refuse-requires c κs = search needs
 returns : tie.Need-returns
 unfolding credentialsStep
 returns c =
-    let k = c .before .before in
-    refused-call 10 10 (start k .args .e) (lent k) _ _ _ (c .refuse .ensures) (k .refused .ensures) (c .before .if1 .taken)
+    let k = c .before .before .before .before in
+    refused-call kind.CredentialsGiven (start k .args .e) (lent k) _ _ _ _ (c .refuse .ensures) (k .guard .ensures) (c .before .before .refusal .given .1)
+
+enum-told : tie.Need-enum-told
+enum-told c = search needs
 
 slice-reshare-prefix-credentials-given : tie.Need-slice-reshare-prefix-credentials-given
 slice-reshare-prefix-credentials-given c = goes c .last .inside
@@ -54,15 +64,17 @@ returns-2 : tie.Need-returns-2
 returns-2 c =
     let a = c .before .before in
     let z = a .before .before .before .before in
-    credentials-call (start (z .before) .args .e) _ (lent (z .before)) (goes z) _ (a .credentials-given .ensures)
+    credentials-call (start (passed z) .args .e) _ (lent (passed z)) (goes z) _ (a .credentials-given .ensures)
 
 pub credentials-spec : {M : Type 1} → statement M
 credentials-spec =
     tie.close
     (tie.spec
-    refused-requires
+    guard-requires
+    enum-known-refusal
     refuse-requires
     returns
+    enum-told
     slice-reshare-prefix-credentials-given
     slice-aggregate-credentials-given
     credentials-given-requires

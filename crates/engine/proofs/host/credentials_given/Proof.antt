@@ -1,7 +1,7 @@
 -- `engine::host::credentials_given` meets its contract: its ways are those of `credentialsBy`, by the operation and the user id's length.
 -- Assumes nothing.
 use mathlib.Core.Path.{ap, _∙_}
-use Rattle.model.specs.declared.server.Took.{Took}
+use Rattle.server.specs.declared.CallResult.{CallResult}
 use Rattle.engine.specs.Carry.{written}
 use Rattle.engine.proofs.Guards.{Prefix, prefix-in}
 use Rattle.engine.proofs.Accepts.{credentials-other, credentials-long, credentials-go, user-fits, waiting-length}
@@ -25,7 +25,7 @@ refuse-requires c κs = search needs
 returns : tie.Need-returns
 returns c =
     let k = c .before .before .before .before .before .before .before .args in
-    ap (λ (r : Took). written r (k .reply .now)) (c .refuse .ensures)
+    ap (λ (r : CallResult). written r (k .reply .now)) (c .refuse .ensures)
     ∙ credentials-other (k .e .operation) (k .e) _ (k .packet .now) (k .headers .now) (k .reply .now) (c .before .match .keys2)
 
 both-requires : tie.Need-both-requires

@@ -10,24 +10,31 @@ use Rattle.connection.specs.Send.{fieldsOf, sendBytes}
 use Rattle.connection.specs.Connect.{challengeHeader}
 use Rattle.connection.specs.declared.peer.Peer.{Peer}
 use Rattle.model.specs.Model.{Stores, stores, after, nonceStep, nonceAnswer, sendsConnect, sent, guarded, optionsOf, realmOf}
+use Rattle.server.specs.declared.CallKind.the-variants as kind
 use Rattle.engine.proofs.Guards.{Goes, going}
 use Rattle.engine.proofs.Carried.{refused-call, sent-call}
 use Rattle.engine.proofs.host.nonce.Statement.{statement}
 use Rattle.engine.proofs.host.nonce.Tie as tie
 
-abbrev start : tie.After-refused → tie.Start
+abbrev start : tie.After-guard → tie.Start
 start k = k .before .before .before .before .before
 
 -- the stores that are lent
-abbrev lent : tie.After-refused → Stores
+abbrev lent : tie.After-guard → Stores
 lent k = let a = start k .args in stores (a .packet .now) (a .headers .now) (a .body .now) (a .reply .now)
 
--- the guard lets the call go on
-goes : (k : tie.Else1) → Goes 9 9 (start (k .before) .args .e) (lent (k .before))
-goes k = going 9 9 _ _ _ (k .before .refused .ensures) (k .if1 .left)
+-- the guard says that the call may proceed
+abbrev passed : tie.After-enum-told → tie.After-guard
+passed z = z .before .before
 
-refused-requires : tie.Need-refused-requires
-refused-requires c κs = search needs
+goes : (z : tie.After-enum-told) → Goes kind.NonceGiven (start (passed z) .args .e) (lent (passed z))
+goes z = going kind.NonceGiven _ _ _ (passed z .guard .ensures) (z .enum-told .given .1)
+
+guard-requires : tie.Need-guard-requires
+guard-requires c κs = search needs
+
+enum-known-refusal : tie.Need-enum-known-refusal
+enum-known-refusal c = search needs
 
 refuse-requires : tie.Need-refuse-requires
 refuse-requires c κs = search needs
@@ -35,8 +42,11 @@ refuse-requires c κs = search needs
 returns : tie.Need-returns
 unfolding nonceStep
 returns c =
-    let k = c .before .before in
-    refused-call 9 9 (start k .args .e) (lent k) _ _ _ (c .refuse .ensures) (k .refused .ensures) (c .before .if1 .taken)
+    let k = c .before .before .before .before in
+    refused-call kind.NonceGiven (start k .args .e) (lent k) _ _ _ _ (c .refuse .ensures) (k .guard .ensures) (c .before .before .refusal .given .1)
+
+enum-told : tie.Need-enum-told
+enum-told c = search needs
 
 challenged-requires : tie.Need-challenged-requires
 challenged-requires c κs = search needs
@@ -59,21 +69,23 @@ returns-2 c =
     let w = c .before .before .before .before in
     let n = w .before .before in
     let z = n .before in
-    let k = start (z .before) .args in
-    let s = lent (z .before) in
+    let k = start (passed z) .args in
+    let s = lent (passed z) in
     let header = bytesOf (challengeHeader (octets16 (k .n)) (optionsOf (k .e .settings)) (realmOf (k .e .settings) (k .realm))) in
     let bytes : Peer → Option (List ℕ) = λ p. sendBytes (p .«remote_max_packet_length») 0x41 (fieldsOf (k .e .settings .«max_packet_length»)) header in
     let p = n .challenged .result in
-    sent-call 9 9 (k .e) s p (bytes p) _ _ _ (goes z) (w .send-challenge .ensures) (c .before .sent-plan .ensures) (c .took .ensures)
-    ∙ ap (λ (p : Peer). guarded 9 9 (k .e) s (after 0 (sent (k .e) p (bytes p) s))) (n .challenged .ensures)
+    sent-call kind.NonceGiven (k .e) s p (bytes p) _ _ _ (goes z) (w .send-challenge .ensures) (c .before .sent-plan .ensures) (c .took .ensures)
+    ∙ ap (λ (p : Peer). guarded kind.NonceGiven (k .e) s (after 0 (sent (k .e) p (bytes p) s))) (n .challenged .ensures)
 
 pub nonce-spec : {M : Type 1} → statement M
 nonce-spec =
     tie.close
     (tie.spec
-    refused-requires
+    guard-requires
+    enum-known-refusal
     refuse-requires
     returns
+    enum-told
     challenged-requires
     send-challenge-requires
     sent-plan-requires

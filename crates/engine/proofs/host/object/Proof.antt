@@ -8,35 +8,42 @@ use lib.ListN.{length}
 use Rattle.connection.proofs.Front.{front-length}
 use Rattle.outgoing.specs.declared.body.Outgoing.{Outgoing}
 use Rattle.model.specs.Model.{Stores, stores, stepped, objectStep}
-use Rattle.model.specs.declared.server.Took.{Took}
+use Rattle.server.specs.declared.CallResult.{CallResult}
+use Rattle.server.specs.declared.CallKind.the-variants as kind
 use Rattle.engine.proofs.Guards.{Goes, going}
 use Rattle.engine.proofs.Carried.{refused-call}
 use Rattle.engine.proofs.Objects.{object-other, object-bad, object-goes, good-length, store-front}
 use Rattle.engine.proofs.host.object.Statement.{statement}
 use Rattle.engine.proofs.host.object.Tie as tie
 
-abbrev start : tie.After-refused → tie.Start
+abbrev start : tie.After-guard → tie.Start
 start k = k .before .before .before .before .before .before
 
 -- the stores that are lent
-abbrev lent : tie.After-refused → Stores
+abbrev lent : tie.After-guard → Stores
 lent k = let a = start k .args in stores (a .packet .now) (a .headers .now) (a .body .now) (a .reply .now)
 
--- the guard lets the call go on
-goes : (k : tie.Else1) → Goes 5 5 (start (k .before) .args .e) (lent (k .before))
-goes k = going 5 5 _ _ _ (k .before .refused .ensures) (k .if1 .left)
+-- the guard says that the call may proceed
+abbrev passed : tie.After-enum-told → tie.After-guard
+passed z = z .before .before
 
-abbrev waits : tie.Else2 → tie.Else1
+goes : (z : tie.After-enum-told) → Goes kind.ObjectGiven (start (passed z) .args .e) (lent (passed z))
+goes z = going kind.ObjectGiven _ _ _ (passed z .guard .ensures) (z .enum-told .given .1)
+
+abbrev waits : tie.Else1 → tie.After-enum-told
 waits u = u .before .before .before .before .before
 
 -- good header bytes fit in their store
-fits : (u : tie.Else2) → length (start (waits u .before) .args .header-bytes .now) ≤ length (start (waits u .before) .args .headers .now)
+fits : (u : tie.Else1) → length (start (passed (waits u)) .args .header-bytes .now) ≤ length (start (passed (waits u)) .args .headers .now)
 fits u =
-    let l = good-length (start (waits u .before) .args .header-bytes .now) _ (u .before .bad-headers .ensures) (u .if2 .left) in
+    let l = good-length (start (passed (waits u)) .args .header-bytes .now) _ (u .before .bad-headers .ensures) (u .if1 .left) in
     omega (arith, l, goes (waits u) .room .headers)
 
-refused-requires : tie.Need-refused-requires
-refused-requires c κs = search needs
+guard-requires : tie.Need-guard-requires
+guard-requires c κs = search needs
+
+enum-known-refusal : tie.Need-enum-known-refusal
+enum-known-refusal c = search needs
 
 refuse-requires : tie.Need-refuse-requires
 refuse-requires c κs = search needs
@@ -44,8 +51,11 @@ refuse-requires c κs = search needs
 returns : tie.Need-returns
 unfolding objectStep
 returns c =
-    let k = c .before .before in
-    refused-call 5 5 (start k .args .e) (lent k) _ _ _ (c .refuse .ensures) (k .refused .ensures) (c .before .if1 .taken)
+    let k = c .before .before .before .before in
+    refused-call kind.ObjectGiven (start k .args .e) (lent k) _ _ _ _ (c .refuse .ensures) (k .guard .ensures) (c .before .before .refusal .given .1)
+
+enum-told : tie.Need-enum-told
+enum-told c = search needs
 
 enum-known-operation : tie.Need-enum-known-operation
 enum-known-operation c = search needs
@@ -57,10 +67,10 @@ returns-2 : tie.Need-returns-2
 unfolding objectStep
 returns-2 c =
     let z = c .before .before in
-    let k = start (z .before) .args in
-    let s = lent (z .before) in
-    ap (λ (r : Took). stepped r s) (c .refuse2 .ensures)
-    ∙ object-other (k .e .operation) (k .e) (k .header-bytes .now) (k .has-body) s (c .before .match .keys2)
+    let k = start (passed z) .args in
+    let s = lent (passed z) in
+    ap (λ (r : CallResult). stepped r s) (c .refuse2 .ensures)
+    ∙ object-other (k .e .operation) (k .e) (k .header-bytes .now) (k .has-body) s (c .before .match2 .keys2)
     ∙ sym (goes z .whole _)
 
 bad-headers-requires : tie.Need-bad-headers-requires
@@ -75,10 +85,10 @@ returns-3 c =
     let b = c .before .before in
     let o = b .before .before in
     let z = o .before .before in
-    let k = start (z .before) .args in
-    let s = lent (z .before) in
-    ap (λ (r : Took). stepped r s) (c .refuse3 .ensures)
-    ∙ object-bad (k .e .operation) _ _ _ _ (o .operation .given .1) (k .e) (k .header-bytes .now) _ (b .bad-headers .ensures) (k .has-body) s (c .before .if2 .taken)
+    let k = start (passed z) .args in
+    let s = lent (passed z) in
+    ap (λ (r : CallResult). stepped r s) (c .refuse3 .ensures)
+    ∙ object-bad (k .e .operation) _ _ _ _ (o .operation .given .1) (k .e) (k .header-bytes .now) _ (b .bad-headers .ensures) (k .has-body) s (c .before .if1 .taken)
     ∙ sym (goes z .whole _)
 
 copy-into-requires : tie.Need-copy-into-requires
@@ -95,7 +105,7 @@ sends-next-requires c κs =
     let w = c .before .before .before .before .before .before in
     let u = w .before .before in
     let z = waits u in
-    let k = start (z .before) .args in
+    let k = start (passed z) .args in
     let f = w .copy-into .ensures ∙ store-front (k .header-bytes .now) (k .headers .now) (fits u) in
     let h = ap (λ (x : List ℕ). length x) f ∙ front-length (k .header-bytes .now) (k .headers .now) (fits u) in
     let t = ap (λ (x : Outgoing). x .total) (c .before .before .before .object-of .ensures) in
@@ -116,9 +126,9 @@ returns-4 c =
     let u = w .before .before in
     let b = u .before in
     let z = waits u in
-    let k = start (z .before) .args in
+    let k = start (passed z) .args in
     object-goes (k .e .operation) _ _ _ _ (b .before .before .operation .given .1)
-    (k .e) (k .header-bytes .now) _ (b .bad-headers .ensures) (k .has-body) (lent (z .before)) (u .if2 .left) _ _ _ _
+    (k .e) (k .header-bytes .now) _ (b .bad-headers .ensures) (k .has-body) (lent (passed z)) (u .if1 .left) _ _ _ _
     (n .sends-next .ensures) (i .before .object-of .ensures) (i .either .ensures) (w .copy-into .ensures ∙ store-front (k .header-bytes .now) (k .headers .now) (fits u))
     ∙ sym (goes z .whole _)
 
@@ -126,9 +136,11 @@ pub object-spec : {M : Type 1} → statement M
 object-spec =
     tie.close
     (tie.spec
-    refused-requires
+    guard-requires
+    enum-known-refusal
     refuse-requires
     returns
+    enum-told
     enum-known-operation
     refuse-requires-2
     returns-2

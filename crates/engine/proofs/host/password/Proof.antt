@@ -1,25 +1,32 @@
 -- `engine::host::password` meets its contract: the guard is the model's, and so is the check of the last packet's response.
 use borrow.Author.Needs.{needs}
 use Rattle.model.specs.Model.{Stores, stores, passwordStep}
+use Rattle.server.specs.declared.CallKind.the-variants as kind
 use Rattle.engine.proofs.Guards.{Goes, going}
 use Rattle.engine.proofs.Carried.{refused-call}
 use Rattle.engine.proofs.LastPacket.{password-call}
 use Rattle.engine.proofs.host.password.Statement.{statement}
 use Rattle.engine.proofs.host.password.Tie as tie
 
-abbrev start : tie.After-refused → tie.Start
+abbrev start : tie.After-guard → tie.Start
 start k = k .before .before .before .before .before .before
 
 -- the stores that are lent
-abbrev lent : tie.After-refused → Stores
+abbrev lent : tie.After-guard → Stores
 lent k = let a = start k .args in stores (a .packet .now) (a .headers .now) (a .body .now) (a .reply .now)
 
--- the guard lets the call go on
-goes : (k : tie.Else1) → Goes 8 8 (start (k .before) .args .e) (lent (k .before))
-goes k = going 8 8 _ _ _ (k .before .refused .ensures) (k .if1 .left)
+-- the guard says that the call may proceed
+abbrev passed : tie.After-enum-told → tie.After-guard
+passed z = z .before .before
 
-refused-requires : tie.Need-refused-requires
-refused-requires c κs = search needs
+goes : (z : tie.After-enum-told) → Goes kind.PasswordGiven (start (passed z) .args .e) (lent (passed z))
+goes z = going kind.PasswordGiven _ _ _ (passed z .guard .ensures) (z .enum-told .given .1)
+
+guard-requires : tie.Need-guard-requires
+guard-requires c κs = search needs
+
+enum-known-refusal : tie.Need-enum-known-refusal
+enum-known-refusal c = search needs
 
 refuse-requires : tie.Need-refuse-requires
 refuse-requires c κs = search needs
@@ -27,8 +34,11 @@ refuse-requires c κs = search needs
 returns : tie.Need-returns
 unfolding passwordStep
 returns c =
-    let k = c .before .before in
-    refused-call 8 8 (start k .args .e) (lent k) _ _ _ (c .refuse .ensures) (k .refused .ensures) (c .before .if1 .taken)
+    let k = c .before .before .before .before in
+    refused-call kind.PasswordGiven (start k .args .e) (lent k) _ _ _ _ (c .refuse .ensures) (k .guard .ensures) (c .before .before .refusal .given .1)
+
+enum-told : tie.Need-enum-told
+enum-told c = search needs
 
 slice-reshare-prefix-is-right : tie.Need-slice-reshare-prefix-is-right
 slice-reshare-prefix-is-right c = goes (c .before) .last .inside
@@ -53,15 +63,17 @@ unfolding passwordStep
 returns-2 c =
     let r = c .before .before in
     let z = r .before .before .before in
-    password-call (start (z .before) .args .e) (lent (z .before)) _ _ _ _ (goes z) (c .took .ensures) (c .before .password-plan .ensures) (r .is-right .ensures)
+    password-call (start (passed z) .args .e) (lent (passed z)) _ _ _ _ (goes z) (c .took .ensures) (c .before .password-plan .ensures) (r .is-right .ensures)
 
 pub password-spec : {M : Type 1} → statement M
 password-spec =
     tie.close
     (tie.spec
-    refused-requires
+    guard-requires
+    enum-known-refusal
     refuse-requires
     returns
+    enum-told
     slice-reshare-prefix-is-right
     slice-aggregate-is-right
     is-right-requires

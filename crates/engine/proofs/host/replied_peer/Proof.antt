@@ -1,14 +1,15 @@
 -- `engine::host::replied_peer` meets its contract: a Disconnect closes the id that its packet names. Assumes nothing.
 use Rattle.engine.proofs.Accepts.{replied-closing, replied-other}
 use borrow.Author.Needs.{needs}
+use borrow.Author.Tests.{not-true, not-false}
 use Rattle.engine.proofs.host.replied_peer.Statement.{statement}
 use Rattle.engine.proofs.host.replied_peer.Tie as tie
 
-awaited-requires : tie.Need-awaited-requires
-awaited-requires c κs = search needs
+same-await-requires : tie.Need-same-await-requires
+same-await-requires c κs = search needs
 
 returns : tie.Need-returns
-returns c = let k = c .before .before .before .before .args in replied-other (k .e) (k .packet .now) _ (c .before .before .awaited .ensures) (c .before .if1 .taken)
+returns c = let k = c .before .before .before .before .args in replied-other (k .e) (k .packet .now) _ (c .before .before .same-await .ensures) (not-true _ (c .before .if1 .taken))
 
 last-from-requires : tie.Need-last-from-requires
 last-from-requires c κs = search needs
@@ -24,13 +25,13 @@ returns-2 c =
     let l = c .before .before in
     let u = l .before in
     let k = u .before .before .before .args in
-    replied-closing (k .e) (k .packet .now) _ (u .before .awaited .ensures) (u .if1 .left) _ _ _ (l .last-from .ensures) (c .before .first-id .ensures) (c .disconnected .ensures)
+    replied-closing (k .e) (k .packet .now) _ (u .before .same-await .ensures) (not-false _ (u .if1 .left)) _ _ _ (l .last-from .ensures) (c .before .first-id .ensures) (c .disconnected .ensures)
 
 pub replied-peer-spec : {M : Type 1} → statement M
 replied-peer-spec =
     tie.close
     (tie.spec
-    awaited-requires
+    same-await-requires
     returns
     last-from-requires
     first-id-requires

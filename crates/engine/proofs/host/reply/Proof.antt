@@ -1,6 +1,7 @@
 -- `engine::host::reply` meets its contract: the guard refuses as the model does; then the ways of the code are those of `replyAnswer`.
 -- Assumes nothing.
 use Rattle.model.specs.Model.{Stores, stores, replyStep}
+use Rattle.server.specs.declared.CallKind.the-variants as kind
 use Rattle.engine.proofs.Guards.{Goes, going}
 use Rattle.engine.proofs.Carried.{refused-call}
 use Rattle.engine.proofs.Accepts.{reply-bad, reply-connect, reply-another, good-reply}
@@ -8,19 +9,25 @@ use borrow.Author.Needs.{needs}
 use Rattle.engine.proofs.host.reply.Statement.{statement}
 use Rattle.engine.proofs.host.reply.Tie as tie
 
-abbrev start : tie.After-refused → tie.Start
+abbrev start : tie.After-guard → tie.Start
 start k = k .before .before .before .before .before .before
 
 -- the stores that are lent
-abbrev lent : tie.After-refused → Stores
+abbrev lent : tie.After-guard → Stores
 lent k = let a = start k .args in stores (a .packet .now) (a .headers .now) (a .body .now) (a .reply .now)
 
--- the guard lets the call go on
-goes : (k : tie.Else1) → Goes 3 6 (start (k .before) .args .e) (lent (k .before))
-goes k = going 3 6 _ _ _ (k .before .refused .ensures) (k .if1 .left)
+-- the guard says that the call may proceed
+abbrev passed : tie.After-enum-told → tie.After-guard
+passed z = z .before .before
 
-refused-requires : tie.Need-refused-requires
-refused-requires c κs = search needs
+goes : (z : tie.After-enum-told) → Goes kind.ReplyGiven (start (passed z) .args .e) (lent (passed z))
+goes z = going kind.ReplyGiven _ _ _ (passed z .guard .ensures) (z .enum-told .given .1)
+
+guard-requires : tie.Need-guard-requires
+guard-requires c κs = search needs
+
+enum-known-refusal : tie.Need-enum-known-refusal
+enum-known-refusal c = search needs
 
 refuse-requires : tie.Need-refuse-requires
 refuse-requires c κs = search needs
@@ -28,8 +35,11 @@ refuse-requires c κs = search needs
 returns : tie.Need-returns
 unfolding replyStep
 returns c =
-    let k = c .before .before in
-    refused-call 3 6 (start k .args .e) (lent k) _ _ _ (c .refuse .ensures) (k .refused .ensures) (c .before .if1 .taken)
+    let k = c .before .before .before .before in
+    refused-call kind.ReplyGiven (start k .args .e) (lent k) _ _ _ _ (c .refuse .ensures) (k .guard .ensures) (c .before .before .refusal .given .1)
+
+enum-told : tie.Need-enum-told
+enum-told c = search needs
 
 bad-reply-requires : tie.Need-bad-reply-requires
 bad-reply-requires c κs = search needs
@@ -41,11 +51,11 @@ returns-2 : tie.Need-returns-2
 returns-2 c =
     let b = c .before .before in
     let z = b .before in
-    let k = start (z .before) .args in
-    reply-bad (k .e) (lent (z .before)) (k .code) (k .header-bytes .now) (goes z) _ (b .bad-reply .ensures) (c .before .if2 .taken) _ (c .refuse2 .ensures)
+    let k = start (passed z) .args in
+    reply-bad (k .e) (lent (passed z)) (k .code) (k .header-bytes .now) (goes z) _ (b .bad-reply .ensures) (c .before .if1 .taken) _ (c .refuse2 .ensures)
 
-awaited-requires : tie.Need-awaited-requires
-awaited-requires c κs = search needs
+same-await-requires : tie.Need-same-await-requires
+same-await-requires c κs = search needs
 
 slice-reshare-prefix-connect-answer : tie.Need-slice-reshare-prefix-connect-answer
 slice-reshare-prefix-connect-answer c = goes (c .before .before .before .before) .last .inside
@@ -58,9 +68,9 @@ connect-answer-requires c κs =
     let u = c .before .before .before .before .before in
     let b = u .before in
     let z = b .before in
-    let k = start (z .before) .args in
+    let k = start (passed z) .args in
     let g = goes z in
-    (g .bounds .count, g .room .reply, g .room .headers, g .last .short, good-reply (k .code) (k .header-bytes .now) _ (b .bad-reply .ensures) (u .if2 .left))
+    (g .bounds .count, g .room .reply, g .room .headers, g .last .short, good-reply (k .code) (k .header-bytes .now) _ (b .bad-reply .ensures) (u .if1 .left))
 
 same-length : tie.Need-same-length
 same-length c = search needs
@@ -79,8 +89,8 @@ returns-3 c =
     let u = n .before in
     let b = u .before in
     let z = b .before in
-    let k = start (z .before) .args in
-    reply-connect (k .e) (lent (z .before)) (k .code) (k .header-bytes .now) (goes z) _ (b .bad-reply .ensures) (u .if2 .left) _ (n .awaited .ensures) (t .if3 .taken) _
+    let k = start (passed z) .args in
+    reply-connect (k .e) (lent (passed z)) (k .code) (k .header-bytes .now) (goes z) _ (b .bad-reply .ensures) (u .if1 .left) _ (n .same-await .ensures) (t .if2 .taken) _
     (a .connect-answer .ensures)
 
 slice-reshare-prefix-replied-peer : tie.Need-slice-reshare-prefix-replied-peer
@@ -110,21 +120,23 @@ returns-4 c =
     let u = n .before in
     let b = u .before in
     let z = b .before in
-    let k = start (z .before) .args in
-    reply-another (k .e) (lent (z .before)) (k .code) (k .header-bytes .now) (goes z) _ (b .bad-reply .ensures) (u .if2 .left) _ (n .awaited .ensures) (t .if3 .left) _ _
+    let k = start (passed z) .args in
+    reply-another (k .e) (lent (passed z)) (k .code) (k .header-bytes .now) (goes z) _ (b .bad-reply .ensures) (u .if1 .left) _ (n .same-await .ensures) (t .if2 .left) _ _
     (p .replied-peer .ensures) (a .sends .ensures)
 
 pub reply-spec : {M : Type 1} → statement M
 reply-spec =
     tie.close
     (tie.spec
-    refused-requires
+    guard-requires
+    enum-known-refusal
     refuse-requires
     returns
+    enum-told
     bad-reply-requires
     refuse-requires-2
     returns-2
-    awaited-requires
+    same-await-requires
     slice-reshare-prefix-connect-answer
     slice-aggregate-connect-answer
     connect-answer-requires

@@ -3,8 +3,8 @@ use borrow.Author.Needs.{needs}
 use mathlib.Core.Path.{_≡_, sym, ap, _∙_}
 use Rattle.journal.specs.Calls.{Call}
 use Rattle.model.specs.Model.{Stores, Stepped, stores}
-use Rattle.model.specs.declared.server.Engine.{Engine}
-use Rattle.model.specs.declared.server.Request.{Request}
+use Rattle.server.specs.declared.Engine.{Engine}
+use Rattle.server.specs.declared.HostRequest.{HostRequest}
 use Rattle.stream.specs.Host.{callFor, callBy, answered}
 use Rattle.stream.specs.declared.host.Kind.{Kind}
 use Rattle.stream.specs.declared.host.Kind.the-variants as kind
@@ -15,7 +15,7 @@ use Rattle.stream.proofs.host.answer.Tie as tie
 abbrev lent : tie.Start → Stores
 lent a = stores (a .args .packet .now) (a .args .headers .now) (a .args .body .now) (a .args .reply .now)
 
-due : (k x : Kind) (q : Request) (e : Engine) (s : Stores) (m : Stepped) → callBy k ≡ callFor q → k ≡ x → m ≡ answered (callBy x) e s → m ≡ answered (callFor q) e s
+due : (k x : Kind) (q : HostRequest) (e : Engine) (s : Stores) (m : Stepped) → callBy k ≡ callFor q → k ≡ x → m ≡ answered (callBy x) e s → m ≡ answered (callFor q) e s
 due k x q e s m h i w = w ∙ ap (λ (c : Call). answered c e s) (ap callBy (sym i) ∙ h)
 
 kind-of-requires : tie.Need-kind-of-requires
