@@ -30,12 +30,15 @@ use Rattle.connection.specs.declared.peer.ConnectionId.{ConnectionId}
 use Rattle.connection.specs.declared.peer.Answer.{Answer}
 use Rattle.connection.proofs.ByNumbers.{opened-by, disconnected-by}
 use Rattle.journal.specs.Journal.{listOf}
-use Rattle.model.specs.Model.{Stores, Stepped, stepped, Done, after, badReply, replyStep, longUser, checked, credentialsWith, credentialsStep, soundOperation, lastPacket, lastHeaders, srmAsked, sends, sendsConnect, connectSends, frontFor, realmIn, connectChallenged, connectOpened, connectAnswer, replyAnswer, sameAwait}
-use Rattle.engine.specs.Plan.{asksPlan}
+use Rattle.model.specs.Step.{Stores, Stepped, stepped, Done, after, sends, sendsConnect}
+use Rattle.model.specs.Guard.{badReply, longUser, checked, soundOperation, sameAwait}
+use Rattle.model.specs.Calls.{replyGivenStep, credentialsWith, credentialsGivenStep, replyAnswer}
+use Rattle.model.specs.Request.{lastPacket, lastHeaders, realmIn}
+use Rattle.model.specs.Connect.{srmAsked, connectSends, frontFor, connectChallenged, connectOpened, connectAnswer}
+use Rattle.engine.specs.Step.{asksPlan, Written, written, within, tookBy, sentPlan, repliesBy}
 use Rattle.engine.specs.Guard.{refusedWith}
-use Rattle.engine.specs.Carry.{Written, written, within, tookBy, sentPlan, repliesBy}
-use Rattle.engine.specs.Last.{lastFrom}
-use Rattle.engine.specs.Accept.{Answering, answering, among, leaving, headersOf, srmAskedBy, connectReplies, acceptedHeaders, answerFor, challengedBy, openedBy, acceptedBy, repliedPeer, credentialsBy}
+use Rattle.engine.specs.Request.{lastFrom}
+use Rattle.engine.specs.Connect.{Answering, answering, among, leaving, headersOf, srmAskedBy, connectReplies, acceptedHeaders, answerFor, challengedBy, openedBy, acceptedBy, repliedPeer, credentialsBy}
 use Rattle.server.specs.declared.Operation.{Operation}
 use Rattle.server.specs.declared.Operation.the-variants.{Nothing, Putting, Getting, Sending, Gathering as GatheringOp, Connecting, Draining}
 use Rattle.server.specs.declared.Await.the-variants as await
@@ -44,7 +47,7 @@ use Rattle.server.specs.declared.Refusal.the-variants as refusal
 use Rattle.server.specs.declared.Engine.{Engine}
 use Rattle.server.specs.declared.HostRequest.the-variants as request
 use Rattle.server.specs.declared.CallResult.{CallResult}
-use Rattle.engine.specs.declared.plan.Plan.{Plan}
+use Rattle.engine.specs.declared.step.Plan.{Plan}
 use Rattle.engine.proofs.Carried.{took-sent, sent-written}
 use Rattle.server.proofs.Operation.{the-type}
 use Rattle.model.proofs.FromHost.{reply-headers-fit}
@@ -206,23 +209,23 @@ module _ (e : Engine) (s : Stores) where
         go false = refl
 
     module _ (g : Goes kind.ReplyGiven e s) (t : Bool) (bad : t ≡ badReply code hs) where
-      pub reply-bad : t ≡ true → (r : CallResult) → r ≡ refusedWith refusal.BadAnswer e → stepped r s ≡ replyStep e code hs s
-      unfolding replyStep
+      pub reply-bad : t ≡ true → (r : CallResult) → r ≡ refusedWith refusal.BadAnswer e → stepped r s ≡ replyGivenStep e code hs s
+      unfolding replyGivenStep
       reply-bad k r h = ap (λ (r : CallResult). stepped r s) h ∙ sym (simp (sym bad ∙ k)) ∙ sym (g .whole _)
 
-      reply-by : t ≡ false → (x : Stepped) → x ≡ after 0 (replyAnswer e code hs s) → x ≡ replyStep e code hs s
-      unfolding replyStep
+      reply-by : t ≡ false → (x : Stepped) → x ≡ after 0 (replyAnswer e code hs s) → x ≡ replyGivenStep e code hs s
+      unfolding replyGivenStep
       reply-by k x h = h ∙ sym (simp (sym bad ∙ k)) ∙ sym (g .whole _)
 
       module _ (good : t ≡ false) (n : Bool) (now : n ≡ sameAwait (e .awaits) await.Connect) where
         pub reply-connect : n ≡ true → (a : Answering) → a ≡ acceptedBy e code hs (take (e .length) (s .packet)) (s .headers) (s .reply)
-            → among a s ≡ replyStep e code hs s
+            → among a s ≡ replyGivenStep e code hs s
         unfolding lastPacket
         reply-connect k a h =
             reply-by good (among a s) (ap (λ (a : Answering). among a s) h ∙ answer-is ∙ ap (λ (d : Done). after 0 d) (to-connect (sym now ∙ k)))
 
         pub reply-another : n ≡ false → (p : Peer) (w : Written) → p ≡ repliedPeer e (take (e .length) (s .packet)) → w ≡ repliesBy e p code [] hs (s .reply)
-            → within w s ≡ replyStep e code hs s
+            → within w s ≡ replyGivenStep e code hs s
         unfolding lastPacket
         reply-another k p w i h =
             reply-by good (within w s)
@@ -268,8 +271,8 @@ module _ (e : Engine) (c : Option Credentials) (s : Stores) where
       go false = accepted-replies e s (e .peer) code f hs c
 
   pub credentials-call : Goes kind.CredentialsGiven e s → (w : Written) → w ≡ credentialsBy (e .operation) e c (take (e .length) (s .packet)) (s .headers) (s .reply)
-      → within w s ≡ credentialsStep e c s
-  unfolding credentialsStep lastPacket
+      → within w s ≡ credentialsGivenStep e c s
+  unfolding credentialsGivenStep lastPacket
   credentials-call g w h = ap (λ (w : Written). within w s) h ∙ credentials-is (e .operation) ∙ sym (g .whole _)
 
 -- a user id counts where there are credentials; m says whether it does

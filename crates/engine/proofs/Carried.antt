@@ -14,15 +14,17 @@ use Rattle.outgoing.specs.declared.body.Packet.{Packet}
 use Rattle.outgoing.specs.declared.body.Next.{Next}
 use Rattle.outgoing.specs.declared.body.Next.the-variants as next
 use Rattle.server.specs.declared.CallResult.{CallResult}
-use Rattle.engine.specs.declared.plan.Plan.{Plan}
+use Rattle.engine.specs.declared.step.Plan.{Plan}
 use Rattle.engine.proofs.Guards.{Goes, guardedIn, turned}
 use Rattle.engine.proofs.Plans.{Carries}
 use Rattle.engine.specs.Guard.{refusedWith}
-use Rattle.model.specs.Model.{Stepped, stepped, after, guarded, Stores, Done, withReply, capacityOf, sent, sendsMade, sendsPacket}
-use Rattle.engine.specs.declared.plan.Small.{Small}
-use Rattle.engine.specs.declared.plan.Small.the-variants.{Silent}
-use Rattle.engine.specs.Plan.{smallBytes, planned, endsPlan, codePlan, asksPlan}
-use Rattle.engine.specs.Carry.{Written, written, within, carried, tookBy, sentPlan, sentBy, repliesBy, madePlan, packetPlan, planMade, objectPlan}
+use Rattle.model.specs.Step.{Stepped, stepped, after, Stores, Done, withReply, capacityOf, sent}
+use Rattle.model.specs.Guard.{guarded}
+use Rattle.model.specs.Object.{sendsMade, sendsPacket}
+use Rattle.engine.specs.declared.step.ShortReply.{ShortReply}
+use Rattle.engine.specs.declared.step.ShortReply.the-variants.{Silent}
+use Rattle.engine.specs.Step.{smallBytes, planned, endsPlan, codePlan, asksPlan, Written, written, within, carried, tookBy, sentPlan, sentBy, repliesBy}
+use Rattle.engine.specs.Object.{madePlan, packetPlan, planMade, objectPlan}
 use Rattle.server.specs.declared.CallKind.{CallKind}
 use Rattle.server.specs.declared.Refusal.{Refusal}
 use Rattle.engine.specs.declared.guard.Guarded.{Guarded}
@@ -70,7 +72,7 @@ pub silent-call : (kind : CallKind) (e : Engine) (s : Stores) (d : Done) (p q : 
     → q .small ≡ Silent → Carries q s d → stepped r s ≡ guarded kind e s (after 0 d)
 silent-call kind e s d p q r g h k m is =
     ap (λ (x : CallResult). stepped x s) (h ∙ ap (λ (x : Plan). tookBy x) k)
-    ∙ ap (λ (x : Small). stepped (tookBy q) (withReply s (front (smallBytes x) (s .reply)))) (sym m)
+    ∙ ap (λ (x : ShortReply). stepped (tookBy q) (withReply s (front (smallBytes x) (s .reply)))) (sym m)
     ∙ ap (λ (x : Done). after 0 x) (is .is)
     ∙ sym (g .whole (after 0 d))
 

@@ -8,7 +8,8 @@ use native.Mathlib.Omega.{arith}
 use lib.ListN.{length, take, length-take}
 use lib.Dec.{ltb, leb}
 use borrow.Author.Tests.{ltb-true, leb-true}
-use Rattle.model.specs.Model.{Stores, Stepped, short, sound, fits, guarded, refuse, limitOf, soundOperation}
+use Rattle.model.specs.Step.{Stores, Stepped, limitOf}
+use Rattle.model.specs.Guard.{short, sound, fits, guarded, refuse, soundOperation}
 use Rattle.model.proofs.Fit.{and-left, and-right, Room, room}
 use Rattle.engine.specs.Guard.{shortBy, guardedBy}
 use Rattle.server.specs.declared.CallKind.{CallKind}

@@ -38,15 +38,18 @@ use Rattle.connection.specs.declared.peer.Challenge.{Challenge}
 use Rattle.connection.specs.declared.peer.Challenge.the-variants.{Stored, Absent}
 use Rattle.connection.proofs.Challenges.{first-in-bytes}
 use Rattle.connection.proofs.ByNumbers.{checkBy, check-by}
-use Rattle.model.specs.Model.{Stores, stepped, after, guarded, passwordAnswer, clientResponse, lastHeaders, lastPacket, checks}
-use Rattle.engine.specs.Plan.{asksPlan}
-use Rattle.engine.specs.Carry.{tookBy, passwordPlan}
+use Rattle.model.specs.Step.{Stores, stepped, after}
+use Rattle.model.specs.Guard.{guarded}
+use Rattle.model.specs.Connect.{passwordAnswer, checks}
+use Rattle.model.specs.Request.{clientResponse, lastHeaders, lastPacket}
+use Rattle.engine.specs.Step.{asksPlan, tookBy}
+use Rattle.engine.specs.Connect.{passwordPlan}
 use Rattle.server.specs.declared.CallKind.the-variants as kind
 use Rattle.server.specs.declared.Engine.{Engine}
 use Rattle.server.specs.declared.CallResult.{CallResult}
-use Rattle.engine.specs.declared.plan.Plan.{Plan}
+use Rattle.engine.specs.declared.step.Plan.{Plan}
 use Rattle.engine.proofs.Guards.{Goes}
-use Rattle.engine.specs.Last.{fromIn, lastFrom}
+use Rattle.engine.specs.Request.{fromIn, lastFrom}
 
 -- where the headers start, by what the reader of packets gives
 pub from-parsed : (r : Option Packet) (n : ℕ) (o : Opcode) (f : Bool) (h l : ℕ) → parsedAs r n ≡ parsed.Request o f h l → h ≡ fromIn r n

@@ -17,9 +17,13 @@ use Rattle.incoming.specs.declared.gather.Gathered.{Gathered}
 use Rattle.outgoing.specs.Outgoing.{Made, nextPacket, bodyGiven}
 use Rattle.outgoing.specs.declared.body.Outgoing.{Outgoing}
 use Rattle.outgoing.specs.declared.body.Chunk.{Chunk}
-use Rattle.model.specs.Model.{Stores, Done, stepped, withHeaders, after, refuse, bodyFor, objectFor, badHeaders, sendsPacket, sendsNext, capacityOf, objectOf, soundOperation, engineWith, started, startStep}
+use Rattle.model.specs.Step.{Stores, Done, stepped, withHeaders, after, capacityOf, engineWith}
+use Rattle.model.specs.Guard.{refuse, badHeaders, soundOperation}
+use Rattle.model.specs.Calls.{bodyFor, objectFor, started, startStep}
+use Rattle.model.specs.Object.{sendsPacket, sendsNext, objectOf}
 use Rattle.engine.specs.Guard.{guardedStart, refusedWith}
-use Rattle.engine.specs.Carry.{Written, within, carried, packetPlan, packetSent}
+use Rattle.engine.specs.Step.{Written, within, carried}
+use Rattle.engine.specs.Object.{packetPlan, packetSent}
 use Rattle.server.specs.declared.Settings.{Settings}
 use Rattle.server.specs.declared.Operation.{Operation}
 use Rattle.server.specs.declared.Operation.the-variants.{Nothing, Putting, Getting, Sending, Gathering as GatheringOp, Connecting, Draining}
@@ -27,7 +31,7 @@ use Rattle.server.specs.declared.Await.the-variants as await
 use Rattle.server.specs.declared.Engine.{Engine}
 use Rattle.server.specs.declared.Outcome.the-variants as outcome
 use Rattle.server.specs.declared.CallResult.{CallResult}
-use Rattle.engine.specs.declared.plan.Plan.{Plan}
+use Rattle.engine.specs.declared.step.Plan.{Plan}
 use Rattle.server.proofs.Operation.{the-type}
 use Rattle.model.proofs.Steps.{OutgoingFits, outgoing-within}
 use Rattle.model.proofs.FromHost.{headers-fit}

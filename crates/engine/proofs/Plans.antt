@@ -9,8 +9,10 @@ use Rattle.packet.specs.declared.opcode.Opcode.{Opcode}
 use Rattle.connection.specs.declared.peer.Peer.{Peer}
 use Rattle.incoming.specs.Gather.{Gathering}
 use Rattle.incoming.specs.declared.survey.Survey.{Survey}
-use Rattle.model.specs.Model.{Stores, Done, withGathered, wants, asks, ends, replies, continues, putContinues, putGathered, getContinues, getGathered, headersGathered}
-use Rattle.engine.specs.Plan.{planned, wantsPlan, asksPlan, endsPlan, codePlan, continuePlan, putContinuePlan, putPlan, getContinuePlan, getPlan, headersPlan}
+use Rattle.model.specs.Step.{Stores, Done, withGathered, wants, asks, ends, replies, continues}
+use Rattle.model.specs.Operation.{putContinues, putGathered, getContinues, getGathered, headersGathered}
+use Rattle.engine.specs.Step.{planned, wantsPlan, asksPlan, endsPlan, codePlan, continuePlan}
+use Rattle.engine.specs.Operation.{putContinuePlan, putPlan, getContinuePlan, getPlan, headersPlan}
 use Rattle.server.specs.declared.Operation.{Operation}
 use Rattle.server.specs.declared.Operation.the-variants.{Nothing, Putting, Getting, Gathering as GatheringOp}
 use Rattle.server.specs.declared.Await.{Await}
@@ -19,7 +21,7 @@ use Rattle.server.specs.declared.End.{End}
 use Rattle.server.specs.declared.End.the-variants as end
 use Rattle.server.specs.declared.Engine.{Engine}
 use Rattle.server.specs.declared.HostRequest.{HostRequest}
-use Rattle.engine.specs.declared.plan.Plan.{Plan}
+use Rattle.engine.specs.declared.step.Plan.{Plan}
 
 -- the plan, carried out over these stores, is this step
 pub record Carries (p : Plan) (s : Stores) (d : Done) : Type 0 where

@@ -6,19 +6,21 @@ use Prim.Native.Nat.{ℕ, _≤_}
 use Rattle.base.specs.Pick.{pick}
 use Rattle.outgoing.specs.Outgoing.{nextPacket}
 use Rattle.outgoing.specs.declared.body.Outgoing.{Outgoing}
-use Rattle.model.specs.Model.{Stores, Done, withReply, limitOf, capacityOf, sameAwait, soundOperation, goesOn, ends, sendsNext, after, takenStep}
-use Rattle.engine.specs.Plan.{planned}
-use Rattle.engine.specs.Carry.{Written, within, carried, PlanMade, planMade, objectPlan}
-use Rattle.engine.specs.Turn.{goesTurn, turnOf, turnActs}
+use Rattle.model.specs.Step.{Stores, Done, withReply, limitOf, capacityOf, ends, after}
+use Rattle.model.specs.Guard.{sameAwait, soundOperation}
+use Rattle.model.specs.Object.{goesOn, sendsNext}
+use Rattle.model.specs.Calls.{replyTakenStep}
+use Rattle.engine.specs.Step.{planned, Written, within, carried}
+use Rattle.engine.specs.Object.{PlanMade, planMade, objectPlan, goesTurn, turnOf, turnActs}
 use Rattle.server.specs.declared.Operation.{Operation}
 use Rattle.server.specs.declared.Operation.the-variants.{Nothing, Putting, Getting, Sending, Gathering as GatheringOp, Connecting, Draining}
 use Rattle.server.specs.declared.CallKind.the-variants as kind
 use Rattle.server.specs.declared.End.the-variants as end
 use Rattle.server.specs.declared.Await.the-variants as await
 use Rattle.server.specs.declared.Engine.{Engine}
-use Rattle.engine.specs.declared.plan.Plan.{Plan}
-use Rattle.engine.specs.declared.arrival.Turn.{Turn}
-use Rattle.engine.specs.declared.arrival.Turn.the-variants.{Send, Wait, End}
+use Rattle.engine.specs.declared.step.Plan.{Plan}
+use Rattle.engine.specs.declared.object.Turn.{Turn}
+use Rattle.engine.specs.declared.object.Turn.the-variants.{Send, Wait, End}
 use Rattle.model.proofs.Steps.{outgoing-within}
 use Rattle.engine.proofs.Carried.{packet-carried}
 use Rattle.engine.proofs.Guards.{Goes}
@@ -65,8 +67,8 @@ module _ (e : Engine) (s : Stores) where
       ∙ ap (λ (d : Done). pick (sameAwait (e .awaits) await.Taken) d (ends e (e .peer) end.OtherOperation s)) (goes-acts (e .operation))
 
   pub taken-call : (p : Plan) (y : List ℕ) (w : Written) → Goes kind.ReplyTaken e s → w ≡ carried p y → planned p (withReply s y) ≡ turnActs (turnOf e) e s
-      → within w s ≡ takenStep e s
-  unfolding takenStep
+      → within w s ≡ replyTakenStep e s
+  unfolding replyTakenStep
   taken-call p y w g h k =
       ap (λ (x : Written). within x s) h ∙ ap (λ (d : Done). after 0 d) (k ∙ turn-acts)
       ∙ sym (g .whole (after 0 (pick (sameAwait (e .awaits) await.Taken) (goesOn (e .operation) e s) (ends e (e .peer) end.OtherOperation s))))

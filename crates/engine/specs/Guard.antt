@@ -4,7 +4,8 @@ use Prim.Native.Nat.{ℕ}
 use mathlib.Core.Bool.{Bool, _&&_, _||_}
 use lib.Dec.{ltb}
 use Rattle.base.specs.Pick.{pick}
-use Rattle.model.specs.Model.{limitOf, sound, fits}
+use Rattle.model.specs.Step.{limitOf}
+use Rattle.model.specs.Guard.{sound, fits}
 use Rattle.server.specs.declared.CallKind.{CallKind}
 use Rattle.server.specs.declared.Refusal.{Refusal}
 use Rattle.server.specs.declared.Refusal.the-variants as refusal

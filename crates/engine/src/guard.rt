@@ -1,19 +1,21 @@
 // Which calls are refused, decided by the state and the lengths of the lent stores: 10 where a store is short, then 9 where the state is
 // none that a call can leave, or where another call is awaited.
 ghost use mathlib.Core.Path.{_≡_};
-ghost use Rattle.model.specs.Model.{awaitNumber, sameAwait, fits, sound, soundGathered, soundOutgoing, soundOperation};
+ghost use Rattle.model.specs.Guard.{awaitNumber, sameAwait, fits, sound, soundGathered, soundOutgoing, soundOperation, badHeaders, badReply};
 ghost use Rattle.server.specs.declared.CallKind.the-variants as kind;
 ghost use Rattle.engine.specs.Guard.{shortBy, guardedBy, guardedStart, refusedWith};
 use incoming::gather::Gathered;
+use outgoing::body::Chunk;
+use outgoing::body::Outgoing;
+use packet::header::is_canonical;
+use packet::response::is_code;
 use server::Await;
 use server::CallKind;
+use server::CallResult;
 use server::Engine;
 use server::Operation;
 use server::Outcome;
 use server::Refusal;
-use server::CallResult;
-use outgoing::body::Chunk;
-use outgoing::body::Outgoing;
 
 // A number for each thing awaited, by which two of them are told apart.
 fn await_number(a: Await) -> u8
@@ -87,14 +89,14 @@ fn is_awaited(k: CallKind, a: Await) -> bool
 }
 
 // The Put limit as a length.
-pub fn wide(n: u32) -> usize
+pub(crate) fn wide(n: u32) -> usize
     ensures { λ r. ⌜ r ≡ n ⌝ }
 {
     n as usize
 }
 
 // Whether a lent store is too short.
-pub fn is_short(limit: u32, packet: usize, headers: usize, body: usize, reply: usize) -> bool
+pub(crate) fn is_short(limit: u32, packet: usize, headers: usize, body: usize, reply: usize) -> bool
     ensures { λ r. ⌜ r ≡ shortBy limit packet headers body reply ⌝ }
 {
     if packet < 65535 {
@@ -169,7 +171,7 @@ fn sound_operation(limit: u32, operation: Operation) -> bool
 }
 
 // Whether the counts are ones that a call can leave.
-pub fn is_sound(e: Engine) -> bool
+pub(crate) fn is_sound(e: Engine) -> bool
     ensures { λ r. ⌜ r ≡ sound e ⌝ }
 {
     if e.begun >= 65535 {
@@ -252,4 +254,24 @@ pub(crate) fn refuse(e: Engine, refusal: Refusal) -> CallResult
         taken: 0,
         outcome: Outcome::Refused(refusal),
     }
+}
+
+// Header bytes that are too long or not canonical.
+pub(crate) fn is_bad_headers(s: &[u8]) -> bool
+    ensures { λ r. ⌜ r ≡ badHeaders (now (s .entry)) ⌝ }
+{
+    if s.len() > 65535 {
+        return true;
+    }
+    !is_canonical(s)
+}
+
+// Bad header bytes, or a code that is none.
+pub(crate) fn is_bad_reply(code: u8, header_bytes: &[u8]) -> bool
+    ensures { λ r. ⌜ r ≡ badReply code (now («header_bytes» .entry)) ⌝ }
+{
+    if !is_code(code) {
+        return true;
+    }
+    is_bad_headers(header_bytes)
 }

@@ -1,10 +1,7 @@
 // Plays a session on standard input to the engine many times and counts what comes back, for its throughput: load COUNT READ.
 use base::be16_at;
 use base::copy_into;
-use engine::arrival;
-use engine::host;
-use engine::session;
-use engine::session::default_settings;
+use engine::calls;
 use libc::STDIN_FILENO;
 use lines::output::least;
 use lines::output::put;
@@ -13,10 +10,11 @@ use lines::output::write;
 use lines::word::byte_at;
 use lines::word::number;
 use server::Body;
-use server::Engine;
-use server::Outcome;
-use server::HostRequest;
 use server::CallResult;
+use server::Engine;
+use server::HostRequest;
+use server::Outcome;
+use server::default_settings;
 use std::num::wrapping_add_usize;
 
 // The longest body of a Put, and the object's length.
@@ -164,7 +162,7 @@ fn answer(
     reply: &mut [u8],
 ) -> CallResult {
     match request {
-        HostRequest::Get { kept: _ } => host::object(
+        HostRequest::Get { kept: _ } => calls::object_given(
             e,
             &chunk[0..0],
             true,
@@ -173,9 +171,15 @@ fn answer(
             body,
             reply,
         ),
-        HostRequest::Read { room: _ } => host::body(e, chunk, packet, headers, body, reply),
-        HostRequest::Abort { length: _ } => host::acknowledge(e, packet, headers, body, reply),
-        _ => host::reply(e, 0x20, &chunk[0..0], packet, headers, body, reply),
+        HostRequest::Read { room: _ } => calls::body_given(e, chunk, packet, headers, body, reply),
+        HostRequest::Abort { length: _ } => calls::abort_acknowledged(
+            e,
+            packet,
+            headers,
+            body,
+            reply,
+        ),
+        _ => calls::reply_given(e, 0x20, &chunk[0..0], packet, headers, body, reply),
     }
 }
 
@@ -192,12 +196,12 @@ fn call(
 ) -> CallResult {
     match outcome {
         Outcome::Request(request) => answer(e, request, chunk, packet, headers, body, reply),
-        Outcome::Reply { length: _ } => arrival::reply_taken(e, packet, headers, body, reply),
+        Outcome::Reply { length: _ } => calls::reply_taken(e, packet, headers, body, reply),
         _ => {
             if piece.len() == 0 {
-                return session::end_of_stream(e, packet, headers, body, reply);
+                return calls::stream_ended(e, packet, headers, body, reply);
             }
-            arrival::bytes(e, piece, packet, headers, body, reply)
+            calls::bytes_offered(e, piece, packet, headers, body, reply)
         }
     }
 }
@@ -259,7 +263,7 @@ fn play(
     reply: &mut [u8],
 ) -> Progress {
     let mut q = begin(p);
-    let mut took = session::start(default_settings(LIMIT), packet, headers, body, reply);
+    let mut took = calls::start(default_settings(LIMIT), packet, headers, body, reply);
     let mut left = CALLS;
     while left > 0 {
         let outcome = took.outcome;

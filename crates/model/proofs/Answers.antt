@@ -23,8 +23,10 @@ use Rattle.connection.specs.Connect.{answeredChallenge}
 use Rattle.connection.specs.declared.peer.Challenge.{Challenge}
 use Rattle.connection.specs.declared.peer.Challenge.the-variants.{Stored, Absent}
 use Rattle.connection.specs.declared.peer.Peer.{Peer}
-use Rattle.model.specs.Model.{Stores, withHeaders, asks, sent, sends, sendsConnect, lastPacket, lastHeaders, clientResponse, srmAsked, connectSends, frontFor, credentialsFor, connectChallenged, connectOpened, connectAnswer, checks, passwordAnswer, nonceAnswer}
-use Rattle.model.specs.Claims.{settingsOf}
+use Rattle.model.specs.Step.{Stores, withHeaders, asks, sent, sends, sendsConnect}
+use Rattle.model.specs.Request.{lastPacket, lastHeaders, clientResponse}
+use Rattle.model.specs.Connect.{srmAsked, connectSends, frontFor, credentialsFor, connectChallenged, connectOpened, connectAnswer, checks, passwordAnswer, nonceAnswer}
+use Rattle.model.specs.Theorem.{settingsOf}
 use Rattle.server.specs.declared.Operation.the-variants.{Nothing, Connecting}
 use Rattle.connection.specs.declared.peer.ConnectionId.{ConnectionId}
 use Rattle.server.specs.declared.Await.the-variants as await

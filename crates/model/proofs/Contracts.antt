@@ -1,4 +1,4 @@
--- The claims of `Demand3` over contracts: what a contract says of a call is the model's step, so a run by contracts is a run of the model.
+-- The claims of `RecordsTheorem` over contracts: what a contract says of a call is the model's step, so a run by contracts is a run of the model.
 -- Assumes nothing.
 use mathlib.Core.Path.{_≡_, refl, sym, ap, _∙_, subst}
 use mathlib.Core.List.{List, _∷_, _++_}
@@ -11,14 +11,16 @@ use Rattle.journal.specs.Carried.{Carried}
 use Rattle.journal.specs.Calls.{Call, Verdict}
 use Rattle.journal.specs.Journal.{fresh, packets}
 use Rattle.journal.specs.PutForm.{Exactly}
-use Rattle.model.specs.Model.{Stores, Stepped, short, startStep}
+use Rattle.model.specs.Step.{Stores, Stepped}
+use Rattle.model.specs.Guard.{short}
+use Rattle.model.specs.Calls.{startStep}
 use Rattle.model.specs.Runs.{State, stateOf, handed, records, Started}
-use Rattle.model.specs.Refusal.{bytes, verdictOf, returned, feedOf}
-use Rattle.model.specs.Claims.{settingsOf}
+use Rattle.model.specs.Refusals.{bytes, verdictOf, returned, feedOf}
+use Rattle.model.specs.Theorem.{settingsOf}
 use Rattle.model.specs.Contracts.{state, Ran, none, call, ContractsUphold}
 use Rattle.server.specs.declared.Settings.{Settings}
 use Rattle.server.specs.declared.Outcome.the-variants as outcome
-use Rattle.model.proofs.Demand3.{demand3, refusals}
+use Rattle.model.proofs.Records.{records-theorem, refusals}
 
 ran-records : {s : State} {cs : List Call} {vs : List Verdict} {ls : List Carried} → Ran s cs vs ls → ls ≡ records s cs
 ran-records none = refl
@@ -50,7 +52,7 @@ contracts-uphold st s t r cs vs ls a o h =
     subst (λ (m : Stepped). Started st (stateOf m)) (sym (a .says)) (start-accepted st s (ap (λ (m : Stepped). m .took .outcome) (sym (a .says)) ∙ a .accepted)) in
     record {
       refusals = ran-returned h ∙ refusals st (state r t) w cs o;
-      journal = λ k. ran-records h ∙ demand3 st (state r t) w cs o k .journal;
+      journal = λ k. ran-records h ∙ records-theorem st (state r t) w cs o k .journal;
       forms = λ k. subst (Exactly (st .«max_object_size») (packets (fresh (settingsOf st)) (feedOf bytes (state r t) cs))) (sym (ran-records h))
-          (demand3 st (state r t) w cs o k .forms);
+          (records-theorem st (state r t) w cs o k .forms);
     }

@@ -19,9 +19,9 @@ use Rattle.incoming.specs.Gather.{gathering as gatheringOf}
 use Rattle.incoming.specs.declared.gather.Gathered.{Gathered}
 use Rattle.connection.specs.Send.{front}
 use Rattle.connection.specs.declared.peer.Peer.{Peer}
-use Rattle.model.specs.Model.{Stores, withReply, engineWith, Done, done, wants, ends, replies, repliesCode}
+use Rattle.model.specs.Step.{Stores, withReply, engineWith, Done, done, wants, ends, replies, repliesCode}
 use Rattle.model.specs.Runs.{handed}
-use Rattle.model.specs.Claims.{settingsOf}
+use Rattle.model.specs.Theorem.{settingsOf}
 use Rattle.server.specs.declared.Settings.{Settings}
 use Rattle.server.specs.declared.Operation.{Operation}
 use Rattle.server.specs.declared.Operation.the-variants.{Nothing, Putting, Getting, Sending, Gathering as GatheringOp, Connecting, Draining}

@@ -23,7 +23,11 @@ use Rattle.connection.specs.Peer.{idsOf, limited}
 use Rattle.connection.specs.declared.peer.Challenge.{Challenge}
 use Rattle.connection.specs.declared.peer.Challenge.the-variants.{Stored, Absent}
 use Rattle.connection.specs.declared.peer.Peer.{Peer}
-use Rattle.model.specs.Model.{Stores, Done, wants, asks, repliesCode, putPacket, headersPacket, lastPacket, limitOf, nothingGathered, clientResponse, userPlace, verifies, connectPacket, Rejection, admits, rejects, rejection, drains, rejected, confirms, dispatches, admittedAs, dispatch}
+use Rattle.model.specs.Step.{Stores, Done, wants, asks, repliesCode, limitOf}
+use Rattle.model.specs.Operation.{putPacket, headersPacket, nothingGathered}
+use Rattle.model.specs.Request.{lastPacket, clientResponse, userPlace}
+use Rattle.model.specs.Connect.{verifies, connectPacket}
+use Rattle.model.specs.Dispatch.{Rejection, admits, rejects, rejection, drains, rejected, confirms, dispatches, admittedAs, dispatch}
 use Rattle.model.specs.Runs.{handedBy}
 use Rattle.server.specs.declared.Operation.the-variants.{Nothing, Draining}
 use Rattle.server.specs.declared.Await.{Await}

@@ -19,8 +19,9 @@ use Rattle.outgoing.specs.declared.body.Outgoing.{Outgoing}
 use Rattle.outgoing.specs.declared.body.Chunk.{Chunk}
 use Rattle.connection.specs.Send.{front}
 use Rattle.connection.specs.declared.peer.Peer.{Peer}
-use Rattle.model.specs.Model.{Stores, withHeaders, stores, withReply, engineWith, Done, done, wants, asks, ends, replies, repliesCode, continueBytes, continues, limitOf, short, soundOperation, sound}
-use Rattle.model.specs.Refusal.{Waits, bytes, taking, reply, object, acknowledgement, password, nonce, credentials, nothing, reading, asked, told, verdictOf}
+use Rattle.model.specs.Step.{Stores, withHeaders, stores, withReply, engineWith, Done, done, wants, asks, ends, replies, repliesCode, continueBytes, continues, limitOf}
+use Rattle.model.specs.Guard.{short, soundOperation, sound}
+use Rattle.model.specs.Refusals.{Waits, bytes, taking, reply, object, acknowledgement, password, nonce, credentials, nothing, reading, asked, told, verdictOf}
 use Rattle.server.specs.declared.Operation.{Operation}
 use Rattle.server.specs.declared.Operation.the-variants.{Nothing, Putting, Getting, Sending, Gathering as GatheringOp, Connecting, Draining}
 use Rattle.connection.specs.declared.peer.ConnectionId.{ConnectionId}

@@ -19,9 +19,13 @@ use Rattle.outgoing.specs.Outgoing.{bodyGiven as givenBody}
 use Rattle.outgoing.specs.declared.body.Outgoing.{Outgoing}
 use Rattle.outgoing.specs.declared.body.Chunk.{Chunk}
 use Rattle.connection.specs.Send.{front}
-use Rattle.model.specs.Model.{Stores, withHeaders, connectSends, Done, refuse, after, limitOf, sends, sendsPacket, sendsNext, sameAwait, fits, badHeaders, badReply, checked, replyAnswer, objectOf, objectFor, bodyFor, longUser, credentialsWith, soundOperation}
+use Rattle.model.specs.Step.{Stores, withHeaders, Done, after, limitOf, sends}
+use Rattle.model.specs.Connect.{connectSends}
+use Rattle.model.specs.Guard.{refuse, sameAwait, fits, badHeaders, badReply, checked, longUser, soundOperation}
+use Rattle.model.specs.Object.{sendsPacket, sendsNext, objectOf}
+use Rattle.model.specs.Calls.{replyAnswer, objectFor, bodyFor, credentialsWith}
 use Rattle.model.specs.Runs.{State}
-use Rattle.model.specs.Refusal.{Waits, roomIn, bad}
+use Rattle.model.specs.Refusals.{Waits, roomIn, bad}
 use Rattle.server.specs.declared.Operation.{Operation}
 use Rattle.server.specs.declared.CallKind.the-variants as kind
 use Rattle.server.specs.declared.Refusal.the-variants as refusal

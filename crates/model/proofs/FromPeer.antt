@@ -14,10 +14,15 @@ use Rattle.journal.specs.Journal.{Journal, unchanged, begin, end, Read, more, w
 use Rattle.incoming.specs.Frame.{Frames, framed}
 use Rattle.incoming.specs.declared.io.Frame.{Frame}
 use Rattle.incoming.specs.declared.io.Frame.the-variants.{More, Whole, Short}
-use Rattle.model.specs.Model.{Stores, done, wants, ends, after, engineWith, limitOf, lastPacket, lengthOf, packetDone, framedAs, withPacket, offers, sameAwait, fits, goesOn, soundOperation}
+use Rattle.model.specs.Step.{Stores, done, wants, ends, after, engineWith, limitOf}
+use Rattle.model.specs.Request.{lastPacket}
+use Rattle.model.specs.Dispatch.{lengthOf, packetDone}
+use Rattle.model.specs.Calls.{framedAs, withPacket, offers}
+use Rattle.model.specs.Guard.{sameAwait, fits, soundOperation}
+use Rattle.model.specs.Object.{goesOn}
 use Rattle.model.specs.Runs.{State}
-use Rattle.model.specs.Refusal.{Waits, bad}
-use Rattle.model.specs.Claims.{Kept}
+use Rattle.model.specs.Refusals.{Waits, bad}
+use Rattle.model.specs.Theorem.{Kept}
 use Rattle.server.specs.declared.Operation.{Operation}
 use Rattle.server.specs.declared.Operation.the-variants.{Nothing, Putting, Getting, Sending, Gathering as GatheringOp, Connecting, Draining}
 use Rattle.server.specs.declared.End.the-variants as why

@@ -26,7 +26,9 @@ use Rattle.outgoing.specs.declared.body.Outgoing.{Outgoing}
 use Rattle.outgoing.specs.declared.body.Next.{Next}
 use Rattle.outgoing.specs.declared.body.Next.the-variants as next
 use Rattle.connection.specs.Send.{front}
-use Rattle.model.specs.Model.{Stores, withReply, withGathered, repliesCode, limitOf, continueBytes, putBody, putGathered, putPacket, getGathered, getPacket, headersRequest, headersGathered, headersPacket, gathers, capacityOf, sendsMade, sendsPacket, sendsNext}
+use Rattle.model.specs.Step.{Stores, withReply, withGathered, repliesCode, limitOf, continueBytes, capacityOf}
+use Rattle.model.specs.Operation.{putBody, putGathered, putPacket, getGathered, getPacket, headersRequest, headersGathered, headersPacket, gathers}
+use Rattle.model.specs.Object.{sendsMade, sendsPacket, sendsNext}
 use Rattle.model.specs.Runs.{bodyIn, handed}
 use Rattle.server.specs.declared.Operation.{Operation}
 use Rattle.server.specs.declared.Operation.the-variants.{Nothing, Putting, Getting, Sending, Gathering as GatheringOp}

@@ -12,10 +12,14 @@ use Rattle.base.specs.Pick.{pick}
 use Rattle.journal.specs.Calls.{Call, bytesOffered, streamEnded, replyTaken, replyGiven, objectGiven, bodyGiven, bodyFailed, abortAcknowledged, passwordGiven, nonceGiven, credentialsGiven, Verdict, goes, refused}
 use Rattle.journal.specs.Journal.{Journal, unchanged, journalCall, journalFed, fedReads}
 use Rattle.incoming.specs.Frame.{framed}
-use Rattle.model.specs.Model.{Stores, Stepped, Done, done, refuse, after, ends, repliesCode, limitOf, sound, awaitNumber, sameAwait, fits, guarded, offers, goesOn, bytesStep, endStep, takenStep, badReply, checked, replyAnswer, replyStep, objectFor, objectStep, bodyFor, bodyStep, bodyFailedStep, acknowledgeStep, passwordAnswer, passwordStep, nonceAnswer, nonceStep, credentialsWith, credentialsStep}
+use Rattle.model.specs.Step.{Stores, Stepped, Done, done, after, ends, repliesCode, limitOf}
+use Rattle.model.specs.Guard.{refuse, sound, awaitNumber, sameAwait, fits, guarded, badReply, checked}
+use Rattle.model.specs.Calls.{offers, bytesOfferedStep, streamEndedStep, replyTakenStep, replyAnswer, replyGivenStep, objectFor, objectGivenStep, bodyFor, bodyGivenStep, bodyFailedStep, abortAcknowledgedStep, passwordGivenStep, nonceGivenStep, credentialsWith, credentialsGivenStep}
+use Rattle.model.specs.Object.{goesOn}
+use Rattle.model.specs.Connect.{passwordAnswer, nonceAnswer}
 use Rattle.model.specs.Runs.{State, stepOf, stateOf}
-use Rattle.model.specs.Refusal.{Waits, roomIn, told, expected, bad, verdict, verdictAt, verdictOf}
-use Rattle.model.specs.Claims.{Kept}
+use Rattle.model.specs.Refusals.{Waits, roomIn, told, expected, bad, verdict, verdictAt, verdictOf}
+use Rattle.model.specs.Theorem.{Kept}
 use Rattle.server.specs.Numbers.{refusalNumber}
 use Rattle.server.specs.declared.CallKind.{CallKind}
 use Rattle.server.specs.declared.CallKind.the-variants as kind
@@ -130,7 +134,7 @@ goFor s (nonceGiven n l) = after 0 (nonceAnswer (s .engine) n l (s .stores))
 goFor s (credentialsGiven c) = credentialsWith (s .engine .operation) (s .engine) c (s .stores)
 
 step-is : (s : State) (c : Call) → stepOf s c ≡ guarded (kindOf c) (s .engine) (s .stores) (goFor s c)
-unfolding bytesStep endStep takenStep replyStep objectStep bodyStep bodyFailedStep acknowledgeStep passwordStep nonceStep credentialsStep
+unfolding bytesOfferedStep streamEndedStep replyTakenStep replyGivenStep objectGivenStep bodyGivenStep bodyFailedStep abortAcknowledgedStep passwordGivenStep nonceGivenStep credentialsGivenStep
 step-is s (bytesOffered i) = refl
 step-is s streamEnded = refl
 step-is s replyTaken = refl

@@ -19,7 +19,10 @@ use Rattle.journal.specs.Journal.{Opened, nothing, sending, draining, busy as b
 use Rattle.incoming.specs.Survey.{surveyOf}
 use Rattle.incoming.specs.declared.survey.Survey.{Survey}
 use Rattle.connection.specs.Send.{front}
-use Rattle.model.specs.Model.{Stores, withReply, Done, wants, asks, ends, repliesCode, putPacket, limitOf, dispatch, interrupts, inside, busy, unknownByte, unreadable, readAs, soundOperation}
+use Rattle.model.specs.Step.{Stores, withReply, Done, wants, asks, ends, repliesCode, limitOf}
+use Rattle.model.specs.Operation.{putPacket}
+use Rattle.model.specs.Dispatch.{dispatch, interrupts, inside, busy, unknownByte, unreadable, readAs}
+use Rattle.model.specs.Guard.{soundOperation}
 use Rattle.server.specs.declared.Operation.{Operation}
 use Rattle.server.specs.declared.Operation.the-variants.{Nothing, Putting, Getting, Sending, Gathering as GatheringOp, Connecting, Draining}
 use Rattle.server.specs.declared.Await.the-variants as await

@@ -36,9 +36,16 @@ use Rattle.connection.specs.declared.peer.Challenge.{Challenge}
 use Rattle.connection.specs.declared.peer.Challenge.the-variants.{Stored, Absent}
 use Rattle.connection.specs.declared.peer.Peer.{Peer}
 use Rattle.journal.specs.Journal.{listOf}
-use Rattle.model.specs.Model.{Stores, withReply, withHeaders, withGathered, sent, sends, sendsConnect, lastPacket, lastHeaders, limitOf, nothingGathered, gathers, putBody, putContinues, putPacket, getContinues, getPacket, headersRequest, headersPacket, capacityOf, sendsMade, sendsPacket, sendsNext, clientResponse, userPlace, verifies, connectPacket, connectSends, frontFor, credentialsFor, connectChallenged, connectOpened, connectAnswer, checks, passwordAnswer, nonceAnswer, Rejection, admits, rejects, rejection, drains, dispatches, admittedAs, dispatch, interrupts, inside, busy, readAs, soundGathered, soundOutgoing, soundOperation, replyAnswer, sameAwait, srmAsked}
+use Rattle.model.specs.Step.{Stores, withReply, withHeaders, withGathered, sent, sends, sendsConnect, limitOf, capacityOf}
+use Rattle.model.specs.Request.{lastPacket, lastHeaders, clientResponse, userPlace}
+use Rattle.model.specs.Operation.{nothingGathered, gathers, putBody, putContinues, putPacket, getContinues, getPacket, headersRequest, headersPacket}
+use Rattle.model.specs.Object.{sendsMade, sendsPacket, sendsNext}
+use Rattle.model.specs.Connect.{verifies, connectPacket, connectSends, frontFor, credentialsFor, connectChallenged, connectOpened, connectAnswer, checks, passwordAnswer, nonceAnswer, srmAsked}
+use Rattle.model.specs.Dispatch.{Rejection, admits, rejects, rejection, drains, dispatches, admittedAs, dispatch, interrupts, inside, busy, readAs}
+use Rattle.model.specs.Guard.{soundGathered, soundOutgoing, soundOperation, sameAwait}
+use Rattle.model.specs.Calls.{replyAnswer}
 use Rattle.model.specs.Runs.{handedBy}
-use Rattle.model.specs.Refusal.{reply, asked}
+use Rattle.model.specs.Refusals.{reply, asked}
 use Rattle.server.specs.declared.Operation.{Operation}
 use Rattle.server.specs.declared.Operation.the-variants.{Nothing, Putting, Getting, Sending, Gathering as GatheringOp, Connecting, Draining}
 use Rattle.connection.specs.declared.peer.ConnectionId.{ConnectionId}

@@ -12,7 +12,8 @@ use Rattle.packet.specs.declared.opcode.Opcode.the-variants as op
 use Rattle.journal.specs.Ids.{newId}
 use Rattle.journal.specs.Carried.{Carried}
 use Rattle.journal.specs.Calls.{Call, bytesOffered, replyTaken, objectGiven, bodyGiven}
-use Rattle.model.specs.Model.{Stores, started}
+use Rattle.model.specs.Step.{Stores}
+use Rattle.model.specs.Calls.{started}
 use Rattle.server.specs.Settings.{defaultSettings}
 use Rattle.model.specs.Runs.{State, stepOf, stateOf, records}
 use Rattle.server.specs.declared.Outcome.{Outcome}

@@ -5,10 +5,11 @@ use Rattle.journal.specs.Carried.{Carried}
 use Rattle.journal.specs.Calls.{Call, Verdict}
 use Rattle.journal.specs.Journal.{journalRecords, fresh, packets}
 use Rattle.journal.specs.PutForm.{Exactly}
-use Rattle.model.specs.Model.{Stores, stepped, startStep}
+use Rattle.model.specs.Step.{Stores, stepped}
+use Rattle.model.specs.Calls.{startStep}
 use Rattle.model.specs.Runs.{State, stepOf, handed, AllOctets}
-use Rattle.model.specs.Refusal.{bytes, verdictOf, due, feedOf}
-use Rattle.model.specs.Claims.{settingsOf, Kept}
+use Rattle.model.specs.Refusals.{bytes, verdictOf, due, feedOf}
+use Rattle.model.specs.Theorem.{settingsOf, Kept}
 use Rattle.server.specs.declared.Settings.{Settings}
 use Rattle.server.specs.declared.CallResult.{CallResult}
 use Rattle.server.specs.declared.Outcome.the-variants as outcome

@@ -7,7 +7,9 @@ use mathlib.Core.Option.{Option, none, some}
 use lib.ListN.{getD, take}
 use Rattle.journal.specs.Carried.{Carried}
 use Rattle.journal.specs.Calls.{Call, bytesOffered, streamEnded, replyTaken, replyGiven, objectGiven, bodyGiven, bodyFailed, abortAcknowledged, passwordGiven, nonceGiven, credentialsGiven}
-use Rattle.model.specs.Model.{Stores, Stepped, bytesStep, endStep, takenStep, replyStep, objectStep, bodyStep, bodyFailedStep, acknowledgeStep, passwordStep, nonceStep, credentialsStep, started, short}
+use Rattle.model.specs.Step.{Stores, Stepped}
+use Rattle.model.specs.Calls.{bytesOfferedStep, streamEndedStep, replyTakenStep, replyGivenStep, objectGivenStep, bodyGivenStep, bodyFailedStep, abortAcknowledgedStep, passwordGivenStep, nonceGivenStep, credentialsGivenStep, started}
+use Rattle.model.specs.Guard.{short}
 use Rattle.server.specs.declared.Settings.{Settings}
 use Rattle.server.specs.declared.Engine.{Engine}
 use Rattle.server.specs.declared.Body.{Body}
@@ -24,17 +26,17 @@ pub record State : Type 0 where
 
 -- a call is the model's step
 abbrev pub stepOf : State → Call → Stepped
-stepOf s (bytesOffered i) = bytesStep (s .engine) i (s .stores)
-stepOf s streamEnded = endStep (s .engine) (s .stores)
-stepOf s replyTaken = takenStep (s .engine) (s .stores)
-stepOf s (replyGiven code hs) = replyStep (s .engine) code hs (s .stores)
-stepOf s (objectGiven hs b) = objectStep (s .engine) hs b (s .stores)
-stepOf s (bodyGiven d) = bodyStep (s .engine) d (s .stores)
+stepOf s (bytesOffered i) = bytesOfferedStep (s .engine) i (s .stores)
+stepOf s streamEnded = streamEndedStep (s .engine) (s .stores)
+stepOf s replyTaken = replyTakenStep (s .engine) (s .stores)
+stepOf s (replyGiven code hs) = replyGivenStep (s .engine) code hs (s .stores)
+stepOf s (objectGiven hs b) = objectGivenStep (s .engine) hs b (s .stores)
+stepOf s (bodyGiven d) = bodyGivenStep (s .engine) d (s .stores)
 stepOf s bodyFailed = bodyFailedStep (s .engine) (s .stores)
-stepOf s abortAcknowledged = acknowledgeStep (s .engine) (s .stores)
-stepOf s (passwordGiven p) = passwordStep (s .engine) p (s .stores)
-stepOf s (nonceGiven n l) = nonceStep (s .engine) n l (s .stores)
-stepOf s (credentialsGiven c) = credentialsStep (s .engine) c (s .stores)
+stepOf s abortAcknowledged = abortAcknowledgedStep (s .engine) (s .stores)
+stepOf s (passwordGiven p) = passwordGivenStep (s .engine) p (s .stores)
+stepOf s (nonceGiven n l) = nonceGivenStep (s .engine) n l (s .stores)
+stepOf s (credentialsGiven c) = credentialsGivenStep (s .engine) c (s .stores)
 
 abbrev pub stateOf : Stepped → State
 stateOf m = record { engine = m .took .engine; stores = m .stores }

@@ -15,10 +15,12 @@ use lines::output::put_hex;
 use lines::output::put_number;
 use lines::output::put_u32;
 use lines::word::byte_at;
-use server::Body;
-use server::Outcome;
-use server::HostRequest;
 use packet::tlv::Found;
+use server::Body;
+use server::HostRequest;
+use server::Outcome;
+use server::end_number;
+use server::refusal_number;
 
 // ---- words
 
@@ -237,7 +239,15 @@ fn put_request(
     longest: usize,
 ) -> usize {
     match request {
-        HostRequest::Put { kept, body: bytes } => put_put(out, n, headers, kept, bytes, body, longest),
+        HostRequest::Put { kept, body: bytes } => put_put(
+            out,
+            n,
+            headers,
+            kept,
+            bytes,
+            body,
+            longest,
+        ),
         HostRequest::Get { kept } => put_kept(out, n, b"get", headers, kept, longest),
         HostRequest::Action { kept } => put_kept(out, n, b"action", headers, kept, longest),
         HostRequest::Session { kept } => put_kept(out, n, b"session", headers, kept, longest),
@@ -303,8 +313,13 @@ pub(crate) fn put_outcome(
         Outcome::WantsBytes => n,
         Outcome::Reply { length } => put_reply(out, n, reply, length, longest),
         Outcome::Request(request) => put_asked(out, n, request, packet, headers, body, longest),
-        Outcome::End(number) => put_numbered(out, n, b"end ", wide(number)),
-        Outcome::Refused(number) => put_numbered(out, n, b"refused ", wide(number)),
+        Outcome::End(end) => put_numbered(out, n, b"end ", wide(end_number(end))),
+        Outcome::Refused(refusal) => put_numbered(
+            out,
+            n,
+            b"refused ",
+            wide(refusal_number(refusal)),
+        ),
     }
 }
 

@@ -7,9 +7,9 @@ use lines::word::byte_at;
 use lines::word::find;
 use lines::word::number;
 use lines::word::unhex;
+use server::CallResult;
 use server::Engine;
 use server::Outcome;
-use server::CallResult;
 
 // How much of each store is lent to the engine.
 pub struct Lent {

@@ -3,12 +3,12 @@ use crate::file;
 use crate::file::Opened;
 use crate::file::front;
 use crate::log;
-use engine::host;
+use engine::calls;
+use packet::response::SUCCESS;
 use server::Body;
+use server::CallResult;
 use server::Engine;
 use server::HostRequest;
-use server::CallResult;
-use packet::response::SUCCESS;
 
 // What the answer's call gave, and the file that is being sent from then on.
 pub struct Answered {
@@ -26,7 +26,7 @@ fn put(
     reply: &mut [u8],
 ) -> CallResult {
     let code = file::put_body(front(headers, kept), content, body);
-    host::reply(e, code, b"", packet, headers, body, reply)
+    calls::reply_given(e, code, b"", packet, headers, body, reply)
 }
 
 fn get(
@@ -39,11 +39,11 @@ fn get(
 ) -> Answered {
     match file::get(front(headers, kept)) {
         Opened::File(fd) => {
-            let took = host::object(e, b"", true, packet, headers, body, reply);
+            let took = calls::object_given(e, b"", true, packet, headers, body, reply);
             Answered { took, file: fd }
         }
         Opened::Code(code) => {
-            let took = host::reply(e, code, b"", packet, headers, body, reply);
+            let took = calls::reply_given(e, code, b"", packet, headers, body, reply);
             Answered { took, file: -1 }
         }
     }
@@ -78,14 +78,14 @@ fn read(
     let mut store = [0u8; 65536];
     let got = read_some(fd, room, &mut store);
     if got < 0 {
-        let took = host::body_failed(e, packet, headers, body, reply);
+        let took = calls::body_failed(e, packet, headers, body, reply);
         return Answered {
             took,
             file: file::closed(fd),
         };
     }
     let k = io::count(got, &store);
-    let took = host::body(e, &store[..k], packet, headers, body, reply);
+    let took = calls::body_given(e, &store[..k], packet, headers, body, reply);
     Answered {
         took,
         file: file_after(fd, k),
@@ -107,7 +107,7 @@ fn plain(
             length: _,
             backup: _,
             no_create: _,
-        } => host::reply(e, SUCCESS, b"", packet, headers, body, reply),
+        } => calls::reply_given(e, SUCCESS, b"", packet, headers, body, reply),
         _ => stream::host::answer(e, request, packet, headers, body, reply),
     }
 }

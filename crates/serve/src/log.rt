@@ -3,12 +3,12 @@ use crate::file::Opened;
 use crate::file::front;
 use libc::STDERR_FILENO;
 use lines::output;
-use server::HostRequest;
 use packet::response::FORBIDDEN;
 use packet::response::INTERNAL_SERVER_ERROR;
 use packet::response::NOT_FOUND;
 use packet::response::NOT_IMPLEMENTED;
 use packet::response::SUCCESS;
+use server::HostRequest;
 use stream::name::put_name;
 
 fn write(out: &[u8], n: usize) {

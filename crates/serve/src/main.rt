@@ -8,12 +8,11 @@ mod name;
 use crate::file::front;
 use crate::host::Answered;
 use crate::host::answer;
-use engine::arrival;
-use engine::session;
-use engine::session::default_settings;
+use engine::calls;
 use libc::STDOUT_FILENO;
 use server::Outcome;
 use server::Settings;
+use server::default_settings;
 use stream::feed::Rest;
 use stream::feed::Step;
 use stream::feed::feed;
@@ -62,7 +61,7 @@ fn turn(
         }
         Outcome::Reply { length } => {
             io::write_all(STDOUT_FILENO, front(reply, length));
-            let took = arrival::reply_taken(e, packet, headers, body, reply);
+            let took = calls::reply_taken(e, packet, headers, body, reply);
             Serving {
                 step: Step { took, rest },
                 file,
@@ -85,7 +84,7 @@ fn serve(
     body: &mut [u8],
     reply: &mut [u8],
 ) {
-    let took = session::start(settings(), packet, headers, body, reply);
+    let took = calls::start(settings(), packet, headers, body, reply);
     let rest = Rest { at: 0, end: 0 };
     let mut s = Serving {
         step: Step { took, rest },

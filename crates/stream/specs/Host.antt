@@ -3,7 +3,7 @@
 use mathlib.Core.List.{[]}
 use mathlib.Core.Option.{none}
 use Rattle.journal.specs.Calls.{Call, replyGiven, abortAcknowledged, bodyFailed, passwordGiven, credentialsGiven}
-use Rattle.model.specs.Model.{Stores, Stepped}
+use Rattle.model.specs.Step.{Stores, Stepped}
 use Rattle.model.specs.Runs.{stepOf}
 use Rattle.server.specs.declared.Engine.{Engine}
 use Rattle.server.specs.declared.HostRequest.{HostRequest}

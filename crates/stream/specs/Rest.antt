@@ -1,5 +1,6 @@
 -- The part of an input store that is left, and the number at which a session is over.
 use Prim.Native.Nat.{ℕ, _≤_}
+use Rattle.server.specs.Numbers.{endNumber, refusalNumber}
 use Rattle.server.specs.declared.Outcome.{Outcome}
 use Rattle.server.specs.declared.Outcome.the-variants as outcome
 use Rattle.stream.specs.declared.feed.Rest.{Rest}
@@ -13,5 +14,5 @@ abbrev pub endedBy : Outcome → ℕ
 endedBy outcome.WantsBytes = 0
 endedBy (outcome.Reply n) = 0
 endedBy (outcome.Request r) = 0
-endedBy (outcome.End n) = n
-endedBy (outcome.Refused n) = n
+endedBy (outcome.End x) = endNumber x
+endedBy (outcome.Refused r) = refusalNumber r

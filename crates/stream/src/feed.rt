@@ -1,10 +1,11 @@
 // Offering the peer's bytes to the engine. What it does not take is offered again.
-use engine::arrival;
-use engine::session;
+use engine::calls;
 use lines::input::read;
+use server::CallResult;
 use server::Engine;
 use server::Outcome;
-use server::CallResult;
+use server::end_number;
+use server::refusal_number;
 ghost use mathlib.Core.Path.{_≡_};
 ghost use lib.ListN.{length};
 ghost use Rattle.stream.specs.Rest.{Within, endedBy};
@@ -29,8 +30,8 @@ pub fn over(outcome: Outcome) -> u8
         Outcome::WantsBytes => 0,
         Outcome::Reply { length: _ } => 0,
         Outcome::Request(_) => 0,
-        Outcome::End(number) => number,
-        Outcome::Refused(number) => number,
+        Outcome::End(end) => end_number(end),
+        Outcome::Refused(refusal) => refusal_number(refusal),
     }
 }
 
@@ -77,10 +78,10 @@ pub fn feed(
     let at = r.at;
     let end = r.end;
     if at == end {
-        let took = session::end_of_stream(e, packet, headers, body, reply);
+        let took = calls::stream_ended(e, packet, headers, body, reply);
         return Step { took, rest: r };
     }
-    let took = arrival::bytes(e, &input[at..end], packet, headers, body, reply);
+    let took = calls::bytes_offered(e, &input[at..end], packet, headers, body, reply);
     let left = without(r, took.taken, input.len());
     Step { took, rest: left }
 }

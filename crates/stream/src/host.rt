@@ -1,12 +1,12 @@
 // A host that keeps nothing: codes without headers, no password and no credentials.
-use engine::host;
-use server::Engine;
-use server::HostRequest;
-use server::CallResult;
+use engine::calls;
 use packet::response::NOT_IMPLEMENTED;
 use packet::response::SUCCESS;
+use server::CallResult;
+use server::Engine;
+use server::HostRequest;
 ghost use mathlib.Core.Path.{_≡_};
-ghost use Rattle.model.specs.Model.{stepped, stores};
+ghost use Rattle.model.specs.Step.{stepped, stores};
 ghost use Rattle.stream.specs.Host.{callFor, callBy, answered};
 
 // The call that answers a request.
@@ -61,10 +61,10 @@ pub fn answer(
         ≡ answered (callFor request) e (stores (now (packet .entry)) (now (headers .entry)) (now (body .entry)) (now (reply .entry))) ⌝ }
 {
     match kind_of(request) {
-        Kind::Reply(code) => host::reply(e, code, b"", packet, headers, body, reply),
-        Kind::Acknowledge => host::acknowledge(e, packet, headers, body, reply),
-        Kind::NoPassword => host::password(e, false, b"", packet, headers, body, reply),
-        Kind::NoCredentials => host::credentials(
+        Kind::Reply(code) => calls::reply_given(e, code, b"", packet, headers, body, reply),
+        Kind::Acknowledge => calls::abort_acknowledged(e, packet, headers, body, reply),
+        Kind::NoPassword => calls::password_given(e, false, b"", packet, headers, body, reply),
+        Kind::NoCredentials => calls::credentials_given(
             e,
             false,
             false,
@@ -75,6 +75,6 @@ pub fn answer(
             body,
             reply,
         ),
-        Kind::Never => host::body_failed(e, packet, headers, body, reply),
+        Kind::Never => calls::body_failed(e, packet, headers, body, reply),
     }
 }

@@ -1,7 +1,7 @@
 -- `engine::guard::awaits_reply` meets its contract: the tests of the code are those of the definition.
 use mathlib.Core.Path.{_≡_, _∙_, sym}
 use mathlib.Core.Bool.{false}
-use Rattle.model.specs.Model.{sameAwait}
+use Rattle.model.specs.Guard.{sameAwait}
 use Rattle.server.specs.declared.Await.the-variants as await
 use borrow.Author.Needs.{needs}
 use Rattle.engine.proofs.guard.awaits_reply.Statement.{statement}

@@ -3,7 +3,8 @@ use borrow.Author.Needs.{needs}
 use borrow.Author.Tests.{not-true, not-false}
 use mathlib.Core.Path.{_≡_, sym, _∙_}
 use mathlib.Core.Bool.{true, false}
-use Rattle.model.specs.Model.{limitOf, sound}
+use Rattle.model.specs.Step.{limitOf}
+use Rattle.model.specs.Guard.{sound}
 use Rattle.engine.specs.Guard.{shortBy, guardedBy}
 use Rattle.engine.proofs.guard.guard.Statement.{statement}
 use Rattle.engine.proofs.guard.guard.Tie as tie

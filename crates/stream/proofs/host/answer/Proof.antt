@@ -2,7 +2,7 @@
 use borrow.Author.Needs.{needs}
 use mathlib.Core.Path.{_≡_, sym, ap, _∙_}
 use Rattle.journal.specs.Calls.{Call}
-use Rattle.model.specs.Model.{Stores, Stepped, stores}
+use Rattle.model.specs.Step.{Stores, Stepped, stores}
 use Rattle.server.specs.declared.Engine.{Engine}
 use Rattle.server.specs.declared.HostRequest.{HostRequest}
 use Rattle.stream.specs.Host.{callFor, callBy, answered}
@@ -24,38 +24,38 @@ kind-of-requires c κs = search needs
 enum-known-code : tie.Need-enum-known-code
 enum-known-code c = search needs
 
-slice-aggregate-reply : tie.Need-slice-aggregate-reply
-slice-aggregate-reply c = search needs
+slice-aggregate-reply-given : tie.Need-slice-aggregate-reply-given
+slice-aggregate-reply-given c = search needs
 
-reply-requires : tie.Need-reply-requires
-reply-requires c κs = search needs
+reply-given-requires : tie.Need-reply-given-requires
+reply-given-requires c κs = search needs
 
 enum-told : tie.Need-enum-told
 enum-told c = search needs
 
-acknowledge-requires : tie.Need-acknowledge-requires
-acknowledge-requires c κs = search needs
+abort-acknowledged-requires : tie.Need-abort-acknowledged-requires
+abort-acknowledged-requires c κs = search needs
 
 enum-told-2 : tie.Need-enum-told-2
 enum-told-2 c = search needs
 
-slice-aggregate-password : tie.Need-slice-aggregate-password
-slice-aggregate-password c = search needs
+slice-aggregate-password-given : tie.Need-slice-aggregate-password-given
+slice-aggregate-password-given c = search needs
 
-password-requires : tie.Need-password-requires
-password-requires c κs = search needs
+password-given-requires : tie.Need-password-given-requires
+password-given-requires c κs = search needs
 
 enum-told-3 : tie.Need-enum-told-3
 enum-told-3 c = search needs
 
-slice-aggregate-credentials : tie.Need-slice-aggregate-credentials
-slice-aggregate-credentials c = search needs
+slice-aggregate-credentials-given : tie.Need-slice-aggregate-credentials-given
+slice-aggregate-credentials-given c = search needs
 
-slice-aggregate-credentials-2 : tie.Need-slice-aggregate-credentials-2
-slice-aggregate-credentials-2 c = search needs
+slice-aggregate-credentials-given-2 : tie.Need-slice-aggregate-credentials-given-2
+slice-aggregate-credentials-given-2 c = search needs
 
-credentials-requires : tie.Need-credentials-requires
-credentials-requires c κs = search needs
+credentials-given-requires : tie.Need-credentials-given-requires
+credentials-given-requires c κs = search needs
 
 enum-told-4 : tie.Need-enum-told-4
 enum-told-4 c = search needs
@@ -78,7 +78,7 @@ same-length-4 c = search needs
 returns : tie.Need-returns
 returns c =
     let a = c .before .before .before .before .before .before .before .before .before .before .before .before .before .before .before .before .before .before .before .before .before .before in
-    due (c .before .before .before .before .before .before .before .before .before .before .before .before .before .before .before .before .before .kind-of .result) (kind.Reply _) (a .args .request) (a .args .e) (lent a) _ (c .before .before .before .before .before .before .before .before .before .before .before .before .before .before .before .before .before .kind-of .ensures) (c .before .before .before .before .before .before .before .before .before .before .before .before .before .before .before .code .given .1) (c .before .before .before .before .before .before .before .before .reply .ensures)
+    due (c .before .before .before .before .before .before .before .before .before .before .before .before .before .before .before .before .before .kind-of .result) (kind.Reply _) (a .args .request) (a .args .e) (lent a) _ (c .before .before .before .before .before .before .before .before .before .before .before .before .before .before .before .before .before .kind-of .ensures) (c .before .before .before .before .before .before .before .before .before .before .before .before .before .before .before .code .given .1) (c .before .before .before .before .before .before .before .before .reply-given .ensures)
 
 same-length-5 : tie.Need-same-length-5
 same-length-5 c = search needs
@@ -95,7 +95,7 @@ same-length-8 c = search needs
 returns-2 : tie.Need-returns-2
 returns-2 c =
     let a = c .before .before .before .before .before .before .before .before .before .before .before .before .before .before .before .before .before .before .before .before in
-    due (c .before .before .before .before .before .before .before .before .before .before .before .before .before .before .before .kind-of .result) (kind.Acknowledge) (a .args .request) (a .args .e) (lent a) _ (c .before .before .before .before .before .before .before .before .before .before .before .before .before .before .before .kind-of .ensures) (c .before .before .before .before .before .before .before .before .before .before .before .before .before .enum-told .given .1) (c .before .before .before .before .before .before .before .before .acknowledge .ensures)
+    due (c .before .before .before .before .before .before .before .before .before .before .before .before .before .before .before .kind-of .result) (kind.Acknowledge) (a .args .request) (a .args .e) (lent a) _ (c .before .before .before .before .before .before .before .before .before .before .before .before .before .before .before .kind-of .ensures) (c .before .before .before .before .before .before .before .before .before .before .before .before .before .enum-told .given .1) (c .before .before .before .before .before .before .before .before .abort-acknowledged .ensures)
 
 same-length-9 : tie.Need-same-length-9
 same-length-9 c = search needs
@@ -112,7 +112,7 @@ same-length-12 c = search needs
 returns-3 : tie.Need-returns-3
 returns-3 c =
     let a = c .before .before .before .before .before .before .before .before .before .before .before .before .before .before .before .before .before .before .before .before .before in
-    due (c .before .before .before .before .before .before .before .before .before .before .before .before .before .before .before .before .kind-of .result) (kind.NoPassword) (a .args .request) (a .args .e) (lent a) _ (c .before .before .before .before .before .before .before .before .before .before .before .before .before .before .before .before .kind-of .ensures) (c .before .before .before .before .before .before .before .before .before .before .before .before .before .before .enum-told2 .given .1) (c .before .before .before .before .before .before .before .before .password .ensures)
+    due (c .before .before .before .before .before .before .before .before .before .before .before .before .before .before .before .before .kind-of .result) (kind.NoPassword) (a .args .request) (a .args .e) (lent a) _ (c .before .before .before .before .before .before .before .before .before .before .before .before .before .before .before .before .kind-of .ensures) (c .before .before .before .before .before .before .before .before .before .before .before .before .before .before .enum-told2 .given .1) (c .before .before .before .before .before .before .before .before .password-given .ensures)
 
 same-length-13 : tie.Need-same-length-13
 same-length-13 c = search needs
@@ -129,7 +129,7 @@ same-length-16 c = search needs
 returns-4 : tie.Need-returns-4
 returns-4 c =
     let a = c .before .before .before .before .before .before .before .before .before .before .before .before .before .before .before .before .before .before .before .before .before .before in
-    due (c .before .before .before .before .before .before .before .before .before .before .before .before .before .before .before .before .before .kind-of .result) (kind.NoCredentials) (a .args .request) (a .args .e) (lent a) _ (c .before .before .before .before .before .before .before .before .before .before .before .before .before .before .before .before .before .kind-of .ensures) (c .before .before .before .before .before .before .before .before .before .before .before .before .before .before .before .enum-told3 .given .1) (c .before .before .before .before .before .before .before .before .credentials .ensures)
+    due (c .before .before .before .before .before .before .before .before .before .before .before .before .before .before .before .before .before .kind-of .result) (kind.NoCredentials) (a .args .request) (a .args .e) (lent a) _ (c .before .before .before .before .before .before .before .before .before .before .before .before .before .before .before .before .before .kind-of .ensures) (c .before .before .before .before .before .before .before .before .before .before .before .before .before .before .before .enum-told3 .given .1) (c .before .before .before .before .before .before .before .before .credentials-given .ensures)
 
 same-length-17 : tie.Need-same-length-17
 same-length-17 c = search needs
@@ -154,17 +154,17 @@ answer-spec =
     (tie.spec
     kind-of-requires
     enum-known-code
-    slice-aggregate-reply
-    reply-requires
+    slice-aggregate-reply-given
+    reply-given-requires
     enum-told
-    acknowledge-requires
+    abort-acknowledged-requires
     enum-told-2
-    slice-aggregate-password
-    password-requires
+    slice-aggregate-password-given
+    password-given-requires
     enum-told-3
-    slice-aggregate-credentials
-    slice-aggregate-credentials-2
-    credentials-requires
+    slice-aggregate-credentials-given
+    slice-aggregate-credentials-given-2
+    credentials-given-requires
     enum-told-4
     body-failed-requires
     same-length

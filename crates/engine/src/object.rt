@@ -1,0 +1,229 @@
+// The object of a Get, sent packet by packet, and what follows each packet.
+ghost use mathlib.Core.Path.{_≡_};
+ghost use mathlib.Core.List.{List};
+ghost use Prim.Native.Nat.{_≤_, ℕ};
+ghost use lib.ListN.{length};
+ghost use Rattle.outgoing.specs.Outgoing.{nextPacket};
+ghost use Rattle.model.specs.Step.{capacityOf, stores, limitOf};
+ghost use Rattle.engine.specs.Step.{written, planned};
+ghost use Rattle.engine.specs.Object.{sendingOn, packetPlan, planMade, objectPlan, packetSent, followsTurn, goesTurn, turnOf, turnActs};
+ghost use mathlib.Core.Bool.{true, _||_};
+ghost use Rattle.model.specs.Guard.{soundOperation};
+ghost use Rattle.model.specs.Object.{objectOf};
+use crate::guard::same_await;
+use crate::step::Plan;
+use crate::step::ShortReply;
+use crate::step::asks;
+use crate::step::carry_out;
+use crate::step::code;
+use crate::step::ends;
+use crate::step::engine_with;
+use crate::step::wants;
+use crate::step::wide16;
+use outgoing::body::Next;
+use outgoing::body::Outgoing;
+use outgoing::body::Packet;
+use outgoing::body::next_packet;
+use server::Await;
+use server::CallResult;
+use server::End;
+use server::Engine;
+use server::HostRequest;
+use server::Operation;
+use server::Outcome;
+
+// The operation after a packet of an object.
+fn sending(k: Packet, last: bool, srm: bool, wait: bool) -> Operation
+    ensures { λ r. ⌜ r ≡ sendingOn k last srm wait ⌝ }
+{
+    if last {
+        return Operation::Nothing;
+    }
+    let outgoing = k.outgoing;
+    let chunk = k.chunk;
+    Operation::Sending {
+        outgoing,
+        chunk,
+        srm,
+        wait,
+    }
+}
+
+// A packet of an object, the body read that it needs, or 0x50 where a header is too long for any packet.
+pub(crate) fn packet_plan(e: Engine, srm: bool, wait: bool, k: Packet) -> Plan
+    ensures { λ r. ⌜ r ≡ packetPlan e srm wait k ⌝ }
+{
+    let next = k.next;
+    match next {
+        Next::Send { length, last } => {
+            let operation = sending(k, last, srm, wait);
+            Plan {
+                engine: engine_with(e.settings, e.peer, operation, Await::Taken, 0, e.length),
+                outcome: Outcome::Reply { length },
+                small: ShortReply::Silent,
+            }
+        }
+        Next::Read => asks(
+            e,
+            e.peer,
+            sending(k, false, srm, wait),
+            Await::Body,
+            HostRequest::Read { room: k.chunk.room },
+        ),
+        Next::TooLarge => code(e, e.peer, Await::Taken, 0xD0),
+    }
+}
+
+// The next packet of an object, or what it needs first.
+pub(crate) fn object_plan(
+    e: Engine,
+    o: Outgoing,
+    srm: bool,
+    wait: bool,
+    headers: &[u8],
+    reply: &mut [u8],
+) -> Plan
+    requires { ⌜ (255 ≤ e .peer .«remote_max_packet_length») × (o .total ≤ length (now headers)) × (65535 ≤ length (now reply)) ⌝ }
+    ensures { λ r. ⌜ planMade r (now (reply .exit))
+        ≡ objectPlan e srm wait (nextPacket (capacityOf e) o (now (headers .entry)) (now (reply .entry))) ⌝ }
+{
+    let capacity = wide16(e.peer.remote_max_packet_length) - 3;
+    packet_plan(e, srm, wait, next_packet(capacity, o, headers, reply))
+}
+
+// The next packet of an object that is sent, or what it needs first.
+pub(crate) fn sends_next(
+    e: Engine,
+    o: Outgoing,
+    srm: bool,
+    wait: bool,
+    headers: &[u8],
+    reply: &mut [u8],
+) -> CallResult
+    requires { ⌜ (255 ≤ e .peer .«remote_max_packet_length») × (o .total ≤ length (now headers)) × (65535 ≤ length (now reply)) ⌝ }
+    ensures { λ r. ⌜ written r (now (reply .exit))
+        ≡ packetSent e srm wait (nextPacket (capacityOf e) o (now (headers .entry)) (now (reply .entry))) ⌝ }
+{
+    let capacity = wide16(e.peer.remote_max_packet_length) - 3;
+    let k = next_packet(capacity, o, headers, reply);
+    carry_out(packet_plan(e, srm, wait, k), reply)
+}
+
+// SRM that was not granted yet goes in front of the object's headers.
+pub(crate) fn object_of(total: usize, lead: bool, has_body: bool) -> Outgoing
+    ensures { λ r. ⌜ r ≡ objectOf total lead «has_body» ⌝ }
+{
+    Outgoing {
+        total,
+        sent: 0,
+        lead,
+        has_body,
+        has_pending: false,
+        pending: 0,
+    }
+}
+
+pub(crate) fn either(a: bool, b: bool) -> bool
+    ensures { λ r. ⌜ r ≡ a || b ⌝ }
+{
+    if a {
+        return true;
+    }
+    b
+}
+
+// What follows it.
+enum Turn {
+    Send {
+        outgoing: Outgoing,
+        srm: bool,
+        wait: bool,
+    },
+    Wait,
+    End,
+}
+
+// Under SRM and without a wait the next packet of an object follows at once.
+fn follows(outgoing: Outgoing, srm: bool, wait: bool) -> Turn
+    ensures { λ r. ⌜ r ≡ followsTurn outgoing srm wait ⌝ }
+{
+    if srm {
+        if wait {
+            return Turn::Wait;
+        }
+        return Turn::Send {
+            outgoing,
+            srm,
+            wait,
+        };
+    }
+    Turn::Wait
+}
+
+// After a reply that is not the last.
+fn goes_on(operation: Operation) -> Turn
+    ensures { λ r. ⌜ r ≡ goesTurn operation ⌝ }
+{
+    match operation {
+        Operation::Sending {
+            outgoing,
+            chunk: _,
+            srm,
+            wait,
+        } => follows(outgoing, srm, wait),
+        Operation::Nothing => Turn::Wait,
+        Operation::Putting {
+            gathered: _,
+            srm: _,
+        } => Turn::Wait,
+        Operation::Getting {
+            gathered: _,
+            srm: _,
+            confirm_srm: _,
+            wait: _,
+        } => Turn::Wait,
+        Operation::Gathering {
+            opcode: _,
+            gathered: _,
+        } => Turn::Wait,
+        Operation::Connecting {
+            code: _,
+            front: _,
+            length: _,
+        } => Turn::Wait,
+        Operation::Draining { code: _ } => Turn::Wait,
+    }
+}
+
+// By whether the reply was the last.
+fn next_turn(e: Engine) -> Turn
+    ensures { λ r. ⌜ r ≡ turnOf e ⌝ }
+{
+    let awaits = e.awaits;
+    if same_await(awaits, Await::Taken) {
+        let operation = e.operation;
+        return goes_on(operation);
+    }
+    Turn::End
+}
+
+// What follows a reply that was taken; number 5 after the last one.
+pub(crate) fn turn_plan(e: Engine, headers: &[u8], reply: &mut [u8]) -> Plan
+    requires { ⌜ (255 ≤ e .peer .«remote_max_packet_length») × (soundOperation (limitOf e) (e .operation) ≡ true)
+        × (65535 ≤ length (now headers)) × (65535 ≤ length (now reply)) ⌝ }
+    ensures { λ r. ⌜ ((q b : List ℕ) → planned r (stores q (now (headers .entry)) b (now (reply .exit)))
+        ≡ turnActs (turnOf e) e (stores q (now (headers .entry)) b (now (reply .entry)))) ⌝ }
+{
+    match next_turn(e) {
+        Turn::Send {
+            outgoing,
+            srm,
+            wait,
+        } => object_plan(e, outgoing, srm, wait, headers, reply),
+        Turn::Wait => {
+            let operation = e.operation;
+            wants(e, e.peer, operation)
+        }
+        Turn::End => ends(e, e.peer, End::OtherOperation),
+    }
+}

@@ -1,0 +1,86 @@
+// The last whole packet, read again for an answer that comes later.
+ghost use mathlib.Core.Path.{_≡_};
+ghost use mathlib.Core.Option.{some};
+ghost use Rattle.packet.specs.Header.{first};
+ghost use Rattle.packet.specs.Packet.{requestOf};
+ghost use Rattle.packet.specs.AuthWrite.{given};
+ghost use Rattle.incoming.specs.Survey.{surveyOf};
+ghost use Rattle.connection.specs.Peer.{idIn, isGiven};
+ghost use Rattle.connection.specs.Pieces.{headersFrom};
+ghost use Rattle.journal.specs.Journal.{responseIn, headersOf as headersIn};
+ghost use Rattle.model.specs.Connect.{checks};
+ghost use Rattle.engine.specs.Request.{lastFrom};
+use connection::challenge::first_in;
+use connection::challenge::verify_client;
+use connection::peer::Challenge;
+use connection::peer::ConnectionId;
+use incoming::survey::survey_headers;
+use packet::auth::read_response;
+use packet::packet::Parsed;
+use packet::packet::parse_packet;
+use packet::tlv::Found;
+
+const TARGET: u8 = 0x46;
+
+pub(crate) const AUTHENTICATE_RESPONSE: u8 = 0x4E;
+
+// Where its headers start: at its end where it cannot be read.
+pub(crate) fn last_from(q: &[u8]) -> usize
+    ensures { λ r. ⌜ r ≡ lastFrom (now (q .entry)) ⌝ }
+{
+    let Parsed::Request {
+        opcode: _,
+        is_final: _,
+        headers,
+        length: _,
+    } = parse_packet(q)
+    else {
+        return q.len();
+    };
+    headers
+}
+
+// The first ConnectionID from a place on.
+pub(crate) fn first_id(s: &[u8], from: usize) -> ConnectionId
+    ensures { λ r. ⌜ r ≡ idIn (first 0xCB (headersFrom (now (s .entry)) from)) ⌝ }
+{
+    let v = survey_headers(s, from);
+    if v.has_id {
+        return ConnectionId::Id(v.id);
+    }
+    ConnectionId::Missing
+}
+
+// Whether it has a Target.
+pub(crate) fn has_target(q: &[u8]) -> bool
+    ensures { λ r. ⌜ r ≡ isGiven (first 0x46 (headersIn (requestOf (now (q .entry))))) ⌝ }
+{
+    let Found::At { start: _, end: _ } = first_in(q, last_from(q), TARGET) else {
+        return false;
+    };
+    true
+}
+
+// Whether its first SingleResponseMode is Enable.
+pub(crate) fn is_enabling(q: &[u8]) -> bool
+    ensures { λ r. ⌜ r ≡ surveyOf (some (headersIn (requestOf (now (q .entry))))) .enable ⌝ }
+{
+    let v = survey_headers(q, last_from(q));
+    v.enable
+}
+
+// Whether the password is right for the stored challenge and the packet's first AuthenticateResponse.
+pub(crate) fn is_right(stored: Challenge, q: &[u8], has_password: bool, password: &[u8]) -> bool
+    ensures { λ r. ⌜ r ≡ checks stored (responseIn (first 0x4E (headersIn (requestOf (now (q .entry))))))
+        (given «has_password» (now (password .entry))) ⌝ }
+{
+    let Found::At { start, end } = first_in(q, last_from(q), AUTHENTICATE_RESPONSE) else {
+        return false;
+    };
+    verify_client(
+        stored,
+        read_response(&q[start..end]),
+        has_password,
+        password,
+    )
+}

@@ -1,0 +1,273 @@
+// What a call leads to: more bytes are wanted, the host is asked, a reply is made, or the engine ends.
+ghost use mathlib.Core.List.{[]};
+ghost use mathlib.Core.Path.{_≡_};
+ghost use Rattle.model.specs.Step.{engineWith};
+ghost use Rattle.engine.specs.Step.{wantsPlan, asksPlan, endsPlan, codePlan, continuePlan, smallBytes, tookBy, written, carried, sentPlan, repliesBy};
+ghost use lib.Dec.{eqb};
+ghost use Rattle.base.specs.Pick.{pick};
+ghost use Rattle.connection.specs.Peer.{freshPeer};
+ghost use Rattle.server.specs.declared.End.the-variants as end;
+ghost use Prim.Native.Nat.{_≤_, _<_};
+ghost use lib.ListN.{length};
+ghost use Rattle.connection.specs.Send.{fieldsOf, front};
+use connection::peer::Challenge;
+use connection::peer::Peer;
+use connection::send::Sent;
+use connection::send::put_continue;
+use connection::send::put_reply_code;
+use connection::send::send;
+use connection::send::send_connect;
+use server::Await;
+use server::CallResult;
+use server::End;
+use server::Engine;
+use server::HostRequest;
+use server::Operation;
+use server::Outcome;
+use server::Settings;
+
+// A reply of a few bytes.
+pub(crate) enum ShortReply {
+    Silent,
+    // A first byte, and no headers.
+    Byte(u8),
+    // Continue, and SingleResponseMode granted.
+    Grant,
+}
+
+// What to do next.
+pub(crate) struct Plan {
+    pub engine: Engine,
+    pub outcome: Outcome,
+    pub small: ShortReply,
+}
+
+// The state anew: the one place that lists its fields.
+pub(crate) fn engine_with(
+    settings: Settings,
+    peer: Peer,
+    operation: Operation,
+    awaits: Await,
+    begun: usize,
+    length: usize,
+) -> Engine
+    ensures { λ r. ⌜ r ≡ engineWith settings peer operation awaits begun length ⌝ }
+{
+    Engine {
+        settings,
+        peer,
+        operation,
+        awaits,
+        begun,
+        length,
+    }
+}
+
+// Nothing is open, the counter stands at 1, and the peer's limit is the smallest there is.
+fn fresh_peer() -> Peer
+    ensures { λ r. ⌜ r ≡ freshPeer ⌝ }
+{
+    Peer {
+        connections: [0; 64],
+        count: 0,
+        next_connection_id: 1,
+        remote_max_packet_length: 255,
+        srm_enabled: false,
+        authenticated: false,
+        challenge: Challenge::Absent,
+    }
+}
+
+// A fresh engine, or one that has ended where the start is refused.
+pub(crate) fn fresh(settings: Settings, awaits: Await) -> Engine
+    ensures { λ r. ⌜ r ≡ engineWith settings freshPeer Operation.Nothing awaits 0 0 ⌝ }
+{
+    engine_with(settings, fresh_peer(), Operation::Nothing, awaits, 0, 0)
+}
+
+// Bytes are wanted.
+pub(crate) fn wants(e: Engine, peer: Peer, operation: Operation) -> Plan
+    ensures { λ r. ⌜ r ≡ wantsPlan e peer operation ⌝ }
+{
+    Plan {
+        engine: engine_with(e.settings, peer, operation, Await::Bytes, 0, e.length),
+        outcome: Outcome::WantsBytes,
+        small: ShortReply::Silent,
+    }
+}
+
+// The host is asked.
+pub(crate) fn asks(
+    e: Engine,
+    peer: Peer,
+    operation: Operation,
+    awaits: Await,
+    request: HostRequest,
+) -> Plan
+    ensures { λ r. ⌜ r ≡ asksPlan e peer operation awaits request ⌝ }
+{
+    Plan {
+        engine: engine_with(e.settings, peer, operation, awaits, 0, e.length),
+        outcome: Outcome::Request(request),
+        small: ShortReply::Silent,
+    }
+}
+
+// The engine ends with `end`.
+pub(crate) fn ends(e: Engine, peer: Peer, end: End) -> Plan
+    ensures { λ r. ⌜ r ≡ endsPlan e peer end ⌝ }
+{
+    Plan {
+        engine: engine_with(
+            e.settings,
+            peer,
+            Operation::Nothing,
+            Await::Nothing,
+            0,
+            e.length,
+        ),
+        outcome: Outcome::End(end),
+        small: ShortReply::Silent,
+    }
+}
+
+// Between packets 1, inside one 2.
+pub(crate) fn stream_end(begun: usize) -> End
+    ensures { λ r. ⌜ r ≡ pick (eqb begun 0) end.Disconnected end.Truncated ⌝ }
+{
+    if begun == 0 {
+        return End::Disconnected;
+    }
+    End::Truncated
+}
+
+// A reply of a first byte alone.
+pub(crate) fn code(e: Engine, peer: Peer, awaits: Await, byte: u8) -> Plan
+    ensures { λ r. ⌜ r ≡ codePlan e peer awaits byte ⌝ }
+{
+    Plan {
+        engine: engine_with(e.settings, peer, Operation::Nothing, awaits, 0, e.length),
+        outcome: Outcome::Reply { length: 3 },
+        small: ShortReply::Byte(byte),
+    }
+}
+
+// Continue, and the operation goes on.
+pub(crate) fn continues(e: Engine, operation: Operation, grant: bool) -> Plan
+    ensures { λ r. ⌜ r ≡ continuePlan e operation grant ⌝ }
+{
+    let engine = engine_with(e.settings, e.peer, operation, Await::Taken, 0, e.length);
+    if grant {
+        return Plan {
+            engine,
+            outcome: Outcome::Reply { length: 5 },
+            small: ShortReply::Grant,
+        };
+    }
+    Plan {
+        engine,
+        outcome: Outcome::Reply { length: 3 },
+        small: ShortReply::Byte(0x90),
+    }
+}
+
+// The bytes of a small reply at the front of the reply store.
+pub(crate) fn write_short_reply(small: ShortReply, reply: &mut [u8])
+    requires { ⌜ 5 ≤ length (now reply) ⌝ }
+    ensures { λ r. ⌜ now (reply .exit) ≡ front (smallBytes small) (now (reply .entry)) ⌝ }
+{
+    match small {
+        ShortReply::Silent => {}
+        ShortReply::Byte(byte) => {
+            put_reply_code(reply, byte);
+        }
+        ShortReply::Grant => {
+            put_continue(reply, true);
+        }
+    }
+}
+
+// What a call gives that takes no bytes.
+pub(crate) fn took(p: Plan) -> CallResult
+    ensures { λ r. ⌜ r ≡ tookBy p ⌝ }
+{
+    let engine = p.engine;
+    let outcome = p.outcome;
+    CallResult {
+        engine,
+        taken: 0,
+        outcome,
+    }
+}
+
+// The small reply is written, and the rest handed back.
+pub(crate) fn carry_out(p: Plan, reply: &mut [u8]) -> CallResult
+    requires { ⌜ 5 ≤ length (now reply) ⌝ }
+    ensures { λ r. ⌜ written r (now (reply .exit)) ≡ carried p (now (reply .entry)) ⌝ }
+{
+    let small = p.small;
+    write_short_reply(small, reply);
+    took(p)
+}
+
+// A reply that was sent, or number 7 where it is too large.
+pub(crate) fn sent_plan(e: Engine, peer: Peer, sent: Sent) -> Plan
+    ensures { λ r. ⌜ r ≡ sentPlan e peer sent ⌝ }
+{
+    match sent {
+        Sent::TooLarge => ends(e, peer, End::ReplyTooLarge),
+        Sent::Reply(length) => Plan {
+            engine: engine_with(
+                e.settings,
+                peer,
+                Operation::Nothing,
+                Await::Taken,
+                0,
+                e.length,
+            ),
+            outcome: Outcome::Reply { length },
+            small: ShortReply::Silent,
+        },
+    }
+}
+
+// A number of the state as a length.
+pub(crate) fn wide16(n: u16) -> usize
+    ensures { λ r. ⌜ (r ≡ n) × (r < 65536) ⌝ }
+{
+    n as usize
+}
+
+// A reply with headers.
+pub(crate) fn sends(
+    e: Engine,
+    peer: Peer,
+    code: u8,
+    header_bytes: &[u8],
+    reply: &mut [u8],
+) -> CallResult
+    requires { ⌜ 65535 ≤ length (now reply) ⌝ }
+    ensures { λ r. ⌜ written r (now (reply .exit)) ≡ repliesBy e peer code [] (now («header_bytes» .entry)) (now (reply .entry)) ⌝ }
+{
+    let remote = wide16(peer.remote_max_packet_length);
+    let sent = send(reply, remote, code, header_bytes);
+    took(sent_plan(e, peer, sent))
+}
+
+// A reply with Connect's fields and headers.
+pub(crate) fn sends_connect(
+    e: Engine,
+    peer: Peer,
+    code: u8,
+    header_bytes: &[u8],
+    reply: &mut [u8],
+) -> CallResult
+    requires { ⌜ 65535 ≤ length (now reply) ⌝ }
+    ensures { λ r. ⌜ written r (now (reply .exit))
+        ≡ repliesBy e peer code (fieldsOf (e .settings .«max_packet_length»)) (now («header_bytes» .entry)) (now (reply .entry)) ⌝ }
+{
+    let remote = wide16(peer.remote_max_packet_length);
+    let limit = e.settings.max_packet_length;
+    let sent = send_connect(reply, remote, code, limit, header_bytes);
+    took(sent_plan(e, peer, sent))
+}

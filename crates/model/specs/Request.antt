@@ -1,0 +1,43 @@
+-- The client's last packet, read again for an answer that comes in a later call.
+use Prim.Native.Nat.{ℕ, _+_}
+use mathlib.Core.List.{List}
+use mathlib.Core.Option.{Option}
+use lib.ListN.{length, take}
+use Rattle.packet.specs.Tags.{lastValue}
+use Rattle.packet.specs.Header.{Header, first, firstPlace, part}
+use Rattle.packet.specs.Packet.{requestOf}
+use Rattle.packet.specs.Auth.{Response, realmPlace}
+use Rattle.packet.specs.declared.tlv.Found.{Found}
+use Rattle.packet.specs.declared.tlv.Found.the-variants as place
+use Rattle.journal.specs.Journal.{responseIn, headersOf as headersIn}
+use Rattle.server.specs.declared.Engine.{Engine}
+use Rattle.model.specs.Step.{Stores}
+
+-- the last whole packet, read again
+unfoldable pub lastPacket : Engine → Stores → List ℕ
+lastPacket e s = take (e .length) (s .packet)
+
+unfoldable pub lastHeaders : Engine → Stores → List Header
+lastHeaders e s = headersIn (requestOf (lastPacket e s))
+
+-- the first AuthenticateResponse of the last packet
+unfoldable pub clientResponse : Engine → Stores → Option Response
+clientResponse e s = responseIn (first 0x4E (lastHeaders e s))
+
+-- where a list's value stands in the packet
+abbrev pub placedAt : ℕ → Found → Found
+placedAt n place.Missing = place.Missing
+placedAt n (place.At a b) = place.At (n + a) (n + b)
+
+-- where the user id of the response stands
+abbrev pub userIn : List ℕ → Found → Found
+userIn q place.Missing = place.Missing
+userIn q (place.At a b) = placedAt a (lastValue (part q a b) 1)
+
+unfoldable pub userPlace : Engine → Stores → Found
+userPlace e s = userIn (lastPacket e s) (firstPlace 0x4E (lastPacket e s) 7)
+
+-- where the realm of the peer's challenge stands in the packet
+abbrev pub realmIn : List ℕ → Found → Found
+realmIn q place.Missing = place.Missing
+realmIn q (place.At a b) = placedAt a (realmPlace (part q a b))
