@@ -108,7 +108,7 @@ framed-call e i s f q x d g h k w =
 pub taken-after : (r w : CallResult) (t : ℕ) (s : Stores) (d : Done) → w ≡ withTaken r t → stepped r s ≡ after 0 d → stepped w s ≡ after t d
 taken-after r w t s d h k = ap (λ (x : CallResult). stepped x s) h ∙ ap (λ (x : Stepped). stepped (withTaken (x .took) t) (x .stores)) k
 
--- number 3 has no reply to write
+-- the end after a length under 3 has no reply to write
 pub short-took : (e : Engine) (r : CallResult) (p : Plan) (s : Stores) → r ≡ tookBy p → p ≡ endsPlan e (e .peer) end.LengthTooSmall → stepped r s ≡ after 0 (ends e (e .peer) end.LengthTooSmall s)
 unfolding endsPlan
 short-took e r p s h k = ap (λ (x : CallResult). stepped x s) (h ∙ ap (λ (x : Plan). tookBy x) k)

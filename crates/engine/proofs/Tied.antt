@@ -1,5 +1,5 @@
 -- What a caller learns from each call's contract is the model's step, so `contracts-uphold` speaks of the functions' own clauses. `Learnt`
--- is the reading of an `ensures` clause that the check makes: a contract that stops saying what demand 3 needs breaks its line here.
+-- is the reading of an `ensures` clause that the check makes: a contract that stops saying what the records theorem needs breaks its line here.
 -- Assumes nothing.
 use mathlib.Core.Path.{_≡_}
 use denote.Ref.{now}

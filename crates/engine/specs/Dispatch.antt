@@ -112,7 +112,7 @@ unfoldable pub openRoute : Engine → Heading → Route
 openRoute e h =
     pick (sameOpcode (h .opcode) op.Connect) Connect (admittedRoute (admissionOf (rejection e (h .opcode) (h .survey))) e h)
 
--- another opcode inside an operation: 0x40, and number 5 once it is taken
+-- another opcode inside an operation: 0x40, and the engine ends once that reply is taken
 abbrev pub interruptsRoute : Route
 interruptsRoute = Plain (brief.Code await.Last (sentCode 0x40))
 

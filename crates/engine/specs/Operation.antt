@@ -34,7 +34,7 @@ putFinalPlan e g =
     pick (g .over) (codePlan e (e .peer) await.Taken 0xCD)
     (asksPlan e (e .peer) Nothing await.Reply (request.Put (g .kept) (putBody g)))
 
--- a Put packet: number 6 comes before 0x4D
+-- a Put packet: kept headers that are too long come before 0x4D
 unfoldable pub putPlan : Engine → Gathered → Bool → Bool → Bool → Bool → Plan
 putPlan e g final additional srm confirm =
     pick (g .full) (endsPlan e (e .peer) end.HeadersTooLarge) (pick final (putFinalPlan e g) (putContinuePlan e g srm confirm additional))

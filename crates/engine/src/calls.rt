@@ -48,7 +48,8 @@ use server::Outcome;
 use server::Refusal;
 use server::Settings;
 
-// The start: a realm that is longer than the settings have room for is told by its length.
+// Starts an engine with `settings`. The start is refused with `StoreTooShort`, or with `BadAnswer` if the realm is longer than 254 bytes;
+// the state that comes back has then ended.
 pub fn start(
     settings: Settings,
     packet: &mut [u8],
@@ -76,7 +77,8 @@ pub fn start(
     }
 }
 
-// Bytes from the peer, up to the end of a packet and never past it.
+// Offers the engine bytes from the client. The engine takes them up to the end of a packet and never past it; the host offers the rest
+// again after the packet is answered (docs/PROTOCOL.md#frames).
 pub fn bytes_offered(
     e: Engine,
     input: &[u8],
@@ -111,7 +113,7 @@ pub fn bytes_offered(
     }
 }
 
-// The peer's stream has ended: number 1 between packets, 2 inside one.
+// Tells the engine that the client's stream has ended: the engine ends with `Disconnected` between packets, with `Truncated` inside one.
 pub fn stream_ended(
     e: Engine,
     packet: &mut [u8],
@@ -135,7 +137,8 @@ pub fn stream_ended(
     took(ends(e, e.peer, stream_end(e.begun)))
 }
 
-// The host took the reply.
+// Tells the engine that the host has sent the reply. Under Single Response Mode (SRM) the next packet of an object may follow at once, else
+// the engine wants bytes.
 pub fn reply_taken(
     e: Engine,
     packet: &mut [u8],
@@ -160,7 +163,7 @@ pub fn reply_taken(
     carry_out(plan, reply)
 }
 
-// A reply to a request that awaits one.
+// Gives the host's reply to a request, a code and header bytes in canonical form. A Get may be answered so, or by `object_given`.
 pub fn reply_given(
     e: Engine,
     code: u8,
@@ -196,7 +199,8 @@ pub fn reply_given(
     sends(e, peer, code, header_bytes, reply)
 }
 
-// An object for a Get.
+// Gives an object for a Get: its header bytes, in canonical form, and whether it has a body. The engine asks for the body's bytes when it
+// needs them.
 pub fn object_given(
     e: Engine,
     header_bytes: &[u8],
@@ -238,7 +242,8 @@ pub fn object_given(
     sends_next(e, o, either(srm, confirm_srm), wait, headers, reply)
 }
 
-// Bytes of the object's body; more than were asked for is 9.
+// Gives bytes of the object's body: at most as many as the engine asked for, and none at the body's end. More are refused with
+// `WrongMoment`.
 pub fn body_given(
     e: Engine,
     d: &[u8],
@@ -277,7 +282,7 @@ pub fn body_given(
     carry_out(packet_plan(e, srm, wait, k), reply)
 }
 
-// The object's body cannot be read on: 0x50.
+// Tells the engine that the object's body cannot be read on. The engine replies with 0x50 and ends the Get, even after earlier packets.
 pub fn body_failed(
     e: Engine,
     packet: &mut [u8],
@@ -301,7 +306,7 @@ pub fn body_failed(
     carry_out(code(e, e.peer, Await::Taken, 0xD0), reply)
 }
 
-// An Abort is acknowledged without a code, and gets 0xA0.
+// Tells the engine that the host has heard of an Abort. The host gives no code: the reply to an Abort is always 0xA0.
 pub fn abort_acknowledged(
     e: Engine,
     packet: &mut [u8],
@@ -325,7 +330,8 @@ pub fn abort_acknowledged(
     carry_out(code(e, e.peer, Await::Taken, 0xA0), reply)
 }
 
-// The password for the user id that was told, or none.
+// Gives the password of the user that the client named, or none if the host knows no such user. A wrong or missing password makes the
+// engine ask for a nonce, to challenge the client again.
 pub fn password_given(
     e: Engine,
     has_password: bool,
@@ -356,7 +362,8 @@ pub fn password_given(
     took(password_plan(e, right))
 }
 
-// A nonce for a new challenge, and the realm's bytes, as many as the settings say: the password is asked for with 0x41.
+// Gives a fresh nonce for a challenge, and the realm's bytes, of which the settings' `realm_length` count. The engine replies with 0x41 and
+// the challenge.
 pub fn nonce_given(
     e: Engine,
     n: Octets16,
@@ -384,7 +391,8 @@ pub fn nonce_given(
     took(sent_plan(e, peer, sent))
 }
 
-// Credentials for the peer's challenge, or none: the host's answer to the Connect goes out.
+// Gives credentials for the client's challenge, or none. The reply to the Connect, which has waited for them, is made now. A user id of
+// over 255 bytes is refused with `BadAnswer`.
 pub fn credentials_given(
     e: Engine,
     has_credentials: bool,

@@ -1,4 +1,5 @@
-// Connect, from its packet to its reply, in the source's order: password, nonce, the host's answer, credentials. Disconnect.
+// Connect, from its packet to its reply (the source's `handle_connect` and `verify_client`): the password, a nonce for a new challenge, the
+// host's answer, credentials for the client's own challenge. Disconnect (`handle_disconnect`) closes ids before its reply.
 ghost use mathlib.Core.Path.{_≡_};
 ghost use mathlib.Core.Bool.{false, _||_, true, _&&_};
 ghost use mathlib.Core.Option.{none, some};
@@ -64,7 +65,7 @@ use server::Operation;
 use server::Refusal;
 use server::Settings;
 
-// Whether the packet asks for SRM, which is supported.
+// Whether `packet` asks for Single Response Mode (SRM) and the settings support it.
 fn srm_asked(e: Engine, packet: &[u8]) -> bool
     ensures { λ r. ⌜ r ≡ srmAskedBy e (now (packet .entry)) ⌝ }
 {
@@ -74,7 +75,7 @@ fn srm_asked(e: Engine, packet: &[u8]) -> bool
     is_enabling(packet)
 }
 
-// SRM stays on where it is.
+// Whether SRM is on after the Connect in `packet`. SRM that is on already stays on.
 fn srm_after(e: Engine, packet: &[u8]) -> bool
     ensures { λ r. ⌜ r ≡ e .peer .«srm_enabled» || srmAskedBy e (now (packet .entry)) ⌝ }
 {
@@ -84,7 +85,8 @@ fn srm_after(e: Engine, packet: &[u8]) -> bool
     srm_asked(e, packet)
 }
 
-// What the answer opens: its first ConnectionID, else for a Target a new one.
+// Opens the ConnectionID that the host's answer names first. If it names none and the Connect has a Target, the engine looks for a new id
+// and puts it in front of the answer (docs/PROTOCOL.md#connection-ids).
 fn opens(e: Engine, header_bytes: &[u8], packet: &[u8]) -> Answer
     requires { ⌜ e .peer .count ≤ 64 ⌝ }
     ensures { λ r. ⌜ r ≡ answerFor e (now («header_bytes» .entry)) (now (packet .entry)) ⌝ }
@@ -97,7 +99,7 @@ fn opens(e: Engine, header_bytes: &[u8], packet: &[u8]) -> Answer
     )
 }
 
-// Where the realm of the peer's challenge stands in its Connect packet.
+// Finds the realm of the client's challenge in its Connect packet, so that the host can choose credentials by it.
 fn challenge_realm(packet: &[u8]) -> Found
     ensures { λ r. ⌜ r ≡ realmIn (now (packet .entry)) (firstPlace 0x4D (now (packet .entry)) 7) ⌝ }
 {
@@ -107,7 +109,8 @@ fn challenge_realm(packet: &[u8]) -> Found
     placed(start, realm(&packet[start..end]))
 }
 
-// The reply to a Connect that the host accepted, by the id put in front, the packet, the host's headers and its credentials.
+// Sends the reply to a Connect that the host has accepted: `front` in front, then Who if the packet has a Target, the host's headers, the
+// answer to the client's challenge, and SRM.
 pub(crate) fn connect_sends(
     e: Engine,
     peer: Peer,
@@ -145,7 +148,7 @@ pub(crate) fn connect_sends(
     took(sent_plan(e, peer, sent))
 }
 
-// The reply without credentials: the bytes passed for them are not read.
+// Sends the reply to a Connect without credentials. `connect_sends` does not read the bytes that are passed in their place.
 fn unchallenged(
     e: Engine,
     peer: Peer,
@@ -175,7 +178,8 @@ fn unchallenged(
     )
 }
 
-// An id is open or not needed: the reply follows, or the host's headers wait until it has given credentials.
+// Goes on after an id is open or not needed. If the client sent a challenge, the engine keeps the host's headers in the header store and
+// asks for credentials; otherwise it replies.
 fn accepted(
     e: Engine,
     peer: Peer,
@@ -216,7 +220,7 @@ fn accepted(
     took(asks(e, peer, operation, Await::Credentials, request))
 }
 
-// Any answer but success is sent as it is; a 65th id is 0x53.
+// Takes the host's answer to a Connect. Any answer but success is sent as it is. A 65th id gets 0x53, and neither the ids nor SRM change.
 pub(crate) fn connect_answer(
     e: Engine,
     code: u8,
@@ -251,13 +255,13 @@ pub(crate) fn connect_answer(
     )
 }
 
-// A response that can be read, by where its user id stands in the packet.
+// The client's response to the server's challenge: missing or unreadable, or readable, with the place of its user id in the packet.
 pub(crate) enum Answered {
     Missing,
     User(Found),
 }
 
-// A place in a part of the packet, as a place in the packet.
+// Turns a place in the part of the packet that begins at `at` into a place in the packet.
 pub(crate) fn placed(at: usize, found: Found) -> Found
     requires { ⌜ Below at found ⌝ }
     ensures { λ r. ⌜ r ≡ placedAt at found ⌝ }
@@ -271,7 +275,7 @@ pub(crate) fn placed(at: usize, found: Found) -> Found
     }
 }
 
-// The first response to our challenge.
+// Finds the client's first AuthenticateResponse in the packet.
 fn client_response(p: &[u8]) -> Answered
     requires { ⌜ readHeaders (now p) 7 ≡ some (headersIn (requestOf (now p))) ⌝ }
     ensures { λ r. ⌜ r ≡ answeredBy (now (p .entry)) ⌝ }
@@ -290,7 +294,8 @@ fn client_response(p: &[u8]) -> Answered
     Answered::User(placed(start, user))
 }
 
-// The password is asked for where a challenge is stored and answered; else a new challenge is made.
+// If the client has answered a stored challenge, asks the host for the password. Otherwise asks it for a nonce, to challenge the client
+// (again).
 fn verifies(e: Engine, peer: Peer, challenge: Challenge, a: Answered) -> Plan
     ensures { λ r. ⌜ r ≡ verifiesPlan e peer challenge a ⌝ }
 {
@@ -321,7 +326,8 @@ fn verifies(e: Engine, peer: Peer, challenge: Challenge, a: Answered) -> Plan
     }
 }
 
-// Once the peer's limit is set: the password where one is required, else the host is asked.
+// Goes on after the client's packet limit is set: checks the client if the settings ask for a password, else asks the host whether it
+// accepts the Connect.
 fn limited_plan(e: Engine, peer: Peer, a: Answered) -> Plan
     ensures { λ r. ⌜ r ≡ limitedPlan e peer a ⌝ }
 {
@@ -338,7 +344,7 @@ fn limited_plan(e: Engine, peer: Peer, a: Answered) -> Plan
     )
 }
 
-// A Connect packet.
+// Handles a Connect packet: sets the client's packet limit before the password is looked at, as the source does.
 pub(crate) fn handle_connect(e: Engine, p: &[u8]) -> Plan
     requires { ⌜ readHeaders (now p) 7 ≡ some (headersIn (requestOf (now p))) ⌝ }
     ensures { λ r. ⌜ r ≡ connectPlan e (now (p .entry)) ⌝ }
@@ -347,7 +353,7 @@ pub(crate) fn handle_connect(e: Engine, p: &[u8]) -> Plan
     limited_plan(e, limited(e.peer, limit), client_response(p))
 }
 
-// Right, the host is asked about the Connect; else a new challenge is made.
+// If the password was right, asks the host whether it accepts the Connect. Otherwise asks it for a nonce, to challenge the client again.
 pub(crate) fn password_plan(e: Engine, right: bool) -> Plan
     ensures { λ r. ⌜ r ≡ passwordPlan e right ⌝ }
 {
@@ -369,7 +375,7 @@ pub(crate) fn password_plan(e: Engine, right: bool) -> Plan
     )
 }
 
-// 0x41 with a challenge, by the settings.
+// Sends 0x41 with a challenge as the settings describe it: options, realm, and the nonce.
 pub(crate) fn send_challenge(
     settings: Settings,
     realm: [u8; 254],
@@ -396,7 +402,7 @@ pub(crate) fn send_challenge(
     )
 }
 
-// Whether credentials come with a user id.
+// Whether both flags are set: a user id counts only if there are credentials.
 fn both(a: bool, b: bool) -> bool
     ensures { λ r. ⌜ r ≡ a && b ⌝ }
 {
@@ -406,7 +412,8 @@ fn both(a: bool, b: bool) -> bool
     b
 }
 
-// The Connect that waits is answered with credentials, or without; a user id over 255 bytes is 8.
+// Replies to the Connect that has waited, with credentials or without. A user id of over 255 bytes is refused with `BadAnswer`, since its
+// length field has one byte.
 pub(crate) fn connect_with_credentials(
     e: Engine,
     has_credentials: bool,
@@ -451,7 +458,8 @@ pub(crate) fn connect_with_credentials(
     )
 }
 
-// Disconnect closes ids before the reply is made.
+// Closes the id that a Disconnect names before its reply is made. If no id is named or left, the peer's fields are cleared
+// (docs/PROTOCOL.md#disconnect).
 pub(crate) fn handle_disconnect(e: Engine, packet: &[u8]) -> Peer
     requires { ⌜ e .peer .count ≤ 64 ⌝ }
     ensures { λ r. ⌜ r ≡ repliedPeer e (now (packet .entry)) ⌝ }

@@ -1,4 +1,5 @@
-// Which way a packet goes: by its opcode if nothing is open, else by what is open; turned away, drained or unreadable.
+// Which way a packet goes (the source's `handle_next`, `dispatch`, `rejection`, `reject` and `next_request`): by its opcode if nothing is
+// open, else by what is open. A packet may also be turned away, drained or unreadable.
 ghost use mathlib.Core.Path.{_≡_};
 ghost use Prim.Native.Nat.{_≤_, ℕ};
 ghost use Rattle.model.specs.Dispatch.{rejection as rejectionOf, drains as drainsOf, confirms as confirmsOf, busy as busyWith, unknownByte, lengthOf, packetDone};
@@ -43,32 +44,32 @@ use server::HostRequest;
 use server::Operation;
 use server::Outcome;
 
-// What of a packet decides its way.
+// The parts of a readable packet that decide its way.
 pub(crate) struct Heading {
     pub survey: Survey,
     pub opcode: Opcode,
-    // SetPath's flags.
+    // SetPath's flags, if the packet is a SetPath.
     pub backup: bool,
     pub no_create: bool,
     pub is_final: bool,
 }
 
-// A step of few bytes.
+// A step that needs no more of the packet than its heading.
 pub(crate) enum Simple {
-    // The host is asked, and nothing is open.
+    // The engine asks the host, and no operation stays open.
     Ask { awaits: Await, request: HostRequest },
-    // A reply of a first byte alone, and nothing is open.
+    // The engine replies with a first byte and no headers, and no operation stays open.
     Code { awaits: Await, byte: u8 },
-    // The packets of an operation that is turned away are read first.
+    // The engine reads on to the final packet of an operation that it has turned away, then replies with `code`.
     Drain { code: u8 },
     End(End),
 }
 
-// Which way a packet goes.
+// The way of a packet.
 pub(crate) enum Route {
     Plain(Simple),
     Connect,
-    // What is asked is an additional packet for a Put, a wait for a Get.
+    // The packet's headers are gathered. `asked` is the client's wish: an additional Continue for a Put, a wait for a Get.
     Gather {
         kind: GatherKind,
         begun: Gathered,
@@ -77,7 +78,7 @@ pub(crate) enum Route {
         srm: bool,
         confirm: bool,
     },
-    // The next packet of an object.
+    // The engine sends the next packet of an object.
     Send {
         outgoing: Outgoing,
         srm: bool,
@@ -85,13 +86,13 @@ pub(crate) enum Route {
     },
 }
 
-// Whether a packet that opens an operation is turned away, and with which code.
+// Whether the engine admits a packet that opens an operation, or the code with which it turns the packet away.
 pub(crate) enum Admission {
     Admits,
     Rejects(u8),
 }
 
-// A password is required and not given, but for Disconnect.
+// Whether a password is required and not given. A Disconnect may not be refused (OBEX section 3.4.2).
 fn is_unauthorized(e: Engine, opcode: Opcode) -> bool
     ensures { λ r. ⌜ r ≡ unauthorizedFor e opcode ⌝ }
 {
@@ -104,7 +105,8 @@ fn is_unauthorized(e: Engine, opcode: Opcode) -> bool
     false
 }
 
-// 0x41 comes before 0x53, which is for an id that is not open.
+// Returns the code that refuses a packet before it reaches the host, if any: 0x41 for a missing password comes before 0x53 for a
+// ConnectionID that is not open.
 fn rejection(e: Engine, h: Heading) -> Admission
     requires { ⌜ e .peer .count ≤ 64 ⌝ }
     ensures { λ r. ⌜ r ≡ admissionOf (rejectionOf e (h .opcode) (h .survey)) ⌝ }
@@ -123,7 +125,7 @@ fn rejection(e: Engine, h: Heading) -> Admission
     Admission::Admits
 }
 
-// Which operations are drained.
+// Whether an operation of this opcode is drained if it is turned away under SRM: a Put or a Get.
 fn has_drain(opcode: Opcode) -> bool
     ensures { λ r. ⌜ r ≡ drainsOf opcode ⌝ }
 {
@@ -133,7 +135,7 @@ fn has_drain(opcode: Opcode) -> bool
     same(opcode, Opcode::Get)
 }
 
-// A reply of a code, and nothing is open.
+// The way of a packet that gets `code` and opens nothing.
 fn reply_code(code: u8) -> Route
     ensures { λ r. ⌜ r ≡ codeRoute code ⌝ }
 {
@@ -143,7 +145,8 @@ fn reply_code(code: u8) -> Route
     })
 }
 
-// Under SRM a Put or Get that is turned away is read to its end before the reply.
+// Whether the engine reads the rest of an operation that it turns away before it replies. With Single Response Mode (SRM) enabled the
+// client keeps sending the request without waiting, so its remaining packets are consumed first.
 fn is_drained(e: Engine, h: Heading) -> bool
     ensures { λ r. ⌜ r ≡ drainedBy e h ⌝ }
 {
@@ -157,7 +160,7 @@ fn is_drained(e: Engine, h: Heading) -> bool
     false
 }
 
-// Turned away: drained, or answered at once.
+// Refuses an operation with `code`, after a drain or at once.
 fn reject(e: Engine, h: Heading, code: u8) -> Route
     ensures { λ r. ⌜ r ≡ rejectedRoute e h code ⌝ }
 {
@@ -167,7 +170,7 @@ fn reject(e: Engine, h: Heading, code: u8) -> Route
     reply_code(code)
 }
 
-// SRM is granted: asked for and supported, and not granted yet.
+// Whether the engine grants SRM for this operation: the client asks for it, the settings support it, and it is not on for the session.
 fn must_confirm_srm(e: Engine, v: Survey) -> bool
     ensures { λ r. ⌜ r ≡ confirmsOf e v ⌝ }
 {
@@ -180,7 +183,7 @@ fn must_confirm_srm(e: Engine, v: Survey) -> bool
     false
 }
 
-// A packet of a Put, of a Get's request, of a Get's object, of an operation of headers alone.
+// The way of a packet of a Put.
 fn put_route(h: Heading, begun: Gathered, srm: bool, confirm: bool) -> Route
     ensures { λ r. ⌜ r ≡ putRoute h begun srm confirm ⌝ }
 {
@@ -194,6 +197,7 @@ fn put_route(h: Heading, begun: Gathered, srm: bool, confirm: bool) -> Route
     }
 }
 
+// The way of a packet of a Get's request.
 fn get_route(h: Heading, begun: Gathered, srm: bool, confirm: bool) -> Route
     ensures { λ r. ⌜ r ≡ getRoute h begun srm confirm ⌝ }
 {
@@ -207,6 +211,7 @@ fn get_route(h: Heading, begun: Gathered, srm: bool, confirm: bool) -> Route
     }
 }
 
+// The way of a packet that asks for the next part of an object.
 fn send_route(h: Heading, outgoing: Outgoing, srm: bool) -> Route
     ensures { λ r. ⌜ r ≡ sendRoute h outgoing srm ⌝ }
 {
@@ -217,6 +222,7 @@ fn send_route(h: Heading, outgoing: Outgoing, srm: bool) -> Route
     }
 }
 
+// The way of a packet of an operation of headers alone.
 fn headers_route(h: Heading, opcode: Opcode, begun: Gathered) -> Route
     ensures { λ r. ⌜ r ≡ headersRoute h opcode begun ⌝ }
 {
@@ -230,13 +236,14 @@ fn headers_route(h: Heading, opcode: Opcode, begun: Gathered) -> Route
     }
 }
 
+// The way of a packet about which the engine asks the host.
 fn ask(awaits: Await, request: HostRequest) -> Route
     ensures { λ r. ⌜ r ≡ askRoute awaits request ⌝ }
 {
     Route::Plain(Simple::Ask { awaits, request })
 }
 
-// A packet that is admitted.
+// Dispatches an admitted packet by its opcode.
 fn dispatch(e: Engine, h: Heading) -> Route
     ensures { λ r. ⌜ r ≡ dispatchRoute (h .opcode) e h ⌝ }
 {
@@ -276,7 +283,7 @@ fn dispatch(e: Engine, h: Heading) -> Route
     }
 }
 
-// Nothing is open. Connect is not turned away.
+// The way of a packet while nothing is open. A Connect is never turned away.
 fn open_route(e: Engine, h: Heading) -> Route
     requires { ⌜ e .peer .count ≤ 64 ⌝ }
     ensures { λ r. ⌜ r ≡ openRoute e h ⌝ }
@@ -291,7 +298,7 @@ fn open_route(e: Engine, h: Heading) -> Route
     }
 }
 
-// Another opcode inside an operation: 0x40, and number 5 once it is taken.
+// The next packet of an open operation goes its way if it has the operation's opcode, `open`. Another opcode interrupts.
 fn next_request(h: Heading, open: Opcode, route: Route) -> Route
     ensures { λ r. ⌜ r ≡ continuedRoute h «open» route ⌝ }
 {
@@ -302,6 +309,7 @@ fn next_request(h: Heading, open: Opcode, route: Route) -> Route
     interrupts()
 }
 
+// The way of a packet that interrupts an operation: 0x40, and the engine ends with `OtherOperation` once the reply is taken.
 fn interrupts() -> Route
     ensures { λ r. ⌜ r ≡ interruptsRoute ⌝ }
 {
@@ -311,7 +319,7 @@ fn interrupts() -> Route
     })
 }
 
-// An operation that is turned away is read to its final packet.
+// The way of a packet of an operation that is drained: the reply follows the final packet.
 fn draining(h: Heading, code: u8) -> Route
     ensures { λ r. ⌜ r ≡ drainingRoute h code ⌝ }
 {
@@ -321,7 +329,7 @@ fn draining(h: Heading, code: u8) -> Route
     Route::Plain(Simple::Drain { code })
 }
 
-// By what is open.
+// The way of a packet by what is open.
 fn inside(e: Engine, h: Heading) -> Route
     requires { ⌜ e .peer .count ≤ 64 ⌝ }
     ensures { λ r. ⌜ r ≡ insideRoute (e .operation) e h ⌝ }
@@ -360,7 +368,7 @@ fn inside(e: Engine, h: Heading) -> Route
     }
 }
 
-// A packet that can be read. Abort goes before all else.
+// The way of a readable packet. An Abort goes before all else: it is answered in every state.
 pub(crate) fn heading_route(e: Engine, h: Heading) -> Route
     requires { ⌜ e .peer .count ≤ 64 ⌝ }
     ensures { λ r. ⌜ r ≡ headingRoute e h ⌝ }
@@ -375,7 +383,7 @@ pub(crate) fn heading_route(e: Engine, h: Heading) -> Route
     inside(e, h)
 }
 
-// An operation is open.
+// Whether an operation is open.
 fn is_busy(operation: Operation) -> bool
     ensures { λ r. ⌜ r ≡ busyWith operation ⌝ }
 {
@@ -410,7 +418,8 @@ fn is_busy(operation: Operation) -> bool
     }
 }
 
-// 0x51 where the first byte is unknown, else 0x40; inside an operation number 4.
+// The way of a packet that cannot be read. Inside an operation the engine ends with `Unreadable`; otherwise it replies with 0x51 if the
+// first byte names no opcode, else with 0x40.
 pub(crate) fn unreadable(e: Engine, unknown: bool) -> Route
     ensures { λ r. ⌜ r ≡ unreadableRoute (e .operation) unknown ⌝ }
 {
@@ -424,7 +433,7 @@ pub(crate) fn unreadable(e: Engine, unknown: bool) -> Route
     reply_code(response::BAD_REQUEST)
 }
 
-// Whether the first byte names no operation.
+// Whether the first byte names no opcode.
 fn is_unknown(byte: u8) -> bool
     ensures { λ r. ⌜ r ≡ unknownByte (firstByte byte) ⌝ }
 {
@@ -437,7 +446,7 @@ fn is_unknown(byte: u8) -> bool
     }
 }
 
-// Which way a whole packet goes.
+// Reads a whole packet and returns its way.
 pub(crate) fn route_packet(e: Engine, p: &[u8]) -> Route
     requires { ⌜ (1 ≤ length (now p)) × (e .peer .count ≤ 64) ⌝ }
     ensures { λ r. ⌜ r ≡ packetRoute e (now (p .entry)) ⌝ }
@@ -464,7 +473,7 @@ pub(crate) fn route_packet(e: Engine, p: &[u8]) -> Route
     )
 }
 
-// A step of few bytes.
+// Carries out a step that needs no more of the packet than its heading.
 pub(crate) fn simple_plan(e: Engine, brief: Simple) -> Plan
     ensures { λ r. ⌜ r ≡ simplePlan e brief ⌝ }
 {
@@ -476,7 +485,7 @@ pub(crate) fn simple_plan(e: Engine, brief: Simple) -> Plan
     }
 }
 
-// A packet, acted on: the plan that is still to be carried out.
+// Acts on a packet and returns the plan that is still to be carried out.
 fn act(e: Engine, p: &[u8], headers: &mut [u8], body: &mut [u8], reply: &mut [u8]) -> Plan
     requires { ⌜ (1 ≤ length (now p)) × (e .peer .count ≤ 64) × (255 ≤ e .peer .«remote_max_packet_length»)
         × (soundOperation (limitOf e) (e .operation) ≡ true) × (65535 ≤ length (now headers)) × (limitOf e ≤ length (now body))
@@ -515,7 +524,7 @@ fn act(e: Engine, p: &[u8], headers: &mut [u8], body: &mut [u8], reply: &mut [u8
     }
 }
 
-// So many bytes are the last packet.
+// The state after a whole packet of `n` bytes has arrived: later answers read it again from the packet store.
 fn whole(e: Engine, n: usize) -> Engine
     ensures { λ r. ⌜ r ≡ lengthOf e n ⌝ }
 {
@@ -524,7 +533,7 @@ fn whole(e: Engine, n: usize) -> Engine
     engine_with(e.settings, e.peer, operation, awaits, 0, n)
 }
 
-// A whole packet stands in the packet store.
+// Handles a whole packet of `n` bytes at the front of the packet store.
 pub(crate) fn packet_done(
     e: Engine,
     n: usize,
@@ -544,6 +553,7 @@ pub(crate) fn packet_done(
     carry_out(plan, reply)
 }
 
+// The result with the count of bytes that were taken.
 pub(crate) fn with_taken(r: CallResult, taken: usize) -> CallResult
     ensures { λ w. ⌜ w ≡ withTaken r taken ⌝ }
 {
@@ -556,7 +566,7 @@ pub(crate) fn with_taken(r: CallResult, taken: usize) -> CallResult
     }
 }
 
-// More bytes of the packet are wanted.
+// The result if the packet is not whole yet: `begun` bytes of it stand in the packet store.
 pub(crate) fn more(e: Engine, begun: usize, taken: usize) -> CallResult
     ensures { λ r. ⌜ r ≡ moreTook e begun taken ⌝ }
 {

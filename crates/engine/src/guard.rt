@@ -1,5 +1,4 @@
-// Which calls are refused, decided by the state and the lengths of the lent stores: 10 where a store is short, then 9 where the state is
-// none that a call can leave, or where another call is awaited.
+// Which calls are refused, decided by the state and the lengths of the lent stores (docs/PROTOCOL.md#refusals).
 ghost use mathlib.Core.Path.{_≡_};
 ghost use Rattle.model.specs.Guard.{awaitNumber, sameAwait, fits, sound, soundGathered, soundOutgoing, soundOperation, badHeaders, badReply};
 ghost use Rattle.server.specs.declared.CallKind.the-variants as kind;
@@ -88,14 +87,14 @@ fn is_awaited(k: CallKind, a: Await) -> bool
     }
 }
 
-// The Put limit as a length.
+// Widens the Put limit to a length.
 pub(crate) fn wide(n: u32) -> usize
     ensures { λ r. ⌜ r ≡ n ⌝ }
 {
     n as usize
 }
 
-// Whether a lent store is too short.
+// Whether a lent store is too short: packet, header and reply store hold 65,535 bytes each, the body store as many as the Put limit.
 pub(crate) fn is_short(limit: u32, packet: usize, headers: usize, body: usize, reply: usize) -> bool
     ensures { λ r. ⌜ r ≡ shortBy limit packet headers body reply ⌝ }
 {
@@ -111,7 +110,7 @@ pub(crate) fn is_short(limit: u32, packet: usize, headers: usize, body: usize, r
     body < wide(limit)
 }
 
-// What was gathered is in bounds, what is sent, and what is open.
+// Whether the counts of gathered bytes are ones that a call can leave.
 fn sound_gathered(limit: u32, g: Gathered) -> bool
     ensures { λ r. ⌜ r ≡ soundGathered limit g ⌝ }
 {
@@ -121,6 +120,7 @@ fn sound_gathered(limit: u32, g: Gathered) -> bool
     g.body <= wide(limit)
 }
 
+// Whether the counts of an object that is sent are ones that a call can leave.
 fn sound_outgoing(o: Outgoing, c: Chunk) -> bool
     ensures { λ r. ⌜ r ≡ soundOutgoing o c ⌝ }
 {
@@ -139,6 +139,7 @@ fn sound_outgoing(o: Outgoing, c: Chunk) -> bool
     c.room <= 65533 - c.at - c.got
 }
 
+// Whether the counts of the open operation are ones that a call can leave.
 fn sound_operation(limit: u32, operation: Operation) -> bool
     ensures { λ r. ⌜ r ≡ soundOperation limit operation ⌝ }
 {
@@ -170,7 +171,8 @@ fn sound_operation(limit: u32, operation: Operation) -> bool
     }
 }
 
-// Whether the counts are ones that a call can leave.
+// Whether the state's counts are ones that a call can leave. Any other state is refused, so that a call is defined for every state that it
+// is given.
 pub(crate) fn is_sound(e: Engine) -> bool
     ensures { λ r. ⌜ r ≡ sound e ⌝ }
 {
@@ -256,7 +258,7 @@ pub(crate) fn refuse(e: Engine, refusal: Refusal) -> CallResult
     }
 }
 
-// Header bytes that are too long or not canonical.
+// Whether header bytes are none that a host may give: over 65,535, or not what the writer gives for what the reader reads.
 pub(crate) fn is_bad_headers(s: &[u8]) -> bool
     ensures { λ r. ⌜ r ≡ badHeaders (now (s .entry)) ⌝ }
 {
@@ -266,7 +268,7 @@ pub(crate) fn is_bad_headers(s: &[u8]) -> bool
     !is_canonical(s)
 }
 
-// Bad header bytes, or a code that is none.
+// Whether a reply is none that a host may give: by its code or by its header bytes.
 pub(crate) fn is_bad_reply(code: u8, header_bytes: &[u8]) -> bool
     ensures { λ r. ⌜ r ≡ badReply code (now («header_bytes» .entry)) ⌝ }
 {

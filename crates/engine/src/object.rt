@@ -1,4 +1,4 @@
-// The object of a Get, sent packet by packet, and what follows each packet.
+// The object of a Get, sent packet by packet (the response phase of the source's `handle_get`), and what follows each reply.
 ghost use mathlib.Core.Path.{_≡_};
 ghost use mathlib.Core.List.{List};
 ghost use Prim.Native.Nat.{_≤_, ℕ};
@@ -32,7 +32,7 @@ use server::HostRequest;
 use server::Operation;
 use server::Outcome;
 
-// The operation after a packet of an object.
+// The operation that is open after a packet of an object: none after the last packet.
 fn sending(k: Packet, last: bool, srm: bool, wait: bool) -> Operation
     ensures { λ r. ⌜ r ≡ sendingOn k last srm wait ⌝ }
 {
@@ -49,7 +49,8 @@ fn sending(k: Packet, last: bool, srm: bool, wait: bool) -> Operation
     }
 }
 
-// A packet of an object, the body read that it needs, or 0x50 where a header is too long for any packet.
+// The plan for a packet of an object: the packet is sent, or body bytes are asked for first. If a header is too long for any packet, the
+// reply is 0x50 and the Get ends.
 pub(crate) fn packet_plan(e: Engine, srm: bool, wait: bool, k: Packet) -> Plan
     ensures { λ r. ⌜ r ≡ packetPlan e srm wait k ⌝ }
 {
@@ -74,7 +75,7 @@ pub(crate) fn packet_plan(e: Engine, srm: bool, wait: bool, k: Packet) -> Plan
     }
 }
 
-// The next packet of an object, or what it needs first.
+// Lays the next packet of an object in the reply store and plans what follows; or plans the read that the packet needs first.
 pub(crate) fn object_plan(
     e: Engine,
     o: Outgoing,
@@ -91,7 +92,7 @@ pub(crate) fn object_plan(
     packet_plan(e, srm, wait, next_packet(capacity, o, headers, reply))
 }
 
-// The next packet of an object that is sent, or what it needs first.
+// Sends the next packet of an object, or asks for the body bytes that it needs first.
 pub(crate) fn sends_next(
     e: Engine,
     o: Outgoing,
@@ -109,7 +110,8 @@ pub(crate) fn sends_next(
     carry_out(packet_plan(e, srm, wait, k), reply)
 }
 
-// SRM that was not granted yet goes in front of the object's headers.
+// An object before its first packet. `lead` puts the grant of Single Response Mode (SRM) in front of the object's headers, if SRM was not
+// granted with a Continue before.
 pub(crate) fn object_of(total: usize, lead: bool, has_body: bool) -> Outgoing
     ensures { λ r. ⌜ r ≡ objectOf total lead «has_body» ⌝ }
 {
@@ -123,6 +125,7 @@ pub(crate) fn object_of(total: usize, lead: bool, has_body: bool) -> Outgoing
     }
 }
 
+// Whether one of two flags is set.
 pub(crate) fn either(a: bool, b: bool) -> bool
     ensures { λ r. ⌜ r ≡ a || b ⌝ }
 {
@@ -132,7 +135,7 @@ pub(crate) fn either(a: bool, b: bool) -> bool
     b
 }
 
-// What follows it.
+// What the engine does once the host has sent the reply.
 enum Turn {
     Send {
         outgoing: Outgoing,
@@ -143,7 +146,7 @@ enum Turn {
     End,
 }
 
-// Under SRM and without a wait the next packet of an object follows at once.
+// Under SRM the next packet of an object follows at once, unless the last request asked to wait.
 fn follows(outgoing: Outgoing, srm: bool, wait: bool) -> Turn
     ensures { λ r. ⌜ r ≡ followsTurn outgoing srm wait ⌝ }
 {
@@ -160,7 +163,7 @@ fn follows(outgoing: Outgoing, srm: bool, wait: bool) -> Turn
     Turn::Wait
 }
 
-// After a reply that is not the last.
+// What follows a reply by the operation that is open.
 fn goes_on(operation: Operation) -> Turn
     ensures { λ r. ⌜ r ≡ goesTurn operation ⌝ }
 {
@@ -195,7 +198,7 @@ fn goes_on(operation: Operation) -> Turn
     }
 }
 
-// By whether the reply was the last.
+// What follows the reply: the engine ends after the last one.
 fn next_turn(e: Engine) -> Turn
     ensures { λ r. ⌜ r ≡ turnOf e ⌝ }
 {
@@ -207,7 +210,7 @@ fn next_turn(e: Engine) -> Turn
     Turn::End
 }
 
-// What follows a reply that was taken; number 5 after the last one.
+// Plans what follows a reply that was taken. After the reply to an interrupting packet the engine ends with `OtherOperation`.
 pub(crate) fn turn_plan(e: Engine, headers: &[u8], reply: &mut [u8]) -> Plan
     requires { ⌜ (255 ≤ e .peer .«remote_max_packet_length») × (soundOperation (limitOf e) (e .operation) ≡ true)
         × (65535 ≤ length (now headers)) × (65535 ≤ length (now reply)) ⌝ }

@@ -1,4 +1,5 @@
-// A Put, a Get's request, and the operations of headers alone, packet by packet.
+// A Put, the request of a Get, and the operations of headers alone, packet by packet (the source's `handle_put`, the request phase of
+// `handle_get`, `handle_headers_only`).
 ghost use mathlib.Core.Path.{_≡_};
 ghost use Prim.Native.Nat.{_≤_, ℕ};
 ghost use Rattle.model.specs.Operation.{nothingGathered, gathers, putBody, headersRequest};
@@ -32,13 +33,14 @@ use server::Engine;
 use server::HostRequest;
 use server::Operation;
 
-// An operation whose packets are gathered.
+// The kinds of operations whose packets the engine gathers.
 pub(crate) enum GatherKind {
     Put,
     Get,
     Headers(Opcode),
 }
 
+// What is gathered before the first packet of an operation: nothing.
 pub(crate) fn nothing_gathered() -> Gathered
     ensures { λ r. ⌜ r ≡ nothingGathered ⌝ }
 {
@@ -51,7 +53,7 @@ pub(crate) fn nothing_gathered() -> Gathered
     }
 }
 
-// Which headers are kept.
+// Which headers the engine keeps of an operation.
 pub(crate) fn keep(kind: GatherKind) -> Keep
     ensures { λ r. ⌜ r ≡ keepOf kind ⌝ }
 {
@@ -62,7 +64,7 @@ pub(crate) fn keep(kind: GatherKind) -> Keep
     }
 }
 
-// Where the headers start.
+// Where the headers start in a packet of an operation.
 fn headers_from(kind: GatherKind) -> usize
     ensures { λ r. ⌜ r ≡ fromOf kind ⌝ }
 {
@@ -73,7 +75,7 @@ fn headers_from(kind: GatherKind) -> usize
     }
 }
 
-// The body of a Put: none where no body header came.
+// The body of a Put: missing if no body header came, which differs from an empty body.
 fn put_body(g: Gathered) -> Body
     ensures { λ r. ⌜ r ≡ putBody g ⌝ }
 {
@@ -84,7 +86,8 @@ fn put_body(g: Gathered) -> Body
     }
 }
 
-// A Put packet that is not final.
+// Goes on after a Put packet that is not final. Under Single Response Mode (SRM) the engine says Continue only if the client asks for it.
+// Without SRM the client waits for this response, so a body past the limit is refused right away.
 fn put_continues(e: Engine, g: Gathered, srm: bool, confirm: bool, additional: bool) -> Plan
     ensures { λ r. ⌜ r ≡ putContinuePlan e g srm confirm additional ⌝ }
 {
@@ -111,7 +114,7 @@ fn put_continues(e: Engine, g: Gathered, srm: bool, confirm: bool, additional: b
     )
 }
 
-// A final Put packet: past the limit 0x4D, else the host gets the record.
+// Goes on after the final packet of a Put: a body past the limit gets 0x4D, otherwise the host gets the record.
 fn put_final(e: Engine, g: Gathered) -> Plan
     ensures { λ r. ⌜ r ≡ putFinalPlan e g ⌝ }
 {
@@ -130,7 +133,7 @@ fn put_final(e: Engine, g: Gathered) -> Plan
     )
 }
 
-// A Put packet, gathered. Number 6 comes before 0x4D.
+// Handles a Put packet whose headers are gathered. Kept headers over 65,535 bytes end the engine, before a body past the limit counts.
 pub(crate) fn handle_put(
     e: Engine,
     g: Gathered,
@@ -150,7 +153,7 @@ pub(crate) fn handle_put(
     put_continues(e, g, srm, confirm, additional)
 }
 
-// A Get packet of the request, gathered.
+// Handles a packet of a Get's request whose headers are gathered: the host is asked after the final packet.
 pub(crate) fn handle_get(
     e: Engine,
     g: Gathered,
@@ -194,7 +197,7 @@ pub(crate) fn handle_get(
     )
 }
 
-// The request for an operation of headers alone.
+// The host request for an operation of headers alone.
 fn headers_request(opcode: Opcode, kept: usize) -> HostRequest
     ensures { λ r. ⌜ r ≡ headersRequest opcode kept ⌝ }
 {
@@ -214,7 +217,7 @@ fn headers_request(opcode: Opcode, kept: usize) -> HostRequest
     }
 }
 
-// A packet of an operation of headers alone, gathered.
+// Handles a packet of an Action, a Session or a user-defined operation, which carry no body.
 pub(crate) fn handle_headers_only(e: Engine, opcode: Opcode, g: Gathered, is_final: bool) -> Plan
     ensures { λ r. ⌜ r ≡ headersPlan e opcode g «is_final» ⌝ }
 {
@@ -240,7 +243,7 @@ pub(crate) fn handle_headers_only(e: Engine, opcode: Opcode, g: Gathered, is_fin
     )
 }
 
-// A packet that is gathered.
+// Handles a packet whose headers are gathered, by its kind.
 pub(crate) fn handle_gathered(
     e: Engine,
     kind: GatherKind,
@@ -259,7 +262,7 @@ pub(crate) fn handle_gathered(
     }
 }
 
-// A packet of an operation whose headers are gathered.
+// Gathers the headers of packet `p` into the header and body store and handles the packet.
 pub(crate) fn gather_packet(
     e: Engine,
     p: &[u8],

@@ -1,4 +1,4 @@
-// The last whole packet, read again for an answer that comes later.
+// The request that is being answered: the client's last whole packet, read again from the packet store in a later call.
 ghost use mathlib.Core.Path.{_≡_};
 ghost use mathlib.Core.Option.{some};
 ghost use Rattle.packet.specs.Header.{first};
@@ -24,7 +24,7 @@ const TARGET: u8 = 0x46;
 
 pub(crate) const AUTHENTICATE_RESPONSE: u8 = 0x4E;
 
-// Where its headers start: at its end where it cannot be read.
+// Where the headers of packet `q` start: at its end if it cannot be read, so that it has none.
 pub(crate) fn last_from(q: &[u8]) -> usize
     ensures { λ r. ⌜ r ≡ lastFrom (now (q .entry)) ⌝ }
 {
@@ -40,7 +40,7 @@ pub(crate) fn last_from(q: &[u8]) -> usize
     headers
 }
 
-// The first ConnectionID from a place on.
+// The first ConnectionID among the headers of `s` from a place on.
 pub(crate) fn first_id(s: &[u8], from: usize) -> ConnectionId
     ensures { λ r. ⌜ r ≡ idIn (first 0xCB (headersFrom (now (s .entry)) from)) ⌝ }
 {
@@ -51,7 +51,7 @@ pub(crate) fn first_id(s: &[u8], from: usize) -> ConnectionId
     ConnectionId::Missing
 }
 
-// Whether it has a Target.
+// Whether packet `q` has a Target.
 pub(crate) fn has_target(q: &[u8]) -> bool
     ensures { λ r. ⌜ r ≡ isGiven (first 0x46 (headersIn (requestOf (now (q .entry))))) ⌝ }
 {
@@ -61,7 +61,7 @@ pub(crate) fn has_target(q: &[u8]) -> bool
     true
 }
 
-// Whether its first SingleResponseMode is Enable.
+// Whether the first SingleResponseMode header of packet `q` is Enable.
 pub(crate) fn is_enabling(q: &[u8]) -> bool
     ensures { λ r. ⌜ r ≡ surveyOf (some (headersIn (requestOf (now (q .entry))))) .enable ⌝ }
 {
@@ -69,7 +69,7 @@ pub(crate) fn is_enabling(q: &[u8]) -> bool
     v.enable
 }
 
-// Whether the password is right for the stored challenge and the packet's first AuthenticateResponse.
+// Whether the password is right for the stored challenge and the first AuthenticateResponse of packet `q`.
 pub(crate) fn is_right(stored: Challenge, q: &[u8], has_password: bool, password: &[u8]) -> bool
     ensures { λ r. ⌜ r ≡ checks stored (responseIn (first 0x4E (headersIn (requestOf (now (q .entry))))))
         (given «has_password» (now (password .entry))) ⌝ }

@@ -26,23 +26,23 @@ use server::Operation;
 use server::Outcome;
 use server::Settings;
 
-// A reply of a few bytes.
+// A reply of a few bytes, written when the plan is carried out.
 pub(crate) enum ShortReply {
     Silent,
-    // A first byte, and no headers.
+    // The first byte, with no headers.
     Byte(u8),
-    // Continue, and SingleResponseMode granted.
+    // Continue with the grant of Single Response Mode (SRM).
     Grant,
 }
 
-// What to do next.
+// What a call leads to, decided without the stores: the next state, what the call answers, and a short reply if one is due.
 pub(crate) struct Plan {
     pub engine: Engine,
     pub outcome: Outcome,
     pub small: ShortReply,
 }
 
-// The state anew: the one place that lists its fields.
+// Makes the state anew. This is the one place that lists its fields.
 pub(crate) fn engine_with(
     settings: Settings,
     peer: Peer,
@@ -63,7 +63,7 @@ pub(crate) fn engine_with(
     }
 }
 
-// Nothing is open, the counter stands at 1, and the peer's limit is the smallest there is.
+// The peer at the start: no id is open, the id counter stands at 1, and the client's packet limit is the smallest there is.
 fn fresh_peer() -> Peer
     ensures { λ r. ⌜ r ≡ freshPeer ⌝ }
 {
@@ -78,14 +78,14 @@ fn fresh_peer() -> Peer
     }
 }
 
-// A fresh engine, or one that has ended where the start is refused.
+// An engine at its start; one that awaits nothing, if the start is refused.
 pub(crate) fn fresh(settings: Settings, awaits: Await) -> Engine
     ensures { λ r. ⌜ r ≡ engineWith settings freshPeer Operation.Nothing awaits 0 0 ⌝ }
 {
     engine_with(settings, fresh_peer(), Operation::Nothing, awaits, 0, 0)
 }
 
-// Bytes are wanted.
+// The engine wants bytes.
 pub(crate) fn wants(e: Engine, peer: Peer, operation: Operation) -> Plan
     ensures { λ r. ⌜ r ≡ wantsPlan e peer operation ⌝ }
 {
@@ -96,7 +96,7 @@ pub(crate) fn wants(e: Engine, peer: Peer, operation: Operation) -> Plan
     }
 }
 
-// The host is asked.
+// The engine asks the host.
 pub(crate) fn asks(
     e: Engine,
     peer: Peer,
@@ -131,7 +131,7 @@ pub(crate) fn ends(e: Engine, peer: Peer, end: End) -> Plan
     }
 }
 
-// Between packets 1, inside one 2.
+// How the engine ends at the end of the stream, with `begun` bytes of a packet in the packet store.
 pub(crate) fn stream_end(begun: usize) -> End
     ensures { λ r. ⌜ r ≡ pick (eqb begun 0) end.Disconnected end.Truncated ⌝ }
 {
@@ -141,7 +141,7 @@ pub(crate) fn stream_end(begun: usize) -> End
     End::Truncated
 }
 
-// A reply of a first byte alone.
+// The engine replies with a first byte and no headers.
 pub(crate) fn code(e: Engine, peer: Peer, awaits: Await, byte: u8) -> Plan
     ensures { λ r. ⌜ r ≡ codePlan e peer awaits byte ⌝ }
 {
@@ -152,7 +152,7 @@ pub(crate) fn code(e: Engine, peer: Peer, awaits: Await, byte: u8) -> Plan
     }
 }
 
-// Continue, and the operation goes on.
+// The engine says Continue, with SRM if `grant` is set, and the operation goes on.
 pub(crate) fn continues(e: Engine, operation: Operation, grant: bool) -> Plan
     ensures { λ r. ⌜ r ≡ continuePlan e operation grant ⌝ }
 {
@@ -171,7 +171,7 @@ pub(crate) fn continues(e: Engine, operation: Operation, grant: bool) -> Plan
     }
 }
 
-// The bytes of a small reply at the front of the reply store.
+// Writes a short reply to the front of the reply store.
 pub(crate) fn write_short_reply(small: ShortReply, reply: &mut [u8])
     requires { ⌜ 5 ≤ length (now reply) ⌝ }
     ensures { λ r. ⌜ now (reply .exit) ≡ front (smallBytes small) (now (reply .entry)) ⌝ }
@@ -187,7 +187,7 @@ pub(crate) fn write_short_reply(small: ShortReply, reply: &mut [u8])
     }
 }
 
-// What a call gives that takes no bytes.
+// The result of a plan for a call that takes no bytes.
 pub(crate) fn took(p: Plan) -> CallResult
     ensures { λ r. ⌜ r ≡ tookBy p ⌝ }
 {
@@ -200,7 +200,7 @@ pub(crate) fn took(p: Plan) -> CallResult
     }
 }
 
-// The small reply is written, and the rest handed back.
+// Carries out a plan: writes its short reply and returns the rest.
 pub(crate) fn carry_out(p: Plan, reply: &mut [u8]) -> CallResult
     requires { ⌜ 5 ≤ length (now reply) ⌝ }
     ensures { λ r. ⌜ written r (now (reply .exit)) ≡ carried p (now (reply .entry)) ⌝ }
@@ -210,7 +210,7 @@ pub(crate) fn carry_out(p: Plan, reply: &mut [u8]) -> CallResult
     took(p)
 }
 
-// A reply that was sent, or number 7 where it is too large.
+// The plan after a reply was written: the host sends it, or the engine ends with `ReplyTooLarge`.
 pub(crate) fn sent_plan(e: Engine, peer: Peer, sent: Sent) -> Plan
     ensures { λ r. ⌜ r ≡ sentPlan e peer sent ⌝ }
 {
@@ -231,14 +231,14 @@ pub(crate) fn sent_plan(e: Engine, peer: Peer, sent: Sent) -> Plan
     }
 }
 
-// A number of the state as a length.
+// Widens a packet limit to a length.
 pub(crate) fn wide16(n: u16) -> usize
     ensures { λ r. ⌜ (r ≡ n) × (r < 65536) ⌝ }
 {
     n as usize
 }
 
-// A reply with headers.
+// Replies with a code and headers.
 pub(crate) fn sends(
     e: Engine,
     peer: Peer,
@@ -254,7 +254,7 @@ pub(crate) fn sends(
     took(sent_plan(e, peer, sent))
 }
 
-// A reply with Connect's fields and headers.
+// Replies with a code, Connect's fields and headers.
 pub(crate) fn sends_connect(
     e: Engine,
     peer: Peer,

@@ -34,7 +34,7 @@ ran-returned (call {cs = cs} {vs = vs} c r t e h) =
     ap (λ (l : List Verdict). verdictOf (r .outcome) ∷ l) (ran-returned h)
     ∙ ap (λ (m : Stepped). verdictOf (m .took .outcome) ∷ returned (stateOf m) cs) e
 
--- an accepted start is one of which demand 3 speaks
+-- an accepted start is one of which the records theorem speaks
 start-accepted : (st : Settings) (s : Stores) → startStep st s .took .outcome ≡ outcome.WantsBytes → Started st (stateOf (startStep st s))
 unfolding startStep
 start-accepted st s = go (short (st .«max_object_size») s) (ltb 254 (st .«realm_length»)) refl refl

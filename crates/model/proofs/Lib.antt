@@ -1,4 +1,4 @@
--- Theorems over the definitions of specs/. `Cases`: the table. The rest proves demand 3 (`RecordsTheorem`): what holds of the engine
+-- Theorems over the definitions of specs/. `Cases`: the table. The rest proves the records theorem (`Records`): what holds of the engine
 -- alone (`Fit`, `Steps`), how it stands to the journal (`Coupling`), packets (`Gathers`, `Dispatch`, `Packets`) and the host's answers
 -- (`Answers`), and the calls (`Moments`, `FromPeer`, `FromHost`).
 pub mod Cases

@@ -1,4 +1,4 @@
--- The mission's demand 3. For every list of calls from an accepted start, the state and the stores passed on: the calls refused are those
+-- The records theorem. For every list of calls from an accepted start, the state and the stores passed on: the calls refused are those
 -- that are due to be, the records handed over are the journal's, and those are exactly the records of the Put forms. By induction over the
 -- list: each call agrees with what is due and with the journal.
 -- Assumes nothing.

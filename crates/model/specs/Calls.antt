@@ -34,7 +34,7 @@ use Rattle.model.specs.Connect.{connectSends, connectAnswer, passwordAns
 use Rattle.model.specs.Dispatch.{inside, packetDone}
 use Rattle.model.specs.Guard.{refuse, short, sameAwait, guarded, badHeaders, badReply, checked, longUser}
 
--- by where the frame stands: begun, taken
+-- What follows by where the frame stands, with `b` bytes of a packet in the packet store and `t` taken.
 abbrev pub framedAs : Frame → Engine → ℕ → ℕ → Stores → Stepped
 framedAs More e b t s =
     stepped (record { engine = engineWith (e .settings) (e .peer) (e .operation) (e .awaits) b (e .length); taken = t; outcome = outcome.WantsBytes }) s
@@ -44,35 +44,36 @@ framedAs Whole e b t s = after t (packetDone e b s)
 abbrev pub withPacket : Stores → List ℕ → Stores
 withPacket s p = stores p (s .headers) (s .body) (s .reply)
 
--- bytes that were read into the packet store
+-- What follows the bytes that were read into the packet store.
 abbrev pub offers : Engine → Frames → Stores → Stepped
 offers e f s = framedAs (f .result .frame) e (f .result .begun) (f .result .taken) (withPacket s (f .packet))
 
--- bytes from the peer
+-- Bytes from the client.
 unfoldable pub bytesOfferedStep : Engine → List ℕ → Stores → Stepped
 bytesOfferedStep e i s = guarded kind.FromPeer e s (offers e (framed (s .packet) (e .begun) 0 i) s)
 
--- the stream ends between packets (1), or inside one (2)
+-- The end of the client's stream, between packets or inside one.
 unfoldable pub streamEndedStep : Engine → Stores → Stepped
 streamEndedStep e s = guarded kind.FromPeer e s (after 0 (ends e (e .peer) (pick (eqb (e .begun) 0) end.Disconnected end.Truncated) s))
 
--- the host took the reply; number 5 after the last one
+-- The host has sent the reply. After the reply to an interrupting packet the engine ends.
 unfoldable pub replyTakenStep : Engine → Stores → Stepped
 replyTakenStep e s =
     guarded kind.ReplyTaken e s (after 0 (pick (sameAwait (e .awaits) await.Taken) (goesOn (e .operation) e s) (ends e (e .peer) end.OtherOperation s)))
 
--- a reply: Disconnect closes ids before it is made; to a Get or any other request it is sent as it is
+-- The host's reply by what it answers: a Disconnect closes ids before its reply is made; to a Get or any other request the reply is sent as
+-- it is.
 unfoldable pub replyAnswer : Engine → ℕ → List ℕ → Stores → Done
 replyAnswer e code hs s =
     pick (sameAwait (e .awaits) await.Connect) (connectAnswer e code hs s)
     (pick (sameAwait (e .awaits) await.Disconnect) (sends e (disconnectedPeer (e .peer) (first 0xCB (lastHeaders e s))) code hs s)
     (sends e (e .peer) code hs s))
 
--- the host's reply
+-- The host's reply.
 unfoldable pub replyGivenStep : Engine → ℕ → List ℕ → Stores → Stepped
 replyGivenStep e code hs s = guarded kind.ReplyGiven e s (checked (badReply code hs) e s (replyAnswer e code hs s))
 
--- an object for a Get
+-- The host's object, for the Get that is open.
 abbrev pub objectFor : Operation → Engine → List ℕ → Bool → Stores → Stepped
 objectFor (Getting g srm confirm wait) e hs has s =
     checked (badHeaders hs) e s (sendsNext e (objectOf (length hs) confirm has) (srm || confirm) wait (withHeaders s (front hs (s .headers))))
@@ -83,11 +84,11 @@ objectFor (GatheringOp o g) e hs has s = refuse refusal.WrongMoment e s
 objectFor (Connecting code f n) e hs has s = refuse refusal.WrongMoment e s
 objectFor (Draining code) e hs has s = refuse refusal.WrongMoment e s
 
--- the host's object
+-- The host's object.
 unfoldable pub objectGivenStep : Engine → List ℕ → Bool → Stores → Stepped
 objectGivenStep e hs has s = guarded kind.ObjectGiven e s (objectFor (e .operation) e hs has s)
 
--- body bytes: more than were asked for is 9; a read that failed is 0x50
+-- Bytes of the object's body. More than were asked for are refused.
 abbrev pub bodyFor : Operation → Engine → List ℕ → Stores → Stepped
 bodyFor (Sending o c srm wait) e d s =
     pick (ltb (c .room) (length d)) (refuse refusal.WrongMoment e s) (after 0 (sendsPacket e srm wait (bodyGiven o c d (s .reply)) s))
@@ -98,27 +99,27 @@ bodyFor (GatheringOp o g) e d s = refuse refusal.WrongMoment e s
 bodyFor (Connecting code f n) e d s = refuse refusal.WrongMoment e s
 bodyFor (Draining code) e d s = refuse refusal.WrongMoment e s
 
--- bytes of its body
+-- Bytes of the object's body.
 unfoldable pub bodyGivenStep : Engine → List ℕ → Stores → Stepped
 bodyGivenStep e d s = guarded kind.FromBody e s (bodyFor (e .operation) e d s)
 
--- its body cannot be read on
+-- The object's body cannot be read on: the reply is 0x50.
 unfoldable pub bodyFailedStep : Engine → Stores → Stepped
 bodyFailedStep e s = guarded kind.FromBody e s (after 0 (repliesCode e (e .peer) Nothing 0x50 s))
 
--- an Abort is acknowledged without a code, and gets 0xA0
+-- The host has heard of an Abort. The reply is success, whatever the host would say.
 unfoldable pub abortAcknowledgedStep : Engine → Stores → Stepped
 abortAcknowledgedStep e s = guarded kind.AbortAcknowledged e s (after 0 (repliesCode e (e .peer) Nothing 0x20 s))
 
--- the host's password, or none
+-- The password that the host gives, or none.
 unfoldable pub passwordGivenStep : Engine → Option (List ℕ) → Stores → Stepped
 passwordGivenStep e p s = guarded kind.PasswordGiven e s (after 0 (passwordAnswer e p s))
 
--- the host's nonce, and the realm's bytes
+-- The nonce that the host gives, and the realm's bytes.
 unfoldable pub nonceGivenStep : Engine → Octets16 → List ℕ → Stores → Stepped
 nonceGivenStep e n l s = guarded kind.NonceGiven e s (after 0 (nonceAnswer e n l s))
 
--- for the Connect that waits
+-- Credentials for the Connect that waits for them.
 abbrev pub credentialsWith : Operation → Engine → Option Credentials → Stores → Stepped
 credentialsWith (Connecting code f n) e c s =
     checked (longUser c) e s (connectSends e (e .peer) code f (listOf (readHeaders (take n (s .headers)) 0)) c s)
@@ -129,15 +130,15 @@ credentialsWith (Sending o k srm wait) e c s = refuse refusal.WrongMoment e s
 credentialsWith (GatheringOp o g) e c s = refuse refusal.WrongMoment e s
 credentialsWith (Draining code) e c s = refuse refusal.WrongMoment e s
 
--- the host's credentials, or none
+-- The credentials that the host gives, or none.
 unfoldable pub credentialsGivenStep : Engine → Option Credentials → Stores → Stepped
 credentialsGivenStep e c s = guarded kind.CredentialsGiven e s (credentialsWith (e .operation) e c s)
 
--- a fresh engine
+-- A fresh engine.
 unfoldable pub started : Settings → Engine
 started st = engineWith st freshPeer Nothing await.Bytes 0 0
 
--- refused: a lent store is short (10), then a realm over 254 bytes after its charset (8); the state is then ended
+-- The start. It is refused if a lent store is short, then if the realm is over 254 bytes after its charset; the state has then ended.
 unfoldable pub startStep : Settings → Stores → Stepped
 startStep st s =
     pick (short (st .«max_object_size») s) (refuse refusal.StoreTooShort (engineWith st freshPeer Nothing await.Nothing 0 0) s)

@@ -1,4 +1,4 @@
--- The proved cases, P1 to P12 of document 01, as one table of rows: what is given, and what the definitions make of it.
+-- The proved cases, P1 to P12 (docs/PROTOCOL.md#proved-cases), as one table of rows: what is given, and what the definitions make of it.
 use Prim.Native.Nat.{ℕ}
 use mathlib.Core.List.{List, [], _∷_, _++_}
 use mathlib.Core.Bool.{true, false}

@@ -17,29 +17,29 @@ use Rattle.server.specs.declared.Outcome.the-variants as outcome
 abbrev pub state : CallResult → Stores → State
 state r t = record { engine = r .engine; stores = t }
 
--- what a call's contract says of its result and of the stores afterwards
+-- What a call's contract says of its result and of the stores afterwards.
 abbrev pub Says : State → Call → CallResult → Stores → Type 0
 Says s c r t = stepped r t ≡ stepOf s c
 
--- the verdicts that a run returns, and the records that it hands over
+-- A run of calls of which only the contracts are known, with the verdicts that it returns and the records that it hands over.
 pub data Ran : State → List Call → List Verdict → List Carried → Type 0 where
   none : {s : State} → Ran s [] [] []
   call : {s : State} {cs : List Call} {vs : List Verdict} {ls : List Carried} (c : Call) (r : CallResult) (t : Stores) → Says s c r t
       → Ran (state r t) cs vs ls → Ran s (c ∷ cs) (verdictOf (r .outcome) ∷ vs) (handed (r .outcome) t ++ ls)
 
--- a start that was accepted, by what the start's contract says
+-- A start that was accepted, by what its contract says.
 pub record Accepted (st : Settings) (s : Stores) (r : CallResult) (t : Stores) : Type 0 where
   pub says : stepped r t ≡ startStep st s
   pub accepted : r .outcome ≡ outcome.WantsBytes
 
--- demand 3 of the functions: from an accepted start, for every list of calls
+-- The records theorem of the functions themselves, from an accepted start.
 pub record Upholds (st : Settings) (s : State) (cs : List Call) (vs : List Verdict) (ls : List Carried) : Type 0 where
   pub refusals : vs ≡ due bytes s cs
   pub journal : Kept (packets (fresh (settingsOf st)) (feedOf bytes s cs)) → ls ≡ journalRecords (fresh (settingsOf st)) (feedOf bytes s cs)
   pub forms : Kept (packets (fresh (settingsOf st)) (feedOf bytes s cs))
       → Exactly (st .«max_object_size») (packets (fresh (settingsOf st)) (feedOf bytes s cs)) ls
 
--- for every list of calls from an accepted start, of which only the contracts are known
+-- The records theorem over contracts, for every list of calls from an accepted start.
 abbrev pub ContractsUphold : Type 0
 ContractsUphold =
     (st : Settings) (s t : Stores) (r : CallResult) (cs : List Call) (vs : List Verdict) (ls : List Carried) → Accepted st s r t → AllOctets cs

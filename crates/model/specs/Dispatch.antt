@@ -33,27 +33,29 @@ pub data Rejection : Type 0 where
   admits : Rejection
   rejects : ℕ → Rejection
 
--- 0x41 where a password is required and not given, but for Disconnect; then 0x53 where the first ConnectionID is not open
+-- The code that refuses a packet before it reaches the host: 0x41 if a password is required and not given, but for a Disconnect, which may
+-- not be refused; then 0x53 if the first ConnectionID is not open (docs/PROTOCOL.md#admission).
 unfoldable pub rejection : Engine → Opcode → Survey → Rejection
 rejection e o v =
     pick (e .settings .authentication && (not (e .peer .authenticated) && not (sameOpcode o op.Disconnect))) (rejects 0x41)
     (pick (v .«has_id» && not (member (v .id) (idsOf (e .peer)))) (rejects 0x53) admits)
 
--- under SRM a Put or Get that is turned away is read to its end before the reply
+-- The operations that are drained if they are turned away under Single Response Mode (SRM).
 abbrev pub drains : Opcode → Bool
 drains o = sameOpcode o op.Put || sameOpcode o op.Get
 
--- the reply to a packet that is turned away
+-- A packet that is turned away. Under SRM the client keeps sending without waiting, so the engine reads the rest of a Put or Get before it
+-- replies (docs/PROTOCOL.md#drain).
 abbrev pub rejected : Engine → Packet → ℕ → Stores → Done
 rejected e r code s =
     pick (e .peer .«srm_enabled» && (drains (r .opcode) && not (r .final))) (wants e (e .peer) (Draining code) s)
     (repliesCode e (e .peer) Nothing code s)
 
--- SRM is granted with the next Continue
+-- Whether SRM is granted for this operation with its first Continue.
 abbrev pub confirms : Engine → Survey → Bool
 confirms e v = not (e .peer .«srm_enabled») && srmAsked e v
 
--- a packet that is admitted
+-- An admitted packet, by its opcode.
 abbrev pub dispatches : Opcode → Engine → Packet → Survey → Stores → Done
 dispatches op.Connect e r v s = connectPacket e s
 dispatches op.Abort e r v s = asks e (e .peer) Nothing await.Acknowledgement (request.Abort (e .length)) s
@@ -70,16 +72,16 @@ abbrev pub admittedAs : Rejection → Engine → Packet → Survey → Stores �
 admittedAs admits e r v s = dispatches (r .opcode) e r v s
 admittedAs (rejects code) e r v s = rejected e r code s
 
--- Connect is not turned away
+-- A packet while nothing is open. A Connect is never turned away.
 unfoldable pub dispatch : Engine → Packet → Survey → Stores → Done
 dispatch e r v s =
     pick (sameOpcode (r .opcode) op.Connect) (connectPacket e s) (admittedAs (rejection e (r .opcode) v) e r v s)
 
--- another opcode inside an operation: 0x40, and number 5 once it is taken
+-- A packet of another opcode inside an operation gets 0x40; the engine ends once that reply is taken (docs/PROTOCOL.md#other-operation).
 abbrev pub interrupts : Engine → Stores → Done
 interrupts e s = replies e (e .peer) Nothing await.Last (packetBytes (sentCode 0x40) [] []) s
 
--- by what is open
+-- A packet by what is open.
 abbrev pub inside : Operation → Engine → Packet → Survey → Stores → Done
 inside Nothing e r v s = dispatch e r v s
 inside (Putting g srm) e r v s = pick (sameOpcode (r .opcode) op.Put) (putPacket e r v srm false g s) (interrupts e s)
@@ -90,12 +92,12 @@ inside (GatheringOp o g) e r v s = pick (sameOpcode (r .opcode) o) (headersPacke
 inside (Connecting c f n) e r v s = interrupts e s
 inside (Draining code) e r v s = pick (r .final) (repliesCode e (e .peer) Nothing code s) (wants e (e .peer) (Draining code) s)
 
--- an unreadable packet: 0x51 where its first byte is unknown, else 0x40; inside an operation number 4
+-- Whether a first byte names no opcode.
 abbrev pub unknownByte : FirstByte → Bool
 unknownByte Unknown = true
 unknownByte (Known o f) = false
 
--- an operation is open
+-- Whether an operation is open.
 abbrev pub busy : Operation → Bool
 busy Nothing = false
 busy (Putting g srm) = true
@@ -110,14 +112,14 @@ unreadable e q s =
     pick (busy (e .operation)) (ends e (e .peer) end.Unreadable s)
     (repliesCode e (e .peer) Nothing (pick (unknownByte (firstByte (getD q 0 0))) 0x51 0x40) s)
 
--- Abort goes before all else
+-- A packet that can be read or not. An Abort goes before all else.
 abbrev pub readAs : Option Packet → Engine → List ℕ → Stores → Done
 readAs none e q s = unreadable e q s
 readAs (some r) e q s =
     pick (sameOpcode (r .opcode) op.Abort) (asks e (e .peer) Nothing await.Acknowledgement (request.Abort (e .length)) s)
     (inside (e .operation) e r (surveyOf (some (r .headers))) s)
 
--- a whole packet of n bytes stands in the packet store
+-- The state after a whole packet of `n` bytes has arrived.
 abbrev pub lengthOf : Engine → ℕ → Engine
 lengthOf e n = engineWith (e .settings) (e .peer) (e .operation) (e .awaits) 0 n
 

@@ -27,12 +27,13 @@ use Rattle.server.specs.declared.Body.the-variants as body
 use Rattle.server.specs.declared.Outcome.the-variants as outcome
 use Rattle.model.specs.Step.{Stores, Done, sent, limitOf, Stepped, stepped, after}
 
--- a lent store is too short (number 10)
+-- Whether a lent store is too short.
 unfoldable pub short : ℕ → Stores → Bool
 short limit s =
     ltb (length (s .packet)) 65535 || (ltb (length (s .headers)) 65535 || (ltb (length (s .reply)) 65535 || ltb (length (s .body)) limit))
 
--- the counts are ones that a call can leave; any other state is refused as after the end
+-- Whether the counts of a state are ones that a call can leave. Any other state is refused as after the end, so that a call is defined for
+-- every state.
 abbrev pub soundGathered : ℕ → Gathered → Bool
 soundGathered limit g = leb (g .kept) 65535 && leb (g .body) limit
 
@@ -49,13 +50,13 @@ soundOperation limit (GatheringOp o g) = soundGathered limit g
 soundOperation limit (Connecting code f n) = leb n 65535
 soundOperation limit (Draining code) = true
 
--- of the whole state
+-- Whether the whole state is one that a call can leave, by its counts.
 unfoldable pub sound : Engine → Bool
 sound e =
     ltb (e .begun) 65535 && (leb (e .length) 65535 && (leb (e .peer .count) 64 && (leb 255 (e .peer .«remote_max_packet_length»)
     && (leb (e .settings .«realm_length») 254 && soundOperation (limitOf e) (e .operation)))))
 
--- a number for each thing awaited, by which two of them are told apart
+-- A number for each thing awaited, by which two of them are told apart.
 abbrev pub awaitNumber : Await → ℕ
 awaitNumber await.Bytes = 0
 awaitNumber await.Taken = 1
@@ -74,7 +75,7 @@ awaitNumber await.Nothing = 12
 abbrev pub sameAwait : Await → Await → Bool
 sameAwait a b = eqb (awaitNumber a) (awaitNumber b)
 
--- the moments at which a call may come: a Get may be answered by a reply or by an object
+-- The moments at which a call may come. A Get may be answered by a reply or by an object.
 abbrev pub fits : CallKind → Await → Bool
 fits kind.FromPeer a = sameAwait a await.Bytes
 fits kind.ReplyTaken a = sameAwait a await.Taken || sameAwait a await.Last
@@ -86,28 +87,29 @@ fits kind.NonceGiven a = sameAwait a await.Nonce
 fits kind.CredentialsGiven a = sameAwait a await.Credentials
 fits kind.FromBody a = sameAwait a await.Body
 
--- refused, changing nothing
+-- A call that is refused changes nothing.
 abbrev pub refuse : Refusal → Engine → Stores → Stepped
 refuse r e s = stepped (record { engine = e; taken = 0; outcome = outcome.Refused r }) s
 
--- a call goes on if every store is long enough, the state is sound and the call is awaited; a short store comes before a wrong moment
+-- A call goes on if every store is long enough, the state is sound and the call is awaited. A short store comes before a wrong moment
+-- (docs/PROTOCOL.md#refusals).
 abbrev pub guarded : CallKind → Engine → Stores → Stepped → Stepped
 guarded k e s go =
     pick (short (limitOf e) s) (refuse refusal.StoreTooShort e s)
     (pick (sound e && fits k (e .awaits)) go (refuse refusal.WrongMoment e s))
 
--- header bytes that are too long or not canonical, or a code that is none (number 8)
+-- Whether header bytes are none that a host may give: over 65,535, or not what the writer gives for what the reader reads.
 unfoldable pub badHeaders : List ℕ → Bool
 badHeaders hs = ltb 65535 (length hs) || not (canonical hs)
 
 unfoldable pub badReply : ℕ → List ℕ → Bool
 badReply code hs = not (isCode code) || badHeaders hs
 
--- 8 where the answer is bad
+-- An answer that no host may give is refused.
 abbrev pub checked : Bool → Engine → Stores → Done → Stepped
 checked bad e s d = pick bad (refuse refusal.BadAnswer e s) (after 0 d)
 
--- credentials: a user id over 255 bytes is 8
+-- Whether a user id is over 255 bytes, the most that its length field can say.
 abbrev pub longId : Option (List ℕ) → Bool
 longId none = false
 longId (some u) = ltb 255 (length u)

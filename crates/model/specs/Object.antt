@@ -18,7 +18,8 @@ use Rattle.server.specs.declared.HostRequest.the-variants as request
 use Rattle.server.specs.declared.Outcome.the-variants as outcome
 use Rattle.model.specs.Step.{Stores, withReply, engineWith, Done, done, wants, asks, repliesCode, sent, capacityOf, after}
 
--- a packet of the object, or the body read that it needs; a header longer than any packet is 0x50
+-- A packet of the object, or the body read that it needs first. A header that is longer than any packet makes the reply 0x50 and ends the
+-- Get (docs/PROTOCOL.md#objects).
 abbrev pub sendsMade : Engine → Bool → Bool → Next → Made → Stores → Done
 sendsMade e srm wait (next.Send n true) m s =
     done (engineWith (e .settings) (e .peer) Nothing await.Taken 0 (e .length)) (outcome.Reply n) (withReply s (m .reply))
@@ -34,11 +35,12 @@ sendsMade e srm wait next.TooLarge m s = repliesCode e (e .peer) Nothing 0x50 (w
 abbrev pub sendsPacket : Engine → Bool → Bool → Made → Stores → Done
 sendsPacket e srm wait m s = sendsMade e srm wait (m .packet .next) m s
 
--- the next packet of an object
+-- The next packet of an object.
 unfoldable pub sendsNext : Engine → Outgoing → Bool → Bool → Stores → Done
 sendsNext e o srm wait s = sendsPacket e srm wait (nextPacket (capacityOf e) o (s .headers) (s .reply)) s
 
--- after a packet of an object: under SRM and without a wait the next follows at once
+-- What follows a reply that is taken. Under Single Response Mode (SRM) the next packet of an object follows at once, unless the last
+-- request asked to wait.
 abbrev pub goesOn : Operation → Engine → Stores → Done
 goesOn (Sending o c srm wait) e s = pick (srm && not wait) (sendsNext e o srm wait s) (wants e (e .peer) (e .operation) s)
 goesOn Nothing e s = wants e (e .peer) (e .operation) s
@@ -48,6 +50,6 @@ goesOn (GatheringOp o g) e s = wants e (e .peer) (e .operation) s
 goesOn (Connecting code f n) e s = wants e (e .peer) (e .operation) s
 goesOn (Draining code) e s = wants e (e .peer) (e .operation) s
 
--- an object with so many header bytes; SRM that was not granted yet goes in front of them
+-- An object of `n` header bytes before its first packet. `lead` puts the grant of SRM in front of them.
 abbrev pub objectOf : ℕ → Bool → Bool → Outgoing
 objectOf n lead has = record { total = n; sent = 0; lead = lead; «has_body» = has; «has_pending» = false; pending = 0 }

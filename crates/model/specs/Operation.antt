@@ -23,32 +23,33 @@ use Rattle.server.specs.declared.HostRequest.{HostRequest}
 use Rattle.server.specs.declared.HostRequest.the-variants as request
 use Rattle.model.specs.Step.{Stores, withGathered, Done, wants, asks, ends, repliesCode, continues, limitOf}
 
--- before the first packet of an operation
+-- What is gathered before the first packet of an operation.
 abbrev pub nothingGathered : Gathered
 nothingGathered = record { kept = 0; body = 0; came = false; over = false; full = false }
 
--- the headers of a packet, gathered into the header and body store
+-- The headers of a packet, gathered into the header and body store.
 abbrev pub gathers : Engine → Keep → List Header → Gathered → Stores → Gathering
 gathers e k hs g s = gatherAll k (limitOf e) hs (gathering g (s .headers) (s .body))
 
--- none where no body header came
+-- The body of a Put: missing if no body header came.
 abbrev pub putBody : Gathered → Body
 putBody g = pick (g .came) (body.Bytes (g .body)) body.Missing
 
--- Put, not final: without SRM a body past the limit is refused right away; under SRM Continue only where it is asked for
+-- After a Put packet that is not final. Under Single Response Mode (SRM) the engine says Continue only if the client asks for it. Without
+-- SRM the client waits, so a body past the limit is refused right away (docs/PROTOCOL.md#put-limit).
 abbrev pub putContinues : Engine → Gathered → Bool → Bool → Bool → Stores → Done
 putContinues e g true confirm additional s =
     pick additional (continues e (Putting g true) false s) (wants e (e .peer) (Putting g true) s)
 putContinues e g false confirm additional s =
     pick (g .over) (repliesCode e (e .peer) Nothing 0x4D s) (continues e (Putting g confirm) confirm s)
 
--- Put, final: past the limit 0x4D, else the host gets the record
+-- After the final packet of a Put: 0x4D if the body is past the limit, otherwise the host gets the record.
 abbrev pub putFinal : Engine → Gathered → Stores → Done
 putFinal e g s =
     pick (g .over) (repliesCode e (e .peer) Nothing 0x4D s)
     (asks e (e .peer) Nothing await.Reply (request.Put (g .kept) (putBody g)) s)
 
--- a Put packet: number 6 comes before 0x4D
+-- A Put packet. Kept headers over 65,535 bytes end the engine before the limit is looked at (docs/PROTOCOL.md#put).
 abbrev pub putGathered : Engine → Packet → Survey → Bool → Bool → Gathering → Stores → Done
 putGathered e r v srm confirm g s =
     pick (g .got .full) (ends e (e .peer) end.HeadersTooLarge (withGathered s g))
@@ -58,12 +59,12 @@ putGathered e r v srm confirm g s =
 unfoldable pub putPacket : Engine → Packet → Survey → Bool → Bool → Gathered → Stores → Done
 putPacket e r v srm confirm g s = putGathered e r v srm confirm (gathers e keep.Put (r .headers) g s) s
 
--- a Get packet of the request
+-- After a packet of a Get's request that is not final: under SRM the client sends on without a Continue.
 abbrev pub getContinues : Engine → Gathered → Bool → Bool → Bool → Stores → Done
 getContinues e g true confirm wait s = wants e (e .peer) (Getting g true confirm wait) s
 getContinues e g false confirm wait s = continues e (Getting g confirm false wait) confirm s
 
--- number 6 comes first
+-- A packet of a Get's request. Kept headers over 65,535 bytes end the engine first (docs/PROTOCOL.md#get).
 abbrev pub getGathered : Engine → Packet → Survey → Bool → Bool → Gathering → Stores → Done
 getGathered e r v srm confirm g s =
     pick (g .got .full) (ends e (e .peer) end.HeadersTooLarge (withGathered s g))
@@ -74,7 +75,7 @@ getGathered e r v srm confirm g s =
 unfoldable pub getPacket : Engine → Packet → Survey → Bool → Bool → Gathered → Stores → Done
 getPacket e r v srm confirm g s = getGathered e r v srm confirm (gathers e keep.Get (r .headers) g s) s
 
--- Action, Session and user-defined operations
+-- The host request of an Action, a Session or a user-defined operation (docs/PROTOCOL.md#headers-only).
 abbrev pub headersRequest : Opcode → ℕ → HostRequest
 headersRequest op.Action n = request.Action n
 headersRequest op.Session n = request.Session n

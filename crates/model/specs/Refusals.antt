@@ -1,5 +1,5 @@
--- Which calls are refused, and with which number (document 01, Who can cause which number): by the lengths of the lent stores (10), by what
--- waits since the last call that was not refused (9), and by the answer itself (8). The engine's state is not asked.
+-- Which calls are due to be refused, and with which number (docs/PROTOCOL.md#refusals): by the lengths of the lent stores (10), by what waits
+-- since the last call that was not refused (9), and by the answer itself (8). The engine's state is not asked.
 use Prim.Native.Nat.{ℕ}
 use mathlib.Core.List.{List, [], _∷_}
 use mathlib.Core.Bool.{Bool, true, false, _&&_, _||_}
@@ -22,7 +22,7 @@ pub data Waits : Type 0 where
   -- body bytes, at most so many
   reading : ℕ → Waits
 
--- by the request
+-- What waits after a request.
 abbrev pub asked : HostRequest → Waits
 asked (request.Connect n) = reply
 asked (request.Disconnect n) = reply
@@ -38,7 +38,7 @@ asked request.Nonce = nonce
 asked (request.Credentials n u r p) = credentials
 asked (request.Read n) = reading n
 
--- after a result; at an accepted start bytes are awaited
+-- What waits after a result. At an accepted start bytes are awaited.
 abbrev pub told : Waits → Outcome → Waits
 told w outcome.WantsBytes = bytes
 told w (outcome.Reply n) = taking
@@ -46,7 +46,7 @@ told w (outcome.Request r) = asked r
 told w (outcome.End n) = nothing
 told w (outcome.Refused n) = w
 
--- a number for each kind of wait, by which two of them are told apart
+-- A number for each kind of wait, by which two of them are told apart.
 abbrev pub waitNumber : Waits → ℕ
 waitNumber bytes = 0
 waitNumber taking = 1
@@ -62,7 +62,7 @@ waitNumber nothing = 9
 abbrev pub sameWait : Waits → Waits → Bool
 sameWait w v = eqb (waitNumber w) (waitNumber v)
 
--- how many body bytes may come
+-- How many body bytes may come.
 abbrev pub roomIn : Waits → ℕ
 roomIn bytes = 0
 roomIn taking = 0
@@ -75,7 +75,8 @@ roomIn credentials = 0
 roomIn (reading n) = n
 roomIn nothing = 0
 
--- the call is one that is waited for: a Get may be answered by a reply or by an object, and a read by no more bytes than were asked for
+-- Whether a call is one that is waited for. A Get may be answered by a reply or by an object, and a read by no more bytes than were asked
+-- for.
 unfoldable pub expected : Call → Waits → Bool
 expected (bytesOffered i) w = sameWait w bytes
 expected streamEnded w = sameWait w bytes
@@ -89,7 +90,7 @@ expected (credentialsGiven c) w = sameWait w credentials
 expected (bodyGiven d) w = sameWait w (reading 0) && leb (length d) (roomIn w)
 expected bodyFailed w = sameWait w (reading 0)
 
--- the answer is none that may be given
+-- Whether an answer is none that may be given.
 unfoldable pub bad : Call → Bool
 bad (replyGiven code hs) = badReply code hs
 bad (objectGiven hs b) = badHeaders hs
@@ -103,15 +104,15 @@ bad abortAcknowledged = false
 bad (passwordGiven p) = false
 bad (nonceGiven n l) = false
 
--- 10 before 9, 9 before 8
+-- The verdict on a call: 10 comes before 9, and 9 before 8.
 unfoldable pub verdict : Bool → Waits → Call → Verdict
 verdict s w c = pick s (refused 10) (pick (expected c w) (pick (bad c) (refused 8) goes) (refused 9))
 
--- by the stores that are lent
+-- The verdict by the stores that are lent.
 abbrev pub verdictAt : Waits → State → Call → Verdict
 verdictAt w s c = verdict (short (s .engine .settings .«max_object_size») (s .stores)) w c
 
--- what a result says of it
+-- The verdict that a result tells.
 abbrev pub verdictOf : Outcome → Verdict
 verdictOf (outcome.Refused r) = refused (refusalNumber r)
 verdictOf outcome.WantsBytes = goes
@@ -121,17 +122,17 @@ verdictOf (outcome.End n) = goes
 
 -- ---- along a list of calls
 
--- the verdicts that are due, and those that the results give
+-- The verdicts that are due along a list of calls.
 abbrev pub due : Waits → State → List Call → List Verdict
 due w s [] = []
 due w s (c ∷ cs) = verdictAt w s c ∷ due (told w (stepOf s c .took .outcome)) (stateOf (stepOf s c)) cs
 
--- by the results
+-- The verdicts that the results give.
 abbrev pub returned : State → List Call → List Verdict
 returned s [] = []
 returned s (c ∷ cs) = verdictOf (stepOf s c .took .outcome) ∷ returned (stateOf (stepOf s c)) cs
 
--- what the journal is fed: the call, whether it is due to be refused, and the first byte of the reply that waits
+-- What the journal is fed of a call: the call, whether it is due to be refused, and the first byte of the reply that waits.
 abbrev pub fedAt : Waits → State → Call → Fed
 fedAt w s c = record { call = c; verdict = verdictAt w s c; reply = getD (s .stores .reply) 0 0 }
 

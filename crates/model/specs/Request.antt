@@ -13,23 +13,23 @@ use Rattle.journal.specs.Journal.{responseIn, headersOf as headersIn}
 use Rattle.server.specs.declared.Engine.{Engine}
 use Rattle.model.specs.Step.{Stores}
 
--- the last whole packet, read again
+-- The last whole packet, at the front of the packet store.
 unfoldable pub lastPacket : Engine → Stores → List ℕ
 lastPacket e s = take (e .length) (s .packet)
 
 unfoldable pub lastHeaders : Engine → Stores → List Header
 lastHeaders e s = headersIn (requestOf (lastPacket e s))
 
--- the first AuthenticateResponse of the last packet
+-- The first AuthenticateResponse of the last packet, if it can be read.
 unfoldable pub clientResponse : Engine → Stores → Option Response
 clientResponse e s = responseIn (first 0x4E (lastHeaders e s))
 
--- where a list's value stands in the packet
+-- A place in the part of the packet that begins at `n`, as a place in the packet.
 abbrev pub placedAt : ℕ → Found → Found
 placedAt n place.Missing = place.Missing
 placedAt n (place.At a b) = place.At (n + a) (n + b)
 
--- where the user id of the response stands
+-- Where the user id of the response stands in the packet.
 abbrev pub userIn : List ℕ → Found → Found
 userIn q place.Missing = place.Missing
 userIn q (place.At a b) = placedAt a (lastValue (part q a b) 1)
@@ -37,7 +37,7 @@ userIn q (place.At a b) = placedAt a (lastValue (part q a b) 1)
 unfoldable pub userPlace : Engine → Stores → Found
 userPlace e s = userIn (lastPacket e s) (firstPlace 0x4E (lastPacket e s) 7)
 
--- where the realm of the peer's challenge stands in the packet
+-- Where the realm of the client's challenge stands in the packet.
 abbrev pub realmIn : List ℕ → Found → Found
 realmIn q place.Missing = place.Missing
 realmIn q (place.At a b) = placedAt a (realmPlace (part q a b))

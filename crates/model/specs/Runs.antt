@@ -19,12 +19,12 @@ use Rattle.server.specs.declared.HostRequest.the-variants as request
 use Rattle.server.specs.declared.Outcome.{Outcome}
 use Rattle.server.specs.declared.Outcome.the-variants as outcome
 
--- the state and the stores between two calls
+-- The state and the stores between two calls.
 pub record State : Type 0 where
   pub engine : Engine
   pub stores : Stores
 
--- a call is the model's step
+-- A call is the model's step.
 abbrev pub stepOf : State → Call → Stepped
 stepOf s (bytesOffered i) = bytesOfferedStep (s .engine) i (s .stores)
 stepOf s streamEnded = streamEndedStep (s .engine) (s .stores)
@@ -41,7 +41,7 @@ stepOf s (credentialsGiven c) = credentialsGivenStep (s .engine) c (s .stores)
 abbrev pub stateOf : Stepped → State
 stateOf m = record { engine = m .took .engine; stores = m .stores }
 
--- ---- handing over: a call returns the Put request, with its kept headers and its body bytes or none
+-- ---- handing over: a call returns the Put request, with its kept headers and its body bytes or none (docs/PROTOCOL.md#handing-over)
 
 abbrev pub bodyIn : Body → List ℕ → Option (List ℕ)
 bodyIn body.Missing b = none
@@ -62,7 +62,7 @@ handedBy request.Nonce s = []
 handedBy (request.Credentials n u r p) s = []
 handedBy (request.Read n) s = []
 
--- by what a call returns
+-- The records that a call hands over, by what it returns.
 abbrev pub handed : Outcome → Stores → List Carried
 handed (outcome.Request r) s = handedBy r s
 handed outcome.WantsBytes s = []
@@ -70,7 +70,7 @@ handed (outcome.Reply n) s = []
 handed (outcome.End n) s = []
 handed (outcome.Refused n) s = []
 
--- the records that a list of calls hands over
+-- The records that a list of calls hands over, in order.
 abbrev pub records : State → List Call → List Carried
 records s [] = []
 records s (c ∷ cs) = handed (stepOf s c .took .outcome) (stepOf s c .stores) ++ records (stateOf (stepOf s c)) cs
@@ -81,11 +81,11 @@ pub record Started (st : Settings) (s : State) : Type 0 where
   pub realm : st .«realm_length» ≤ 254
   pub room : short (st .«max_object_size») (s .stores) ≡ false
 
--- what is offered are bytes
+-- Whether a list is one of bytes.
 abbrev pub Octets : List ℕ → Type 0
 Octets l = (k : ℕ) → getD l k 0 < 256
 
--- the bytes of a call
+-- The bytes of a call are bytes.
 abbrev pub Octet : Call → Type 0
 Octet (bytesOffered i) = Octets i
 Octet streamEnded = Unit {0}

@@ -25,7 +25,7 @@ use Rattle.server.specs.declared.Outcome.{Outcome}
 use Rattle.server.specs.declared.Outcome.the-variants as outcome
 use Rattle.server.specs.declared.CallResult.{CallResult}
 
--- the four stores that the host lends
+-- The four stores that the host lends in each call (docs/PROTOCOL.md#stores).
 pub record Stores : Type 0 where
   pub packet : List ℕ
   pub headers : List ℕ
@@ -44,11 +44,11 @@ withHeaders s h = stores (s .packet) h (s .body) (s .reply)
 abbrev pub withGathered : Stores → Gathering → Stores
 withGathered s g = stores (s .packet) (g .headers) (g .body) (s .reply)
 
--- the one place that lists the fields
+-- The state with these fields. This is the one place that lists them all.
 unfoldable pub engineWith : Settings → Peer → Operation → Await → ℕ → ℕ → Engine
 engineWith st p o a b n = record { settings = st; peer = p; operation = o; awaits = a; begun = b; length = n }
 
--- what a step leads to, and the stores afterwards
+-- What a step leads to: the state, what the call answers, and the stores afterwards.
 pub record Done : Type 0 where
   pub engine : Engine
   pub outcome : Outcome
@@ -57,28 +57,28 @@ pub record Done : Type 0 where
 abbrev pub done : Engine → Outcome → Stores → Done
 done e o s = record { engine = e; outcome = o; stores = s }
 
--- bytes are wanted, inside an operation or not
+-- The engine wants bytes, inside an operation or not.
 abbrev pub wants : Engine → Peer → Operation → Stores → Done
 wants e p o s = done (engineWith (e .settings) p o await.Bytes 0 (e .length)) outcome.WantsBytes s
 
--- the host is asked
+-- The engine asks the host and waits for the answer.
 abbrev pub asks : Engine → Peer → Operation → Await → HostRequest → Stores → Done
 asks e p o a r s = done (engineWith (e .settings) p o a 0 (e .length)) (outcome.Request r) s
 
--- the engine ends with a number
+-- The engine ends, and awaits nothing any more.
 abbrev pub ends : Engine → Peer → End → Stores → Done
 ends e p x s = done (engineWith (e .settings) p Nothing await.Nothing 0 (e .length)) (outcome.End x) s
 
--- a reply waits to be taken
+-- The engine makes a reply, which stands at the front of the reply store until the host has sent it.
 abbrev pub replies : Engine → Peer → Operation → Await → List ℕ → Stores → Done
 replies e p o a q s =
     done (engineWith (e .settings) p o a 0 (e .length)) (outcome.Reply (length q)) (withReply s (front q (s .reply)))
 
--- a reply of a code alone
+-- A reply of a code and no headers.
 abbrev pub repliesCode : Engine → Peer → Operation → ℕ → Stores → Done
 repliesCode e p o code s = replies e p o await.Taken (packetBytes (sentCode code) [] []) s
 
--- Continue, with SingleResponseMode where it is granted
+-- Continue, with a SingleResponseMode header if Single Response Mode (SRM) is granted.
 abbrev pub continueBytes : Bool → List ℕ
 continueBytes false = packetBytes 0x90 [] []
 continueBytes true = packetBytes 0x90 [] (0x97 ∷ 0x01 ∷ [])
@@ -86,12 +86,12 @@ continueBytes true = packetBytes 0x90 [] (0x97 ∷ 0x01 ∷ [])
 abbrev pub continues : Engine → Operation → Bool → Stores → Done
 continues e o grant s = replies e (e .peer) o await.Taken (continueBytes grant) s
 
--- a reply from a code, Connect's fields or none, and headers; over 65,535 bytes the engine ends with 7
+-- A reply from a code, Connect's fields or none, and headers. A reply of over 65,535 bytes ends the engine (docs/PROTOCOL.md#reply-limit).
 abbrev pub sent : Engine → Peer → Option (List ℕ) → Stores → Done
 sent e p none s = ends e p end.ReplyTooLarge s
 sent e p (some q) s = replies e p Nothing await.Taken q s
 
--- without fields, and with Connect's
+-- A reply without fields.
 unfoldable pub sends : Engine → Peer → ℕ → List ℕ → Stores → Done
 sends e p code hs s = sent e p (sendBytes (p .«remote_max_packet_length») code [] hs) s
 
@@ -99,15 +99,15 @@ unfoldable pub sendsConnect : Engine → Peer → ℕ → List ℕ → Stores �
 sendsConnect e p code hs s =
     sent e p (sendBytes (p .«remote_max_packet_length») code (fieldsOf (e .settings .«max_packet_length»)) hs) s
 
--- the Put limit
+-- The Put limit.
 abbrev pub limitOf : Engine → ℕ
 limitOf e = e .settings .«max_object_size»
 
--- what a packet to the peer may hold after its first three bytes
+-- How many bytes a packet to the client may hold after its first three.
 abbrev pub capacityOf : Engine → ℕ
 capacityOf e = e .peer .«remote_max_packet_length» - 3
 
--- what a call gives, and the stores afterwards
+-- What a call returns, and the stores afterwards.
 pub record Stepped : Type 0 where
   pub took : CallResult
   pub stores : Stores
@@ -115,6 +115,6 @@ pub record Stepped : Type 0 where
 abbrev pub stepped : CallResult → Stores → Stepped
 stepped r s = record { took = r; stores = s }
 
--- so many bytes were taken
+-- A step as a call: `t` of the offered bytes were taken.
 abbrev pub after : ℕ → Done → Stepped
 after t d = stepped (record { engine = d .engine; taken = t; outcome = d .outcome }) (d .stores)
