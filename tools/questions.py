@@ -1,15 +1,17 @@
-"""Parts of questions for crates/leaves: headers, tag lists and packets, valid and damaged. Used by make-leaves and compare-leaves."""
-import importlib.machinery, importlib.util, os
+#!/usr/bin/env python3
+"""questions: what make-leaves and compare-leaves share. Parts of questions for the program of crates/leaves (headers, tag lists and packets,
+valid and damaged), and the original's answers to questions, in the words of that program. Needs `make oracle` first.
 
-_path = os.path.join(os.path.dirname(os.path.abspath(__file__)), 'leaf-expected')
-_loader = importlib.machinery.SourceFileLoader('leaf_expected', _path)
-_spec = importlib.util.spec_from_loader('leaf_expected', _loader)
-leaf_expected = importlib.util.module_from_spec(_spec)
-_loader.exec_module(leaf_expected)
+Usage: tools/questions.py <QUESTIONS    prints the original's answer to each line
 
-KNOWN_IDS = [0x01, 0x05, 0x15, 0x42, 0x44, 0x46, 0x47, 0x48, 0x49, 0x4A, 0x4C, 0x4D, 0x4E, 0x4F, 0x50, 0x51, 0x52,
-             0x93, 0x94, 0x97, 0x98, 0xC0, 0xC3, 0xC4, 0xCB, 0xCF, 0xD6]
-TAGGED = (0x4C, 0x4D, 0x4E, 0x52)
+The answers are those of `oracle leaf` with three changes: of `code` the byte that is not final is left out, which the port never sends; after
+headers that can be read it adds whether the rewritten bytes are those that were given, `canonical` or `other`; and of more than 512 bytes in a
+value, a header or a packet it has how many and their MD5, `#LENGTH:MD5`."""
+import hashlib, os, re, subprocess, sys
+from obex import KNOWN_IDS, TAGGED, fields_of, long_header, packet, tag, utf16, wide16
+
+ROOT = os.path.join(os.path.dirname(os.path.abspath(__file__)), '..')
+ORACLE = os.environ.get('ORACLE', os.path.join(ROOT, 'oracle/target/release/oracle'))
 NONCE = bytes(range(16))
 
 
@@ -17,24 +19,75 @@ def word(b):
     return b.hex() or '-'
 
 
-def wide16(n):
-    return bytes([n // 256 % 256, n % 256])
+# ---- the original's answers
 
 
-def long_header(id, value):
-    return bytes([id]) + wide16(3 + len(value)) + value
+def expand(text):
+    """The digits of a word: `-` and groups (HEX*COUNT) written out."""
+    if text == '-':
+        return ''
+    return re.sub(r'\(([0-9a-f]*)\*([0-9]+)\)', lambda m: m.group(1) * int(m.group(2)), text)
 
 
-def tag(t, value):
-    return bytes([t, len(value)]) + value
+def headers_of(question):
+    """The digits of the headers that a `headers` or `packet` question gives."""
+    word, text = question.split(' ')
+    digits = expand(text)
+    if word == 'headers':
+        return digits
+    start, end = 3 + fields_of(int(digits[0:2], 16)), int(digits[2:6], 16)
+    return digits[2 * start:2 * end]
 
 
-def packet(first, rest, length=None):
-    return bytes([first]) + wide16(3 + len(rest) if length is None else length) + rest
+def short(text):
+    """Long byte strings by their length and MD5."""
+    def one(m):
+        b = bytes.fromhex(m.group(0))
+        return '#%d:%s' % (len(b), hashlib.md5(b).hexdigest())
+    return re.sub('[0-9a-f]{1025,}', one, text)
 
 
-def utf16(text, end=True):
-    return text.encode('utf-16-be', 'surrogatepass') + (b'\0\0' if end else b'')
+def each_header(digits):
+    """The digits of a run of headers, each header's by themselves."""
+    at, parts = 0, []
+    while at < len(digits):
+        id = int(digits[at:at + 2], 16)
+        size = 2 if 0x80 <= id < 0xC0 else 5 if 0xC0 <= id else int(digits[at + 2:at + 6], 16)
+        parts.append(digits[at:at + 2 * size])
+        at += 2 * size
+    return parts
+
+
+def shown(rewritten):
+    parts = re.split('(<[^>]*>)', rewritten)
+    return ''.join(short(p) if p[:1] in ('<', '-') else ''.join(map(short, each_header(p))) for p in parts)
+
+
+def expected(question, answer):
+    word = question.split(' ', 1)[0]
+    if word == 'code' and answer != 'unknown':
+        return answer.rsplit(' ', 1)[0]
+    if word in ('headers', 'packet') and answer != 'unreadable':
+        values, rewritten = answer.rsplit(' = ', 1)
+        same = rewritten == (headers_of(question) or '-')
+        return short(values) + ' = ' + (shown(rewritten) if len(rewritten) > 1024 else rewritten) + (' canonical' if same else ' other')
+    return short(answer)
+
+
+def ask(questions):
+    """The original's own answers."""
+    text = ''.join(q + '\n' for q in questions)
+    run = subprocess.run([ORACLE, 'leaf'], input=text, capture_output=True, text=True)
+    if run.returncode != 0:
+        sys.exit('oracle: ' + run.stderr)
+    return run.stdout.split('\n')[:-1]
+
+
+def expect(questions):
+    return [expected(q, a) for q, a in zip(questions, ask(questions))]
+
+
+# ---- parts of questions
 
 
 def random_bytes(r, most):
@@ -105,10 +158,6 @@ def random_run(r):
     return random_bytes(r, 9)
 
 
-def fields_of(first):
-    return {0: 4, 5: 2}.get(first & 0x1F, 0) if first & 0x7F != 0x7F else 0
-
-
 def random_packet(r):
     first = r.choice([0x80, 0x81, 0x82, 0x02, 0x83, 0x03, 0x85, 0x86, 0x87, 0x90, 0xFF, 0x7F, 0xE2, r.randrange(256)])
     rest = bytes(r.choice([0, 1, 2, 3, 0x10, 255, r.randrange(256)]) for _ in range(fields_of(first))) + random_run(r)
@@ -125,5 +174,9 @@ def random_packet(r):
 
 def canonical(runs):
     """What the original writes for each run, where it can be read."""
-    answers = leaf_expected.ask(['headers ' + word(s) for s in runs])
+    answers = ask(['headers ' + word(s) for s in runs])
     return [a.rsplit(' = ', 1)[1] for a in answers if a != 'unreadable' and '<' not in a]
+
+
+if __name__ == '__main__':
+    sys.stdout.write(''.join(a + '\n' for a in expect(sys.stdin.read().split('\n')[:-1])))
