@@ -2,6 +2,3 @@
 pub mod Md5
 pub mod Turn
 pub mod Vectors
-pub mod Unicode
-pub mod Text
-pub mod Pieces

@@ -1,3 +1,2 @@
-// The lowest layer: the digest of authentication, and the text of headers.
+// The digest of authentication: MD5, and the digest of a request.
 pub mod md5;
-pub mod text;

@@ -3,7 +3,6 @@ use base::wide;
 use check::same;
 use digest::md5;
 use digest::md5::Octets16;
-use digest::text;
 use libc::STDOUT_FILENO;
 use lines::input::keep;
 use lines::input::read;

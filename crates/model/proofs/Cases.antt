@@ -1,7 +1,7 @@
 -- Each row of the table of cases is what the definitions compute. Assumes nothing.
 use mathlib.Core.Path.{_≡_, refl}
 use mathlib.Core.List.{map}
-use Rattle.digest.specs.Unicode.{upToZero, codes, allKept, sizes, whole, units, isPair, first16, paired, pieces16, scalars16, wellFormed16, need, low, high, inside, first8, split8, pieces8, lossy, scalars8, wellFormed8, utf8, utf16, joined}
+use Rattle.text.specs.Unicode.{upToZero, codes, allKept, sizes, whole, units, isPair, first16, paired, pieces16, scalars16, wellFormed16, need, low, high, inside, first8, split8, pieces8, lossy, scalars8, wellFormed8, utf8, utf16, joined}
 use Rattle.digest.specs.Md5.{stepOf, word, steps, blockOf, le, padded, blocks, outputOf, digestOf, leValue, be, beValue, octets16, numbers16, requestDigest}
 use Rattle.packet.specs.FirstByte.{named, firstByte, byteOf, sameOpcode}
 use Rattle.packet.specs.Codes.{isCode, isSuccess}

@@ -4,7 +4,7 @@ use mathlib.Core.List.{List, [], _∷_, _++_}
 use mathlib.Core.Bool.{true, false}
 use mathlib.Core.Option.{none, some}
 use lib.ListN.{take, replicate}
-use Rattle.digest.specs.Unicode.{scalars16}
+use Rattle.text.specs.Unicode.{scalars16}
 use Rattle.packet.specs.FirstByte.{firstByte}
 use Rattle.packet.specs.declared.opcode.FirstByte.{FirstByte}
 use Rattle.packet.specs.declared.opcode.FirstByte.the-variants.{Known}

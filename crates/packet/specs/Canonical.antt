@@ -6,7 +6,7 @@ use mathlib.Core.Option.{Option, none, some}
 use lib.ListN.{drop}
 use lib.Dec.{ltb, eqb}
 use Rattle.base.specs.Pick.{pick}
-use Rattle.digest.specs.Unicode.{scalars16, scalars8, text8, utf16be}
+use Rattle.text.specs.Unicode.{scalars16, scalars8, text8, utf16be}
 use Rattle.packet.specs.Header.{Header, readHeaders, allBytes}
 use Rattle.packet.specs.Auth.{same}
 

@@ -7,8 +7,8 @@ use lib.ListN.{length}
 use lib.Seq.{sets}
 use Rattle.base.specs.Pick.{pick}
 use Rattle.base.specs.Bytes.{bytes16}
-use Rattle.digest.specs.Unicode.{lossy}
-use Rattle.digest.specs.Text.{asciiText}
+use Rattle.text.specs.Unicode.{lossy}
+use Rattle.text.specs.Text.{asciiText}
 use Rattle.packet.specs.declared.header.HeaderEncoding.{HeaderEncoding}
 use Rattle.packet.specs.declared.header.HeaderEncoding.the-variants.{Unicode, Bytes, U8, U32}
 use Rattle.packet.specs.declared.header.TextForm.{TextForm}

@@ -6,8 +6,8 @@ ghost use lib.Seq.{sets};
 ghost use mathlib.Core.Bool.{false};
 ghost use mathlib.Core.List.{[], _∷_, _++_};
 ghost use Rattle.base.specs.Bytes.{be32, bytes32};
-ghost use Rattle.digest.specs.Text.{asciiText, unicodeBytes};
-ghost use Rattle.digest.specs.Unicode.{scalars16, lossy, scalars8, text8};
+ghost use Rattle.text.specs.Text.{asciiText, unicodeBytes};
+ghost use Rattle.text.specs.Unicode.{scalars16, lossy, scalars8, text8};
 ghost use Rattle.packet.specs.Auth.{same};
 ghost use Rattle.packet.specs.Canonical.{terminated16, rewritten, canonical};
 ghost use Rattle.packet.specs.Header.{encodingOf, leadOf, sizeAt, tagged, allowed, encodedAt, headerAt, firstPlace};
@@ -24,12 +24,12 @@ use crate::tlv::is_tag_list;
 use base::be16_at;
 use base::copy_into;
 use base::wide32;
-use digest::text::ascii_len;
-use digest::text::decode_ascii;
-use digest::text::encode_unicode;
-use digest::text::encoded_unicode_len;
-use digest::text::is_well_formed8;
-use digest::text::is_well_formed16;
+use text::ascii_len;
+use text::decode_ascii;
+use text::encode_unicode;
+use text::encoded_unicode_len;
+use text::is_well_formed8;
+use text::is_well_formed16;
 
 pub enum HeaderEncoding {
     Unicode,

@@ -1,0 +1,12 @@
+-- What several proofs cite.
+pub mod Widths
+pub mod Pairs
+pub mod Sequences
+pub mod TextRoom
+pub mod Cut
+pub mod TextSizes
+pub mod TextWhole
+pub mod Back16
+pub mod Back8
+pub mod RoundTrips
+pub mod TextRows
