@@ -1,4 +1,4 @@
--- The definitions that the contracts cite.
+-- The definitions that the contracts cite: replies, what Connect and Disconnect change, and the reply to a Connect.
 pub mod Send
 pub mod Peer
 pub mod Connect

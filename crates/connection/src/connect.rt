@@ -1,4 +1,5 @@
-// The reply to a Connect (of the source's handle_connect): measured first, then written piece by piece.
+// The reply to a Connect (docs/PROTOCOL.md#connect; of the source's handle_connect): the code measures it first, then writes it piece by
+// piece.
 ghost use mathlib.Core.Path.{_≡_};
 ghost use mathlib.Core.Bool.{false};
 ghost use mathlib.Core.List.{_∷_, _++_};
@@ -6,6 +7,9 @@ ghost use Prim.Native.Nat.{_+_, _≤_};
 ghost use lib.ListN.{length};
 ghost use Rattle.base.specs.Pick.{pick};
 ghost use Rattle.digest.specs.Md5.{octets16};
+ghost use Rattle.packet.specs.Limits.{maxPacket, maxCapacity, maxTagValue};
+ghost use Rattle.packet.specs.HeaderIds as header-id;
+ghost use Rattle.packet.specs.ResponseCodes as response;
 ghost use Rattle.packet.specs.Header.{part, bytesOf, allBytes};
 ghost use Rattle.packet.specs.declared.header.HeaderEncoding.the-variants.{Bytes};
 ghost use Rattle.packet.specs.HeaderWriter.{leadBytes};
@@ -18,7 +22,6 @@ ghost use Rattle.connection.specs.Connect.{connectHeaders, challengeHead
 ghost use Rattle.connection.specs.Pieces.{headersFrom, firstIn, whoPlace, cutAt, readable, credentialsOf, idGiven};
 ghost use Rattle.connection.specs.Pieces.{idBytes, whoBytes, answerBytes, namedBytes, addedBytes, Room, Puts};
 ghost use Rattle.connection.specs.Pieces.{idSize, whoSize, answerSize, sizeOf, Inside, Ordered};
-use crate::challenge::AUTHENTICATE_CHALLENGE;
 use crate::challenge::first_in;
 use crate::challenge::nonce_for;
 use crate::peer::ConnectionId;
@@ -35,22 +38,19 @@ use packet::header::is_readable;
 use packet::header::put_bytes;
 use packet::header::put_u8;
 use packet::header::put_u32;
+use packet::header_id::AUTHENTICATE_CHALLENGE;
+use packet::header_id::AUTHENTICATE_RESPONSE;
+use packet::header_id::CONNECTION_ID;
+use packet::header_id::SINGLE_RESPONSE_MODE;
+use packet::header_id::TARGET;
+use packet::header_id::WHO;
 use packet::response::UNAUTHORIZED;
+use packet::srm::ENABLE;
 use packet::tlv::Found;
-
-const TARGET: u8 = 0x46;
-
-const WHO: u8 = 0x4A;
-
-const AUTHENTICATE_RESPONSE: u8 = 0x4E;
-
-const SINGLE_RESPONSE_MODE: u8 = 0x97;
-
-const CONNECTION_ID: u8 = 0xCB;
 
 // ---- what goes into it
 
-// How many of the host's header bytes count: all, or none where they cannot be read.
+// Returns how many of the host's header bytes count: all of them, or none if they cannot be read.
 fn readable_len(headers: &[u8]) -> usize
     ensures { λ r. ⌜ r ≡ length (readable (now (headers .entry))) ⌝ }
 {
@@ -60,9 +60,9 @@ fn readable_len(headers: &[u8]) -> usize
     headers.len()
 }
 
-// The place of the Target in the packet, where the host gave no Who.
+// Finds the Target in the packet, which Who gives back, unless the host gave a Who itself.
 fn who_place(packet: &[u8], from: usize, headers: &[u8]) -> Found
-    ensures { λ r. ⌜ r ≡ whoPlace (firstIn 0x46 (now (packet .entry)) from) (firstIn 0x4A (now (headers .entry)) 0) ⌝ }
+    ensures { λ r. ⌜ r ≡ whoPlace (firstIn header-id.target (now (packet .entry)) from) (firstIn header-id.who (now (headers .entry)) 0) ⌝ }
 {
     if let Found::At { start: _, end: _ } = first_in(headers, 0, WHO) {
         return Found::Missing;
@@ -70,7 +70,7 @@ fn who_place(packet: &[u8], from: usize, headers: &[u8]) -> Found
     first_in(packet, from, TARGET)
 }
 
-// Who is the second header: this many bytes of the host's go before it.
+// Returns how many of the host's header bytes go before Who, which is the second header.
 fn who_cut(front: ConnectionId, headers: &[u8]) -> usize
     ensures { λ r. ⌜ r ≡ cutAt front (now (headers .entry)) ⌝ }
 {
@@ -91,6 +91,7 @@ fn who_cut(front: ConnectionId, headers: &[u8]) -> usize
 
 // ---- how long it is
 
+// Returns how many bytes the ConnectionID in front takes.
 fn id_size(front: ConnectionId) -> usize
     ensures { λ r. ⌜ r ≡ idSize front ⌝ }
 {
@@ -100,6 +101,7 @@ fn id_size(front: ConnectionId) -> usize
     }
 }
 
+// Returns how many bytes Who takes.
 fn who_size(who: Found) -> usize
     requires { ⌜ Ordered who ⌝ }
     ensures { λ r. ⌜ r ≡ whoSize who ⌝ }
@@ -110,8 +112,9 @@ fn who_size(who: Found) -> usize
     3 + (end - start)
 }
 
+// Returns how many bytes the answer to the peer's challenge takes.
 fn answer_size(nonce: Named, has_user: bool, user: usize) -> usize
-    requires { ⌜ pick «has_user» user 0 ≤ 255 ⌝ }
+    requires { ⌜ pick «has_user» user 0 ≤ maxTagValue ⌝ }
     ensures { λ r. ⌜ r ≡ answerSize nonce «has_user» user ⌝ }
 {
     if let Named::Missing = nonce {
@@ -123,6 +126,7 @@ fn answer_size(nonce: Named, has_user: bool, user: usize) -> usize
     39 + (2 + user)
 }
 
+// Returns how many bytes the header with a challenge takes: 24 without a realm (IrOBEX 1.5, section 3.6.4).
 fn challenge_size(has_realm: bool, realm: usize) -> usize
     requires { ⌜ pick «has_realm» realm 0 ≤ 254 ⌝ }
     ensures { λ r. ⌜ r ≡ 24 + pick «has_realm» (2 + (realm + 1)) 0 ⌝ }
@@ -133,6 +137,7 @@ fn challenge_size(has_realm: bool, realm: usize) -> usize
     24 + (2 + (realm + 1))
 }
 
+// Returns how many bytes the header that grants Single Response Mode (SRM) takes.
 fn grant_size(srm: bool) -> usize
     ensures { λ r. ⌜ r ≡ pick srm 2 0 ⌝ }
 {
@@ -142,6 +147,7 @@ fn grant_size(srm: bool) -> usize
     0
 }
 
+// Returns how many bytes the headers of the reply take.
 fn connect_size(
     front: ConnectionId,
     who: Found,
@@ -151,7 +157,7 @@ fn connect_size(
     user: usize,
     srm: bool,
 ) -> usize
-    requires { ⌜ (headers ≤ 65535) × Ordered who × (pick «has_user» user 0 ≤ 255) ⌝ }
+    requires { ⌜ (headers ≤ maxPacket) × Ordered who × (pick «has_user» user 0 ≤ maxTagValue) ⌝ }
     ensures { λ r. ⌜ r ≡ sizeOf front who headers nonce «has_user» user srm ⌝ }
 {
     id_size(front) + headers + who_size(who) + answer_size(nonce, has_user, user) + grant_size(srm)
@@ -159,9 +165,9 @@ fn connect_size(
 
 // ---- its pieces
 
-// What stands before the n bytes of a header's value.
+// Writes what stands before a header's value of `n` bytes.
 fn put_lead(reply: &mut [u8], at: usize, id: u8, n: usize)
-    requires { ⌜ (at + 3 ≤ length (now reply)) × (n ≤ 65532) ⌝ }
+    requires { ⌜ (at + 3 ≤ length (now reply)) × (n ≤ maxCapacity) ⌝ }
     ensures { λ r. ⌜ now (reply .exit) ≡ laid (now (reply .entry)) at (leadBytes Bytes id n) ⌝ }
 {
     reply[at] = id;
@@ -169,7 +175,7 @@ fn put_lead(reply: &mut [u8], at: usize, id: u8, n: usize)
     reply[at + 2] = ((3 + n) % 256) as u8;
 }
 
-// Bytes of s.
+// Copies the bytes of `s` from `from` up to `to`, and returns the place behind them.
 fn put_part(reply: &mut [u8], at: usize, s: &[u8], from: usize, to: usize) -> usize
     requires { ⌜ Room (now reply) at (part (now s) from to) × (from ≤ to) × (to ≤ length (now s)) ⌝ }
     ensures { λ r. ⌜ Puts (now (reply .entry)) at (part (now (s .entry)) from to) r (now (reply .exit)) ⌝ }
@@ -178,6 +184,7 @@ fn put_part(reply: &mut [u8], at: usize, s: &[u8], from: usize, to: usize) -> us
     at + (to - from)
 }
 
+// Writes the ConnectionID in front, if there is one, and returns the place behind it.
 fn put_id(reply: &mut [u8], at: usize, front: ConnectionId) -> usize
     requires { ⌜ Room (now reply) at (idBytes front) ⌝ }
     ensures { λ r. ⌜ Puts (now (reply .entry)) at (idBytes front) r (now (reply .exit)) ⌝ }
@@ -189,6 +196,7 @@ fn put_id(reply: &mut [u8], at: usize, front: ConnectionId) -> usize
     at + 5
 }
 
+// Writes Who, if there is one, and returns the place behind it.
 fn put_who(reply: &mut [u8], at: usize, who: Found, packet: &[u8]) -> usize
     requires { ⌜ Room (now reply) at (whoBytes (bytesAt (now packet) who)) × Inside (now packet) who ⌝ }
     ensures { λ r. ⌜ Puts (now (reply .entry)) at (whoBytes (bytesAt (now (packet .entry)) who)) r (now (reply .exit)) ⌝ }
@@ -200,7 +208,7 @@ fn put_who(reply: &mut [u8], at: usize, who: Found, packet: &[u8]) -> usize
     at + 3 + (end - start)
 }
 
-// The host's headers, with the id in front and Who in the second place.
+// Writes the host's headers, with the id in front and Who in the second place, and returns the place behind them.
 fn put_named(
     reply: &mut [u8],
     at: usize,
@@ -220,7 +228,7 @@ fn put_named(
     put_part(reply, third, headers, cut, headers.len())
 }
 
-// The answer to the peer's challenge.
+// Writes the answer to the peer's challenge, if there is one, and returns the place behind it.
 fn put_answer(
     reply: &mut [u8],
     at: usize,
@@ -243,7 +251,7 @@ fn put_answer(
     at + size
 }
 
-// That answer, and SRM where it is granted.
+// Writes the answer to the peer's challenge, and the header that grants SRM, if it is granted.
 fn put_added(
     reply: &mut [u8],
     at: usize,
@@ -260,11 +268,11 @@ fn put_added(
 {
     let next = put_answer(reply, at, nonce, has_user, user, password);
     if srm {
-        put_u8(reply, next, SINGLE_RESPONSE_MODE, 0x01);
+        put_u8(reply, next, SINGLE_RESPONSE_MODE, ENABLE);
     }
 }
 
-// Those pieces, behind Connect's fields.
+// Writes the reply with all its pieces behind Connect's fields, once they are measured.
 fn send_pieces(
     reply: &mut [u8],
     remote: usize,
@@ -280,7 +288,7 @@ fn send_pieces(
     password: &[u8],
     srm: bool,
 ) -> Sent
-    requires { ⌜ (65535 ≤ length (now reply)) × (length (now packet) ≤ 65535) × (length (now headers) ≤ 65535) × Inside (now packet) who
+    requires { ⌜ (maxPacket ≤ length (now reply)) × (length (now packet) ≤ maxPacket) × (length (now headers) ≤ maxPacket) × Inside (now packet) who
         × (overlong (given «has_user» (now user)) ≡ false) ⌝ }
     ensures { λ r. ⌜ sending r (now (reply .exit)) ≡ sentInto (sendBytes remote code (fieldsOf limit)
         (namedBytes front (bytesAt (now (packet .entry)) who) (now (headers .entry))
@@ -295,8 +303,8 @@ fn send_pieces(
     begun.sent
 }
 
-// The reply to a Connect that the host accepted: by the id put in front, the packet whose headers start at a place, the host's headers
-// and credentials, and whether SRM is granted.
+// Writes the reply to a Connect that the host accepted: `front` goes in front, the packet's headers start at `from`, and the host's headers
+// and credentials follow; `srm` says whether SRM is granted.
 pub fn connect_reply(
     reply: &mut [u8],
     remote: usize,
@@ -312,7 +320,7 @@ pub fn connect_reply(
     password: &[u8],
     srm: bool,
 ) -> Sent
-    requires { ⌜ (65535 ≤ length (now reply)) × (length (now packet) ≤ 65535) × (length (now headers) ≤ 65535)
+    requires { ⌜ (maxPacket ≤ length (now reply)) × (length (now packet) ≤ maxPacket) × (length (now headers) ≤ maxPacket)
         × (overlong (given «has_user» (now user)) ≡ false) ⌝ }
     ensures { λ r. ⌜ sending r (now (reply .exit)) ≡ sentInto (sendBytes remote code (fieldsOf limit) (allBytes
         (connectHeaders (idGiven front) (headersFrom (now (packet .entry)) from) (headersFrom (now (headers .entry)) 0)
@@ -341,7 +349,7 @@ pub fn connect_reply(
 
 // ---- the challenge that the engine makes
 
-// 0x41 with a challenge.
+// Writes Unauthorized with a challenge: the client must send the Connect again with a response to it.
 pub fn challenge_reply(
     reply: &mut [u8],
     remote: usize,
@@ -353,8 +361,8 @@ pub fn challenge_reply(
     charset: u8,
     realm: &[u8],
 ) -> Sent
-    requires { ⌜ (65535 ≤ length (now reply)) × (overlong (given «has_realm» (charset ∷ now realm)) ≡ false) ⌝ }
-    ensures { λ r. ⌜ sending r (now (reply .exit)) ≡ sentInto (sendBytes remote 0x41 (fieldsOf limit) (bytesOf
+    requires { ⌜ (maxPacket ≤ length (now reply)) × (overlong (given «has_realm» (charset ∷ now realm)) ≡ false) ⌝ }
+    ensures { λ r. ⌜ sending r (now (reply .exit)) ≡ sentInto (sendBytes remote response.unauthorized (fieldsOf limit) (bytesOf
         (challengeHeader (octets16 nonce) (flagBits «user_id_required» «read_only») (given «has_realm» (charset ∷ now (realm .entry))))))
         (now (reply .entry)) ⌝ }
 {

@@ -1,41 +1,49 @@
-// Replies (the source's send): over 65,535 bytes a reply is number 7, over the peer's limit it becomes Internal Server Error.
+// Replies (docs/PROTOCOL.md#reply-limit; the source's send). A reply over 65,535 bytes ends the engine (7). If a reply is over the peer's
+// limit, the host produced headers that the client cannot receive: Internal Server Error goes in its place, and keeps Connect's fields.
 ghost use mathlib.Core.Path.{_≡_};
 ghost use mathlib.Core.List.{[]};
 ghost use Prim.Native.Nat.{_+_, _≤_, _<_};
 ghost use lib.ListN.{length};
+ghost use Rattle.packet.specs.Limits.{maxPacket};
 ghost use Rattle.packet.specs.Packet.{packetBytes};
 ghost use Rattle.connection.specs.Send.{fieldsOf, startBytes, sendBytes, front, continueBytes};
 ghost use Rattle.connection.specs.Send.{sending, sentInto, fitOf, beginning, beginsBy};
 use base::copy_into;
+use packet::header_id::SINGLE_RESPONSE_MODE;
+use packet::limits::MAX_PACKET;
+use packet::packet::OBEX_VERSION;
 use packet::packet::put_prefix;
+use packet::response::CONTINUE_BYTE;
 use packet::response::INTERNAL_SERVER_ERROR;
 use packet::response::to_byte;
+use packet::srm::ENABLE;
 
-// What sending leads to: a reply of so many bytes stands in the store, or number 7.
+// What sending leads to: a reply of that many bytes stands in the store, or the reply is too large (7).
 pub enum Sent {
     Reply(usize),
     TooLarge,
 }
 
-// A reply begun: whether its headers follow, and what sending then leads to.
+// A reply that was begun: whether its headers are to follow, and what sending then leads to.
 pub struct Begun {
     pub whole: bool,
     pub sent: Sent,
 }
 
-// What becomes of a reply by its length.
+// What becomes of a reply by its length: it goes whole, it is replaced, or it is too large for any packet.
 pub enum Fit {
     Whole,
     Replaced,
     TooLarge,
 }
 
-// A reply of some bytes before its headers, and the headers.
+// Tells what becomes of a reply of `lead` bytes before its headers and `headers` bytes of headers. Too large for any packet is told before
+// the peer's limit.
 pub fn fits(remote: usize, lead: usize, headers: usize) -> Fit
-    requires { ⌜ lead ≤ 65535 ⌝ }
+    requires { ⌜ lead ≤ maxPacket ⌝ }
     ensures { λ r. ⌜ r ≡ fitOf remote (lead + headers) ⌝ }
 {
-    if headers > 65535 - lead {
+    if headers > MAX_PACKET - lead {
         return Fit::TooLarge;
     }
     if lead + headers > remote {
@@ -44,7 +52,7 @@ pub fn fits(remote: usize, lead: usize, headers: usize) -> Fit
     Fit::Whole
 }
 
-// The three bytes of a reply without headers.
+// Writes a reply of three bytes, without headers.
 pub fn put_reply_code(reply: &mut [u8], byte: u8)
     requires { ⌜ 3 ≤ length (now reply) ⌝ }
     ensures { λ r. ⌜ now (reply .exit) ≡ front (packetBytes byte [] []) (now (reply .entry)) ⌝ }
@@ -52,24 +60,24 @@ pub fn put_reply_code(reply: &mut [u8], byte: u8)
     put_prefix(reply, byte, 3);
 }
 
-// Continue, with SingleResponseMode where it is granted; says how many bytes that are.
+// Writes Continue, with SingleResponseMode if Single Response Mode (SRM) is granted, and returns how many bytes that takes.
 pub fn put_continue(reply: &mut [u8], grant: bool) -> usize
     requires { ⌜ 5 ≤ length (now reply) ⌝ }
     ensures { λ r. ⌜ (r ≡ length (continueBytes grant)) × (now (reply .exit) ≡ front (continueBytes grant) (now (reply .entry))) ⌝ }
 {
     if !grant {
-        put_prefix(reply, 0x90, 3);
+        put_prefix(reply, CONTINUE_BYTE, 3);
         return 3;
     }
-    put_prefix(reply, 0x90, 5);
-    reply[3] = 0x97;
-    reply[4] = 0x01;
+    put_prefix(reply, CONTINUE_BYTE, 5);
+    reply[3] = SINGLE_RESPONSE_MODE;
+    reply[4] = ENABLE;
     5
 }
 
-// A reply with headers and without Connect's fields.
+// Writes a reply with headers and without Connect's fields.
 pub fn send(reply: &mut [u8], remote: usize, code: u8, headers: &[u8]) -> Sent
-    requires { ⌜ 65535 ≤ length (now reply) ⌝ }
+    requires { ⌜ maxPacket ≤ length (now reply) ⌝ }
     ensures { λ r. ⌜ sending r (now (reply .exit)) ≡ sentInto (sendBytes remote code [] (now (headers .entry))) (now (reply .entry)) ⌝ }
 {
     let n = headers.len();
@@ -89,19 +97,19 @@ pub fn send(reply: &mut [u8], remote: usize, code: u8, headers: &[u8]) -> Sent
     }
 }
 
-// What stands before the headers of a reply to a Connect: also version 1.0, no flags, and the engine's own limit.
+// Writes what stands before the headers of a reply to a Connect: also version 1.0, no flags, and the engine's own limit.
 pub fn put_connect_prefix(reply: &mut [u8], byte: u8, n: usize, limit: u16)
     requires { ⌜ (n < 65536) × (7 ≤ length (now reply)) ⌝ }
     ensures { λ r. ⌜ now (reply .exit) ≡ front (startBytes byte n limit) (now (reply .entry)) ⌝ }
 {
     put_prefix(reply, byte, n);
-    reply[3] = 0x10;
+    reply[3] = OBEX_VERSION;
     reply[4] = 0x00;
     reply[5] = (limit / 256) as u8;
     reply[6] = (limit % 256) as u8;
 }
 
-// Begins a reply to a Connect whose headers take so many bytes. Number 7 comes before the peer's limit.
+// Begins a reply to a Connect whose headers take `size` bytes.
 pub fn begin_connect(reply: &mut [u8], remote: usize, code: u8, limit: u16, size: usize) -> Begun
     requires { ⌜ 7 ≤ length (now reply) ⌝ }
     ensures { λ r. ⌜ beginning r (now (reply .exit)) ≡ beginsBy (fitOf remote (7 + size)) code limit size (now (reply .entry)) ⌝ }
@@ -128,9 +136,9 @@ pub fn begin_connect(reply: &mut [u8], remote: usize, code: u8, limit: u16, size
     }
 }
 
-// A reply with Connect's fields and headers.
+// Writes a reply with Connect's fields and headers.
 pub fn send_connect(reply: &mut [u8], remote: usize, code: u8, limit: u16, headers: &[u8]) -> Sent
-    requires { ⌜ 65535 ≤ length (now reply) ⌝ }
+    requires { ⌜ maxPacket ≤ length (now reply) ⌝ }
     ensures { λ r. ⌜ sending r (now (reply .exit))
         ≡ sentInto (sendBytes remote code (fieldsOf limit) (now (headers .entry))) (now (reply .entry)) ⌝ }
 {

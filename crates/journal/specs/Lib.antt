@@ -1,4 +1,4 @@
--- What the calls hand over, defined without the engine. In the order in which they build on one another.
+-- What the calls hand over, defined without the engine, in the order in which the files build on one another.
 pub mod Carried
 pub mod Ids
 pub mod Calls

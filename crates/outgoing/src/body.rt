@@ -1,10 +1,12 @@
-// Splitting an object's headers and body into reply packets (01, Outgoing object; the source's engine/body.rs).
+// Splitting an object's headers and body into reply packets that are no larger than the peer can receive (docs/PROTOCOL.md#objects; the
+// source's engine/body.rs). One body byte is read ahead, so that the last chunk can go as EndOfBody.
 ghost use mathlib.Core.Path.{_≡_};
 ghost use Prim.Native.Nat.{suc, _+_, _≤_};
 ghost use mathlib.Core.List.{_∷_};
 ghost use lib.ListN.{length};
 ghost use lib.Seq.{paste};
 ghost use Rattle.base.specs.Bytes.{bytes16};
+ghost use Rattle.packet.specs.Limits.{maxPacket, maxCapacity};
 ghost use Rattle.packet.specs.Header.{headerAt};
 ghost use Rattle.outgoing.specs.Outgoing.{fill, leadAt, leadStore, made, sending, sentTo, aheadWith, aheadNone, lastChunk, fullChunk};
 ghost use Rattle.outgoing.specs.Outgoing.{beginChunk, bodyAfter, nextFilled, nextPacket, bodyGiven, codeOf, reading, refusing};
@@ -12,37 +14,50 @@ ghost use Rattle.outgoing.specs.Steps.{fitOf, whyOf, fillingOf};
 use base::copy_into;
 use packet::header::HeaderAt;
 use packet::header::header_at;
+use packet::header_id::BODY;
+use packet::header_id::END_OF_BODY;
+use packet::header_id::SINGLE_RESPONSE_MODE;
+use packet::response::CONTINUE_BYTE;
+use packet::response::SUCCESS_BYTE;
+use packet::srm::ENABLE;
 
 // An object that is being sent. Its headers stand at the front of the header store.
 pub struct Outgoing {
-    // How many header bytes there are, and how many went out.
+    // How many header bytes there are.
     pub total: usize,
+    // How many header bytes went out.
     pub sent: usize,
     // A SingleResponseMode header is still to go in front.
     pub lead: bool,
+    // The object has a body; without one no Body or EndOfBody header is sent at all.
     pub has_body: bool,
-    // One body byte that was read ahead, to tell the last chunk.
+    // A body byte was read ahead, to tell the last chunk.
     pub has_pending: bool,
+    // The byte that was read ahead, or 0.
     pub pending: u8,
 }
 
-// A body chunk that is being read into the reply store: where its header starts, how many bytes stand there, how many more are asked for.
+// A body chunk that the host reads into the reply store.
 pub struct Chunk {
+    // Where the chunk's header starts.
     pub at: usize,
+    // How many bytes of the chunk stand there.
     pub got: usize,
+    // How many more bytes the host is asked for.
     pub room: usize,
 }
 
 // What the next packet needs.
 pub enum Next {
-    // It is whole, so many bytes long, and may be the last.
+    // The packet is whole; `last` says whether it ends the object.
     Send { length: usize, last: bool },
-    // The host reads body bytes first.
+    // The host must read body bytes first.
     Read,
-    // A header is longer than any packet.
+    // The next header is longer than any packet.
     TooLarge,
 }
 
+// The object and the chunk once a packet was made or begun, and what the packet needs.
 pub struct Packet {
     pub outgoing: Outgoing,
     pub chunk: Chunk,
@@ -53,31 +68,32 @@ pub struct Packet {
 
 // Why no further header goes into a packet.
 enum Stop {
-    // None is left.
+    // No header is left.
     Empty,
-    // The next one does not fit the space left.
+    // The next header does not fit the space that is left.
     Full,
-    // It fits no packet.
+    // The next header fits no packet.
     Long,
 }
 
 // What becomes of the next header.
 enum Fit {
-    // It goes into the packet; the one after it starts there.
+    // The header goes into the packet; the one after it starts at this place.
     Takes(usize),
     Stops(Stop),
 }
 
-// How far the headers went out, and where the packet ends.
+// How far the headers went out, why they stopped, and where the packet ends.
 struct Filling {
     why: Stop,
     sent: usize,
     at: usize,
 }
 
-// A header over the capacity is told before the space is looked at.
+// Tells whether the header at `sent` goes into the packet that ends at `at`. A header over the capacity is told before the space that is
+// left.
 fn next_fit(capacity: usize, headers: &[u8], sent: usize, at: usize) -> Fit
-    requires { ⌜ (capacity ≤ 65532) × (at ≤ capacity + 3) ⌝ }
+    requires { ⌜ (capacity ≤ maxCapacity) × (at ≤ capacity + 3) ⌝ }
     ensures { λ r. ⌜ r ≡ fitOf (headerAt (now (headers .entry)) sent) capacity sent at ⌝ }
 {
     match header_at(headers, sent) {
@@ -101,9 +117,9 @@ fn next_fit(capacity: usize, headers: &[u8], sent: usize, at: usize) -> Fit
     }
 }
 
-// The headers from a place on, copied into the packet while they fit.
+// Copies the headers from `from` on into the packet while they fit: each header stands wholly inside one packet (IrOBEX 1.5, section 3).
 fn fill(capacity: usize, headers: &[u8], from: usize, start: usize, reply: &mut [u8]) -> Filling
-    requires { ⌜ (capacity ≤ 65532) × (start ≤ capacity + 3) × (65535 ≤ length (now reply)) ⌝ }
+    requires { ⌜ (capacity ≤ maxCapacity) × (start ≤ capacity + 3) × (maxPacket ≤ length (now reply)) ⌝ }
     ensures model { λ r. ⌜ fillingOf r (now (reply .exit))
         ≡ fill (suc (length (now (headers .entry)))) capacity (now (headers .entry)) from start (now (reply .entry)) ⌝ }
     ensures within { λ r. ⌜ r .at ≤ capacity + 3 ⌝ }
@@ -124,14 +140,14 @@ fn fill(capacity: usize, headers: &[u8], from: usize, start: usize, reply: &mut 
     }
 }
 
-// The SingleResponseMode header in front, where SRM was granted. Says where the headers start.
+// Writes the SingleResponseMode header in front if Single Response Mode (SRM) was granted, and returns where the object's headers start.
 fn put_lead(lead: bool, reply: &mut [u8]) -> usize
     requires { ⌜ 5 ≤ length (now reply) ⌝ }
     ensures { λ r. ⌜ (r ≡ leadAt lead) × (now (reply .exit) ≡ leadStore lead (now (reply .entry))) ⌝ }
 {
     if lead {
-        reply[3] = 0x97;
-        reply[4] = 0x01;
+        reply[3] = SINGLE_RESPONSE_MODE;
+        reply[4] = ENABLE;
         return 5;
     }
     3
@@ -139,9 +155,9 @@ fn put_lead(lead: bool, reply: &mut [u8]) -> usize
 
 // ---- a packet
 
-// A byte and a 16-bit length after it, at a place: what a packet and a body header start with.
+// Writes a byte and a 16-bit length at `at`: a packet and a body header start so.
 fn put_head(store: &mut [u8], at: usize, first: u8, n: usize)
-    requires { ⌜ (n ≤ 65535) × (at + 3 ≤ length (now store)) × (at ≤ 65535) ⌝ }
+    requires { ⌜ (n ≤ maxPacket) × (at + 3 ≤ length (now store)) × (at ≤ maxPacket) ⌝ }
     ensures { λ r. ⌜ now (store .exit) ≡ paste (now (store .entry)) at (first ∷ bytes16 n) 3 ⌝ }
 {
     store[at] = first;
@@ -149,7 +165,7 @@ fn put_head(store: &mut [u8], at: usize, first: u8, n: usize)
     store[at + 2] = (n % 256) as u8;
 }
 
-// The object with its headers out up to a place, nothing in front any more.
+// Returns the object with its headers out up to `sent`, and nothing to go in front any more.
 fn sent_to(o: Outgoing, sent: usize) -> Outgoing
     ensures { λ r. ⌜ r ≡ sentTo o sent ⌝ }
 {
@@ -159,7 +175,7 @@ fn sent_to(o: Outgoing, sent: usize) -> Outgoing
     r
 }
 
-// The object with a byte read ahead.
+// Returns the object with the byte `pending` read ahead.
 fn ahead_with(o: Outgoing, pending: u8) -> Outgoing
     ensures { λ r. ⌜ r ≡ aheadWith o pending ⌝ }
 {
@@ -169,7 +185,7 @@ fn ahead_with(o: Outgoing, pending: u8) -> Outgoing
     r
 }
 
-// And with none.
+// Returns the object with its read-ahead byte used up.
 fn ahead_none(o: Outgoing) -> Outgoing
     ensures { λ r. ⌜ r ≡ aheadNone o ⌝ }
 {
@@ -179,16 +195,16 @@ fn ahead_none(o: Outgoing) -> Outgoing
     r
 }
 
-// The code of a packet: Success on the last one, Continue on others.
+// Returns the first byte of a packet: Success on the last one, Continue on others.
 fn code(last: bool) -> u8
     ensures { λ r. ⌜ r ≡ codeOf last ⌝ }
 {
-    if last { 0xA0 } else { 0x90 }
+    if last { SUCCESS_BYTE } else { CONTINUE_BYTE }
 }
 
-// A packet that is whole.
+// Finishes a packet of `n` bytes.
 fn send(o: Outgoing, last: bool, n: usize, reply: &mut [u8]) -> Packet
-    requires { ⌜ (n ≤ 65535) × (3 ≤ length (now reply)) ⌝ }
+    requires { ⌜ (n ≤ maxPacket) × (3 ≤ length (now reply)) ⌝ }
     ensures { λ r. ⌜ made r (now (reply .exit)) ≡ sending o last n (now (reply .entry)) ⌝ }
 {
     put_head(reply, 0, code(last), n);
@@ -203,7 +219,7 @@ fn send(o: Outgoing, last: bool, n: usize, reply: &mut [u8]) -> Packet
     }
 }
 
-// A packet that waits for body bytes.
+// Leaves a packet to wait for body bytes.
 fn waiting(o: Outgoing, at: usize, got: usize, room: usize) -> Packet
     ensures { λ r. ⌜ r ≡ reading o at got room ⌝ }
 {
@@ -214,7 +230,7 @@ fn waiting(o: Outgoing, at: usize, got: usize, room: usize) -> Packet
     }
 }
 
-// No packet can hold the next header.
+// Gives the object up: no packet can hold its next header, so the reply is Internal Server Error.
 fn too_large(o: Outgoing) -> Packet
     ensures { λ r. ⌜ r ≡ refusing o ⌝ }
 {
@@ -231,30 +247,31 @@ fn too_large(o: Outgoing) -> Packet
 
 // ---- chunks of the body
 
-// The body is at its end: what stands there is the last chunk.
+// Ends the body: the `got` bytes behind `at` are the last chunk, which goes as EndOfBody.
 fn last_chunk(o: Outgoing, at: usize, got: usize, reply: &mut [u8]) -> Packet
-    requires { ⌜ (at + got ≤ 65532) × (65535 ≤ length (now reply)) ⌝ }
+    requires { ⌜ (at + got ≤ maxCapacity) × (maxPacket ≤ length (now reply)) ⌝ }
     ensures { λ r. ⌜ made r (now (reply .exit)) ≡ lastChunk o at got (now (reply .entry)) ⌝ }
 {
-    put_head(reply, at, 0x49, 3 + got);
+    put_head(reply, at, END_OF_BODY, 3 + got);
     send(ahead_none(o), true, at + 3 + got, reply)
 }
 
-// A chunk is full, and a byte after it was read. An empty chunk gets no header.
+// Ends a chunk of `size` bytes, behind which the byte `ahead` was read, so that it is not the last. An empty chunk gets no header.
 fn full_chunk(o: Outgoing, at: usize, size: usize, ahead: u8, reply: &mut [u8]) -> Packet
-    requires { ⌜ (at + size ≤ 65532) × (65535 ≤ length (now reply)) ⌝ }
+    requires { ⌜ (at + size ≤ maxCapacity) × (maxPacket ≤ length (now reply)) ⌝ }
     ensures { λ r. ⌜ made r (now (reply .exit)) ≡ fullChunk o at size ahead (now (reply .entry)) ⌝ }
 {
     if size == 0 {
         return send(ahead_with(o, ahead), false, at, reply);
     }
-    put_head(reply, at, 0x48, 3 + size);
+    put_head(reply, at, BODY, 3 + size);
     send(ahead_with(o, ahead), false, at + 3 + size, reply)
 }
 
-// One byte more than the chunk holds is asked for, less the one that was read ahead.
+// Begins a chunk of up to `size` bytes. The host is asked for one byte more, to learn whether the chunk is the last, less the byte that was
+// read ahead.
 fn begin_chunk(o: Outgoing, at: usize, size: usize, reply: &mut [u8]) -> Packet
-    requires { ⌜ (at + size ≤ 65532) × (65535 ≤ length (now reply)) ⌝ }
+    requires { ⌜ (at + size ≤ maxCapacity) × (maxPacket ≤ length (now reply)) ⌝ }
     ensures { λ r. ⌜ made r (now (reply .exit)) ≡ beginChunk (o .«has_pending») o at size (now (reply .entry)) ⌝ }
 {
     if o.has_pending {
@@ -267,9 +284,10 @@ fn begin_chunk(o: Outgoing, at: usize, size: usize, reply: &mut [u8]) -> Packet
     waiting(o, at, 0, size + 1)
 }
 
-// No header is left. A body header takes three bytes at least.
+// Goes on behind the headers, of which none is left. A body header needs at least its three bytes; with less space the packet goes with
+// headers only.
 fn body_after(capacity: usize, o: Outgoing, at: usize, reply: &mut [u8]) -> Packet
-    requires { ⌜ (capacity ≤ 65532) × (at ≤ capacity + 3) × (65535 ≤ length (now reply)) ⌝ }
+    requires { ⌜ (capacity ≤ maxCapacity) × (at ≤ capacity + 3) × (maxPacket ≤ length (now reply)) ⌝ }
     ensures { λ r. ⌜ made r (now (reply .exit)) ≡ bodyAfter (o .«has_body») capacity o at (now (reply .entry)) ⌝ }
 {
     if o.has_body {
@@ -281,9 +299,9 @@ fn body_after(capacity: usize, o: Outgoing, at: usize, reply: &mut [u8]) -> Pack
     send(o, true, at, reply)
 }
 
-// What follows the headers, by why they stopped.
+// Goes on behind the headers, by why they stopped.
 fn next_filled(why: Stop, capacity: usize, o: Outgoing, at: usize, reply: &mut [u8]) -> Packet
-    requires { ⌜ (capacity ≤ 65532) × (at ≤ capacity + 3) × (65535 ≤ length (now reply)) ⌝ }
+    requires { ⌜ (capacity ≤ maxCapacity) × (at ≤ capacity + 3) × (maxPacket ≤ length (now reply)) ⌝ }
     ensures { λ r. ⌜ made r (now (reply .exit)) ≡ nextFilled (whyOf why) capacity o at (now (reply .entry)) ⌝ }
 {
     match why {
@@ -293,9 +311,10 @@ fn next_filled(why: Stop, capacity: usize, o: Outgoing, at: usize, reply: &mut [
     }
 }
 
-// The next packet of an object, or what it needs first. The capacity is the peer's limit less the packet's first three bytes.
+// Makes the next packet of an object, or begins it and says what it needs first. The capacity is the peer's limit less the packet's first
+// three bytes.
 pub fn next_packet(capacity: usize, o: Outgoing, headers: &[u8], reply: &mut [u8]) -> Packet
-    requires { ⌜ (2 ≤ capacity) × (capacity ≤ 65532) × (o .total ≤ length (now headers)) × (65535 ≤ length (now reply)) ⌝ }
+    requires { ⌜ (2 ≤ capacity) × (capacity ≤ maxCapacity) × (o .total ≤ length (now headers)) × (maxPacket ≤ length (now reply)) ⌝ }
     ensures { λ r. ⌜ made r (now (reply .exit)) ≡ nextPacket capacity o (now (headers .entry)) (now (reply .entry)) ⌝ }
 {
     let total = o.total;
@@ -305,10 +324,11 @@ pub fn next_packet(capacity: usize, o: Outgoing, headers: &[u8], reply: &mut [u8
     next_filled(why, capacity, sent_to(o, f.sent), f.at, reply)
 }
 
-// Body bytes from the host, no more than were asked for; none is the body's end. With the byte that is one too many, the chunk is full.
+// Takes body bytes from the host, no more than were asked for. No bytes are the body's end; with one byte more than the chunk holds, the
+// chunk is full.
 pub fn body_given(o: Outgoing, c: Chunk, d: &[u8], reply: &mut [u8]) -> Packet
-    requires { ⌜ (length (now d) ≤ c .room) × (c .at + c .got + c .room ≤ 65533) × (c .at + c .got ≤ 65532)
-        × (65535 ≤ length (now reply)) ⌝ }
+    requires { ⌜ (length (now d) ≤ c .room) × (c .at + c .got + c .room ≤ maxCapacity + 1) × (c .at + c .got ≤ maxCapacity)
+        × (maxPacket ≤ length (now reply)) ⌝ }
     ensures { λ r. ⌜ made r (now (reply .exit)) ≡ bodyGiven o c (now (d .entry)) (now (reply .entry)) ⌝ }
 {
     let n = d.len();

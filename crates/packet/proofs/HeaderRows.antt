@@ -1,4 +1,4 @@
--- The definitions on examples: the source's own (header.rs), and the rows of number 8. Assumes nothing.
+-- The definitions on examples, computed: the source's own (header.rs), and rows of refusal 8. Assumes nothing.
 use mathlib.Core.Path.{_≡_, refl}
 use mathlib.Core.Bool.{Bool, true, false}
 use mathlib.Core.List.{List, [], _∷_, _++_, map}

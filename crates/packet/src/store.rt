@@ -1,9 +1,10 @@
-// Places in a lent store.
+// Room in a lent store.
 ghost use mathlib.Core.Path.{_≡_};
 ghost use Rattle.packet.specs.Placed.{roomOf};
 use crate::tlv::Put;
 
-// Whether need bytes go to a place of a store of len bytes, and what follows them.
+// Tells whether `need` bytes fit at `at` of a store of `len` bytes, and where they end. A store that is too short is told before
+// `forbidden`.
 pub fn room(len: usize, at: usize, need: usize, forbidden: bool) -> Put
     ensures { λ r. ⌜ r ≡ roomOf len at need forbidden ⌝ }
 {

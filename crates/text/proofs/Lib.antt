@@ -1,4 +1,4 @@
--- What several proofs cite.
+-- The lemmas that several proofs cite, and the laws of text: what is written reads back.
 pub mod Widths
 pub mod Pairs
 pub mod Sequences

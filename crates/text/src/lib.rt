@@ -1,4 +1,5 @@
-// Header text: UTF-16 and UTF-8 taken apart into scalar values, and written into a lent store in the other form.
+// The text of headers (docs/PROTOCOL.md#text; the source's header.rs): UTF-16 and UTF-8 are taken apart into scalar values and written into
+// a lent store in the other form.
 ghost use mathlib.Core.Path.{_≡_};
 ghost use Prim.Native.Nat.{_+_, _-_, _<_, _≤_, _^_, min};
 ghost use lib.ListN.{length, getD, drop};
@@ -7,25 +8,27 @@ ghost use Rattle.text.specs.Unicode.{upToZero, keeps, replaces, units, i
 ghost use Rattle.text.specs.Text.{piecesOf, encoded, recoded, unicodeText, asciiText, unicodeBytes, stored, storeText};
 ghost use Rattle.text.specs.Pieces.{Reads};
 
-// How text is laid out in bytes; UTF-16 with the high-order byte first and up to a zero unit.
+// How text is laid out in bytes. UTF-16 has the high-order byte of a unit first and ends before a zero unit.
 enum Form {
     Utf8,
     Utf16,
 }
 
-// A scalar value, the bytes that it was read from, and whether they were well-formed: else it is U+FFFD.
+// A scalar value that was read: its `code`, how many bytes it was read from, and whether these were well-formed. If they were not, the code
+// is U+FFFD.
 struct Piece {
     code: u32,
     size: usize,
     kept: bool,
 }
 
+// What a reader finds at a place: the text's end, or a scalar value.
 enum Next {
     End,
     One(Piece),
 }
 
-// Short: the store is shorter than the text, and nothing was written.
+// What became of a text that was to be stored: its length, or `Short` if the store is shorter than the text, and then nothing was written.
 pub enum Decoded {
     Written(usize),
     Short,
@@ -33,7 +36,7 @@ pub enum Decoded {
 
 // ---- reading
 
-// The byte at a place, or 0 past the end.
+// Returns the byte at `i`, or 0 past the end.
 fn byte_at(s: &[u8], i: usize) -> u32
     ensures { λ r. ⌜ (r ≡ getD (now (s .entry)) i 0) × (r < 256) ⌝ }
 {
@@ -43,7 +46,7 @@ fn byte_at(s: &[u8], i: usize) -> u32
     base::wide32(s[i])
 }
 
-// The unit at a place, or 0 where the units end.
+// Returns the UTF-16 unit at `at`, or 0 past the last whole unit: an odd last byte is dropped.
 fn unit_at(s: &[u8], at: usize) -> u32
     ensures { λ r. ⌜ (r ≡ getD (units (drop at (now (s .entry)))) 0 0) × (r < 65536) ⌝ }
 {
@@ -56,6 +59,7 @@ fn unit_at(s: &[u8], at: usize) -> u32
     base::wide32(s[at]) * 256 + base::wide32(s[at + 1])
 }
 
+// Tells whether `u` is a high surrogate and `v` a low one.
 fn is_pair(u: u32, v: u32) -> bool
     ensures { λ r. ⌜ r ≡ isPair u v ⌝ }
 {
@@ -71,6 +75,7 @@ fn is_pair(u: u32, v: u32) -> bool
     v < 0xE000
 }
 
+// Makes the piece of the scalar value `code`, which `size` well-formed bytes say.
 fn kept(code: u32, size: usize) -> Piece
     ensures { λ r. ⌜ r ≡ keeps code size ⌝ }
 {
@@ -81,6 +86,7 @@ fn kept(code: u32, size: usize) -> Piece
     }
 }
 
+// Makes the piece U+FFFD, which stands for `size` ill-formed bytes.
 fn replaced(size: usize) -> Piece
     ensures { λ r. ⌜ r ≡ replaces size ⌝ }
 {
@@ -91,7 +97,7 @@ fn replaced(size: usize) -> Piece
     }
 }
 
-// The piece that the unit u starts, before the unit v.
+// Reads the scalar value that the unit `u` starts, if the unit `v` follows.
 fn first16(u: u32, v: u32) -> Piece
     ensures { λ r. ⌜ r ≡ first16 u v ⌝ }
 {
@@ -104,7 +110,7 @@ fn first16(u: u32, v: u32) -> Piece
     if u < 0xE000 { replaced(2) } else { kept(u, 2) }
 }
 
-// How many bytes a sequence has by its first, 0 where none starts so.
+// Returns how many bytes a UTF-8 sequence has by its first byte `b`, or 0 if no sequence starts with `b`.
 fn needed(b: u32) -> u32
     ensures { λ r. ⌜ r ≡ need b ⌝ }
 {
@@ -123,7 +129,7 @@ fn needed(b: u32) -> u32
     if b < 0xF5 { 4 } else { 0 }
 }
 
-// The range of the second byte.
+// Returns the smallest second byte that may follow the first byte `b`.
 fn lowest(b: u32) -> u32
     ensures { λ r. ⌜ r ≡ low b ⌝ }
 {
@@ -133,6 +139,7 @@ fn lowest(b: u32) -> u32
     if b == 0xF0 { 0x90 } else { 0x80 }
 }
 
+// Returns the largest second byte that may follow the first byte `b`.
 fn highest(b: u32) -> u32
     ensures { λ r. ⌜ r ≡ high b ⌝ }
 {
@@ -142,6 +149,7 @@ fn highest(b: u32) -> u32
     if b == 0xF4 { 0x8F } else { 0xBF }
 }
 
+// Tells whether `x` lies between `lo` and `hi`.
 fn is_inside(lo: u32, hi: u32, x: u32) -> bool
     ensures { λ r. ⌜ r ≡ inside lo hi x ⌝ }
 {
@@ -151,7 +159,8 @@ fn is_inside(lo: u32, hi: u32, x: u32) -> bool
     x <= hi
 }
 
-// The piece that the bytes b, c, d, e start.
+// Reads the scalar value that the bytes `b`, `c`, `d`, `e` start, or replaces the longest part of a sequence that they start (Unicode,
+// D93b), as the source's `String::from_utf8_lossy` does.
 fn first8(b: u32, c: u32, d: u32, e: u32) -> Piece
     ensures { λ r. ⌜ r ≡ first8 b c d e ⌝ }
 {
@@ -183,6 +192,7 @@ fn first8(b: u32, c: u32, d: u32, e: u32) -> Piece
     )
 }
 
+// Reads the next scalar value of UTF-16 at `at`.
 fn next16(s: &[u8], at: usize) -> Next
     ensures { λ r. ⌜ Reads Form.Utf16 (now (s .entry)) at r ⌝ }
 {
@@ -193,6 +203,7 @@ fn next16(s: &[u8], at: usize) -> Next
     Next::One(first16(u, unit_at(s, at + 2)))
 }
 
+// Reads the next scalar value of UTF-8 at `at`.
 fn next8(s: &[u8], at: usize) -> Next
     ensures { λ r. ⌜ Reads Form.Utf8 (now (s .entry)) at r ⌝ }
 {
@@ -207,7 +218,7 @@ fn next8(s: &[u8], at: usize) -> Next
     ))
 }
 
-// The piece at a place.
+// Reads the next scalar value at `at`, in the given form.
 fn next_piece(s: &[u8], at: usize, form: Form) -> Next
     ensures { λ r. ⌜ Reads form (now (s .entry)) at r ⌝ }
 {
@@ -217,7 +228,7 @@ fn next_piece(s: &[u8], at: usize, form: Form) -> Next
     }
 }
 
-// How many bytes come before the first zero.
+// Counts the bytes before the first zero: the source takes a missing terminator for the end.
 fn zero_at(s: &[u8]) -> usize
     ensures { λ r. ⌜ r ≡ length (upToZero (now (s .entry))) ⌝ }
 {
@@ -233,7 +244,7 @@ fn zero_at(s: &[u8]) -> usize
 
 // ---- writing
 
-// How many bytes a scalar value takes.
+// Returns how many bytes UTF-8 takes for the scalar value `c`.
 fn width8(c: u32) -> usize
     ensures { λ r. ⌜ (r ≡ length (utf8 c)) × (r ≤ 4) ⌝ }
 {
@@ -246,12 +257,14 @@ fn width8(c: u32) -> usize
     if c < 0x10000 { 3 } else { 4 }
 }
 
+// Returns how many bytes UTF-16 takes for the scalar value `c`.
 fn width16(c: u32) -> usize
     ensures { λ r. ⌜ (r ≡ length (utf16 c)) × (r ≤ 4) ⌝ }
 {
     if c < 0x10000 { 2 } else { 4 }
 }
 
+// Returns how many bytes the scalar value `c` takes in the given form.
 fn width(c: u32, form: Form) -> usize
     ensures { λ r. ⌜ (r ≡ length (encoded form c)) × (r ≤ 4) ⌝ }
 {
@@ -261,7 +274,7 @@ fn width(c: u32, form: Form) -> usize
     }
 }
 
-// The bytes of a scalar value, stored from n on; the place after them.
+// Stores the scalar value `c` in UTF-8 from `n` on, and returns the place behind it.
 fn put8(d: &mut [u8], n: usize, c: u32) -> usize
     requires { ⌜ (n + length (utf8 c) ≤ length (now d)) × (c < 0x110000) ⌝ }
     ensures { λ r. ⌜ (r ≡ n + length (utf8 c)) × (now (d .exit) ≡ sets (now (d .entry)) n (utf8 c)) ⌝ }
@@ -288,6 +301,7 @@ fn put8(d: &mut [u8], n: usize, c: u32) -> usize
     n + 4
 }
 
+// Stores the scalar value `c` in UTF-16 from `n` on, and returns the place behind it.
 fn put16(d: &mut [u8], n: usize, c: u32) -> usize
     requires { ⌜ (n + length (utf16 c) ≤ length (now d)) × (c < 0x110000) ⌝ }
     ensures { λ r. ⌜ (r ≡ n + length (utf16 c)) × (now (d .exit) ≡ sets (now (d .entry)) n (utf16 c)) ⌝ }
@@ -306,6 +320,7 @@ fn put16(d: &mut [u8], n: usize, c: u32) -> usize
     n + 4
 }
 
+// Stores the scalar value `c` in the given form from `n` on, and returns the place behind it.
 fn put(d: &mut [u8], n: usize, c: u32, form: Form) -> usize
     requires { ⌜ (n + length (encoded form c) ≤ length (now d)) × (c < 0x110000) ⌝ }
     ensures { λ r. ⌜ (r ≡ n + length (encoded form c)) × (now (d .exit) ≡ sets (now (d .entry)) n (encoded form c)) ⌝ }
@@ -316,7 +331,7 @@ fn put(d: &mut [u8], n: usize, c: u32, form: Form) -> usize
     }
 }
 
-// How many bytes the text takes, or the largest number where that is less.
+// Counts the bytes that the text `s` takes in the form `to`, or returns the largest number if there are more.
 fn text_len(s: &[u8], from: Form, to: Form) -> usize
     ensures { λ r. ⌜ r ≡ min (length (recoded from to (now (s .entry)))) (2 ^ 64 - 1) ⌝ }
 {
@@ -339,7 +354,7 @@ fn text_len(s: &[u8], from: Form, to: Form) -> usize
     }
 }
 
-// The text, stored from the front.
+// Stores the text `s` in the form `to` at the front of `d`, which holds it, and returns its length.
 fn write_text(s: &[u8], from: Form, to: Form, d: &mut [u8]) -> usize
     requires { ⌜ length (recoded from to (now s)) ≤ length (now d) ⌝ }
     ensures { λ r. ⌜ stored (Decoded.Written r) (now (d .exit)) ≡ storeText (recoded from to (now (s .entry))) (now (d .entry)) ⌝ }
@@ -359,6 +374,7 @@ fn write_text(s: &[u8], from: Form, to: Form, d: &mut [u8]) -> usize
     }
 }
 
+// Stores the text `s` in the form `to` at the front of `d`, or nothing at all if `d` is too short.
 fn recode(s: &[u8], from: Form, to: Form, d: &mut [u8]) -> Decoded
     ensures { λ r. ⌜ stored r (now (d .exit)) ≡ storeText (recoded from to (now (s .entry))) (now (d .entry)) ⌝ }
 {
@@ -370,21 +386,22 @@ fn recode(s: &[u8], from: Form, to: Form, d: &mut [u8]) -> Decoded
 
 // ---- the text of headers
 
-// How many bytes the text of a header with UTF-16 takes in UTF-8.
+// Counts the bytes that the UTF-16 text of a header takes in UTF-8.
 pub fn unicode_len(payload: &[u8]) -> usize
     ensures { λ r. ⌜ r ≡ length (unicodeText (now (payload .entry))) ⌝ }
 {
     text_len(payload, Form::Utf16, Form::Utf8)
 }
 
-// That text, in UTF-8.
+// Stores the UTF-16 text of a header in UTF-8 (the source's decode_unicode): up to the first zero unit, and each unpaired surrogate as
+// U+FFFD.
 pub fn decode_unicode(payload: &[u8], store: &mut [u8]) -> Decoded
     ensures { λ r. ⌜ stored r (now (store .exit)) ≡ storeText (unicodeText (now (payload .entry))) (now (store .entry)) ⌝ }
 {
     recode(payload, Form::Utf16, Form::Utf8, store)
 }
 
-// How many bytes the text of Type or Time takes, or the largest number where that is less.
+// Counts the bytes that the text of Type or Time takes, or returns the largest number if there are more.
 pub fn ascii_len(payload: &[u8]) -> usize
     ensures { λ r. ⌜ r ≡ min (length (asciiText (now (payload .entry)))) (2 ^ 64 - 1) ⌝ }
 {
@@ -392,7 +409,7 @@ pub fn ascii_len(payload: &[u8]) -> usize
     text_len(&payload[..end], Form::Utf8, Form::Utf8)
 }
 
-// That text.
+// Stores the text of Type or Time (the source's decode_ascii): up to the first zero byte, and what is ill-formed as U+FFFD.
 pub fn decode_ascii(payload: &[u8], store: &mut [u8]) -> Decoded
     ensures { λ r. ⌜ stored r (now (store .exit)) ≡ storeText (asciiText (now (payload .entry))) (now (store .entry)) ⌝ }
 {
@@ -400,14 +417,14 @@ pub fn decode_ascii(payload: &[u8], store: &mut [u8]) -> Decoded
     recode(&payload[..end], Form::Utf8, Form::Utf8, store)
 }
 
-// How many bytes a text in UTF-8 takes in UTF-16, without a zero unit at its end.
+// Counts the bytes that the UTF-8 text `text` takes in UTF-16, without a zero unit behind it.
 pub fn encoded_unicode_len(text: &[u8]) -> usize
     ensures { λ r. ⌜ r ≡ length (unicodeBytes (now (text .entry))) ⌝ }
 {
     text_len(text, Form::Utf8, Form::Utf16)
 }
 
-// Those bytes.
+// Stores the UTF-8 text `text` in UTF-16, without a zero unit behind it.
 pub fn encode_unicode(text: &[u8], store: &mut [u8]) -> Decoded
     ensures { λ r. ⌜ stored r (now (store .exit)) ≡ storeText (unicodeBytes (now (text .entry))) (now (store .entry)) ⌝ }
 {
@@ -416,7 +433,7 @@ pub fn encode_unicode(text: &[u8], store: &mut [u8]) -> Decoded
 
 // ---- well-formed bytes
 
-// Whether no piece is replaced, and they reach the end.
+// Tells whether every byte of `s` belongs to a well-formed piece of the given form.
 fn is_whole(s: &[u8], form: Form) -> bool
     ensures { λ r. ⌜ r ≡ whole (piecesOf form (now (s .entry))) (length (now (s .entry))) ⌝ }
 {
@@ -436,14 +453,14 @@ fn is_whole(s: &[u8], form: Form) -> bool
     }
 }
 
-// Whether the bytes are UTF-16 as it is written: units that are not zero, each surrogate in a pair.
+// Tells whether the bytes are UTF-16 as a writer leaves it: no zero unit, each surrogate in a pair, no odd byte.
 pub fn is_well_formed16(s: &[u8]) -> bool
     ensures { λ r. ⌜ r ≡ wellFormed16 (now (s .entry)) ⌝ }
 {
     is_whole(s, Form::Utf16)
 }
 
-// Whether the bytes are UTF-8 with no zero.
+// Tells whether the bytes are well-formed UTF-8 with no zero.
 pub fn is_well_formed8(s: &[u8]) -> bool
     ensures { λ r. ⌜ r ≡ wellFormed8 (now (s .entry)) ⌝ }
 {

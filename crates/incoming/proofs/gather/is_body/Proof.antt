@@ -1,4 +1,4 @@
--- incoming::gather::is_body meets its contract. The two tests are the definition's.
+-- `incoming::gather::is_body` meets its contract. The two tests are the definition's.
 use borrow.Author.Tests.{eq-eqb, ne-eqb}
 use Rattle.journal.specs.Carried.{isBody}
 use Rattle.incoming.proofs.gather.is_body.Statement.{statement}

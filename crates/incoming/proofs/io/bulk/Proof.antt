@@ -1,4 +1,4 @@
--- incoming::io::bulk meets its contract. What goes at once ends before the packet does, so it is the same as byte by byte (`Jump`).
+-- `incoming::io::bulk` meets its contract. What goes at once ends before the packet does, so it is the same as byte by byte (`Jump`).
 use native.Mathlib.Omega.{arith}
 use mathlib.Core.Path.{subst}
 use Prim.Native.Nat.{ℕ, zero, suc, _+_, _-_, _≤_, _<_}

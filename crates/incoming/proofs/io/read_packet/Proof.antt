@@ -1,4 +1,4 @@
--- incoming::io::read_packet meets its contract. The invariant: the bytes left, put one by one after those that stand, give what all bytes give.
+-- `incoming::io::read_packet` meets its contract. The invariant: the bytes left, put one by one after those that stand, give what all bytes give.
 use borrow.Author.Needs.{needs}
 use native.Mathlib.Omega.{arith}
 use native.Mathlib.Numerals.{add-one}
