@@ -36,7 +36,7 @@ use Rattle.connection.specs.declared.peer.Challenge.{Challenge}
 use Rattle.connection.specs.declared.peer.Challenge.the-variants.{Stored, Absent}
 use Rattle.connection.specs.declared.peer.ConnectionId.{ConnectionId}
 use Rattle.connection.specs.declared.peer.ConnectionId.the-variants.{Id, Missing}
-use Rattle.connection.specs.Connect.{challenges, answeredChallenge}
+use Rattle.connection.specs.ConnectReply.{challenges, answeredChallenge}
 
 -- ---- what is read
 

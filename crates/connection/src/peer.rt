@@ -8,7 +8,7 @@ ghost use Rattle.packet.specs.Limits.{maxConnections};
 ghost use Rattle.journal.specs.Ids.{member, taken, without, newId};
 ghost use Rattle.connection.specs.Peer.{atLeast255, limited as limitedPeer, authenticatedPeer, verifiedPeer, challengedPeer, srmPeer};
 ghost use Rattle.connection.specs.Peer.{addedPeer, opened as openedPeer, openingOf, answerBy, clearedPeer, disconnectedBy};
-ghost use Rattle.connection.specs.Send.{front};
+ghost use Rattle.connection.specs.Reply.{front};
 use digest::md5::Octets16;
 use packet::limits::MAX_CONNECTIONS;
 use packet::limits::MIN_PACKET;

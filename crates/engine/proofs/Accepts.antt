@@ -21,9 +21,9 @@ use Rattle.packet.specs.declared.auth.DigestChallenge.{DigestChallenge}
 use Rattle.packet.specs.declared.auth.DigestChallenge.the-variants as challenge
 use Rattle.journal.specs.Calls.{Credentials}
 use Rattle.incoming.specs.Survey.{surveyOf}
-use Rattle.connection.specs.Send.{Sending as Sent, fieldsOf, sendBytes, sentInto, front}
+use Rattle.connection.specs.Reply.{Sending as Sent, fieldsOf, sendBytes, sentInto, front}
 use Rattle.connection.specs.Peer.{idIn, isGiven, openedFor, openedBy as peerOpened, openingOf, frontBy, answerBy, disconnectedPeer, disconnectedBy}
-use Rattle.connection.specs.Connect.{answeredChallenge, connectHeaders}
+use Rattle.connection.specs.ConnectReply.{answeredChallenge, connectHeaders}
 use Rattle.connection.specs.Pieces.{headersFrom, realmOf, answeredIn, idGiven, credentialsOf}
 use Rattle.connection.specs.declared.peer.Peer.{Peer}
 use Rattle.connection.specs.declared.peer.ConnectionId.{ConnectionId}

@@ -14,8 +14,8 @@ use Rattle.packet.specs.declared.opcode.Opcode.{Opcode}
 use Rattle.packet.specs.declared.packet.Parsed.the-variants as parsed
 use Rattle.incoming.specs.Frame.{Frames, frames, framed}
 use Rattle.incoming.specs.Survey.{surveyOf}
-use Rattle.incoming.specs.declared.io.Frame.{Frame}
-use Rattle.incoming.specs.declared.io.Framed.{Framed}
+use Rattle.incoming.specs.declared.frame.Frame.{Frame}
+use Rattle.incoming.specs.declared.frame.Framed.{Framed}
 use Rattle.incoming.specs.Gather.{Gathering, gathering, gatherAll, headersOf}
 use Rattle.incoming.specs.declared.gather.Gathered.{Gathered}
 use Rattle.incoming.specs.declared.gather.Keep.{Keep}

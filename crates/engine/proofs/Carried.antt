@@ -6,13 +6,13 @@ use mathlib.Core.Bool.{Bool, true, false}
 use mathlib.Core.Option.{Option, none, some}
 use Prim.Native.Nat.{ℕ, _-_}
 use Rattle.packet.specs.Packet.{packetBytes}
-use Rattle.connection.specs.Send.{Sending as Sent, sendBytes, sentInto, front}
+use Rattle.connection.specs.Reply.{Sending as Sent, sendBytes, sentInto, front}
 use Rattle.connection.specs.declared.peer.Peer.{Peer}
-use Rattle.outgoing.specs.Outgoing.{Made, made, nextPacket}
-use Rattle.outgoing.specs.declared.body.Outgoing.{Outgoing}
-use Rattle.outgoing.specs.declared.body.Packet.{Packet}
-use Rattle.outgoing.specs.declared.body.Next.{Next}
-use Rattle.outgoing.specs.declared.body.Next.the-variants as next
+use Rattle.outgoing.specs.Object.{Made, made, nextPacket}
+use Rattle.outgoing.specs.declared.object.Outgoing.{Outgoing}
+use Rattle.outgoing.specs.declared.object.NextPacket.{NextPacket}
+use Rattle.outgoing.specs.declared.object.Next.{Next}
+use Rattle.outgoing.specs.declared.object.Next.the-variants as next
 use Rattle.server.specs.declared.CallResult.{CallResult}
 use Rattle.engine.specs.declared.step.Plan.{Plan}
 use Rattle.engine.proofs.Guards.{Goes, guardedIn, turned}
@@ -46,7 +46,7 @@ unfolding packetPlan
 packet-carried e srm wait m s = made-carried e srm wait (m .packet .next) m s
 
 -- a packet of an object, by what `next_packet` gives
-pub object-made : (e : Engine) (srm wait : Bool) (o : Outgoing) (h y z : List ℕ) (k : Packet) (p : Plan) (n : ℕ)
+pub object-made : (e : Engine) (srm wait : Bool) (o : Outgoing) (h y z : List ℕ) (k : NextPacket) (p : Plan) (n : ℕ)
     → made k z ≡ nextPacket (n - 3) o h y → n ≡ e .peer .«remote_max_packet_length» → p ≡ packetPlan e srm wait k
     → planMade p z ≡ objectPlan e srm wait (nextPacket (capacityOf e) o h y)
 object-made e srm wait o h y z k p n w r q =

@@ -11,12 +11,12 @@ use lib.ListN.{length}
 use lib.Dec.{ltb}
 use lib.Seq.{paste}
 use Rattle.connection.proofs.Front.{front-paste}
-use Rattle.connection.specs.Send.{front}
+use Rattle.connection.specs.Reply.{front}
 use Rattle.connection.specs.Peer.{freshPeer}
 use Rattle.incoming.specs.declared.gather.Gathered.{Gathered}
-use Rattle.outgoing.specs.Outgoing.{Made, nextPacket, bodyGiven}
-use Rattle.outgoing.specs.declared.body.Outgoing.{Outgoing}
-use Rattle.outgoing.specs.declared.body.Chunk.{Chunk}
+use Rattle.outgoing.specs.Object.{Made, nextPacket, bodyGiven}
+use Rattle.outgoing.specs.declared.object.Outgoing.{Outgoing}
+use Rattle.outgoing.specs.declared.object.Chunk.{Chunk}
 use Rattle.model.specs.Step.{Stores, Done, stepped, withHeaders, after, capacityOf, engineWith}
 use Rattle.model.specs.Guard.{refuse, badHeaders, soundOperation}
 use Rattle.model.specs.Calls.{bodyFor, objectFor, started, startStep}

@@ -18,7 +18,7 @@ use Rattle.packet.specs.declared.opcode.FirstByte.the-variants.{Known, Unknown}
 use Rattle.packet.specs.declared.opcode.Opcode.{Opcode}
 use Rattle.packet.specs.declared.opcode.Opcode.the-variants as op
 use Rattle.incoming.specs.Survey.{surveyOf}
-use Rattle.outgoing.specs.declared.body.Chunk.{Chunk}
+use Rattle.outgoing.specs.declared.object.Chunk.{Chunk}
 use Rattle.journal.specs.Journal.{headersOf as headersIn}
 use Rattle.model.specs.Step.{limitOf}
 use Rattle.model.specs.Operation.{nothingGathered}

@@ -4,8 +4,8 @@ use mathlib.Core.Bool.{Bool, true, false, _&&_, not}
 use mathlib.Core.List.{List}
 use Prim.Native.Nat.{ℕ, _≤_}
 use Rattle.base.specs.Pick.{pick}
-use Rattle.outgoing.specs.Outgoing.{nextPacket}
-use Rattle.outgoing.specs.declared.body.Outgoing.{Outgoing}
+use Rattle.outgoing.specs.Object.{nextPacket}
+use Rattle.outgoing.specs.declared.object.Outgoing.{Outgoing}
 use Rattle.model.specs.Step.{Stores, Done, withReply, limitOf, capacityOf, ends, after}
 use Rattle.model.specs.Guard.{sameAwait, soundOperation}
 use Rattle.model.specs.Object.{goesOn, sendsNext}

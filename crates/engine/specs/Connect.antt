@@ -12,9 +12,9 @@ use Rattle.packet.specs.declared.auth.DigestChallenge.{DigestChallenge}
 use Rattle.packet.specs.declared.auth.DigestChallenge.the-variants as challenge
 use Rattle.journal.specs.Calls.{Credentials}
 use Rattle.incoming.specs.Survey.{surveyOf}
-use Rattle.connection.specs.Send.{fieldsOf, front}
+use Rattle.connection.specs.Reply.{fieldsOf, front}
 use Rattle.connection.specs.Peer.{idIn, isGiven, answerBy, disconnectedPeer, verifiedPeer, limited}
-use Rattle.connection.specs.Connect.{connectHeaders}
+use Rattle.connection.specs.ConnectReply.{connectHeaders}
 use Rattle.connection.specs.Pieces.{headersFrom, answeredIn, idGiven}
 use Rattle.connection.specs.declared.peer.Peer.{Peer}
 use Rattle.connection.specs.declared.peer.Answer.{Answer}
@@ -33,7 +33,7 @@ use Rattle.server.specs.declared.Refusal.the-variants as refusal
 use Rattle.server.specs.declared.Engine.{Engine}
 use Rattle.server.specs.declared.HostRequest.the-variants as request
 use Rattle.server.specs.declared.CallResult.{CallResult}
-use Rattle.connection.specs.declared.send.Sent.the-variants as sent
+use Rattle.connection.specs.declared.reply.Sent.the-variants as sent
 use Rattle.engine.specs.declared.step.Plan.{Plan}
 use Rattle.packet.specs.Auth.{Response}
 use Rattle.packet.specs.declared.tlv.Found.{Found}

@@ -13,7 +13,7 @@ use Rattle.packet.specs.declared.opcode.Opcode.{Opcode}
 use Rattle.packet.specs.declared.opcode.Opcode.the-variants as op
 use Rattle.incoming.specs.Survey.{surveyOf}
 use Rattle.incoming.specs.declared.gather.Gathered.{Gathered}
-use Rattle.outgoing.specs.declared.body.Outgoing.{Outgoing}
+use Rattle.outgoing.specs.declared.object.Outgoing.{Outgoing}
 use Rattle.journal.specs.Journal.{headersOf as headersIn}
 use Rattle.model.specs.Step.{Stores, Done, engineWith}
 use Rattle.model.specs.Operation.{nothingGathered, gathers}

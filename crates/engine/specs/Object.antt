@@ -3,10 +3,10 @@ use Prim.Native.Nat.{ℕ}
 use mathlib.Core.List.{List}
 use mathlib.Core.Bool.{Bool, false, _&&_, not}
 use Rattle.base.specs.Pick.{pick}
-use Rattle.outgoing.specs.Outgoing.{Made}
-use Rattle.outgoing.specs.declared.body.Packet.{Packet}
-use Rattle.outgoing.specs.declared.body.Next.{Next}
-use Rattle.outgoing.specs.declared.body.Next.the-variants as next
+use Rattle.outgoing.specs.Object.{Made}
+use Rattle.outgoing.specs.declared.object.NextPacket.{NextPacket}
+use Rattle.outgoing.specs.declared.object.Next.{Next}
+use Rattle.outgoing.specs.declared.object.Next.the-variants as next
 use Rattle.model.specs.Step.{Stores, engineWith, Done, wants, ends}
 use Rattle.engine.specs.Step.{plan, asksPlan, codePlan, Written, carried}
 use Rattle.server.specs.declared.Operation.{Operation}
@@ -18,18 +18,18 @@ use Rattle.server.specs.declared.HostRequest.the-variants as request
 use Rattle.server.specs.declared.Outcome.the-variants as outcome
 use Rattle.engine.specs.declared.step.Plan.{Plan}
 use Rattle.engine.specs.declared.step.ShortReply.the-variants.{Silent}
-use Rattle.outgoing.specs.declared.body.Outgoing.{Outgoing}
+use Rattle.outgoing.specs.declared.object.Outgoing.{Outgoing}
 use Rattle.model.specs.Guard.{sameAwait}
 use Rattle.model.specs.Object.{sendsNext}
 use Rattle.engine.specs.declared.object.Turn.{Turn}
 use Rattle.engine.specs.declared.object.Turn.the-variants.{Send, Wait, End}
 
 -- the operation after a packet of an object
-abbrev pub sendingOn : Packet → Bool → Bool → Bool → Operation
+abbrev pub sendingOn : NextPacket → Bool → Bool → Bool → Operation
 sendingOn k last srm wait = pick last Nothing (Sending (k .outgoing) (k .chunk) srm wait)
 
 -- a packet of an object, the body read that it needs, or 0x50 where a header is too long for any packet
-abbrev pub madePlan : Next → Engine → Bool → Bool → Packet → Plan
+abbrev pub madePlan : Next → Engine → Bool → Bool → NextPacket → Plan
 madePlan (next.Send n last) e srm wait k =
     plan (engineWith (e .settings) (e .peer) (sendingOn k last srm wait) await.Taken 0 (e .length)) (outcome.Reply n) Silent
 madePlan next.Read e srm wait k =
@@ -37,7 +37,7 @@ madePlan next.Read e srm wait k =
 madePlan next.TooLarge e srm wait k = codePlan e (e .peer) await.Taken 0xD0
 
 -- by what is next
-unfoldable pub packetPlan : Engine → Bool → Bool → Packet → Plan
+unfoldable pub packetPlan : Engine → Bool → Bool → NextPacket → Plan
 packetPlan e srm wait k = madePlan (k .next) e srm wait k
 
 -- a plan, and the reply store before it is carried out

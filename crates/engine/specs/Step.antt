@@ -2,10 +2,10 @@
 use Prim.Native.Nat.{ℕ}
 use mathlib.Core.List.{List, [], _∷_}
 use mathlib.Core.Bool.{Bool, false, true}
-use Rattle.connection.specs.Send.{Sending as Replying, sendBytes, sentInto, front}
+use Rattle.connection.specs.Reply.{Sending as Replying, sendBytes, sentInto, front}
 use Rattle.connection.specs.declared.peer.Peer.{Peer}
-use Rattle.connection.specs.declared.send.Sent.{Sent}
-use Rattle.connection.specs.declared.send.Sent.the-variants as sent
+use Rattle.connection.specs.declared.reply.Sent.{Sent}
+use Rattle.connection.specs.declared.reply.Sent.the-variants as sent
 use Rattle.model.specs.Step.{Stores, Stepped, stepped, withReply, engineWith, Done, done}
 use Rattle.server.specs.declared.Operation.{Operation}
 use Rattle.server.specs.declared.Operation.the-variants.{Nothing}

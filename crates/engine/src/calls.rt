@@ -36,8 +36,10 @@ use crate::step::took;
 use base::copy_into;
 use connection::peer::challenged;
 use digest::md5::Octets16;
-use incoming::io::Frame;
-use incoming::io::read_packet;
+use incoming::frame::Frame;
+use incoming::frame::read_packet;
+use packet::response::INTERNAL_SERVER_ERROR_BYTE;
+use packet::response::SUCCESS_BYTE;
 use server::Await;
 use server::CallKind;
 use server::CallResult;
@@ -278,7 +280,7 @@ pub fn body_given(
     if chunk.room < d.len() {
         return refuse(e, Refusal::WrongMoment);
     }
-    let k = outgoing::body::body_given(outgoing, chunk, d, reply);
+    let k = outgoing::object::body_given(outgoing, chunk, d, reply);
     carry_out(packet_plan(e, srm, wait, k), reply)
 }
 
@@ -303,7 +305,10 @@ pub fn body_failed(
     ) {
         return refuse(e, refusal);
     }
-    carry_out(code(e, e.peer, Await::Taken, 0xD0), reply)
+    carry_out(
+        code(e, e.peer, Await::Taken, INTERNAL_SERVER_ERROR_BYTE),
+        reply,
+    )
 }
 
 // Tells the engine that the host has heard of an Abort. The host gives no code: the reply to an Abort is always 0xA0.
@@ -327,7 +332,7 @@ pub fn abort_acknowledged(
     ) {
         return refuse(e, refusal);
     }
-    carry_out(code(e, e.peer, Await::Taken, 0xA0), reply)
+    carry_out(code(e, e.peer, Await::Taken, SUCCESS_BYTE), reply)
 }
 
 // Gives the password of the user that the client named, or none if the host knows no such user. A wrong or missing password makes the

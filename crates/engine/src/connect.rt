@@ -14,14 +14,13 @@ ghost use Rattle.engine.specs.Connect.{answering, headersOf, srmAskedBy,
 ghost use Rattle.packet.specs.Packet.{requestOf};
 ghost use Rattle.journal.specs.Journal.{headersOf as headersIn};
 ghost use Rattle.digest.specs.Md5.{octets16};
-ghost use Rattle.connection.specs.Send.{fieldsOf, sendBytes, sending, sentInto};
-ghost use Rattle.connection.specs.Connect.{challengeHeader};
+ghost use Rattle.connection.specs.Reply.{fieldsOf, sendBytes, sending, sentInto};
+ghost use Rattle.connection.specs.ConnectReply.{challengeHeader};
 ghost use Rattle.model.specs.Step.{limitOf};
 ghost use Rattle.model.specs.Connect.{optionsOf, realmOf};
 ghost use Rattle.model.specs.Guard.{soundOperation};
 use crate::guard::refuse;
 use crate::guard::same_await;
-use crate::request::AUTHENTICATE_RESPONSE;
 use crate::request::first_id;
 use crate::request::has_target;
 use crate::request::is_enabling;
@@ -33,10 +32,10 @@ use crate::step::sent_plan;
 use crate::step::took;
 use crate::step::wide16;
 use base::copy_into;
-use connection::challenge::AUTHENTICATE_CHALLENGE;
+use connection::challenge;
 use connection::challenge::answered_challenge;
-use connection::connect::challenge_reply;
-use connection::connect::connect_reply;
+use connection::connect_reply::challenge_reply;
+use connection::connect_reply::connect_reply;
 use connection::peer::Answer;
 use connection::peer::Challenge;
 use connection::peer::ConnectionId;
@@ -45,7 +44,7 @@ use connection::peer::disconnected;
 use connection::peer::limited;
 use connection::peer::opened_for;
 use connection::peer::verified;
-use connection::send::Sent;
+use connection::reply::Sent;
 use digest::md5::Octets16;
 use packet::auth::DigestChallenge;
 use packet::auth::DigestResponse;
@@ -53,6 +52,8 @@ use packet::auth::is_long;
 use packet::auth::read_response;
 use packet::auth::realm;
 use packet::header::first_header;
+use packet::header_id::AUTHENTICATE_CHALLENGE;
+use packet::header_id::AUTHENTICATE_RESPONSE;
 use packet::packet::connect_limit;
 use packet::response::SERVICE_UNAVAILABLE;
 use packet::response::is_success;
@@ -103,7 +104,7 @@ fn opens(e: Engine, header_bytes: &[u8], packet: &[u8]) -> Answer
 fn challenge_realm(packet: &[u8]) -> Found
     ensures { λ r. ⌜ r ≡ realmIn (now (packet .entry)) (firstPlace 0x4D (now (packet .entry)) 7) ⌝ }
 {
-    let Found::At { start, end } = first_header(packet, 7, AUTHENTICATE_CHALLENGE) else {
+    let Found::At { start, end } = first_header(packet, 7, challenge::AUTHENTICATE_CHALLENGE) else {
         return Found::Missing;
     };
     placed(start, realm(&packet[start..end]))

@@ -27,7 +27,7 @@ use connection::peer::is_open;
 use incoming::gather::Gathered;
 use incoming::survey::Survey;
 use incoming::survey::survey_headers;
-use outgoing::body::Outgoing;
+use outgoing::object::Outgoing;
 use packet::opcode::FirstByte;
 use packet::opcode::Opcode;
 use packet::opcode::from_byte;

@@ -4,9 +4,14 @@ ghost use Rattle.model.specs.Guard.{awaitNumber, sameAwait, fits, sound, soundG
 ghost use Rattle.server.specs.declared.CallKind.the-variants as kind;
 ghost use Rattle.engine.specs.Guard.{shortBy, guardedBy, guardedStart, refusedWith};
 use incoming::gather::Gathered;
-use outgoing::body::Chunk;
-use outgoing::body::Outgoing;
+use outgoing::object::Chunk;
+use outgoing::object::Outgoing;
 use packet::header::is_canonical;
+use packet::limits::MAX_CAPACITY;
+use packet::limits::MAX_CONNECTIONS;
+use packet::limits::MAX_PACKET;
+use packet::limits::MAX_REALM;
+use packet::limits::MIN_PACKET;
 use packet::response::is_code;
 use server::Await;
 use server::CallKind;
@@ -98,13 +103,13 @@ pub(crate) fn wide(n: u32) -> usize
 pub(crate) fn is_short(limit: u32, packet: usize, headers: usize, body: usize, reply: usize) -> bool
     ensures { λ r. ⌜ r ≡ shortBy limit packet headers body reply ⌝ }
 {
-    if packet < 65535 {
+    if packet < MAX_PACKET {
         return true;
     }
-    if headers < 65535 {
+    if headers < MAX_PACKET {
         return true;
     }
-    if reply < 65535 {
+    if reply < MAX_PACKET {
         return true;
     }
     body < wide(limit)
@@ -114,7 +119,7 @@ pub(crate) fn is_short(limit: u32, packet: usize, headers: usize, body: usize, r
 fn sound_gathered(limit: u32, g: Gathered) -> bool
     ensures { λ r. ⌜ r ≡ soundGathered limit g ⌝ }
 {
-    if g.kept > 65535 {
+    if g.kept > MAX_PACKET {
         return false;
     }
     g.body <= wide(limit)
@@ -124,16 +129,16 @@ fn sound_gathered(limit: u32, g: Gathered) -> bool
 fn sound_outgoing(o: Outgoing, c: Chunk) -> bool
     ensures { λ r. ⌜ r ≡ soundOutgoing o c ⌝ }
 {
-    if o.total > 65535 {
+    if o.total > MAX_PACKET {
         return false;
     }
     if o.sent > o.total {
         return false;
     }
-    if c.at > 65532 {
+    if c.at > MAX_CAPACITY {
         return false;
     }
-    if c.got > 65532 - c.at {
+    if c.got > MAX_CAPACITY - c.at {
         return false;
     }
     c.room <= 65533 - c.at - c.got
@@ -166,7 +171,7 @@ fn sound_operation(limit: u32, operation: Operation) -> bool
             code: _,
             front: _,
             length,
-        } => length <= 65535,
+        } => length <= MAX_PACKET,
         Operation::Draining { code: _ } => true,
     }
 }
@@ -176,19 +181,19 @@ fn sound_operation(limit: u32, operation: Operation) -> bool
 pub(crate) fn is_sound(e: Engine) -> bool
     ensures { λ r. ⌜ r ≡ sound e ⌝ }
 {
-    if e.begun >= 65535 {
+    if e.begun >= MAX_PACKET {
         return false;
     }
-    if e.length > 65535 {
+    if e.length > MAX_PACKET {
         return false;
     }
-    if e.peer.count > 64 {
+    if e.peer.count > MAX_CONNECTIONS {
         return false;
     }
-    if e.peer.remote_max_packet_length < 255 {
+    if e.peer.remote_max_packet_length < MIN_PACKET {
         return false;
     }
-    if e.settings.realm_length > 254 {
+    if e.settings.realm_length > MAX_REALM {
         return false;
     }
     let operation = e.operation;
@@ -241,7 +246,7 @@ pub(crate) fn guard_start(
     if is_short(limit, packet, headers, body, reply) {
         return Guarded::Refuse(Refusal::StoreTooShort);
     }
-    if realm > 254 {
+    if realm > MAX_REALM {
         return Guarded::Refuse(Refusal::BadAnswer);
     }
     Guarded::Proceed
@@ -262,7 +267,7 @@ pub(crate) fn refuse(e: Engine, refusal: Refusal) -> CallResult
 pub(crate) fn is_bad_headers(s: &[u8]) -> bool
     ensures { λ r. ⌜ r ≡ badHeaders (now (s .entry)) ⌝ }
 {
-    if s.len() > 65535 {
+    if s.len() > MAX_PACKET {
         return true;
     }
     !is_canonical(s)

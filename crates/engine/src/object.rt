@@ -3,7 +3,7 @@ ghost use mathlib.Core.Path.{_≡_};
 ghost use mathlib.Core.List.{List};
 ghost use Prim.Native.Nat.{_≤_, ℕ};
 ghost use lib.ListN.{length};
-ghost use Rattle.outgoing.specs.Outgoing.{nextPacket};
+ghost use Rattle.outgoing.specs.Object.{nextPacket};
 ghost use Rattle.model.specs.Step.{capacityOf, stores, limitOf};
 ghost use Rattle.engine.specs.Step.{written, planned};
 ghost use Rattle.engine.specs.Object.{sendingOn, packetPlan, planMade, objectPlan, packetSent, followsTurn, goesTurn, turnOf, turnActs};
@@ -20,10 +20,11 @@ use crate::step::ends;
 use crate::step::engine_with;
 use crate::step::wants;
 use crate::step::wide16;
-use outgoing::body::Next;
-use outgoing::body::Outgoing;
-use outgoing::body::Packet;
-use outgoing::body::next_packet;
+use outgoing::object::Next;
+use outgoing::object::NextPacket;
+use outgoing::object::Outgoing;
+use outgoing::object::next_packet;
+use packet::response::INTERNAL_SERVER_ERROR_BYTE;
 use server::Await;
 use server::CallResult;
 use server::End;
@@ -33,7 +34,7 @@ use server::Operation;
 use server::Outcome;
 
 // The operation that is open after a packet of an object: none after the last packet.
-fn sending(k: Packet, last: bool, srm: bool, wait: bool) -> Operation
+fn sending(k: NextPacket, last: bool, srm: bool, wait: bool) -> Operation
     ensures { λ r. ⌜ r ≡ sendingOn k last srm wait ⌝ }
 {
     if last {
@@ -51,7 +52,7 @@ fn sending(k: Packet, last: bool, srm: bool, wait: bool) -> Operation
 
 // The plan for a packet of an object: the packet is sent, or body bytes are asked for first. If a header is too long for any packet, the
 // reply is 0x50 and the Get ends.
-pub(crate) fn packet_plan(e: Engine, srm: bool, wait: bool, k: Packet) -> Plan
+pub(crate) fn packet_plan(e: Engine, srm: bool, wait: bool, k: NextPacket) -> Plan
     ensures { λ r. ⌜ r ≡ packetPlan e srm wait k ⌝ }
 {
     let next = k.next;
@@ -71,7 +72,7 @@ pub(crate) fn packet_plan(e: Engine, srm: bool, wait: bool, k: Packet) -> Plan
             Await::Body,
             HostRequest::Read { room: k.chunk.room },
         ),
-        Next::TooLarge => code(e, e.peer, Await::Taken, 0xD0),
+        Next::TooLarge => code(e, e.peer, Await::Taken, INTERNAL_SERVER_ERROR_BYTE),
     }
 }
 

@@ -26,6 +26,7 @@ use incoming::gather::Keep;
 use incoming::gather::gather;
 use packet::opcode::Opcode;
 use packet::packet::prefix_len;
+use packet::response::REQUESTED_ENTITY_TOO_LARGE_BYTE;
 use server::Await;
 use server::Body;
 use server::End;
@@ -102,7 +103,7 @@ fn put_continues(e: Engine, g: Gathered, srm: bool, confirm: bool, additional: b
         return wants(e, e.peer, operation);
     }
     if g.over {
-        return code(e, e.peer, Await::Taken, 0xCD);
+        return code(e, e.peer, Await::Taken, REQUESTED_ENTITY_TOO_LARGE_BYTE);
     }
     continues(
         e,
@@ -119,7 +120,7 @@ fn put_final(e: Engine, g: Gathered) -> Plan
     ensures { λ r. ⌜ r ≡ putFinalPlan e g ⌝ }
 {
     if g.over {
-        return code(e, e.peer, Await::Taken, 0xCD);
+        return code(e, e.peer, Await::Taken, REQUESTED_ENTITY_TOO_LARGE_BYTE);
     }
     asks(
         e,

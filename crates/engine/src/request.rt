@@ -16,13 +16,11 @@ use connection::peer::Challenge;
 use connection::peer::ConnectionId;
 use incoming::survey::survey_headers;
 use packet::auth::read_response;
+use packet::header_id::AUTHENTICATE_RESPONSE;
+use packet::header_id::TARGET;
 use packet::packet::Parsed;
 use packet::packet::parse_packet;
 use packet::tlv::Found;
-
-const TARGET: u8 = 0x46;
-
-pub(crate) const AUTHENTICATE_RESPONSE: u8 = 0x4E;
 
 // Where the headers of packet `q` start: at its end if it cannot be read, so that it has none.
 pub(crate) fn last_from(q: &[u8]) -> usize

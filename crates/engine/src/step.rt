@@ -9,14 +9,16 @@ ghost use Rattle.connection.specs.Peer.{freshPeer};
 ghost use Rattle.server.specs.declared.End.the-variants as end;
 ghost use Prim.Native.Nat.{_≤_, _<_};
 ghost use lib.ListN.{length};
-ghost use Rattle.connection.specs.Send.{fieldsOf, front};
+ghost use Rattle.connection.specs.Reply.{fieldsOf, front};
 use connection::peer::Challenge;
 use connection::peer::Peer;
-use connection::send::Sent;
-use connection::send::put_continue;
-use connection::send::put_reply_code;
-use connection::send::send;
-use connection::send::send_connect;
+use connection::reply::Sent;
+use connection::reply::put_continue;
+use connection::reply::put_reply_code;
+use connection::reply::send;
+use connection::reply::send_connect;
+use packet::limits::MIN_PACKET;
+use packet::response::CONTINUE_BYTE;
 use server::Await;
 use server::CallResult;
 use server::End;
@@ -71,7 +73,7 @@ fn fresh_peer() -> Peer
         connections: [0; 64],
         count: 0,
         next_connection_id: 1,
-        remote_max_packet_length: 255,
+        remote_max_packet_length: MIN_PACKET,
         srm_enabled: false,
         authenticated: false,
         challenge: Challenge::Absent,
@@ -167,7 +169,7 @@ pub(crate) fn continues(e: Engine, operation: Operation, grant: bool) -> Plan
     Plan {
         engine,
         outcome: Outcome::Reply { length: 3 },
-        small: ShortReply::Byte(0x90),
+        small: ShortReply::Byte(CONTINUE_BYTE),
     }
 }
 

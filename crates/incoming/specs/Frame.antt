@@ -6,9 +6,9 @@ use lib.ListN.{set}
 use lib.Dec.{ltb, leb}
 use Rattle.base.specs.Pick.{pick}
 use Rattle.base.specs.Bytes.{be16}
-use Rattle.incoming.specs.declared.io.Frame.{Frame}
-use Rattle.incoming.specs.declared.io.Frame.the-variants.{More, Whole, Short}
-use Rattle.incoming.specs.declared.io.Framed.{Framed}
+use Rattle.incoming.specs.declared.frame.Frame.{Frame}
+use Rattle.incoming.specs.declared.frame.Frame.the-variants.{More, Whole, Short}
+use Rattle.incoming.specs.declared.frame.Framed.{Framed}
 
 -- How far a packet has come with `b` bytes of it in the store `p`.
 unfoldable pub frameEnd : List ℕ → ℕ → Frame

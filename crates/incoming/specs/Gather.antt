@@ -9,7 +9,7 @@ use lib.Dec.{leb}
 use Rattle.base.specs.Pick.{pick}
 use Rattle.packet.specs.Limits.{maxPacket}
 use Rattle.packet.specs.Header.{Header, bytesOf}
-use Rattle.journal.specs.Carried.{isBody, isSrm}
+use Rattle.journal.specs.Record.{isBody, isSrm}
 pub use Rattle.journal.specs.Journal.{listOf as headersOf}
 use Rattle.incoming.specs.declared.gather.Keep.{Keep}
 use Rattle.incoming.specs.declared.gather.Keep.the-variants.{Put, Get, All}

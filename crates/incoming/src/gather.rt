@@ -5,7 +5,7 @@ ghost use mathlib.Core.Bool.{true};
 ghost use mathlib.Core.List.{List};
 ghost use Prim.Native.Nat.{ℕ, _+_, _≤_};
 ghost use lib.ListN.{length};
-ghost use Rattle.journal.specs.Carried.{isBody, isSrm};
+ghost use Rattle.journal.specs.Record.{isBody, isSrm};
 ghost use Rattle.packet.specs.Limits.{maxPacket};
 ghost use Rattle.packet.specs.Header.{part, bytesOf, readHeaders};
 ghost use Rattle.packet.specs.HeaderList.{readableFrom};

@@ -2,7 +2,7 @@
 use mathlib.Core.Path.{_≡_}
 use mathlib.Core.List.{List}
 use Prim.Native.Nat.{ℕ}
-use Rattle.journal.specs.Carried.{Carried}
+use Rattle.journal.specs.Record.{Record}
 use Rattle.journal.specs.Calls.{Fed}
 use Rattle.journal.specs.Journal.{Settings, fresh, journalRecords, Marked, packets}
 use Rattle.journal.specs.PutForm.{Exactly}
@@ -13,4 +13,4 @@ PutForms = (st : Settings) (fs : List Fed) → Exactly (st .limit) (packets (fre
 
 -- There is no choice in it: some packets have one list of records.
 abbrev pub OneList : Type 0
-OneList = (limit : ℕ) (ps : List Marked) (rs qs : List Carried) → Exactly limit ps rs → Exactly limit ps qs → rs ≡ qs
+OneList = (limit : ℕ) (ps : List Marked) (rs qs : List Record) → Exactly limit ps rs → Exactly limit ps qs → rs ≡ qs

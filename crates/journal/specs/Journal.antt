@@ -21,7 +21,7 @@ use Rattle.packet.specs.Packet.{Request, requestOf}
 use Rattle.packet.specs.Auth.{Response, responseOf, verified}
 use Rattle.packet.specs.declared.opcode.Opcode.{Opcode}
 use Rattle.packet.specs.declared.opcode.Opcode.the-variants.{Connect, Disconnect, Put, Get, SetPath, Action, Session, Abort, UserDefined}
-use Rattle.journal.specs.Carried.{Carried, joined, sizeOf, carriedBy, keptByGet}
+use Rattle.journal.specs.Record.{Record, joined, sizeOf, carriedBy, keptByGet}
 use Rattle.journal.specs.Ids.{member, without, newId}
 use Rattle.journal.specs.Calls.{Call, bytesOffered, streamEnded, replyTaken, replyGiven, objectGiven, bodyGiven, bodyFailed, abortAcknowledged, passwordGiven, nonceGiven, credentialsGiven, Verdict, goes, refused, Fed}
 
@@ -46,7 +46,7 @@ pub record Standing : Type 0 where
 -- Action, Session or user-defined operation, with its kept headers; or an operation that was turned away and is drained.
 pub data Opened : Type 0 where
   nothing : Opened
-  putting : Carried → Bool → Opened
+  putting : Record → Bool → Opened
   getting : List ℕ → Opened
   sending : Opened
   gathering : Opcode → List ℕ → Opened
@@ -87,7 +87,7 @@ fresh st =
 -- A step: the journal afterwards, and the records handed over.
 pub record Entry : Type 0 where
   pub next : Journal
-  pub given : List Carried
+  pub given : List Record
 
 -- A step to the journal `j` that hands nothing over.
 abbrev pub unchanged : Journal → Entry
@@ -150,7 +150,7 @@ asksSrm st hs = st .srm && isEnable (first header-id.singleResponseMode hs)
 -- A Put packet is read, and `c` is what the Put carries up to here. A final packet closes the Put, with a record if the body is within the
 -- limit. Any other closes it if the body is past the limit, unless SRM is on: without SRM the client waits for the reply, so it is refused
 -- right away. `srm` holds at this packet, `next` from the next one on.
-unfoldable pub putRead : Journal → Request → Bool → Bool → Carried → Entry
+unfoldable pub putRead : Journal → Request → Bool → Bool → Record → Entry
 putRead j r srm next c =
     pick (r .final)
     (record { next = after j (some r) nothing; given = pick (leb (sizeOf c) (j .settings .limit)) (c ∷ []) [] })
@@ -381,7 +381,7 @@ unfoldable pub journalStep : Journal → Fed → Entry
 journalStep j f = journalFed j (f .call) (f .verdict) (f .reply)
 
 -- The records that a list of calls must hand over.
-abbrev pub journalRecords : Journal → List Fed → List Carried
+abbrev pub journalRecords : Journal → List Fed → List Record
 journalRecords j [] = []
 journalRecords j (f ∷ fs) = journalStep j f .given ++ journalRecords (journalStep j f .next) fs
 

@@ -1,5 +1,5 @@
 -- What the calls hand over, defined without the engine, in the order in which the files build on one another.
-pub mod Carried
+pub mod Record
 pub mod Ids
 pub mod Calls
 pub mod Journal

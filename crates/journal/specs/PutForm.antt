@@ -11,7 +11,7 @@ use lib.ListN.{length, take, drop}
 use Rattle.packet.specs.FirstByte.{sameOpcode}
 use Rattle.packet.specs.Packet.{Request, requestOf}
 use Rattle.packet.specs.declared.opcode.Opcode.the-variants.{Put}
-use Rattle.journal.specs.Carried.{Carried, bare, joined, sizeOf, carriedBy}
+use Rattle.journal.specs.Record.{Record, bare, joined, sizeOf, carriedBy}
 use Rattle.journal.specs.Journal.{Journal, nothing, admitted, Marked}
 
 -- ---- what a packet is to a Put
@@ -35,12 +35,12 @@ unfoldable pub isFinal : List ℕ → Bool
 isFinal p = finalRequest (requestOf p)
 
 -- What the headers of a request carry.
-abbrev pub carriedRequest : Option Request → Carried
+abbrev pub carriedRequest : Option Request → Record
 carriedRequest none = bare
 carriedRequest (some r) = carriedBy (r .headers)
 
 -- What a packet carries: its kept headers, and its Body and EndOfBody bytes.
-unfoldable pub carriedIn : List ℕ → Carried
+unfoldable pub carriedIn : List ℕ → Record
 carriedIn p = carriedRequest (requestOf p)
 
 -- The journal admits the request.
@@ -66,12 +66,12 @@ Puts (p ∷ []) = (readablePut (p .bytes) ≡ true) × (isFinal (p .bytes) ≡ t
 Puts (p ∷ q ∷ ps) = (readablePut (p .bytes) ≡ true) × (isFinal (p .bytes) ≡ false) × Puts (q ∷ ps)
 
 -- What the packets carry, in order.
-abbrev pub carried : List Marked → Carried
+abbrev pub carried : List Marked → Record
 carried [] = bare
 carried (p ∷ ps) = joined (carriedIn (p .bytes)) (carried ps)
 
 -- These packets are one Put, and `r` is its record: their body bytes total no more than the limit.
-pub record OnePut (limit : ℕ) (run : List Marked) (r : Carried) : Type 0 where
+pub record OnePut (limit : ℕ) (run : List Marked) (r : Record) : Type 0 where
   pub starts : Starts run
   pub puts : Puts run
   pub within : sizeOf r ≤ limit
@@ -83,7 +83,7 @@ pub record OnePut (limit : ℕ) (run : List Marked) (r : Carried) : Type 0 where
 pub record Form : Type 0 where
   pub first : ℕ
   pub count : ℕ
-  pub given : Carried
+  pub given : Record
 
 -- The packets of a form.
 abbrev pub runOf : List Marked → Form → List Marked
@@ -105,7 +105,7 @@ Apart n [] = Unit {0}
 Apart n (f ∷ l) = (n ≤ f .first) × Apart (f .first + f .count) l
 
 -- The records are those of all the Put forms among the packets, each once and in order; no packet is in two of them.
-pub record Exactly (limit : ℕ) (ps : List Marked) (rs : List Carried) : Type 0 where
+pub record Exactly (limit : ℕ) (ps : List Marked) (rs : List Record) : Type 0 where
   pub forms : List Form
   pub records : rs ≡ map (λ (f : Form). f .given) forms
   pub each : (f : Form) → In f forms → IsForm limit ps f

@@ -32,8 +32,8 @@ use packet::packet::Parsed;
 use packet::response;
 use packet::tlv;
 use packet::tlv::Found;
-use packet::tlv::Put;
 use packet::tlv::TagAt;
+use packet::tlv::Wrote;
 ghost use Prim.Native.Nat.{_≤_, _<_};
 ghost use lib.ListN.{length};
 
@@ -400,7 +400,7 @@ fn decoded(kind: Kind, v: &[u8], text: &mut [u8]) -> usize
 }
 
 // The header as the writers give it, from its text where it has one.
-fn write_header(kind: Kind, id: u8, v: &[u8], text: &[u8], store: &mut [u8]) -> Put {
+fn write_header(kind: Kind, id: u8, v: &[u8], text: &[u8], store: &mut [u8]) -> Wrote {
     match kind {
         Kind::Unicode => header::put_unicode(store, 0, id, text),
         Kind::Type => header::put_type(store, 0, text),
@@ -446,20 +446,20 @@ fn put_refused(id: u8, text: &[u8]) {
 }
 
 // What became of a header: its bytes, or its text where that is too long to be written.
-fn put_written(done: Put, store: &[u8], id: u8, text: &[u8]) {
+fn put_written(done: Wrote, store: &[u8], id: u8, text: &[u8]) {
     match done {
-        Put::Written(n) => {
+        Wrote::Written(n) => {
             if n <= store.len() {
                 put_digits(&store[0..n]);
             }
         }
-        Put::TooLong => {
+        Wrote::TooLong => {
             put(b"<");
             put_byte(id);
             put_refused(id, text);
             put(b">");
         }
-        Put::Short => put(b"short"),
+        Wrote::Short => put(b"short"),
     }
 }
 
@@ -606,18 +606,18 @@ fn parsed(s: &[u8]) {
 }
 
 // What became of a packet or a tag list: its bytes, or which length is refused.
-fn put_done(done: Put, store: &[u8], refusal: &[u8], size: usize) {
+fn put_done(done: Wrote, store: &[u8], refusal: &[u8], size: usize) {
     match done {
-        Put::Written(n) => {
+        Wrote::Written(n) => {
             if n <= store.len() {
                 put_digits(&store[0..n]);
             }
         }
-        Put::TooLong => {
+        Wrote::TooLong => {
             put(refusal);
             put_number(size);
         }
-        Put::Short => put(b"short"),
+        Wrote::Short => put(b"short"),
     }
 }
 

@@ -17,9 +17,9 @@ use Rattle.packet.specs.declared.opcode.Opcode.the-variants as op
 use Rattle.journal.specs.Calls.{Credentials}
 use Rattle.journal.specs.Journal.{Settings as JournalSettings, Standing, Opened, Journal, unchanged, stands, asksSrm, opensFor, connected, disconnected, replyTo, replyLast, replied, passesWith, responseIn, passes, headersOf, passwordChecked, challenged, listOf}
 use Rattle.incoming.specs.Survey.{surveyOf}
-use Rattle.connection.specs.Send.{fieldsOf, sendBytes, front}
+use Rattle.connection.specs.Reply.{fieldsOf, sendBytes, front}
 use Rattle.connection.specs.Peer.{verifiedPeer, challengedPeer, openedFor, disconnectedPeer}
-use Rattle.connection.specs.Connect.{answeredChallenge}
+use Rattle.connection.specs.ConnectReply.{answeredChallenge}
 use Rattle.connection.specs.declared.peer.Challenge.{Challenge}
 use Rattle.connection.specs.declared.peer.Challenge.the-variants.{Stored, Absent}
 use Rattle.connection.specs.declared.peer.Peer.{Peer}

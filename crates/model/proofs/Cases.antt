@@ -11,15 +11,15 @@ use Rattle.packet.specs.Header.{encodingOf, tagged, allowed, encodedAt, headerA
 use Rattle.packet.specs.Packet.{requestOf, requestAt, connectLimit, backup, noCreate, packetBytes}
 use Rattle.packet.specs.Auth.{responseFrom, responseOf, challengeFrom, challengeOf, realmPlace, userIdRequired, readOnly, same, verified, challengeTags, responseTags}
 use Rattle.packet.specs.Canonical.{rewritten, canonical}
-use Rattle.journal.specs.Carried.{isBody, isSrm, carriedOne, carriedBy, keptByGet}
+use Rattle.journal.specs.Record.{isBody, isSrm, carriedOne, carriedBy, keptByGet}
 use Rattle.journal.specs.Ids.{without, firstFree}
 use Rattle.incoming.specs.Frame.{frameEnd, framed}
 use Rattle.incoming.specs.Survey.{surveyOf}
 use Rattle.incoming.specs.Gather.{keepBytes, storeBytes, gatherOne, gatherAll}
-use Rattle.outgoing.specs.Outgoing.{fill, fillPacket, fullChunk, nextPacket, bodyGiven}
-use Rattle.connection.specs.Send.{sendBytes}
+use Rattle.outgoing.specs.Object.{fill, fillPacket, fullChunk, nextPacket, bodyGiven}
+use Rattle.connection.specs.Reply.{sendBytes}
 use Rattle.connection.specs.Peer.{peerWith, opened, disconnectedPeer}
-use Rattle.connection.specs.Connect.{challenges, answeredChallenge, connectHeaders, challengeHeader}
+use Rattle.connection.specs.ConnectReply.{challenges, answeredChallenge, connectHeaders, challengeHeader}
 use Rattle.model.specs.Step.{engineWith, sends, sendsConnect}
 use Rattle.model.specs.Request.{lastPacket, lastHeaders, clientResponse, userPlace}
 use Rattle.model.specs.Operation.{putPacket, getPacket, headersPacket}

@@ -7,7 +7,7 @@ use Prim.Native.Nat.{ℕ}
 use native.Mathlib.Omega.{arith}
 use lib.Dec.{ltb}
 use borrow.Author.Tests.{ltb-false}
-use Rattle.journal.specs.Carried.{Carried}
+use Rattle.journal.specs.Record.{Record}
 use Rattle.journal.specs.Calls.{Call, Verdict}
 use Rattle.journal.specs.Journal.{fresh, packets}
 use Rattle.journal.specs.PutForm.{Exactly}
@@ -22,13 +22,13 @@ use Rattle.server.specs.declared.Settings.{Settings}
 use Rattle.server.specs.declared.Outcome.the-variants as outcome
 use Rattle.model.proofs.Records.{records-theorem, refusals}
 
-ran-records : {s : State} {cs : List Call} {vs : List Verdict} {ls : List Carried} → Ran s cs vs ls → ls ≡ records s cs
+ran-records : {s : State} {cs : List Call} {vs : List Verdict} {ls : List Record} → Ran s cs vs ls → ls ≡ records s cs
 ran-records none = refl
 ran-records (call {cs = cs} {ls = ls} c r t e h) =
-    ap (λ (l : List Carried). handed (r .outcome) t ++ l) (ran-records h)
+    ap (λ (l : List Record). handed (r .outcome) t ++ l) (ran-records h)
     ∙ ap (λ (m : Stepped). handed (m .took .outcome) (m .stores) ++ records (stateOf m) cs) e
 
-ran-returned : {s : State} {cs : List Call} {vs : List Verdict} {ls : List Carried} → Ran s cs vs ls → vs ≡ returned s cs
+ran-returned : {s : State} {cs : List Call} {vs : List Verdict} {ls : List Record} → Ran s cs vs ls → vs ≡ returned s cs
 ran-returned none = refl
 ran-returned (call {cs = cs} {vs = vs} c r t e h) =
     ap (λ (l : List Verdict). verdictOf (r .outcome) ∷ l) (ran-returned h)

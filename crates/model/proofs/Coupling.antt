@@ -13,11 +13,11 @@ use Rattle.packet.specs.Codes.{sentCode}
 use Rattle.packet.specs.Packet.{Request as Packet, requestOf, packetBytes}
 use Rattle.packet.specs.declared.opcode.Opcode.{Opcode}
 use Rattle.packet.specs.declared.opcode.Opcode.the-variants as op
-use Rattle.journal.specs.Carried.{Carried}
+use Rattle.journal.specs.Record.{Record}
 use Rattle.journal.specs.Journal.{Opened, nothing, putting, getting, sending, gathering, draining, Journal, Entry, unchanged, opens, replyTo, replyLast, takenAt, headersOf as headersIn}
 use Rattle.incoming.specs.Gather.{gathering as gatheringOf}
 use Rattle.incoming.specs.declared.gather.Gathered.{Gathered}
-use Rattle.connection.specs.Send.{front}
+use Rattle.connection.specs.Reply.{front}
 use Rattle.connection.specs.declared.peer.Peer.{Peer}
 use Rattle.model.specs.Step.{Stores, withReply, engineWith, Done, done, wants, ends, replies, repliesCode}
 use Rattle.model.specs.Runs.{handed}
@@ -38,7 +38,7 @@ use Rattle.incoming.proofs.Gathers.{PutAgrees, KeptAgrees}
 
 -- a Put: what the journal carries is gathered in the stores
 pub record PutOpen (limit : ℕ) (g : Gathered) (srm : Bool) (h b : List ℕ) (x : Opened) : Type 0 where
-  pub carries : Carried
+  pub carries : Record
   pub is : x ≡ putting carries srm
   pub agrees : PutAgrees limit (gatheringOf g h b) carries
 
@@ -117,7 +117,7 @@ pub told-pick : (t : Bool) (a b : Done) (x : Entry) → (t ≡ true → Told a x
 told-pick true a b x f g = f refl
 told-pick false a b x f g = g refl
 
-pub told-done : (e : Engine) (p : Peer) (o : Operation) (a : Await) (c : Outcome) (z : Stores) (j : Journal) (l : List Carried)
+pub told-done : (e : Engine) (p : Peer) (o : Operation) (a : Await) (c : Outcome) (z : Stores) (j : Journal) (l : List Record)
     → CoupledAt a o (e .settings) p 0 (e .length) z j → handed c z ≡ l
     → Told (done (engineWith (e .settings) p o a 0 (e .length)) c z) (record { next = j; given = l })
 unfolding engineWith

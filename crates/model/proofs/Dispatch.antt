@@ -13,7 +13,7 @@ use Rattle.packet.specs.Packet.{Request as Packet, requestOf, connectLimit, bac
 use Rattle.packet.specs.Auth.{Response}
 use Rattle.packet.specs.declared.opcode.Opcode.{Opcode}
 use Rattle.packet.specs.declared.opcode.Opcode.the-variants as op
-use Rattle.journal.specs.Carried.{bare, carriedBy}
+use Rattle.journal.specs.Record.{bare, carriedBy}
 use Rattle.journal.specs.Ids.{member}
 use Rattle.journal.specs.Journal.{Standing, nothing, draining, Journal, Entry, unchanged, after, unauthorized, notOpen, admitted, asksSrm, putRead, gatherRead, turnedAway, dropped, firstRead, headersOf as headersIn}
 use Rattle.incoming.specs.Survey.{idOf, present, surveyOf}

@@ -13,11 +13,11 @@ use Rattle.packet.specs.Codes.{sentCode}
 use Rattle.packet.specs.Packet.{packetBytes}
 use Rattle.journal.specs.Calls.{goes}
 use Rattle.incoming.specs.Frame.{frameEnd}
-use Rattle.incoming.specs.declared.io.Frame.the-variants.{More}
+use Rattle.incoming.specs.declared.frame.Frame.the-variants.{More}
 use Rattle.incoming.specs.declared.gather.Gathered.{Gathered}
-use Rattle.outgoing.specs.declared.body.Outgoing.{Outgoing}
-use Rattle.outgoing.specs.declared.body.Chunk.{Chunk}
-use Rattle.connection.specs.Send.{front}
+use Rattle.outgoing.specs.declared.object.Outgoing.{Outgoing}
+use Rattle.outgoing.specs.declared.object.Chunk.{Chunk}
+use Rattle.connection.specs.Reply.{front}
 use Rattle.connection.specs.declared.peer.Peer.{Peer}
 use Rattle.model.specs.Step.{Stores, withHeaders, stores, withReply, engineWith, Done, done, wants, asks, ends, replies, repliesCode, continueBytes, continues, limitOf}
 use Rattle.model.specs.Guard.{short, soundOperation, sound}

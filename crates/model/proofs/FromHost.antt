@@ -15,10 +15,10 @@ use Rattle.packet.specs.Header.{readHeaders}
 use Rattle.packet.specs.declared.opcode.Opcode.the-variants as op
 use Rattle.journal.specs.Calls.{Call, replyGiven, objectGiven, bodyGiven, bodyFailed, abortAcknowledged, passwordGiven, nonceGiven, credentialsGiven, Credentials, goes, refused}
 use Rattle.journal.specs.Journal.{Opened, nothing, getting, sending, Journal, unchanged, opens, replied, objectSent, journalCall, journalFed, listOf}
-use Rattle.outgoing.specs.Outgoing.{bodyGiven as givenBody}
-use Rattle.outgoing.specs.declared.body.Outgoing.{Outgoing}
-use Rattle.outgoing.specs.declared.body.Chunk.{Chunk}
-use Rattle.connection.specs.Send.{front}
+use Rattle.outgoing.specs.Object.{bodyGiven as givenBody}
+use Rattle.outgoing.specs.declared.object.Outgoing.{Outgoing}
+use Rattle.outgoing.specs.declared.object.Chunk.{Chunk}
+use Rattle.connection.specs.Reply.{front}
 use Rattle.model.specs.Step.{Stores, withHeaders, Done, after, limitOf, sends}
 use Rattle.model.specs.Connect.{connectSends}
 use Rattle.model.specs.Guard.{refuse, sameAwait, fits, badHeaders, badReply, checked, longUser, soundOperation}

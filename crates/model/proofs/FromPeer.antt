@@ -12,8 +12,8 @@ use Rattle.packet.specs.Packet.{requestOf}
 use Rattle.journal.specs.Calls.{bytesOffered, streamEnded, replyTaken, goes}
 use Rattle.journal.specs.Journal.{Journal, unchanged, begin, end, Read, more, whole, short, readUp, bytesRead, packetRead, journalPacket, takenAt, journalCall, journalFed, readIn, fedReads, keptRead, keptAfter}
 use Rattle.incoming.specs.Frame.{Frames, framed}
-use Rattle.incoming.specs.declared.io.Frame.{Frame}
-use Rattle.incoming.specs.declared.io.Frame.the-variants.{More, Whole, Short}
+use Rattle.incoming.specs.declared.frame.Frame.{Frame}
+use Rattle.incoming.specs.declared.frame.Frame.the-variants.{More, Whole, Short}
 use Rattle.model.specs.Step.{Stores, done, wants, ends, after, engineWith, limitOf}
 use Rattle.model.specs.Request.{lastPacket}
 use Rattle.model.specs.Dispatch.{lengthOf, packetDone}

@@ -14,11 +14,11 @@ use Rattle.packet.specs.Packet.{Request as Packet, requestOf, packetBytes}
 use Rattle.packet.specs.declared.opcode.Opcode.{Opcode}
 use Rattle.packet.specs.declared.opcode.Opcode.the-variants as op
 use Rattle.packet.proofs.OpcodeLaws.{same-equal}
-use Rattle.journal.specs.Carried.{joined, carriedBy, keptByGet}
+use Rattle.journal.specs.Record.{joined, carriedBy, keptByGet}
 use Rattle.journal.specs.Journal.{Opened, nothing, sending, draining, busy as busyOpened, Journal, Entry, unchanged, after, end, putRead, dropped, stopped, requestRead, packetRead, keptWith, keptRead}
 use Rattle.incoming.specs.Survey.{surveyOf}
 use Rattle.incoming.specs.declared.survey.Survey.{Survey}
-use Rattle.connection.specs.Send.{front}
+use Rattle.connection.specs.Reply.{front}
 use Rattle.model.specs.Step.{Stores, withReply, Done, wants, asks, ends, repliesCode, limitOf}
 use Rattle.model.specs.Operation.{putPacket}
 use Rattle.model.specs.Dispatch.{dispatch, interrupts, inside, busy, unknownByte, unreadable, readAs}

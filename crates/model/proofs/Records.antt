@@ -5,7 +5,7 @@
 use mathlib.Core.Path.{_≡_, refl, sym, ap, ap₂, _∙_, subst}
 use mathlib.Core.List.{List, [], _∷_, _++_}
 use native.Mathlib.Omega.{arith}
-use Rattle.journal.specs.Carried.{Carried}
+use Rattle.journal.specs.Record.{Record}
 use Rattle.journal.specs.Calls.{Call, bytesOffered, streamEnded, replyTaken, replyGiven, objectGiven, bodyGiven, bodyFailed, abortAcknowledged, passwordGiven, nonceGiven, credentialsGiven, Verdict}
 use Rattle.journal.specs.Journal.{Journal, fresh, journalStep, journalRecords, Marked, fedReads, packets}
 use Rattle.journal.specs.PutForm.{Exactly}
@@ -73,7 +73,7 @@ run-entered (c ∷ cs) w s j h k x o p =
     let b = kept-both (fedReads j c (verdictAt w s c))
     (packets (journalStep j (fedAt w s c) .next) (feedOf (told w (stepOf s c .took .outcome)) (stateOf (stepOf s c)) cs)) p in
     let t = a .journal j x (b .0) in
-    ap₂ (λ (l m : List Carried). l ++ m) (t .given)
+    ap₂ (λ (l m : List Record). l ++ m) (t .given)
     (run-entered cs (told w (stepOf s c .took .outcome)) (stateOf (stepOf s c)) (journalStep j (fedAt w s c) .next) (a .sits) (a .waits) (t .after) (o .1)
     (b .1))
 

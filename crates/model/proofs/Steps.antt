@@ -24,14 +24,14 @@ use Rattle.incoming.specs.declared.survey.Survey.{Survey}
 use Rattle.incoming.specs.declared.gather.Keep.{Keep}
 use Rattle.incoming.specs.declared.gather.Keep.the-variants as keep
 use Rattle.incoming.specs.declared.gather.Gathered.{Gathered}
-use Rattle.outgoing.specs.Outgoing.{Made, nextPacket}
-use Rattle.outgoing.specs.declared.body.Outgoing.{Outgoing}
-use Rattle.outgoing.specs.declared.body.Chunk.{Chunk}
-use Rattle.outgoing.specs.declared.body.Next.{Next}
-use Rattle.outgoing.specs.declared.body.Next.the-variants as next
-use Rattle.connection.specs.Send.{fieldsOf, sendBytes, front}
+use Rattle.outgoing.specs.Object.{Made, nextPacket}
+use Rattle.outgoing.specs.declared.object.Outgoing.{Outgoing}
+use Rattle.outgoing.specs.declared.object.Chunk.{Chunk}
+use Rattle.outgoing.specs.declared.object.Next.{Next}
+use Rattle.outgoing.specs.declared.object.Next.the-variants as next
+use Rattle.connection.specs.Reply.{fieldsOf, sendBytes, front}
 use Rattle.connection.specs.Peer.{limited, verifiedPeer, challengedPeer, openedFor}
-use Rattle.connection.specs.Connect.{answeredChallenge}
+use Rattle.connection.specs.ConnectReply.{answeredChallenge}
 use Rattle.connection.specs.declared.peer.Challenge.{Challenge}
 use Rattle.connection.specs.declared.peer.Challenge.the-variants.{Stored, Absent}
 use Rattle.connection.specs.declared.peer.Peer.{Peer}

@@ -7,14 +7,16 @@ use lib.ListN.{length, take}
 use lib.Dec.{ltb, eqb}
 use Rattle.base.specs.Pick.{pick}
 use Rattle.digest.specs.declared.md5.Octets16.{Octets16}
+use Rattle.packet.specs.HeaderIds as header-id
+use Rattle.packet.specs.ResponseCodes as response
 use Rattle.packet.specs.Header.{readHeaders, first}
 use Rattle.journal.specs.Calls.{Credentials}
 use Rattle.journal.specs.Journal.{listOf}
 use Rattle.incoming.specs.Frame.{Frames, framed}
-use Rattle.incoming.specs.declared.io.Frame.{Frame}
-use Rattle.incoming.specs.declared.io.Frame.the-variants.{More, Whole, Short}
-use Rattle.outgoing.specs.Outgoing.{bodyGiven}
-use Rattle.connection.specs.Send.{front}
+use Rattle.incoming.specs.declared.frame.Frame.{Frame}
+use Rattle.incoming.specs.declared.frame.Frame.the-variants.{More, Whole, Short}
+use Rattle.outgoing.specs.Object.{bodyGiven}
+use Rattle.connection.specs.Reply.{front}
 use Rattle.connection.specs.Peer.{freshPeer, disconnectedPeer}
 use Rattle.server.specs.declared.Settings.{Settings}
 use Rattle.server.specs.declared.Operation.{Operation}
@@ -66,7 +68,7 @@ replyTakenStep e s =
 unfoldable pub replyAnswer : Engine → ℕ → List ℕ → Stores → Done
 replyAnswer e code hs s =
     pick (sameAwait (e .awaits) await.Connect) (connectAnswer e code hs s)
-    (pick (sameAwait (e .awaits) await.Disconnect) (sends e (disconnectedPeer (e .peer) (first 0xCB (lastHeaders e s))) code hs s)
+    (pick (sameAwait (e .awaits) await.Disconnect) (sends e (disconnectedPeer (e .peer) (first header-id.connectionId (lastHeaders e s))) code hs s)
     (sends e (e .peer) code hs s))
 
 -- The host's reply.
@@ -105,11 +107,11 @@ bodyGivenStep e d s = guarded kind.FromBody e s (bodyFor (e .operation) e d s)
 
 -- The object's body cannot be read on: the reply is 0x50.
 unfoldable pub bodyFailedStep : Engine → Stores → Stepped
-bodyFailedStep e s = guarded kind.FromBody e s (after 0 (repliesCode e (e .peer) Nothing 0x50 s))
+bodyFailedStep e s = guarded kind.FromBody e s (after 0 (repliesCode e (e .peer) Nothing response.internalServerError s))
 
 -- The host has heard of an Abort. The reply is success, whatever the host would say.
 unfoldable pub abortAcknowledgedStep : Engine → Stores → Stepped
-abortAcknowledgedStep e s = guarded kind.AbortAcknowledged e s (after 0 (repliesCode e (e .peer) Nothing 0x20 s))
+abortAcknowledgedStep e s = guarded kind.AbortAcknowledged e s (after 0 (repliesCode e (e .peer) Nothing response.success s))
 
 -- The password that the host gives, or none.
 unfoldable pub passwordGivenStep : Engine → Option (List ℕ) → Stores → Stepped

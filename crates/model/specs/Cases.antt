@@ -10,7 +10,7 @@ use Rattle.packet.specs.declared.opcode.FirstByte.{FirstByte}
 use Rattle.packet.specs.declared.opcode.FirstByte.the-variants.{Known}
 use Rattle.packet.specs.declared.opcode.Opcode.the-variants as op
 use Rattle.journal.specs.Ids.{newId}
-use Rattle.journal.specs.Carried.{Carried}
+use Rattle.journal.specs.Record.{Record}
 use Rattle.journal.specs.Calls.{Call, bytesOffered, replyTaken, objectGiven, bodyGiven}
 use Rattle.model.specs.Step.{Stores}
 use Rattle.model.specs.Calls.{started}
@@ -51,7 +51,7 @@ pub data Comes : Type 0 where
   operation : FirstByte → Comes
   id : ℕ → Comes
   scalars : List ℕ → Comes
-  session : List (List ℕ) → List Carried → Comes
+  session : List (List ℕ) → List Record → Comes
 
 -- what the definitions make of it
 unfoldable pub comesOf : Given → Comes
@@ -72,7 +72,7 @@ row g c = record { given = g; comes = c }
 unfoldable pub evaluated : Row → Row
 evaluated r = row (r .given) (comesOf (r .given))
 
-abbrev pub putBody : List ℕ → Carried
+abbrev pub putBody : List ℕ → Record
 putBody b = record { headers = []; body = some b }
 
 -- the cases

@@ -7,6 +7,8 @@ use lib.ListN.{length, take}
 use Rattle.base.specs.Pick.{pick}
 use Rattle.digest.specs.Md5.{octets16, numbers16}
 use Rattle.digest.specs.declared.md5.Octets16.{Octets16}
+use Rattle.packet.specs.HeaderIds as header-id
+use Rattle.packet.specs.ResponseCodes as response
 use Rattle.packet.specs.Codes.{isSuccess}
 use Rattle.packet.specs.Header.{Header, readHeaders, first, firstPlace, bytesOf, allBytes}
 use Rattle.packet.specs.Packet.{connectLimit}
@@ -15,9 +17,9 @@ use Rattle.journal.specs.Calls.{Credentials}
 use Rattle.journal.specs.Journal.{listOf}
 use Rattle.incoming.specs.Survey.{surveyOf}
 use Rattle.incoming.specs.declared.survey.Survey.{Survey}
-use Rattle.connection.specs.Send.{front}
+use Rattle.connection.specs.Reply.{front}
 use Rattle.connection.specs.Peer.{limited, verifiedPeer, challengedPeer, searched, openedFor}
-use Rattle.connection.specs.Connect.{answeredChallenge, connectHeaders, challengeHeader}
+use Rattle.connection.specs.ConnectReply.{answeredChallenge, connectHeaders, challengeHeader}
 use Rattle.connection.specs.Pieces.{idGiven}
 use Rattle.connection.specs.declared.peer.Challenge.{Challenge}
 use Rattle.connection.specs.declared.peer.Challenge.the-variants.{Stored, Absent}
@@ -67,7 +69,7 @@ frontFor p none (some t) = front-id.Id (searched p)
 -- What the host is told of the client's challenge.
 abbrev pub credentialsFor : List ℕ → PeerChallenge → HostRequest
 credentialsFor q c =
-    request.Credentials (numbers16 (c .nonce)) (userIdRequired (c .options)) (readOnly (c .options)) (realmIn q (firstPlace 0x4D q 7))
+    request.Credentials (numbers16 (c .nonce)) (userIdRequired (c .options)) (readOnly (c .options)) (realmIn q (firstPlace header-id.authenticateChallenge q 7))
 
 -- If the client sent challenges that can all be read, the host is asked for credentials, and its headers wait in the header store;
 -- otherwise the reply is made.
@@ -78,14 +80,14 @@ connectChallenged e p code f hs (some c) s =
 
 -- A 65th id gets 0x53 with Connect's fields, and the peer stays as it was.
 abbrev pub connectOpened : Engine → Option Peer → ℕ → ConnectionId → List ℕ → Stores → Done
-connectOpened e none code f hs s = sendsConnect e (e .peer) 0x53 [] s
+connectOpened e none code f hs s = sendsConnect e (e .peer) response.serviceUnavailable [] s
 connectOpened e (some p) code f hs s = connectChallenged e p code f hs (answeredChallenge (lastHeaders e s)) s
 
 -- The host's answer to a Connect: any but success is sent as it is.
 unfoldable pub connectAnswer : Engine → ℕ → List ℕ → Stores → Done
 connectAnswer e code hs s =
-    let answer = first 0xCB (listOf (readHeaders hs 0)) in
-    let target = first 0x46 (lastHeaders e s) in
+    let answer = first header-id.connectionId (listOf (readHeaders hs 0)) in
+    let target = first header-id.target (lastHeaders e s) in
     let srm = e .peer .«srm_enabled» || srmAsked e (surveyOf (some (lastHeaders e s))) in
     pick (isSuccess code) (connectOpened e (openedFor (e .peer) srm answer target) code (frontFor (e .peer) answer target) hs s)
     (sendsConnect e (e .peer) code hs s)
@@ -121,4 +123,4 @@ realmOf st l = pick (st .«has_realm») (some (st .charset ∷ take (st .«realm
 -- The reply with a new challenge: 0x41 with Connect's fields.
 unfoldable pub nonceAnswer : Engine → Octets16 → List ℕ → Stores → Done
 nonceAnswer e n l s =
-    sendsConnect e (challengedPeer (e .peer) n) 0x41 (bytesOf (challengeHeader (octets16 n) (optionsOf (e .settings)) (realmOf (e .settings) l))) s
+    sendsConnect e (challengedPeer (e .peer) n) response.unauthorized (bytesOf (challengeHeader (octets16 n) (optionsOf (e .settings)) (realmOf (e .settings) l))) s

@@ -1,7 +1,7 @@
 -- The claims over contracts: a run of calls of which is known only what the calls' contracts say, the state and the stores passed on.
 use mathlib.Core.Path.{_≡_}
 use mathlib.Core.List.{List, [], _∷_, _++_}
-use Rattle.journal.specs.Carried.{Carried}
+use Rattle.journal.specs.Record.{Record}
 use Rattle.journal.specs.Calls.{Call, Verdict}
 use Rattle.journal.specs.Journal.{journalRecords, fresh, packets}
 use Rattle.journal.specs.PutForm.{Exactly}
@@ -22,9 +22,9 @@ abbrev pub Says : State → Call → CallResult → Stores → Type 0
 Says s c r t = stepped r t ≡ stepOf s c
 
 -- A run of calls of which only the contracts are known, with the verdicts that it returns and the records that it hands over.
-pub data Ran : State → List Call → List Verdict → List Carried → Type 0 where
+pub data Ran : State → List Call → List Verdict → List Record → Type 0 where
   none : {s : State} → Ran s [] [] []
-  call : {s : State} {cs : List Call} {vs : List Verdict} {ls : List Carried} (c : Call) (r : CallResult) (t : Stores) → Says s c r t
+  call : {s : State} {cs : List Call} {vs : List Verdict} {ls : List Record} (c : Call) (r : CallResult) (t : Stores) → Says s c r t
       → Ran (state r t) cs vs ls → Ran s (c ∷ cs) (verdictOf (r .outcome) ∷ vs) (handed (r .outcome) t ++ ls)
 
 -- A start that was accepted, by what its contract says.
@@ -33,7 +33,7 @@ pub record Accepted (st : Settings) (s : Stores) (r : CallResult) (t : Stores) :
   pub accepted : r .outcome ≡ outcome.WantsBytes
 
 -- The records theorem of the functions themselves, from an accepted start.
-pub record Upholds (st : Settings) (s : State) (cs : List Call) (vs : List Verdict) (ls : List Carried) : Type 0 where
+pub record Upholds (st : Settings) (s : State) (cs : List Call) (vs : List Verdict) (ls : List Record) : Type 0 where
   pub refusals : vs ≡ due bytes s cs
   pub journal : Kept (packets (fresh (settingsOf st)) (feedOf bytes s cs)) → ls ≡ journalRecords (fresh (settingsOf st)) (feedOf bytes s cs)
   pub forms : Kept (packets (fresh (settingsOf st)) (feedOf bytes s cs))
@@ -42,5 +42,5 @@ pub record Upholds (st : Settings) (s : State) (cs : List Call) (vs : List Verdi
 -- The records theorem over contracts, for every list of calls from an accepted start.
 abbrev pub ContractsUphold : Type 0
 ContractsUphold =
-    (st : Settings) (s t : Stores) (r : CallResult) (cs : List Call) (vs : List Verdict) (ls : List Carried) → Accepted st s r t → AllOctets cs
+    (st : Settings) (s t : Stores) (r : CallResult) (cs : List Call) (vs : List Verdict) (ls : List Record) → Accepted st s r t → AllOctets cs
     → Ran (state r t) cs vs ls → Upholds st (state r t) cs vs ls

@@ -5,6 +5,7 @@ use mathlib.Core.Bool.{Bool, true, false, _&&_, _||_, not}
 use mathlib.Core.Option.{Option, none, some}
 use lib.ListN.{length, getD, take}
 use Rattle.base.specs.Pick.{pick}
+use Rattle.packet.specs.ResponseCodes as response
 use Rattle.packet.specs.FirstByte.{firstByte, sameOpcode}
 use Rattle.packet.specs.Codes.{sentCode}
 use Rattle.packet.specs.Header.{first}
@@ -16,7 +17,7 @@ use Rattle.packet.specs.declared.opcode.FirstByte.the-variants.{Known, Unknown}
 use Rattle.journal.specs.Ids.{member}
 use Rattle.incoming.specs.Survey.{surveyOf}
 use Rattle.incoming.specs.declared.survey.Survey.{Survey}
-use Rattle.outgoing.specs.declared.body.Next.the-variants as next
+use Rattle.outgoing.specs.declared.object.Next.the-variants as next
 use Rattle.connection.specs.Peer.{idsOf}
 use Rattle.server.specs.declared.Operation.{Operation}
 use Rattle.server.specs.declared.Operation.the-variants.{Nothing, Putting, Getting, Sending, Gathering as GatheringOp, Connecting, Draining}
@@ -37,8 +38,8 @@ pub data Rejection : Type 0 where
 -- not be refused; then 0x53 if the first ConnectionID is not open (docs/PROTOCOL.md#admission).
 unfoldable pub rejection : Engine → Opcode → Survey → Rejection
 rejection e o v =
-    pick (e .settings .authentication && (not (e .peer .authenticated) && not (sameOpcode o op.Disconnect))) (rejects 0x41)
-    (pick (v .«has_id» && not (member (v .id) (idsOf (e .peer)))) (rejects 0x53) admits)
+    pick (e .settings .authentication && (not (e .peer .authenticated) && not (sameOpcode o op.Disconnect))) (rejects response.unauthorized)
+    (pick (v .«has_id» && not (member (v .id) (idsOf (e .peer)))) (rejects response.serviceUnavailable) admits)
 
 -- The operations that are drained if they are turned away under Single Response Mode (SRM).
 abbrev pub drains : Opcode → Bool
@@ -79,7 +80,7 @@ dispatch e r v s =
 
 -- A packet of another opcode inside an operation gets 0x40; the engine ends once that reply is taken (docs/PROTOCOL.md#other-operation).
 abbrev pub interrupts : Engine → Stores → Done
-interrupts e s = replies e (e .peer) Nothing await.Last (packetBytes (sentCode 0x40) [] []) s
+interrupts e s = replies e (e .peer) Nothing await.Last (packetBytes (sentCode response.badRequest) [] []) s
 
 -- A packet by what is open.
 abbrev pub inside : Operation → Engine → Packet → Survey → Stores → Done
@@ -110,7 +111,7 @@ busy (Draining code) = true
 abbrev pub unreadable : Engine → List ℕ → Stores → Done
 unreadable e q s =
     pick (busy (e .operation)) (ends e (e .peer) end.Unreadable s)
-    (repliesCode e (e .peer) Nothing (pick (unknownByte (firstByte (getD q 0 0))) 0x51 0x40) s)
+    (repliesCode e (e .peer) Nothing (pick (unknownByte (firstByte (getD q 0 0))) response.notImplemented response.badRequest) s)
 
 -- A packet that can be read or not. An Abort goes before all else.
 abbrev pub readAs : Option Packet → Engine → List ℕ → Stores → Done

@@ -10,8 +10,8 @@ use Rattle.packet.specs.Codes.{isCode}
 use Rattle.packet.specs.Canonical.{canonical}
 use Rattle.journal.specs.Calls.{Credentials}
 use Rattle.incoming.specs.declared.gather.Gathered.{Gathered}
-use Rattle.outgoing.specs.declared.body.Outgoing.{Outgoing}
-use Rattle.outgoing.specs.declared.body.Chunk.{Chunk}
+use Rattle.outgoing.specs.declared.object.Outgoing.{Outgoing}
+use Rattle.outgoing.specs.declared.object.Chunk.{Chunk}
 use Rattle.server.specs.declared.Operation.{Operation}
 use Rattle.server.specs.declared.Operation.the-variants.{Nothing, Putting, Getting, Sending, Gathering as GatheringOp, Connecting, Draining}
 use Rattle.server.specs.declared.Await.{Await}

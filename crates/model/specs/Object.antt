@@ -2,12 +2,13 @@
 use Prim.Native.Nat.{ℕ}
 use mathlib.Core.Bool.{Bool, true, false, _&&_, not}
 use lib.ListN.{length}
+use Rattle.packet.specs.ResponseCodes as response
 use Rattle.base.specs.Pick.{pick}
-use Rattle.outgoing.specs.Outgoing.{Made, nextPacket}
-use Rattle.outgoing.specs.declared.body.Outgoing.{Outgoing}
-use Rattle.outgoing.specs.declared.body.Next.{Next}
-use Rattle.outgoing.specs.declared.body.Next.the-variants as next
-use Rattle.connection.specs.Send.{front}
+use Rattle.outgoing.specs.Object.{Made, nextPacket}
+use Rattle.outgoing.specs.declared.object.Outgoing.{Outgoing}
+use Rattle.outgoing.specs.declared.object.Next.{Next}
+use Rattle.outgoing.specs.declared.object.Next.the-variants as next
+use Rattle.connection.specs.Reply.{front}
 use Rattle.server.specs.declared.Operation.{Operation}
 use Rattle.server.specs.declared.Operation.the-variants.{Nothing, Putting, Getting, Sending, Gathering as GatheringOp, Connecting, Draining}
 use Rattle.server.specs.declared.Await.the-variants as await
@@ -30,7 +31,7 @@ sendsMade e srm wait (next.Send n false) m s =
     (withReply s (m .reply))
 sendsMade e srm wait next.Read m s =
     asks e (e .peer) (Sending (m .packet .outgoing) (m .packet .chunk) srm wait) await.Body (request.Read (m .packet .chunk .room)) (withReply s (m .reply))
-sendsMade e srm wait next.TooLarge m s = repliesCode e (e .peer) Nothing 0x50 (withReply s (m .reply))
+sendsMade e srm wait next.TooLarge m s = repliesCode e (e .peer) Nothing response.internalServerError (withReply s (m .reply))
 
 abbrev pub sendsPacket : Engine → Bool → Bool → Made → Stores → Done
 sendsPacket e srm wait m s = sendsMade e srm wait (m .packet .next) m s

@@ -4,6 +4,7 @@ use mathlib.Core.List.{List}
 use mathlib.Core.Bool.{Bool, true, false, not}
 use mathlib.Core.Option.{none}
 use Rattle.base.specs.Pick.{pick}
+use Rattle.packet.specs.ResponseCodes as response
 use Rattle.packet.specs.Header.{Header, first}
 use Rattle.packet.specs.Packet.{Request as Packet}
 use Rattle.packet.specs.declared.opcode.Opcode.{Opcode}
@@ -41,12 +42,12 @@ abbrev pub putContinues : Engine → Gathered → Bool → Bool → Bool → Sto
 putContinues e g true confirm additional s =
     pick additional (continues e (Putting g true) false s) (wants e (e .peer) (Putting g true) s)
 putContinues e g false confirm additional s =
-    pick (g .over) (repliesCode e (e .peer) Nothing 0x4D s) (continues e (Putting g confirm) confirm s)
+    pick (g .over) (repliesCode e (e .peer) Nothing response.requestedEntityTooLarge s) (continues e (Putting g confirm) confirm s)
 
 -- After the final packet of a Put: 0x4D if the body is past the limit, otherwise the host gets the record.
 abbrev pub putFinal : Engine → Gathered → Stores → Done
 putFinal e g s =
-    pick (g .over) (repliesCode e (e .peer) Nothing 0x4D s)
+    pick (g .over) (repliesCode e (e .peer) Nothing response.requestedEntityTooLarge s)
     (asks e (e .peer) Nothing await.Reply (request.Put (g .kept) (putBody g)) s)
 
 -- A Put packet. Kept headers over 65,535 bytes end the engine before the limit is looked at (docs/PROTOCOL.md#put).

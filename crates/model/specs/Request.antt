@@ -3,6 +3,7 @@ use Prim.Native.Nat.{ℕ, _+_}
 use mathlib.Core.List.{List}
 use mathlib.Core.Option.{Option}
 use lib.ListN.{length, take}
+use Rattle.packet.specs.HeaderIds as header-id
 use Rattle.packet.specs.Tags.{lastValue}
 use Rattle.packet.specs.Header.{Header, first, firstPlace, part}
 use Rattle.packet.specs.Packet.{requestOf}
@@ -22,7 +23,7 @@ lastHeaders e s = headersIn (requestOf (lastPacket e s))
 
 -- The first AuthenticateResponse of the last packet, if it can be read.
 unfoldable pub clientResponse : Engine → Stores → Option Response
-clientResponse e s = responseIn (first 0x4E (lastHeaders e s))
+clientResponse e s = responseIn (first header-id.authenticateResponse (lastHeaders e s))
 
 -- A place in the part of the packet that begins at `n`, as a place in the packet.
 abbrev pub placedAt : ℕ → Found → Found

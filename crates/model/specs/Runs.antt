@@ -5,7 +5,7 @@ use mathlib.Core.List.{List, [], _∷_, _++_}
 use mathlib.Core.Bool.{false}
 use mathlib.Core.Option.{Option, none, some}
 use lib.ListN.{getD, take}
-use Rattle.journal.specs.Carried.{Carried}
+use Rattle.journal.specs.Record.{Record}
 use Rattle.journal.specs.Calls.{Call, bytesOffered, streamEnded, replyTaken, replyGiven, objectGiven, bodyGiven, bodyFailed, abortAcknowledged, passwordGiven, nonceGiven, credentialsGiven}
 use Rattle.model.specs.Step.{Stores, Stepped}
 use Rattle.model.specs.Calls.{bytesOfferedStep, streamEndedStep, replyTakenStep, replyGivenStep, objectGivenStep, bodyGivenStep, bodyFailedStep, abortAcknowledgedStep, passwordGivenStep, nonceGivenStep, credentialsGivenStep, started}
@@ -47,7 +47,7 @@ abbrev pub bodyIn : Body → List ℕ → Option (List ℕ)
 bodyIn body.Missing b = none
 bodyIn (body.Bytes n) b = some (take n b)
 
-abbrev pub handedBy : HostRequest → Stores → List Carried
+abbrev pub handedBy : HostRequest → Stores → List Record
 handedBy (request.Put k b) s = record { headers = take k (s .headers); body = bodyIn b (s .body) } ∷ []
 handedBy (request.Connect n) s = []
 handedBy (request.Disconnect n) s = []
@@ -63,7 +63,7 @@ handedBy (request.Credentials n u r p) s = []
 handedBy (request.Read n) s = []
 
 -- The records that a call hands over, by what it returns.
-abbrev pub handed : Outcome → Stores → List Carried
+abbrev pub handed : Outcome → Stores → List Record
 handed (outcome.Request r) s = handedBy r s
 handed outcome.WantsBytes s = []
 handed (outcome.Reply n) s = []
@@ -71,7 +71,7 @@ handed (outcome.End n) s = []
 handed (outcome.Refused n) s = []
 
 -- The records that a list of calls hands over, in order.
-abbrev pub records : State → List Call → List Carried
+abbrev pub records : State → List Call → List Record
 records s [] = []
 records s (c ∷ cs) = handed (stepOf s c .took .outcome) (stepOf s c .stores) ++ records (stateOf (stepOf s c)) cs
 

@@ -9,7 +9,7 @@ use Rattle.packet.specs.Header.{first}
 use Rattle.packet.specs.Packet.{packetBytes}
 use Rattle.packet.specs.declared.tlv.Found.the-variants as place
 use Rattle.incoming.specs.Gather.{Gathering}
-use Rattle.connection.specs.Send.{fieldsOf, sendBytes, front}
+use Rattle.connection.specs.Reply.{fieldsOf, sendBytes, front}
 use Rattle.connection.specs.declared.peer.Peer.{Peer}
 use Rattle.server.specs.declared.Settings.{Settings}
 use Rattle.server.specs.declared.Operation.{Operation}

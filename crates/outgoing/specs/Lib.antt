@@ -1,3 +1,3 @@
 -- The definitions that the contracts cite: the outgoing object, and the code's own steps.
-pub mod Outgoing
+pub mod Object
 pub mod Steps

@@ -5,12 +5,12 @@ use lib.Dec.{ltb}
 use Rattle.base.specs.Pick.{pick}
 use Rattle.packet.specs.declared.header.HeaderAt.{HeaderAt}
 use Rattle.packet.specs.declared.header.HeaderAt.the-variants.{At, Unreadable, End}
-use Rattle.outgoing.specs.declared.body.Stop.{Stop}
-use Rattle.outgoing.specs.declared.body.Stop.the-variants.{Empty, Full, Long}
-use Rattle.outgoing.specs.declared.body.Fit.{Fit}
-use Rattle.outgoing.specs.declared.body.Fit.the-variants.{Takes, Stops}
-use Rattle.outgoing.specs.declared.body.Filling as code
-use Rattle.outgoing.specs.Outgoing.{Filled, empty, full, tooLarge, Filling, filling}
+use Rattle.outgoing.specs.declared.object.Stop.{Stop}
+use Rattle.outgoing.specs.declared.object.Stop.the-variants.{Empty, Full, Long}
+use Rattle.outgoing.specs.declared.object.Fit.{Fit}
+use Rattle.outgoing.specs.declared.object.Fit.the-variants.{Takes, Stops}
+use Rattle.outgoing.specs.declared.object.Filling as code
+use Rattle.outgoing.specs.Object.{Filled, empty, full, tooLarge, Filling, filling}
 
 -- The next header is over the capacity, over the space that is left, or goes into the packet.
 unfoldable pub fitOf : HeaderAt → ℕ → ℕ → ℕ → Fit

@@ -14,8 +14,8 @@ use Rattle.packet.specs.declared.header.HeaderEncoding.{HeaderEncoding}
 use Rattle.packet.specs.declared.header.HeaderEncoding.the-variants.{Unicode, Bytes, U8, U32}
 use Rattle.packet.specs.declared.header.TextForm.{TextForm}
 use Rattle.packet.specs.declared.header.TextForm.the-variants.{Wide, Ended, Bare}
-use Rattle.packet.specs.declared.tlv.Put.{Put}
-use Rattle.packet.specs.declared.tlv.Put.the-variants.{Written, TooLong, Short}
+use Rattle.packet.specs.declared.tlv.Wrote.{Wrote}
+use Rattle.packet.specs.declared.tlv.Wrote.the-variants.{Written, TooLong, Short}
 use Rattle.packet.specs.Limits.{maxPacket}
 use Rattle.packet.specs.Tags.{Putting, putting}
 use Rattle.packet.specs.Placed.{laid}
@@ -39,7 +39,7 @@ putHeader store at h =
     (putting (Written (at + length bytes)) (laid store at bytes)))
 
 -- The number of an answer: 7, a header over 65,535 bytes; 10, a store too short; none (0) if the header was written.
-abbrev pub putNumber : Put → ℕ
+abbrev pub putNumber : Wrote → ℕ
 putNumber (Written n) = 0
 putNumber TooLong = 7
 putNumber Short = 10
@@ -47,7 +47,7 @@ putNumber Short = 10
 -- ---- the parts of the writer
 
 -- The answer by numbers alone: the encoding, the store's length, the place, and the value's length.
-unfoldable pub roomFor : HeaderEncoding → ℕ → ℕ → ℕ → Put
+unfoldable pub roomFor : HeaderEncoding → ℕ → ℕ → ℕ → Wrote
 roomFor e len at n = pick (tooLong e n) TooLong (pick (ltb len (at + leadOf e + n)) Short (Written (at + leadOf e + n)))
 
 -- What stands before a value of `n` bytes: the id, and the length field if there is one.
@@ -62,7 +62,7 @@ abbrev pub header : ℕ → List ℕ → Header
 header id v = record { id = id; value = v }
 
 -- The store once room is made: what stands before the value is written.
-abbrev pub startBy : Put → List ℕ → ℕ → List ℕ → Putting
+abbrev pub startBy : Wrote → List ℕ → ℕ → List ℕ → Putting
 startBy (Written end) d at lead = putting (Written end) (sets d at lead)
 startBy TooLong d at lead = putting TooLong d
 startBy Short d at lead = putting Short d

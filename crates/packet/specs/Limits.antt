@@ -24,3 +24,7 @@ maxConnections = 64
 -- The version of the protocol that Connect names: 1.0.
 abbrev pub obexVersion : ℕ
 obexVersion = 0x10
+
+-- The longest realm: a tag's value has 255 bytes at most, and the realm's charset is the first of them.
+abbrev pub maxRealm : ℕ
+maxRealm = 254

@@ -6,8 +6,8 @@ use lib.ListN.{length}
 use lib.Seq.{paste}
 use lib.Dec.{ltb}
 use Rattle.base.specs.Pick.{pick}
-use Rattle.packet.specs.declared.tlv.Put.{Put}
-use Rattle.packet.specs.declared.tlv.Put.the-variants.{Written, TooLong, Short}
+use Rattle.packet.specs.declared.tlv.Wrote.{Wrote}
+use Rattle.packet.specs.declared.tlv.Wrote.the-variants.{Written, TooLong, Short}
 use Rattle.packet.specs.Tags.{Putting, putting}
 
 -- The store `d` with the bytes `l` from `at` on.
@@ -15,7 +15,7 @@ abbrev pub laid : List ℕ → ℕ → List ℕ → List ℕ
 laid d at l = paste d at l (length l)
 
 -- Whether `need` bytes fit at `at` of a store of `len` bytes: a store that is too short is told before what else forbids them.
-unfoldable pub roomOf : ℕ → ℕ → ℕ → Bool → Put
+unfoldable pub roomOf : ℕ → ℕ → ℕ → Bool → Wrote
 roomOf len at need forbidden = pick (ltb len (at + need)) Short (pick forbidden TooLong (Written (at + need)))
 
 -- The bytes go to `at` of the store; if they are refused, the store stays as it was.

@@ -13,8 +13,8 @@ use Rattle.packet.specs.declared.tlv.TagAt.{TagAt}
 use Rattle.packet.specs.declared.tlv.TagAt.the-variants as at-a-place
 use Rattle.packet.specs.declared.tlv.Found.{Found}
 use Rattle.packet.specs.declared.tlv.Found.the-variants as found
-use Rattle.packet.specs.declared.tlv.Put.{Put}
-use Rattle.packet.specs.declared.tlv.Put.the-variants.{Written, TooLong, Short}
+use Rattle.packet.specs.declared.tlv.Wrote.{Wrote}
+use Rattle.packet.specs.declared.tlv.Wrote.the-variants.{Written, TooLong, Short}
 
 -- ---- the list that a payload is
 
@@ -122,11 +122,11 @@ writeTags (t ∷ ts) = writeTag t ++ writeTags ts
 
 -- A writer's answer, and the store afterwards.
 pub record Putting : Type 0 where
-  pub answer : Put
+  pub answer : Wrote
   pub store : List ℕ
 
 -- Makes a `Putting`.
-abbrev pub putting : Put → List ℕ → Putting
+abbrev pub putting : Wrote → List ℕ → Putting
 putting r s = record { answer = r; store = s }
 
 -- A tag goes to `at` of the store. A length is one byte; a tag that is refused leaves the store as it was.

@@ -20,8 +20,8 @@ use crate::flags::flag_bits;
 use crate::limits::MAX_TAG_VALUE;
 use crate::store::room;
 use crate::tlv::Found;
-use crate::tlv::Put;
 use crate::tlv::TagAt;
+use crate::tlv::Wrote;
 use crate::tlv::last_under;
 use crate::tlv::last_value;
 use crate::tlv::put_tag;
@@ -300,7 +300,7 @@ pub fn write_challenge(
     has_realm: bool,
     charset: u8,
     value: &[u8],
-) -> Put
+) -> Wrote
     ensures { λ r. ⌜ putting r (now (store .exit))
         ≡ writeChallenge (now (store .entry)) at nonce (flagBits «user_id_required» «read_only»)
         (given «has_realm» (charset ∷ now (value .entry))) ⌝ }
@@ -308,12 +308,12 @@ pub fn write_challenge(
     let n = value.len() + 1;
     let need = 21 + tag_len(has_realm, n);
     let answer = room(store.len(), at, need, is_long(has_realm, n));
-    let Put::Written(next) = answer else {
+    let Wrote::Written(next) = answer else {
         return answer;
     };
     let bits = flag_bits(user_id_required, read_only);
     put_challenge(store, at, nonce, bits, has_realm, charset, value);
-    Put::Written(next)
+    Wrote::Written(next)
 }
 
 // Writes the tags of a response, which fit.
@@ -352,16 +352,16 @@ pub fn respond(
     has_user: bool,
     user: &[u8],
     password: &[u8],
-) -> Put
+) -> Wrote
     ensures { λ r. ⌜ putting r (now (store .exit))
         ≡ writeDigestResponse (now (store .entry)) at nonce (given «has_user» (now (user .entry))) (now (password .entry)) ⌝ }
 {
     let need = 36 + tag_len(has_user, user.len());
     let answer = room(store.len(), at, need, is_long(has_user, user.len()));
-    let Put::Written(next) = answer else {
+    let Wrote::Written(next) = answer else {
         return answer;
     };
     let digest = request_digest(nonce, password);
     put_response(store, at, digest, has_user, user, nonce);
-    Put::Written(next)
+    Wrote::Written(next)
 }

@@ -32,7 +32,7 @@ use crate::limits::MAX_CAPACITY;
 use crate::srm::is_mode;
 use crate::srm::is_parameter;
 use crate::tlv::Found;
-use crate::tlv::Put;
+use crate::tlv::Wrote;
 use crate::tlv::is_tag_list;
 use base::be16_at;
 use base::copy_into;
@@ -293,23 +293,23 @@ fn is_too_long(e: HeaderEncoding, n: usize) -> bool
 }
 
 // Tells whether a header with a value of `n` bytes fits at `at` of a store of `len` bytes, and where it ends.
-fn room(e: HeaderEncoding, len: usize, at: usize, n: usize) -> Put
+fn room(e: HeaderEncoding, len: usize, at: usize, n: usize) -> Wrote
     ensures { λ r. ⌜ r ≡ roomFor e len at n ⌝ }
 {
     if is_too_long(e, n) {
-        return Put::TooLong;
+        return Wrote::TooLong;
     }
     if len < at {
-        return Put::Short;
+        return Wrote::Short;
     }
     let first = lead(e);
     if len - at < first {
-        return Put::Short;
+        return Wrote::Short;
     }
     if len - at - first < n {
-        return Put::Short;
+        return Wrote::Short;
     }
-    Put::Written(at + first + n)
+    Wrote::Written(at + first + n)
 }
 
 // Writes what stands before a value of `n` bytes.
@@ -327,33 +327,33 @@ fn put_lead(store: &mut [u8], at: usize, e: HeaderEncoding, id: u8, n: usize)
 
 // Makes room for a header with a value of `n` bytes and writes what stands before the value. The value is to end at the place that is
 // returned.
-fn start(store: &mut [u8], at: usize, id: u8, n: usize) -> Put
+fn start(store: &mut [u8], at: usize, id: u8, n: usize) -> Wrote
     ensures { λ r. ⌜ putting r (now (store .exit)) ≡ startHeader (now (store .entry)) at id n ⌝ }
 {
     let e = encoding(id);
     let answer = room(e, store.len(), at, n);
-    let Put::Written(end) = answer else {
+    let Wrote::Written(end) = answer else {
         return answer;
     };
     put_lead(store, at, e, id, n);
-    Put::Written(end)
+    Wrote::Written(end)
 }
 
 // Writes a header with the bytes `value` at `at` of the store. A header that is refused leaves the store as it was.
-pub fn put_bytes(store: &mut [u8], at: usize, id: u8, value: &[u8]) -> Put
+pub fn put_bytes(store: &mut [u8], at: usize, id: u8, value: &[u8]) -> Wrote
     ensures { λ r. ⌜ putting r (now (store .exit)) ≡ putHeader (now (store .entry)) at (header id (now (value .entry))) ⌝ }
 {
     let n = value.len();
     let answer = start(store, at, id, n);
-    let Put::Written(end) = answer else {
+    let Wrote::Written(end) = answer else {
         return answer;
     };
     copy_into(store, end - n, value);
-    Put::Written(end)
+    Wrote::Written(end)
 }
 
 // Writes a header with a value of one byte.
-pub fn put_u8(store: &mut [u8], at: usize, id: u8, value: u8) -> Put
+pub fn put_u8(store: &mut [u8], at: usize, id: u8, value: u8) -> Wrote
     ensures { λ r. ⌜ putting r (now (store .exit)) ≡ putHeader (now (store .entry)) at (header id (value ∷ [])) ⌝ }
 {
     let v = [value];
@@ -361,7 +361,7 @@ pub fn put_u8(store: &mut [u8], at: usize, id: u8, value: u8) -> Put
 }
 
 // Writes a header with a value of four bytes, the high-order one first.
-pub fn put_u32(store: &mut [u8], at: usize, id: u8, value: u32) -> Put
+pub fn put_u32(store: &mut [u8], at: usize, id: u8, value: u32) -> Wrote
     ensures { λ r. ⌜ putting r (now (store .exit)) ≡ putHeader (now (store .entry)) at (header id (bytes32 value)) ⌝ }
 {
     let v = [
@@ -470,20 +470,20 @@ fn write_text(store: &mut [u8], from: usize, end: usize, text: &[u8], form: Text
 }
 
 // Writes a header with `text` in the given form.
-fn put_text(store: &mut [u8], at: usize, id: u8, text: &[u8], form: TextForm) -> Put
+fn put_text(store: &mut [u8], at: usize, id: u8, text: &[u8], form: TextForm) -> Wrote
     ensures { λ r. ⌜ putting r (now (store .exit)) ≡ putHeader (now (store .entry)) at (header id (textValue form (now (text .entry)))) ⌝ }
 {
     let n = text_size(text, form);
     let answer = start(store, at, id, n);
-    let Put::Written(end) = answer else {
+    let Wrote::Written(end) = answer else {
         return answer;
     };
     write_text(store, end - n, end, text, form);
-    Put::Written(end)
+    Wrote::Written(end)
 }
 
 // Writes a header with UTF-16 text: a zero unit ends it, unless the text is empty, for an empty Name is an empty header.
-pub fn put_unicode(store: &mut [u8], at: usize, id: u8, text: &[u8]) -> Put
+pub fn put_unicode(store: &mut [u8], at: usize, id: u8, text: &[u8]) -> Wrote
     ensures { λ r. ⌜ putting r (now (store .exit))
         ≡ putHeader (now (store .entry)) at (header id (terminated16 (lossy (now (text .entry))))) ⌝ }
 {
@@ -491,7 +491,7 @@ pub fn put_unicode(store: &mut [u8], at: usize, id: u8, text: &[u8]) -> Put
 }
 
 // Writes the Type header: the text up to its first zero, and always a zero byte.
-pub fn put_type(store: &mut [u8], at: usize, text: &[u8]) -> Put
+pub fn put_type(store: &mut [u8], at: usize, text: &[u8]) -> Wrote
     ensures { λ r. ⌜ putting r (now (store .exit))
         ≡ putHeader (now (store .entry)) at (header header-id.type (asciiText (now (text .entry)) ++ (0 ∷ []))) ⌝ }
 {
@@ -499,7 +499,7 @@ pub fn put_type(store: &mut [u8], at: usize, text: &[u8]) -> Put
 }
 
 // Writes the Time header: the text up to its first zero, and no zero byte.
-pub fn put_time(store: &mut [u8], at: usize, text: &[u8]) -> Put
+pub fn put_time(store: &mut [u8], at: usize, text: &[u8]) -> Wrote
     ensures { λ r. ⌜ putting r (now (store .exit)) ≡ putHeader (now (store .entry)) at (header header-id.time (asciiText (now (text .entry)))) ⌝ }
 {
     put_text(store, at, TIME, text, TextForm::Bare)

@@ -14,3 +14,6 @@ pub const MAX_TAG_VALUE: usize = 255;
 
 // How many connections the engine keeps open at once; the source's set has no bound.
 pub const MAX_CONNECTIONS: usize = 64;
+
+// The longest realm: a tag's value has 255 bytes at most, and the realm's charset is the first of them.
+pub const MAX_REALM: usize = 254;

@@ -20,7 +20,7 @@ use crate::opcode::from_byte;
 use crate::opcode::to_byte;
 use crate::response;
 use crate::store::room;
-use crate::tlv::Put;
+use crate::tlv::Wrote;
 use base::be16_at;
 use base::copy_into;
 use base::wide;
@@ -220,18 +220,18 @@ fn put_packet(store: &mut [u8], byte: u8, fields: &[u8], headers: &[u8])
 }
 
 // Writes a packet at the front of the store; its fields are the first `n` of four bytes. A length over 65,535 has no length field.
-fn write_packet(store: &mut [u8], byte: u8, fields: [u8; 4], n: usize, headers: &[u8]) -> Put
+fn write_packet(store: &mut [u8], byte: u8, fields: [u8; 4], n: usize, headers: &[u8]) -> Wrote
     requires { ⌜ (length fields ≡ 4) × (n ≤ 4) ⌝ }
     ensures { λ r. ⌜ putting r (now (store .exit))
         ≡ writePacket (now (store .entry)) (packetBytes byte (take n fields) (now (headers .entry))) ⌝ }
 {
     let need = PACKET_PREFIX_LENGTH + n + headers.len();
     let answer = room(store.len(), 0, need, MAX_PACKET < need);
-    let Put::Written(next) = answer else {
+    let Wrote::Written(next) = answer else {
         return answer;
     };
     put_packet(store, byte, &fields[..n], headers);
-    Put::Written(next)
+    Wrote::Written(next)
 }
 
 // Returns Connect's four bytes: version, flags and limit.
@@ -295,7 +295,7 @@ pub fn write_request(
     is_final: bool,
     fields: Fields,
     headers: &[u8],
-) -> Put
+) -> Wrote
     ensures { λ r. ⌜ putting r (now (store .exit)) ≡ writeRequest (now (store .entry)) opcode «is_final» fields (now (headers .entry)) ⌝ }
 {
     let byte = to_byte(opcode, is_final);
@@ -332,7 +332,12 @@ fn parameters_len(connect: ConnectParameters) -> usize
 }
 
 // Writes a response at the front of the store.
-pub fn write_response(store: &mut [u8], code: u8, connect: ConnectParameters, headers: &[u8]) -> Put
+pub fn write_response(
+    store: &mut [u8],
+    code: u8,
+    connect: ConnectParameters,
+    headers: &[u8],
+) -> Wrote
     ensures { λ r. ⌜ putting r (now (store .exit)) ≡ writeResponse (now (store .entry)) code connect (now (headers .entry)) ⌝ }
 {
     let byte = response::to_byte(code);

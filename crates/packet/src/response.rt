@@ -124,6 +124,12 @@ pub const CONTINUE_BYTE: u8 = CONTINUE | FINAL_BIT;
 // The byte that is sent for Success: the code with the Final bit.
 pub const SUCCESS_BYTE: u8 = SUCCESS | FINAL_BIT;
 
+// The byte that is sent for Requested Entity Too Large: the code with the Final bit.
+pub const REQUESTED_ENTITY_TOO_LARGE_BYTE: u8 = REQUESTED_ENTITY_TOO_LARGE | FINAL_BIT;
+
+// The byte that is sent for Internal Server Error: the code with the Final bit.
+pub const INTERNAL_SERVER_ERROR_BYTE: u8 = INTERNAL_SERVER_ERROR | FINAL_BIT;
+
 // Tells whether `b` is one of the 38 codes of the table. The host may answer with these alone.
 pub fn is_code(b: u8) -> bool
     ensures { λ r. ⌜ r ≡ isCode b ⌝ }

@@ -24,7 +24,7 @@ pub enum Found {
 }
 
 // What became of bytes that were to be written.
-pub enum Put {
+pub enum Wrote {
     // The bytes were written, and end at this place.
     Written(usize),
     // A length field cannot say how long the value is: one byte says at most 255, two say 65,535.
@@ -128,21 +128,21 @@ pub fn last_value(s: &[u8], tag: u8) -> Found
 }
 
 // Writes a tag at `at` of the store. A tag that is refused leaves the store as it was.
-pub fn put_tag(store: &mut [u8], at: usize, tag: u8, value: &[u8]) -> Put
+pub fn put_tag(store: &mut [u8], at: usize, tag: u8, value: &[u8]) -> Wrote
     ensures { λ r. ⌜ putting r (now (store .exit)) ≡ putTag (now (store .entry)) at tag (now (value .entry)) ⌝ }
 {
     let n = value.len();
     if MAX_TAG_VALUE < n {
-        return Put::TooLong;
+        return Wrote::TooLong;
     }
     if store.len() < at {
-        return Put::Short;
+        return Wrote::Short;
     }
     if store.len() - at < n + 2 {
-        return Put::Short;
+        return Wrote::Short;
     }
     store[at] = tag;
     store[at + 1] = n as u8;
     copy_into(store, at + 2, value);
-    Put::Written(at + 2 + n)
+    Wrote::Written(at + 2 + n)
 }

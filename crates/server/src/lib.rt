@@ -62,8 +62,8 @@ pub enum Operation {
     },
     // A Get whose object the engine sends.
     Sending {
-        outgoing: outgoing::body::Outgoing,
-        chunk: outgoing::body::Chunk,
+        outgoing: outgoing::object::Outgoing,
+        chunk: outgoing::object::Chunk,
         srm: bool,
         wait: bool,
     },

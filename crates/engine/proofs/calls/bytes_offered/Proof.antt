@@ -3,7 +3,7 @@
 use borrow.Author.Needs.{needs}
 use native.Mathlib.Omega.{arith}
 use mathlib.Core.Path.{_≡_, ap}
-use Rattle.incoming.specs.declared.io.Frame.{Frame}
+use Rattle.incoming.specs.declared.frame.Frame.{Frame}
 use Rattle.model.specs.Step.{Stores, Stepped, stores, stepped}
 use Rattle.model.specs.Calls.{withPacket, framedAs, bytesOfferedStep}
 use Rattle.server.specs.declared.CallResult.{CallResult}

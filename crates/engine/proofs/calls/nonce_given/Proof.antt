@@ -6,8 +6,8 @@ use mathlib.Core.Option.{Option}
 use Prim.Native.Nat.{ℕ}
 use Rattle.digest.specs.Md5.{octets16}
 use Rattle.packet.specs.Header.{bytesOf}
-use Rattle.connection.specs.Send.{fieldsOf, sendBytes}
-use Rattle.connection.specs.Connect.{challengeHeader}
+use Rattle.connection.specs.Reply.{fieldsOf, sendBytes}
+use Rattle.connection.specs.ConnectReply.{challengeHeader}
 use Rattle.connection.specs.declared.peer.Peer.{Peer}
 use Rattle.model.specs.Step.{Stores, stores, after, sendsConnect, sent}
 use Rattle.model.specs.Calls.{nonceGivenStep}

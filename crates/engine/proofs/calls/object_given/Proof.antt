@@ -6,7 +6,7 @@ use mathlib.Core.List.{List}
 use Prim.Native.Nat.{ℕ, _≤_}
 use lib.ListN.{length}
 use Rattle.connection.proofs.Front.{front-length}
-use Rattle.outgoing.specs.declared.body.Outgoing.{Outgoing}
+use Rattle.outgoing.specs.declared.object.Outgoing.{Outgoing}
 use Rattle.model.specs.Step.{Stores, stores, stepped}
 use Rattle.model.specs.Calls.{objectGivenStep}
 use Rattle.server.specs.declared.CallResult.{CallResult}

@@ -2,7 +2,7 @@
 use borrow.Author.Needs.{needs}
 use mathlib.Core.Path.{ap, _∙_}
 use Prim.Native.Nat.{ℕ, _-_}
-use Rattle.outgoing.specs.Outgoing.{nextPacket}
+use Rattle.outgoing.specs.Object.{nextPacket}
 use Rattle.engine.proofs.Objects.{packet-sent}
 use Rattle.engine.proofs.object.sends_next.Statement.{statement}
 use Rattle.engine.proofs.object.sends_next.Tie as tie

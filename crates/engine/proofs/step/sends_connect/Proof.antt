@@ -1,5 +1,5 @@
 -- `engine::step::sends_connect` meets its contract: what was sent is handed back by its plan. Assumes nothing.
-use Rattle.connection.specs.Send.{fieldsOf}
+use Rattle.connection.specs.Reply.{fieldsOf}
 use Rattle.engine.proofs.Carried.{sent-written}
 use borrow.Author.Needs.{needs}
 use Rattle.engine.proofs.step.sends_connect.Statement.{statement}
