@@ -51,8 +51,8 @@ oracle:
 # Port beside original: headers, packets and tag lists on random and exhaustive questions, then whole sessions, the state after each
 # operation included. Last line of each: 'compared N different 0'. N=number of sessions (1,000,000), SEED=another seed.
 compare: oracle
-	@tools/progress check leaves replay >&2
-	@tools/compare-leaves
+	@tools/progress check codec replay >&2
+	@tools/compare-codec
 	@tools/compare-sessions $(or $(N),1000000) $(SEED)
 
 # Wrong readings of the papers, planted in copies of the original: the sessions tell each apart. Last line: 'planted N found N'.

@@ -2,13 +2,13 @@
 mod shown;
 
 use engine::calls;
+use host::answers::answer;
+use host::feed::Rest;
+use host::feed::Step;
+use host::feed::feed;
+use host::feed::over;
 use server::Outcome;
 use server::default_settings;
-use stream::feed::Rest;
-use stream::feed::Step;
-use stream::feed::feed;
-use stream::feed::over;
-use stream::host::answer;
 
 // One call: the one that the last call's outcome asks for.
 fn turn(

@@ -1,8 +1,8 @@
 // The lines that are printed.
+use host::names::put_name;
 use lines::output;
 use server::Body;
 use server::HostRequest;
-use stream::name::put_name;
 
 // A body's length, or a dash where there is none.
 fn put_body(out: &mut [u8], n: usize, body: Body) -> usize {

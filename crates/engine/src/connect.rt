@@ -104,7 +104,7 @@ fn opens(e: Engine, header_bytes: &[u8], packet: &[u8]) -> Answer
 fn challenge_realm(packet: &[u8]) -> Found
     ensures { λ r. ⌜ r ≡ realmIn (now (packet .entry)) (firstPlace 0x4D (now (packet .entry)) 7) ⌝ }
 {
-    let Found::At { start, end } = first_header(packet, 7, challenge::AUTHENTICATE_CHALLENGE) else {
+    let Found::At { start, end } = first_header(packet, 7, AUTHENTICATE_CHALLENGE) else {
         return Found::Missing;
     };
     placed(start, realm(&packet[start..end]))

@@ -1,6 +1,7 @@
 // What is done, in lines on standard error.
 use crate::file::Opened;
 use crate::file::front;
+use host::names::put_name;
 use libc::STDERR_FILENO;
 use lines::output;
 use packet::response::FORBIDDEN;
@@ -9,7 +10,6 @@ use packet::response::NOT_FOUND;
 use packet::response::NOT_IMPLEMENTED;
 use packet::response::SUCCESS;
 use server::HostRequest;
-use stream::name::put_name;
 
 fn write(out: &[u8], n: usize) {
     io::write_all(STDERR_FILENO, front(out, n));
