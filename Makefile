@@ -1,50 +1,71 @@
-.PHONY: test run serve interop oracle perf mutants
+.PHONY: help run test check serve interop oracle compare planted perf mutants
+
+# Bare `make` says what there is, and runs nothing. The times are those of two cores; what is proved stays proved until a file changes.
+help:
+	@echo 'command        what it does                                                            needs                  about'
+	@echo 'make run       proves the bench and plays a session through the engine, line by line   Rattle (rt)            9 minutes, then at once'
+	@echo 'make test      the gate: proves all from nothing, refuses wrong programs, runs all     Rattle                 36 minutes'
+	@echo 'make check     what needs no prover: trace, edits, contracts, stored sessions          python3                5 seconds'
+	@echo 'make serve     a server of the files in a folder: DIR=./served PORT=6500               Rattle, socat          10 minutes, then at once'
+	@echo 'make interop   stock clients put and get files at that server                          Rattle, root, Debian   11 minutes, then 1'
+	@echo 'make oracle    builds the original Rust with a driver, for comparison                  cargo, OBEX_SRC        2 minutes'
+	@echo 'make compare   port beside original: questions, then sessions: N=1000000 SEED=1        the oracle, Rattle     13 minutes, then 2'
+	@echo 'make planted   the sessions tell wrong readings of the papers apart                    the oracle             half an hour'
+	@echo 'make perf      throughput of port and original in one run                              the oracle, openssl    10 minutes, then 3'
+	@echo 'make mutants   the wrong programs that are not in the gate, NAME=crate for one crate   Rattle                 3 hours; goes on where it stopped'
+
+# Proves what is needed, then plays the example session through the bench. Only the session goes to standard output.
+run:
+	@tools/progress check bench >&2
+	@target/bin/bench <crates/bench/sessions/record.in
 
 # The gate: every crate proved from nothing, every must-fail edit refused, every program run and compared. Its last line is 'N passed, 0 failed'.
+# Three crates at a time, since rt waits for all of them before it starts the next: on two cores a long check then leaves neither idle.
+test: export RT_JOBS ?= 3
 test:
-	@rt ci
+	@tools/progress ci
 
-# Proves what is needed and plays the example session through the bench.
-run:
-	@echo 'proving the bench and what it stands on, from nothing some ten minutes' >&2
-	@rt check bench >/dev/null
-	@target/bin/bench <crates/bench/stdin
+# The repository agrees with itself: the trace names what there is, every edit applies to its file, every public function has a contract, the
+# stored sessions are as they are made, and as far as bench and oracle are built as these do them.
+check:
+	@tools/check-all
 
-# A server of the files in DIR, behind a socket of the loopback. PORT=number DIR=folder.
+# A server of the files in DIR, behind a socket of the loopback. PORT=number DIR=folder, which may have spaces in its name.
 PORT ?= 6500
 DIR ?= ./served
+serve: export SERVED := $(DIR)
+serve: export PROGRAM := $(CURDIR)/target/bin/serve
 serve:
-	@rt check serve >/dev/null
-	@mkdir -p $(DIR)
-	@echo 'serving $(DIR) at 127.0.0.1:$(PORT)'
-	@cd $(DIR) && exec socat TCP-LISTEN:$(PORT),bind=127.0.0.1,reuseaddr,fork EXEC:$(CURDIR)/target/bin/serve
+	@tools/progress check serve >&2
+	@mkdir -p "$$SERVED"
+	@echo "serving $$SERVED at 127.0.0.1:$(PORT)"
+	@cd "$$SERVED" && exec socat TCP-LISTEN:$(PORT),bind=127.0.0.1,reuseaddr,fork 'SYSTEM:exec \"$$PROGRAM\"'
 
 # Stock clients against the server. Last line: 'interop: N of N'.
 interop:
-	@rt check serve >/dev/null
+	@tools/progress check serve >&2
 	@tools/interop
 
 # The original with a driver, for comparison by running. Nothing of the gate needs it.
 oracle:
 	@oracle/build
 
-# Throughput beside the original and OpenSSL.
-perf:
-	@tools/perf
-
-# The wrong programs that are not in the gate: the prover must refuse each. NAME=crate for one crate.
-mutants:
-	@tools/mutants $(NAME)
-
 # Port beside original: headers, packets and tag lists on random and exhaustive questions, then whole sessions, the state after each
 # operation included. Last line of each: 'compared N different 0'. N=number of sessions (1,000,000), SEED=another seed.
-.PHONY: compare
 compare: oracle
-	@rt check leaves replay >/dev/null
-	@tools/compare-leaves
+	@tools/progress check codec replay >&2
+	@tools/compare-codec
 	@tools/compare-sessions $(or $(N),1000000) $(SEED)
 
 # Wrong readings of the papers, planted in copies of the original: the sessions tell each apart. Last line: 'planted N found N'.
-.PHONY: planted
 planted: oracle
-	@tools/planted $(N) $(SEED)
+	@tools/compare-planted $(N) $(SEED)
+
+# Throughput beside the original and OpenSSL.
+perf: oracle
+	@tools/progress check load digest_c >&2
+	@tools/perf
+
+# The wrong programs that are not in the gate: the prover must refuse each. NAME=crate for one crate. Last line: 'N refused, 0 alive'.
+mutants:
+	@tools/mutants $(NAME)

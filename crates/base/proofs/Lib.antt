@@ -1,2 +1,2 @@
--- What several proofs cite, here and in the crates above.
+-- The lemmas that proofs of this crate and of the crates above cite.
 pub mod Below

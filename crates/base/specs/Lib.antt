@@ -1,3 +1,3 @@
--- The definitions that every layer shares.
+-- The definitions that every layer shares: choosing by a test, and numbers as bytes.
 pub mod Pick
 pub mod Bytes

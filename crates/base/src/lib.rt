@@ -1,30 +1,32 @@
-// What every layer shares: bytes as numbers, and copying into a lent store.
+// What every layer shares: reading bytes as numbers, and copying bytes into a lent store.
 ghost use mathlib.Core.Path.{_≡_};
 ghost use Prim.Native.Nat.{_+_, _≤_, _<_};
 ghost use lib.ListN.{length};
 ghost use lib.Seq.{paste};
 ghost use Rattle.base.specs.Bytes.{be16};
 
-// A byte as a wider number.
+// Returns the byte `b` as a `usize`.
 pub fn wide(b: u8) -> usize
     ensures { λ r. ⌜ (r ≡ b) × (r < 256) ⌝ }
 {
     b as usize
 }
 
+// Returns the byte `b` as a `u32`.
 pub fn wide32(b: u8) -> u32
     ensures { λ r. ⌜ (r ≡ b) × (r < 256) ⌝ }
 {
     b as u32
 }
 
+// Returns the byte `b` as a `u64`.
 pub fn wide64(b: u8) -> u64
     ensures { λ r. ⌜ (r ≡ b) × (r < 256) ⌝ }
 {
     b as u64
 }
 
-// The 16-bit number at a place, high-order byte first.
+// Reads the 16-bit number at `at`, its high-order byte first: OBEX writes all numbers in network byte order.
 pub fn be16_at(s: &[u8], at: usize) -> usize
     requires { ⌜ at + 2 ≤ length (now s) ⌝ }
     ensures value { λ r. ⌜ r ≡ be16 (now (s .entry)) at ⌝ }
@@ -33,7 +35,7 @@ pub fn be16_at(s: &[u8], at: usize) -> usize
     wide(s[at]) * 256 + wide(s[at + 1])
 }
 
-// The bytes of src, stored in dst from a place on.
+// Copies all of `src` into `dst`, from `at` on.
 pub fn copy_into(dst: &mut [u8], at: usize, src: &[u8])
     requires { ⌜ at + length (now src) ≤ length (now dst) ⌝ }
     ensures { λ r. ⌜ now (dst .exit) ≡ paste (now (dst .entry)) at (now (src .entry)) (length (now (src .entry))) ⌝ }

@@ -1,15 +1,14 @@
 // Plays one session: the peer's bytes come on standard input, and what the engine does goes to standard output, a line each.
 mod shown;
 
-use engine::arrival;
-use engine::session;
-use engine::session::default_settings;
-use model::server::Outcome;
-use stream::feed::Rest;
-use stream::feed::Step;
-use stream::feed::feed;
-use stream::feed::over;
-use stream::host::answer;
+use engine::calls;
+use host::answers::answer;
+use host::feed::Rest;
+use host::feed::Step;
+use host::feed::feed;
+use host::feed::over;
+use server::Outcome;
+use server::default_settings;
 
 // One call: the one that the last call's outcome asks for.
 fn turn(
@@ -28,7 +27,7 @@ fn turn(
         Outcome::WantsBytes => feed(e, rest, input, packet, headers, body, reply),
         Outcome::Reply { length } => {
             shown::reply(reply, length);
-            let took = arrival::reply_taken(e, packet, headers, body, reply);
+            let took = calls::reply_taken(e, packet, headers, body, reply);
             Step { took, rest }
         }
         Outcome::Request(request) => {
@@ -49,7 +48,7 @@ fn play(
     body: &mut [u8],
     reply: &mut [u8],
 ) {
-    let took = session::start(default_settings(1024), packet, headers, body, reply);
+    let took = calls::start(default_settings(1024), packet, headers, body, reply);
     let mut p = Step {
         took,
         rest: Rest { at: 0, end: 0 },

@@ -1,8 +1,8 @@
 // The lines that are printed.
+use host::names::put_name;
 use lines::output;
-use model::server::Body;
-use model::server::Request;
-use stream::name::put_name;
+use server::Body;
+use server::HostRequest;
 
 // A body's length, or a dash where there is none.
 fn put_body(out: &mut [u8], n: usize, body: Body) -> usize {
@@ -13,8 +13,8 @@ fn put_body(out: &mut [u8], n: usize, body: Body) -> usize {
 }
 
 // Of a Put, how many header bytes were kept, and how many bytes its body has.
-fn put_counts(out: &mut [u8], n: usize, request: Request) -> usize {
-    let Request::Put { kept, body } = request else {
+fn put_counts(out: &mut [u8], n: usize, request: HostRequest) -> usize {
+    let HostRequest::Put { kept, body } = request else {
         return n;
     };
     let a = output::put(out, n, b" ");
@@ -24,7 +24,7 @@ fn put_counts(out: &mut [u8], n: usize, request: Request) -> usize {
 }
 
 // A request by the name of the handler's method.
-pub(crate) fn request(request: Request) {
+pub(crate) fn request(request: HostRequest) {
     let mut out = [0u8; 64];
     let a = put_name(&mut out, 0, request);
     let b = put_counts(&mut out, a, request);

@@ -18,7 +18,7 @@ use Rattle.packet.specs.declared.auth.DigestChallenge.{DigestChallenge}
 use Rattle.packet.specs.declared.auth.DigestChallenge.the-variants as challenge
 use Rattle.packet.proofs.HeaderLaws.{first-agrees}
 use Rattle.journal.specs.Journal.{listOf}
-use Rattle.connection.specs.Connect.{pushChallenge, challenges, firstOf, answeredChallenge}
+use Rattle.connection.specs.ConnectReply.{pushChallenge, challenges, firstOf, answeredChallenge}
 use Rattle.connection.specs.Pieces.{headersFrom, firstIn, isKnown, knownIn, isChallenge, knownHeader, realmOf, answeredIn}
 
 -- ---- all can be read

@@ -15,7 +15,7 @@ use Rattle.connection.specs.declared.peer.Peer.{Peer}
 use Rattle.connection.specs.declared.peer.ConnectionId.{ConnectionId}
 use Rattle.connection.specs.declared.peer.ConnectionId.the-variants.{Id}
 use Rattle.connection.specs.Peer.{peerWith, idsOf, clearedPeer, leftPeer, disconnectedBy}
-use Rattle.connection.specs.Send.{front}
+use Rattle.connection.specs.Reply.{front}
 use Rattle.connection.proofs.Front.{front-length, front-behind, front-set}
 
 pub without-shorter : (x : ℕ) (l : List ℕ) → length (without x l) ≤ length l

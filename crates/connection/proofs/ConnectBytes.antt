@@ -26,7 +26,7 @@ use Rattle.packet.proofs.HeaderLaws.{by-cursor, first-found}
 use Rattle.journal.specs.Journal.{listOf}
 use Rattle.connection.specs.declared.peer.ConnectionId.{ConnectionId}
 use Rattle.connection.specs.declared.peer.ConnectionId.the-variants.{Id, Missing}
-use Rattle.connection.specs.Connect.{second, withId, whoFor, answerWith, grant, answeredChallenge, connectHeaders}
+use Rattle.connection.specs.ConnectReply.{second, withId, whoFor, answerWith, grant, answeredChallenge, connectHeaders}
 use Rattle.connection.specs.Pieces.{headersFrom, firstIn, answeredIn, realmOf, nonceOf, nonceFor, whoPlace, endOf, readable}
 use Rattle.connection.specs.Pieces.{whoBytes, answerBytes, grantBytes, namedBytes, addedBytes, Inside, credentialsOf, idGiven}
 use Rattle.connection.proofs.Challenges.{first-in-bytes}

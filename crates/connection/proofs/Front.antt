@@ -6,7 +6,7 @@ use native.Mathlib.Omega.{arith}
 use native.Mathlib.Numerals.{add-one}
 use lib.ListN.{length, getD, set, drop, length-append, length-drop}
 use lib.Seq.{take-at, drop-cons, set-append-seam, getD-append-add, getD-drop, drop-drop, drop-append-add, take-length, paste, sets}
-use Rattle.connection.specs.Send.{front}
+use Rattle.connection.specs.Reply.{front}
 
 pub front-length : (q y : List ℕ) → length q ≤ length y → length (front q y) ≡ length y
 front-length q y h = omega (arith, length-append q (drop (length q) y), length-drop (length q) y)

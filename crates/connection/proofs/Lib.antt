@@ -1,4 +1,5 @@
--- What several proofs cite.
+-- The lemmas that proofs of this crate and of the engine cite: open ids, replies and their pieces, challenges, and how a peer goes with
+-- the journal's standing.
 pub mod Open
 pub mod Front
 pub mod Closing

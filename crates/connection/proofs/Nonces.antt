@@ -22,7 +22,7 @@ use Rattle.packet.proofs.HeaderLaws.{first-agrees}
 use Rattle.packet.proofs.TextForms.{octets-take}
 use Rattle.packet.proofs.TagWrites.{read-write}
 use Rattle.journal.specs.Journal.{listOf}
-use Rattle.connection.specs.Connect.{pushChallenge, challenges, firstOf, answeredChallenge}
+use Rattle.connection.specs.ConnectReply.{pushChallenge, challenges, firstOf, answeredChallenge}
 use Rattle.connection.specs.Pieces.{headersFrom}
 
 -- ---- parts of bytes are bytes

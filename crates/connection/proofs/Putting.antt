@@ -19,7 +19,7 @@ use Rattle.packet.specs.Tags.{Putting, putting, bytesAt, writeTags}
 use Rattle.packet.specs.Auth.{responseTags, challengeTags}
 use Rattle.packet.specs.AuthWrite.{given, overlong, writeDigestResponse, writeChallenge}
 use Rattle.packet.specs.Placed.{laid, placed}
-use Rattle.packet.specs.declared.tlv.Put.{Put}
+use Rattle.packet.specs.declared.tlv.Wrote.{Wrote}
 use Rattle.packet.specs.declared.tlv.Found.{Found}
 use Rattle.packet.specs.declared.tlv.Found.the-variants as place
 use Rattle.packet.specs.declared.auth.Named.{Named}
@@ -28,7 +28,7 @@ use Rattle.packet.specs.declared.header.HeaderEncoding.the-variants.{Bytes}
 use Rattle.packet.proofs.Laid.{length-laid, laid-nothing, laid-append}
 use Rattle.packet.proofs.AuthLaws.{length-request}
 use Rattle.packet.proofs.AuthWrites.{answer-length, user-length, challenge-length, realm-length}
-use Rattle.connection.specs.Connect.{challengeHeader}
+use Rattle.connection.specs.ConnectReply.{challengeHeader}
 use Rattle.packet.specs.declared.header.HeaderAt.{HeaderAt}
 use Rattle.packet.specs.declared.header.HeaderAt.the-variants.{At, Unreadable, End}
 use Rattle.packet.proofs.HeaderBytes.{header-at-within, part-length}
@@ -64,7 +64,7 @@ puts-nothing y at = record { next-is = omega arith; store = sym (laid-nothing y 
 -- ---- a header by the packet's writer
 
 -- a header that fits is laid there
-pub header-laid : (d z : List ℕ) (at : ℕ) (h : Header) (r : Put) → tooLong (encodingOf (h .id)) (length (h .value)) ≡ false
+pub header-laid : (d z : List ℕ) (at : ℕ) (h : Header) (r : Wrote) → tooLong (encodingOf (h .id)) (length (h .value)) ≡ false
     → at + length (bytesOf h) ≤ length d → putting r z ≡ putHeader d at h → z ≡ laid d at (bytesOf h)
 unfolding putHeader
 header-laid d z at h r s f e =
@@ -114,13 +114,13 @@ answer-bytes-length (nonce.Nonce n) has user password =
 
 -- ---- tags that fit
 
-pub placed-laid : (d z bytes : List ℕ) (at : ℕ) (r : Put) (forbidden : Bool) → forbidden ≡ false → at + length bytes ≤ length d
+pub placed-laid : (d z bytes : List ℕ) (at : ℕ) (r : Wrote) (forbidden : Bool) → forbidden ≡ false → at + length bytes ≤ length d
     → putting r z ≡ placed d at forbidden bytes → z ≡ laid d at bytes
 unfolding placed
 placed-laid d z bytes at r f o h e = ap (λ (p : Putting). p .store) (rw (o, le-ltb (length d) (at + length bytes) h) at e)
 
 -- a header of tags: what stands before them, and then they
-pub tags-laid : (y z w v : List ℕ) (at id size : ℕ) (r : Put) (forbidden : Bool) → ltb id 64 ≡ false → ltb id 128 ≡ true → length v ≡ size - 3 → at + 3 + length v ≤ length y
+pub tags-laid : (y z w v : List ℕ) (at id size : ℕ) (r : Wrote) (forbidden : Bool) → ltb id 64 ≡ false → ltb id 128 ≡ true → length v ≡ size - 3 → at + 3 + length v ≤ length y
     → z ≡ laid y at (leadBytes Bytes id (size - 3)) → forbidden ≡ false → putting r w ≡ placed z (at + 3) forbidden v → w ≡ laid y at (bytesOf (header id v))
 tags-laid y z w v at id size r forbidden a b l h s o p =
     let lz : length z ≡ length y = ap length s ∙ length-laid y (leadBytes Bytes id (size - 3)) at (omega arith) in
@@ -131,14 +131,14 @@ tags-laid y z w v at id size r forbidden a b l h s o p =
 
 -- ---- each piece
 
-pub id-puts : (y z : List ℕ) (at i : ℕ) (f : ConnectionId) (r : Put) → f ≡ Id i → Room y at (idBytes f) → putting r z ≡ putHeader y at (header 0xCB (bytes32 i))
+pub id-puts : (y z : List ℕ) (at i : ℕ) (f : ConnectionId) (r : Wrote) → f ≡ Id i → Room y at (idBytes f) → putting r z ≡ putHeader y at (header 0xCB (bytes32 i))
     → Puts y at (idBytes f) (at + 5) z
 unfolding bytesOf encodingOf
 id-puts y z at i f r e m p =
     let room : Room y at (idBytes (Id i)) = rw e at m in
     rw e (record { next-is = refl; store = header-laid y z at (header 0xCB (bytes32 i)) r refl (omega (arith, room .small, room .store)) p })
 
-pub who-puts : (y z s : List ℕ) (at a b : ℕ) (w : Found) (r : Put) → w ≡ place.At a b → Room y at (whoBytes (bytesAt s w)) → Inside s w
+pub who-puts : (y z s : List ℕ) (at a b : ℕ) (w : Found) (r : Wrote) → w ≡ place.At a b → Room y at (whoBytes (bytesAt s w)) → Inside s w
     → putting r z ≡ putHeader y at (header 0x4A (part s a b)) → Puts y at (whoBytes (bytesAt s w)) (at + 3 + (b - a)) z
 who-puts y z s at a b w r e m i p =
     let room : Room y at (whoBytes (bytesAt s (place.At a b))) = rw e at m in
@@ -166,7 +166,7 @@ module _ (y user password : List ℕ) (at : ℕ) (n : Octets16) (has : Bool) (m 
   pub answer-room : (at + size ≤ 65535) × (39 ≤ size) × (65535 ≤ length y)
   answer-room = (omega (arith, room .small, bytes), omega (arith, q), room .store)
 
-  pub answer-puts : (z w : List ℕ) (r : Put) → overlong (given has user) ≡ false → z ≡ laid y at (leadBytes Bytes 0x4E (size - 3))
+  pub answer-puts : (z w : List ℕ) (r : Wrote) → overlong (given has user) ≡ false → z ≡ laid y at (leadBytes Bytes 0x4E (size - 3))
       → putting r w ≡ writeDigestResponse z (at + 3) n (given has user) password → Puts y at (answerBytes m (given has user) password) (at + size) w
   unfolding writeDigestResponse
   answer-puts z w r o s p =
@@ -180,7 +180,7 @@ module _ (y user password : List ℕ) (at : ℕ) (n : Octets16) (has : Bool) (m 
             ∙ ap (λ (k : Named). laid y at (answerBytes k (given has user) password)) (sym e);
       }
 
-pub grant-puts : (y z a w : List ℕ) (at next : ℕ) (srm : Bool) (r : Put) → srm ≡ true → Room y at (a ++ grantBytes srm) → Puts y at a next z
+pub grant-puts : (y z a w : List ℕ) (at next : ℕ) (srm : Bool) (r : Wrote) → srm ≡ true → Room y at (a ++ grantBytes srm) → Puts y at a next z
     → putting r w ≡ putHeader z next (header 0x97 (0x01 ∷ [])) → w ≡ laid y at (a ++ grantBytes srm)
 unfolding bytesOf encodingOf
 grant-puts y z a w at next srm r t room p q =
@@ -314,7 +314,7 @@ challenge-bytes-length n o has charset realm =
     let v = writeTags (challengeTags (octets16 n) o (given has (charset ∷ realm))) in
     omega (arith, bytes-length 0x4D v refl refl, challenge-tags-length n o has charset realm)
 
-pub challenge-laid : (y z w : List ℕ) (n : Octets16) (o : ℕ) (has : Bool) (charset : ℕ) (realm : List ℕ) (size : ℕ) (r : Put)
+pub challenge-laid : (y z w : List ℕ) (n : Octets16) (o : ℕ) (has : Bool) (charset : ℕ) (realm : List ℕ) (size : ℕ) (r : Wrote)
     → overlong (given has (charset ∷ realm)) ≡ false → size ≡ 24 + pick has (2 + (length realm + 1)) 0
     → Room y 7 (bytesOf (challengeHeader (octets16 n) o (given has (charset ∷ realm)))) → z ≡ laid y 7 (leadBytes Bytes 0x4D (size - 3))
     → putting r w ≡ writeChallenge z 10 n o (given has (charset ∷ realm)) → w ≡ laid y 7 (bytesOf (challengeHeader (octets16 n) o (given has (charset ∷ realm))))

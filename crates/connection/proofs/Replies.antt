@@ -14,11 +14,11 @@ use Rattle.base.specs.Bytes.{bytes16}
 use Rattle.packet.specs.Codes.{sentCode}
 use Rattle.packet.specs.Packet.{packetBytes}
 use Rattle.packet.proofs.PacketWrites.{packet-length}
-use Rattle.connection.specs.declared.send.Begun.{Begun}
-use Rattle.connection.specs.declared.send.Fit.{Fit}
-use Rattle.connection.specs.declared.send.Fit.the-variants.{Whole, Replaced, TooLarge}
-use Rattle.connection.specs.declared.send.Sent.the-variants as sent
-use Rattle.connection.specs.Send.{fieldsOf, startBytes, sendBytes, fitOf, front, sending, sentInto, Beginning, beginning, beginsBy}
+use Rattle.connection.specs.declared.reply.Begun.{Begun}
+use Rattle.connection.specs.declared.reply.Fit.{Fit}
+use Rattle.connection.specs.declared.reply.Fit.the-variants.{Whole, Replaced, TooLarge}
+use Rattle.connection.specs.declared.reply.Sent.the-variants as sent
+use Rattle.connection.specs.Reply.{fieldsOf, startBytes, sendBytes, fitOf, front, sending, sentInto, Beginning, beginning, beginsBy}
 use Rattle.connection.proofs.Front.{front-length, front-sets, front-paste}
 use Rattle.packet.specs.Placed.{laid}
 use Rattle.connection.specs.Pieces.{Room}

@@ -1,5 +1,5 @@
--- The definitions that the contracts cite.
-pub mod Send
+-- The definitions that the contracts cite: replies, what Connect and Disconnect change, and the reply to a Connect.
+pub mod Reply
 pub mod Peer
-pub mod Connect
+pub mod ConnectReply
 pub mod Pieces

@@ -1,4 +1,5 @@
-// Authentication in a Connect (the source's verify_client, and what handle_connect reads of the peer's challenges).
+// Authentication in a Connect (docs/PROTOCOL.md#connect; the source's verify_client, and what handle_connect reads of the peer's
+// challenges).
 ghost use mathlib.Core.Path.{_≡_};
 ghost use Rattle.packet.specs.Header.{readHeaders};
 ghost use Rattle.packet.specs.AuthWrite.{given};
@@ -13,11 +14,10 @@ use packet::header::HeaderAt;
 use packet::header::first_header;
 use packet::header::header_at;
 use packet::header::is_readable;
+use packet::header_id::AUTHENTICATE_CHALLENGE;
 use packet::tlv::Found;
 
-pub const AUTHENTICATE_CHALLENGE: u8 = 0x4D;
-
-// Where the value of the first header with the id stands; missing where not all headers can be read.
+// Finds the value of the first header with `id`. If not all headers can be read, nothing is found.
 pub fn first_in(s: &[u8], from: usize, id: u8) -> Found
     ensures { λ r. ⌜ r ≡ firstIn id (now (s .entry)) from ⌝ }
 {
@@ -27,7 +27,7 @@ pub fn first_in(s: &[u8], from: usize, id: u8) -> Found
     first_header(s, from, id)
 }
 
-// Whether a header is no challenge, or one that can be read.
+// Tells whether a header is no challenge, or one that can be read.
 fn is_known(id: u8, value: &[u8]) -> bool
     ensures { λ r. ⌜ r ≡ knownHeader id (now (value .entry)) ⌝ }
 {
@@ -46,7 +46,7 @@ fn is_known(id: u8, value: &[u8]) -> bool
     true
 }
 
-// Whether all headers can be read, and all challenges among them.
+// Tells whether all headers can be read, and all challenges among them.
 fn are_known(packet: &[u8], from: usize) -> bool
     ensures { λ r. ⌜ r ≡ knownIn (readHeaders (now (packet .entry)) from) ⌝ }
 {
@@ -74,7 +74,8 @@ fn are_known(packet: &[u8], from: usize) -> bool
     }
 }
 
-// The peer's first challenge, which is the one answered, where all can be read.
+// Reads the peer's first challenge, which is the one answered. If any challenge cannot be read, none is answered (the source's
+// DigestChallenge::find_all).
 pub fn answered_challenge(packet: &[u8], from: usize) -> DigestChallenge
     ensures { λ r. ⌜ r ≡ answeredIn (headersFrom (now (packet .entry)) from) ⌝ }
 {
@@ -87,7 +88,7 @@ pub fn answered_challenge(packet: &[u8], from: usize) -> DigestChallenge
     read_challenge(&packet[start..end])
 }
 
-// Its nonce, where the host has credentials.
+// Returns the nonce of the peer's first challenge, if the host has credentials to answer it.
 pub fn nonce_for(packet: &[u8], from: usize, has_credentials: bool) -> Named
     ensures { λ r. ⌜ r ≡ nonceFor «has_credentials» (headersFrom (now (packet .entry)) from) ⌝ }
 {
@@ -106,7 +107,7 @@ pub fn nonce_for(packet: &[u8], from: usize, has_credentials: bool) -> Named
     Named::Nonce(nonce)
 }
 
-// Whether the password is right for the stored challenge and the client's response.
+// Tells whether the password is right for the stored challenge and the client's response (the source's verify_client).
 pub fn verify_client(
     stored: Challenge,
     found: DigestResponse,

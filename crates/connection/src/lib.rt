@@ -1,5 +1,5 @@
-// Connections: the ids that are open, authentication, and the reply to a Connect (of the source's engine/server.rs).
+// Connections (of the source's engine/server.rs): the ids that are open, authentication, the reply to a Connect, and every reply's writer.
 pub mod challenge;
-pub mod connect;
+pub mod connect_reply;
 pub mod peer;
-pub mod send;
+pub mod reply;

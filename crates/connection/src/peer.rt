@@ -1,18 +1,19 @@
-// Connect and Disconnect's part of the state (the source's engine/server.rs): which ids are open, the search for a new one, and
-// what the peer said of itself.
+// What Connect and Disconnect change of the state (docs/PROTOCOL.md#connection-ids, #disconnect; the source's engine/server.rs): which ids
+// are open, the search for a new one, and what the peer said of itself. The source's set of ids has no bound; here 64 are open at once.
 ghost use mathlib.Core.Path.{_≡_};
 ghost use mathlib.Core.Bool.{true, false};
 ghost use Prim.Native.Nat.{_+_, _%_, _^_, _≤_, _<_};
 ghost use lib.ListN.{length, take};
+ghost use Rattle.packet.specs.Limits.{maxConnections};
 ghost use Rattle.journal.specs.Ids.{member, taken, without, newId};
 ghost use Rattle.connection.specs.Peer.{atLeast255, limited as limitedPeer, authenticatedPeer, verifiedPeer, challengedPeer, srmPeer};
 ghost use Rattle.connection.specs.Peer.{addedPeer, opened as openedPeer, openingOf, answerBy, clearedPeer, disconnectedBy};
-ghost use Rattle.connection.specs.Send.{front};
+ghost use Rattle.connection.specs.Reply.{front};
 use digest::md5::Octets16;
+use packet::limits::MAX_CONNECTIONS;
+use packet::limits::MIN_PACKET;
 
-const MINIMUM_PACKET_LENGTH: u16 = 255;
-
-// 0xFFFFFFFF is reserved as an invalid id.
+// The number that is reserved as an invalid connection id.
 const INVALID_ID: u32 = 0xFFFFFFFF;
 
 // The nonce of the challenge that was sent and not yet answered.
@@ -23,12 +24,16 @@ pub enum Challenge {
 
 // What Connect and Disconnect change.
 pub struct Peer {
-    // The open ids are the first count of these.
-    pub connections: [u32; 64],
+    // The open ids are the first `count` of these.
+    pub connections: [u32; MAX_CONNECTIONS],
     pub count: usize,
+    // The counter from which the search for a new id counts up.
     pub next_connection_id: u32,
+    // The largest packet that the peer can receive.
     pub remote_max_packet_length: u16,
+    // The session's Single Response Mode (SRM) is on.
     pub srm_enabled: bool,
+    // The peer gave the right password.
     pub authenticated: bool,
     pub challenge: Challenge,
 }
@@ -39,19 +44,20 @@ pub enum ConnectionId {
     Missing,
 }
 
+// An id that the search found.
 pub struct NewId {
     pub id: u32,
     // The counter, one past the id.
     pub next: u32,
 }
 
-// What opening an id leads to: a 65th is full, and the peer as it was.
+// What opening an id leads to: with 64 ids open a further one is not opened, and the peer stays as it was.
 pub struct Opening {
     pub full: bool,
     pub peer: Peer,
 }
 
-// The same for an answer to a Connect, with the id that goes in front of it.
+// What the host's answer to a Connect leads to, with the id that goes in front of it.
 pub struct Answer {
     pub opening: Opening,
     pub front: ConnectionId,
@@ -59,9 +65,9 @@ pub struct Answer {
 
 // ---- the open ids
 
-// Whether id is one of the first count numbers.
+// Tells whether `id` is one of the first `count` numbers.
 pub fn is_open(ids: &[u32], count: usize, id: u32) -> bool
-    requires { ⌜ (count ≤ 64) × (count ≤ length (now ids)) ⌝ }
+    requires { ⌜ (count ≤ maxConnections) × (count ≤ length (now ids)) ⌝ }
     ensures { λ r. ⌜ r ≡ member id (take count (now (ids .entry))) ⌝ }
 {
     let mut i = 0;
@@ -74,9 +80,9 @@ pub fn is_open(ids: &[u32], count: usize, id: u32) -> bool
     false
 }
 
-// Whether a candidate is passed over.
+// Tells whether the search passes `id` over: it is reserved or open.
 fn is_taken(ids: &[u32], count: usize, id: u32) -> bool
-    requires { ⌜ (count ≤ 64) × (count ≤ length (now ids)) ⌝ }
+    requires { ⌜ (count ≤ maxConnections) × (count ≤ length (now ids)) ⌝ }
     ensures { λ r. ⌜ r ≡ taken (take count (now (ids .entry))) id ⌝ }
 {
     if id == INVALID_ID {
@@ -85,9 +91,9 @@ fn is_taken(ids: &[u32], count: usize, id: u32) -> bool
     is_open(ids, count, id)
 }
 
-// The first number not open, counting up from the counter, and the counter left one past it.
+// Finds the first number that is not open, counting up from the counter, and leaves the counter one past it.
 pub fn allocate_connection_id(ids: &[u32], count: usize, counter: u32) -> NewId
-    requires { ⌜ (count ≤ 64) × (count ≤ length (now ids)) ⌝ }
+    requires { ⌜ (count ≤ maxConnections) × (count ≤ length (now ids)) ⌝ }
     ensures { λ r. ⌜ (r .id ≡ newId (take count (now (ids .entry))) counter) × (r .next ≡ (r .id + 1) % 2 ^ 32) ⌝ }
     ensures unused { λ r. ⌜ taken (take count (now (ids .entry))) (r .id) ≡ false ⌝ }
 {
@@ -106,9 +112,9 @@ pub fn allocate_connection_id(ids: &[u32], count: usize, counter: u32) -> NewId
     }
 }
 
-// Takes an id out of the first count numbers, keeping the order of the others, and says how many are left.
+// Takes `id` out of the first `count` numbers, keeping the order of the others, and returns how many are left.
 fn close_id(ids: &mut [u32], count: usize, id: u32) -> usize
-    requires { ⌜ (count ≤ 64) × (count ≤ length (now ids)) ⌝ }
+    requires { ⌜ (count ≤ maxConnections) × (count ≤ length (now ids)) ⌝ }
     ensures { λ r. ⌜ r ≡ length (without id (take count (now (ids .entry)))) ⌝ }
     ensures store { λ r. ⌜ now (ids .exit) ≡ front (without id (take count (now (ids .entry)))) (now (ids .entry)) ⌝ }
 {
@@ -127,16 +133,17 @@ fn close_id(ids: &mut [u32], count: usize, id: u32) -> usize
 
 // ---- the peer
 
+// Returns `n`, or the smallest limit that a device may name if that is more.
 fn at_least_minimum(n: u16) -> u16
     ensures { λ r. ⌜ r ≡ atLeast255 n ⌝ }
 {
-    if n < MINIMUM_PACKET_LENGTH {
-        return MINIMUM_PACKET_LENGTH;
+    if n < MIN_PACKET {
+        return MIN_PACKET;
     }
     n
 }
 
-// Connect sets the peer's limit.
+// Sets the peer's limit, which its Connect names.
 pub fn limited(peer: Peer, max_packet_length: u16) -> Peer
     ensures { λ r. ⌜ r ≡ limitedPeer peer «max_packet_length» ⌝ }
 {
@@ -145,7 +152,7 @@ pub fn limited(peer: Peer, max_packet_length: u16) -> Peer
     r
 }
 
-// Authentication as it is from now on; the rest stays.
+// Returns the peer with this authentication; the rest stays.
 fn with_authentication(peer: Peer, authenticated: bool, challenge: Challenge) -> Peer
     ensures { λ r. ⌜ r ≡ authenticatedPeer peer authenticated challenge ⌝ }
 {
@@ -161,21 +168,21 @@ fn with_authentication(peer: Peer, authenticated: bool, challenge: Challenge) ->
     }
 }
 
-// The password was right.
+// Marks the peer as authenticated: the password was right, and the challenge is used up.
 pub fn verified(peer: Peer) -> Peer
     ensures { λ r. ⌜ r ≡ verifiedPeer peer ⌝ }
 {
     with_authentication(peer, true, Challenge::Absent)
 }
 
-// A challenge with a new nonce is sent.
+// Stores the nonce of a new challenge; the peer is no longer authenticated.
 pub fn challenged(peer: Peer, nonce: Octets16) -> Peer
     ensures { λ r. ⌜ r ≡ challengedPeer peer nonce ⌝ }
 {
     with_authentication(peer, false, Challenge::Stored(nonce))
 }
 
-// SRM as it is from now on; the rest stays.
+// Returns the peer with Single Response Mode (SRM) on or off; the rest stays.
 fn with_srm(peer: Peer, srm: bool) -> Peer
     ensures { λ r. ⌜ r ≡ srmPeer peer srm ⌝ }
 {
@@ -184,9 +191,9 @@ fn with_srm(peer: Peer, srm: bool) -> Peer
     r
 }
 
-// One id more, with the counter from now on.
+// Returns the peer with one id more, the counter `next`, and SRM.
 fn with_id(peer: Peer, srm: bool, id: u32, next: u32) -> Peer
-    requires { ⌜ peer .count < 64 ⌝ }
+    requires { ⌜ peer .count < maxConnections ⌝ }
     ensures { λ r. ⌜ r ≡ addedPeer peer srm id next ⌝ }
 {
     let count = peer.count;
@@ -198,9 +205,9 @@ fn with_id(peer: Peer, srm: bool, id: u32, next: u32) -> Peer
     r
 }
 
-// Opens an id, where it is not open yet.
+// Opens `id` if it is not open yet. A 65th is not opened.
 pub fn opened(peer: Peer, srm: bool, id: u32, next: u32) -> Opening
-    requires { ⌜ peer .count ≤ 64 ⌝ }
+    requires { ⌜ peer .count ≤ maxConnections ⌝ }
     ensures { λ r. ⌜ r ≡ openingOf peer (openedPeer peer srm id next) ⌝ }
 {
     let ids = peer.connections;
@@ -210,7 +217,7 @@ pub fn opened(peer: Peer, srm: bool, id: u32, next: u32) -> Opening
             peer: with_srm(peer, srm),
         };
     }
-    if peer.count >= 64 {
+    if peer.count >= MAX_CONNECTIONS {
         return Opening { full: true, peer };
     }
     Opening {
@@ -219,9 +226,9 @@ pub fn opened(peer: Peer, srm: bool, id: u32, next: u32) -> Opening
     }
 }
 
-// The host's answer to a Connect is success: its first ConnectionID is opened, else for a Target a new one.
+// Opens the id of a Connect that succeeded: the one that the host's answer names, else, for a Target, a new one.
 pub fn opened_for(peer: Peer, srm: bool, given: ConnectionId, target: bool) -> Answer
-    requires { ⌜ peer .count ≤ 64 ⌝ }
+    requires { ⌜ peer .count ≤ maxConnections ⌝ }
     ensures { λ r. ⌜ r ≡ answerBy peer srm given target ⌝ }
 {
     if let ConnectionId::Id(id) = given {
@@ -247,21 +254,21 @@ pub fn opened_for(peer: Peer, srm: bool, given: ConnectionId, target: bool) -> A
     }
 }
 
-// No connection is left: the counter and the challenge stay.
+// Clears all connections, SRM, authentication and the peer's limit; the counter and the challenge stay.
 fn cleared(peer: Peer) -> Peer
     ensures { λ r. ⌜ r ≡ clearedPeer peer ⌝ }
 {
     let mut r = peer;
     r.count = 0;
-    r.remote_max_packet_length = MINIMUM_PACKET_LENGTH;
+    r.remote_max_packet_length = MIN_PACKET;
     r.srm_enabled = false;
     r.authenticated = false;
     r
 }
 
-// Disconnect closes the id that it names, or all.
+// Closes the id that a Disconnect names. If it names none, or the last closes, all is cleared.
 pub fn disconnected(peer: Peer, named: ConnectionId) -> Peer
-    requires { ⌜ peer .count ≤ 64 ⌝ }
+    requires { ⌜ peer .count ≤ maxConnections ⌝ }
     ensures { λ r. ⌜ r ≡ disconnectedBy peer named ⌝ }
 {
     let ConnectionId::Id(id) = named else {

@@ -1,15 +1,4 @@
--- What several proofs cite.
+-- The lemmas that several proofs cite: bytes as numbers, the padded message, and its blocks.
 pub mod Octets
 pub mod Padded
 pub mod Blocks
-pub mod Widths
-pub mod Pairs
-pub mod Sequences
-pub mod TextRoom
-pub mod Cut
-pub mod TextSizes
-pub mod TextWhole
-pub mod Back16
-pub mod Back8
-pub mod RoundTrips
-pub mod TextRows

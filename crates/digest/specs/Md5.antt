@@ -1,4 +1,4 @@
--- MD5 as RFC 1321 gives it, whose sections the comments name, and OBEX's request digest (document 01, Digest).
+-- MD5 as RFC 1321 gives it, whose sections the comments name, and OBEX's request digest (IrOBEX 1.5, section 3.6.3; docs/PROTOCOL.md#digest).
 -- A word is a number below 2 ^ 32, a message a list of bytes.
 use mathlib.Core.List.{List, [], _∷_, _++_, reverse}
 use Prim.Native.Nat.{ℕ, zero, suc, _+_, _-_, _*_, _/_, _%_, _^_}

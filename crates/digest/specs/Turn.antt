@@ -1,5 +1,5 @@
--- What md5.rt's own functions say of each other, beside the RFC's definitions in Md5: one step's numbers, and a part of a message in a
--- block.
+-- What md5.rt's own functions say of each other, beside the RFC's definitions in Md5: the numbers of one step, and the part of a message
+-- that falls into a block.
 use mathlib.Core.Path.{_≡_}
 use mathlib.Core.List.{List}
 use Prim.Native.Nat.{ℕ, _-_, _/_, _<_, min}
@@ -9,7 +9,8 @@ use Rattle.digest.specs.declared.md5.Regs.{Regs}
 use Rattle.digest.specs.declared.md5.Span.{Span}
 use Rattle.digest.specs.Md5.{table, shifts, wordAt, steps}
 
--- t is after i steps on the block p from s; step i is of round r and takes the word w, the constant k and the shift n
+-- `t` is reached from `s` by `i` steps on the block `p`; step `i` belongs to round `r` and takes the word `w`, the constant `k` and the
+-- shift `n`.
 pub record Turn (p : List ℕ) (s t : Regs) (r i w k n : ℕ) : Type 0 where
   pub whole : length p ≡ 64
   pub before : t ≡ steps p i s
@@ -21,15 +22,15 @@ pub record Turn (p : List ℕ) (s t : Regs) (r i w k n : ℕ) : Type 0 where
   pub some : 0 < n
   pub short : n < 32
 
--- the block at at of a longer list, and a part of n elements at from: where those that fall into the block go, the first of them, and how
--- many
+-- Which of the `n` elements of a part at `from` fall into the block at `at`: the place of the first in the block, how many of the part
+-- stand before it, and how many fall in.
 unfoldable pub spanOf : ℕ → ℕ → ℕ → Span
 spanOf at from n =
     let p = min (from - at) 64 in
     let s = min (at - from) n in
     record { place = p; skip = s; count = min (64 - p) (n - s) }
 
--- the block with that part
+-- The block `b` at `at` with those elements of a part that fall into it.
 unfoldable pub partLaid : List ℕ → ℕ → List ℕ → ℕ → List ℕ
 partLaid b at part from =
     let s = spanOf at from (length part) in

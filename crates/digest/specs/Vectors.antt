@@ -1,4 +1,4 @@
--- RFC 1321, A.5: the digest of no bytes, by computing.
+-- Values of the definitions, computed: the digest of no bytes (RFC 1321, A.5), and sixteen bytes as two numbers.
 use mathlib.Core.Path.{_≡_, refl}
 use mathlib.Core.List.{[], _∷_}
 use Rattle.digest.specs.Md5.{stepOf, word, steps, blockOf, le, padded, blocks, outputOf, digestOf, leValue, be, beValue, octets16, numbers16}
@@ -8,7 +8,7 @@ pub empty : digestOf []
 unfolding stepOf word steps blockOf le padded blocks outputOf digestOf
 empty = refl
 
--- sixteen bytes in order, and their value
+-- The bytes 0 to 15 are those of two numbers, which read back.
 pub in-order : octets16 (record { first = 0x0001020304050607; second = 0x08090a0b0c0d0e0f })
     ≡ 0 ∷ 1 ∷ 2 ∷ 3 ∷ 4 ∷ 5 ∷ 6 ∷ 7 ∷ 8 ∷ 9 ∷ 10 ∷ 11 ∷ 12 ∷ 13 ∷ 14 ∷ 15 ∷ []
 unfolding le be octets16

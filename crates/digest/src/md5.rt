@@ -1,4 +1,5 @@
-// MD5 (RFC 1321), and OBEX's request digest.
+// MD5 (RFC 1321), and OBEX's request digest, which IrOBEX 1.5 mandates (section 3.6.3). MD5 is not collision resistant: nothing but what
+// the standard requires may use this module.
 ghost use mathlib.Core.Path.{_≡_};
 ghost use mathlib.Core.List.{_++_};
 ghost use Prim.Native.Nat.{_+_, _-_, _*_, _/_, _%_, _^_, _<_, _≤_, min, max};
@@ -14,7 +15,7 @@ struct Regs {
     pub d: u32,
 }
 
-// Sixteen bytes, a nonce or a digest: bytes 0 to 7 are first, the high-order one first, and bytes 8 to 15 second.
+// The sixteen bytes of a nonce or a digest: `first` holds bytes 0 to 7, the high-order one first, and `second` bytes 8 to 15.
 pub struct Octets16 {
     pub first: u64,
     pub second: u64,
@@ -344,7 +345,7 @@ fn block(p: &[u8], s: Regs) -> Regs
     }
 }
 
-// The bytes of a number, the low-order one first.
+// Returns the eight bytes of `x`, the low-order one first.
 fn le_bytes8(x: u64) -> [u8; 8]
     ensures { λ r. ⌜ r ≡ le 8 x ⌝ }
 {
@@ -360,7 +361,7 @@ fn le_bytes8(x: u64) -> [u8; 8]
     ]
 }
 
-// Where the length field of a padded message of n bytes stands.
+// Returns where the length field of a padded message of `n` bytes stands.
 fn field_at(n: usize) -> usize
     requires { ⌜ n < 2 ^ 63 + 64 ⌝ }
     ensures { λ r. ⌜ r ≡ n + 1 + zeros n ⌝ }
@@ -368,33 +369,35 @@ fn field_at(n: usize) -> usize
     n + 1 + (119 - n % 64) % 64
 }
 
-// x - y, or 0.
+// Returns `x - y`, or 0 if `y` is the larger.
 fn less(x: usize, y: usize) -> usize
     ensures { λ r. ⌜ r ≡ x - y ⌝ }
 {
     if x < y { 0 } else { x - y }
 }
 
+// Returns the smaller of `x` and `y`.
 fn least(x: usize, y: usize) -> usize
     ensures { λ r. ⌜ r ≡ min x y ⌝ }
 {
     if x < y { x } else { y }
 }
 
+// Returns the larger of `x` and `y`.
 fn most(x: usize, y: usize) -> usize
     ensures { λ r. ⌜ r ≡ max x y ⌝ }
 {
     if x < y { y } else { x }
 }
 
-// Where bytes go in a block, which of a part's bytes are the first of them, and how many.
+// The bytes of a part that fall into a block: `count` bytes go to `place` of the block, behind `skip` bytes of the part.
 struct Span {
     pub place: usize,
     pub skip: usize,
     pub count: usize,
 }
 
-// The bytes that a part of n bytes at from has in the block at at.
+// Says which bytes of a part of `n` bytes, which stands at `from`, fall into the block at `at`.
 fn span_in(at: usize, from: usize, n: usize) -> Span
     ensures { λ r. ⌜ (r ≡ spanOf at from n) × (r .place + r .count ≤ 64) × (r .skip + r .count ≤ n) ⌝ }
 {
@@ -407,7 +410,7 @@ fn span_in(at: usize, from: usize, n: usize) -> Span
     }
 }
 
-// A part of the padded message stands at from: those of its bytes that fall into the block at at are stored there.
+// Stores those bytes of `part`, which stands at `from` in the padded message, that fall into the block at `at`.
 fn put_part(b: &mut [u8], at: usize, part: &[u8], from: usize)
     requires { ⌜ length (now b) ≡ 64 ⌝ }
     ensures { λ r. ⌜ now (b .exit) ≡ partLaid (now (b .entry)) at (now (part .entry)) from ⌝ }
@@ -418,7 +421,7 @@ fn put_part(b: &mut [u8], at: usize, part: &[u8], from: usize)
     base::copy_into(b, s.place, &part[skip..end]);
 }
 
-// The 64 bytes of the padded message from at on. The message is prefix and then rest.
+// Lays out the block at `at` of the padded message of `prefix` and then `rest`.
 fn fill(prefix: &[u8], rest: &[u8], at: usize) -> [u8; 64]
     requires { ⌜ (length (now prefix) < 64) × (at + 64 ≤ length (padded (now prefix ++ now rest))) ⌝ }
     ensures { λ r. ⌜ (64 ≡ length r) × (r ≡ take 64 (drop at (padded (now (prefix .entry) ++ now (rest .entry))))) ⌝ }
@@ -433,7 +436,7 @@ fn fill(prefix: &[u8], rest: &[u8], at: usize) -> [u8; 64]
     b
 }
 
-// The registers after the blocks before to, by blocks that are laid out anew.
+// Runs the blocks from `from` up to `to`, each laid out anew: such a block touches the prefix or the padding.
 fn filled_blocks(prefix: &[u8], rest: &[u8], from: usize, to: usize, start: Regs) -> Regs
     requires { ⌜ (length (now prefix) < 64) × (from ≤ to) × (64 * to ≤ length (padded (now prefix ++ now rest)))
         × (start ≡ blocks (padded (now prefix ++ now rest)) from) ⌝ }
@@ -449,7 +452,7 @@ fn filled_blocks(prefix: &[u8], rest: &[u8], from: usize, to: usize, start: Regs
     s
 }
 
-// The same by blocks that lie in rest, where they stand.
+// Runs the blocks from `from` up to `to`, which lie wholly in `rest` and are read there without a copy.
 fn whole_blocks(prefix: &[u8], rest: &[u8], from: usize, to: usize, start: Regs) -> Regs
     requires { ⌜ (length (now prefix) ≤ 64 * from) × (64 * to ≤ length (now prefix) + length (now rest)) × (length (now prefix) < 64)
         × (start ≡ blocks (padded (now prefix ++ now rest)) from) ⌝ }
@@ -465,7 +468,7 @@ fn whole_blocks(prefix: &[u8], rest: &[u8], from: usize, to: usize, start: Regs)
     s
 }
 
-// The registers after all blocks of the message prefix and then rest.
+// Returns the registers after all blocks of the message `prefix` and then `rest`.
 fn all_blocks(prefix: &[u8], rest: &[u8]) -> Regs
     requires { ⌜ length (now prefix) < 64 ⌝ }
     ensures { λ r. ⌜ r ≡ blocks (padded (now (prefix .entry) ++ now (rest .entry)))
@@ -485,7 +488,7 @@ fn all_blocks(prefix: &[u8], rest: &[u8]) -> Regs
     filled_blocks(prefix, rest, most(head, whole), (field_at(n) + 8) / 64, t)
 }
 
-// The number of a word's bytes in the other order.
+// Returns the number whose bytes are those of the word `x` in the other order.
 fn swapped(x: u32) -> u64
     ensures { λ r. ⌜ (r ≡ beValue (le 4 x)) × (r < 2 ^ 32) ⌝ }
 {
@@ -493,7 +496,7 @@ fn swapped(x: u32) -> u64
     y % 256 * 16777216 + y / 256 % 256 * 65536 + y / 65536 % 256 * 256 + y / 16777216 % 256
 }
 
-// The digest that the registers are in the end.
+// Returns the digest that the registers hold in the end.
 fn output(s: Regs) -> Octets16
     ensures { λ r. ⌜ r ≡ numbers16 (outputOf s) ⌝ }
 {
@@ -503,7 +506,7 @@ fn output(s: Regs) -> Octets16
     }
 }
 
-// The 64-bit number at a place, the high-order byte first.
+// Reads the 64-bit number at `at`, its high-order byte first.
 fn number_at(s: &[u8], at: usize) -> u64
     requires { ⌜ at + 8 ≤ length (now s) ⌝ }
     ensures { λ r. ⌜ r ≡ beValue (take 8 (drop at (now (s .entry)))) ⌝ }
@@ -517,7 +520,7 @@ fn number_at(s: &[u8], at: usize) -> u64
     x
 }
 
-// The value of the 16 bytes at a place.
+// Reads the 16 bytes at `at` as two numbers.
 pub fn octets16_at(s: &[u8], at: usize) -> Octets16
     requires { ⌜ at + 16 ≤ length (now s) ⌝ }
     ensures { λ r. ⌜ r ≡ numbers16 (take 16 (drop at (now (s .entry)))) ⌝ }
@@ -528,7 +531,7 @@ pub fn octets16_at(s: &[u8], at: usize) -> Octets16
     }
 }
 
-// The bytes of a value.
+// Returns the 16 bytes of `n`.
 pub fn octets(n: Octets16) -> [u8; 16]
     ensures { λ r. ⌜ r ≡ octets16 n ⌝ }
 {
@@ -554,7 +557,7 @@ pub fn octets(n: Octets16) -> [u8; 16]
     ]
 }
 
-// The bytes of a value, stored from a place on.
+// Stores the 16 bytes of `n` from `at` on.
 pub fn put_octets16(d: &mut [u8], at: usize, n: Octets16)
     requires { ⌜ at + 16 ≤ length (now d) ⌝ }
     ensures { λ r. ⌜ now (d .exit) ≡ paste (now (d .entry)) at (octets16 n) 16 ⌝ }
@@ -563,13 +566,14 @@ pub fn put_octets16(d: &mut [u8], at: usize, n: Octets16)
     base::copy_into(d, at, &bytes);
 }
 
+// Computes the MD5 digest of `message`.
 pub fn digest(message: &[u8]) -> [u8; 16]
     ensures { λ r. ⌜ r ≡ digestOf (now (message .entry)) ⌝ }
 {
     octets(output(all_blocks(&message[..0], message)))
 }
 
-// OBEX's request digest, of the nonce, a colon and the password.
+// Computes OBEX's request digest, MD5(nonce ":" password).
 pub fn request_digest(nonce: Octets16, password: &[u8]) -> Octets16
     ensures { λ r. ⌜ r ≡ numbers16 (requestDigest (octets16 nonce) (now (password .entry))) ⌝ }
 {

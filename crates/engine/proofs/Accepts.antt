@@ -7,9 +7,9 @@ use Prim.Native.Nat.{ℕ, _≤_}
 use denote.Enum.Declared.{tagOf}
 use types.Run.{OneOf, miss}
 use Rattle.digest.specs.declared.md5.Octets16.{Octets16}
-use borrow.Author.Tests.{eq-eqb, ne-eqb, leb-true}
+use borrow.Author.Tests.{leb-true}
 use lib.ListN.{length, take}
-use lib.Dec.{eqb, ltb}
+use lib.Dec.{ltb}
 use Rattle.base.specs.Pick.{pick}
 use Rattle.packet.specs.Codes.{isSuccess}
 use Rattle.packet.specs.Header.{Header, readHeaders, first, firstPlace, allBytes}
@@ -21,30 +21,35 @@ use Rattle.packet.specs.declared.auth.DigestChallenge.{DigestChallenge}
 use Rattle.packet.specs.declared.auth.DigestChallenge.the-variants as challenge
 use Rattle.journal.specs.Calls.{Credentials}
 use Rattle.incoming.specs.Survey.{surveyOf}
-use Rattle.connection.specs.Send.{Sending as Sent, fieldsOf, sendBytes, sentInto, front}
+use Rattle.connection.specs.Reply.{Sending as Sent, fieldsOf, sendBytes, sentInto, front}
 use Rattle.connection.specs.Peer.{idIn, isGiven, openedFor, openedBy as peerOpened, openingOf, frontBy, answerBy, disconnectedPeer, disconnectedBy}
-use Rattle.connection.specs.Connect.{answeredChallenge, connectHeaders}
+use Rattle.connection.specs.ConnectReply.{answeredChallenge, connectHeaders}
 use Rattle.connection.specs.Pieces.{headersFrom, realmOf, answeredIn, idGiven, credentialsOf}
 use Rattle.connection.specs.declared.peer.Peer.{Peer}
 use Rattle.connection.specs.declared.peer.ConnectionId.{ConnectionId}
 use Rattle.connection.specs.declared.peer.Answer.{Answer}
 use Rattle.connection.proofs.ByNumbers.{opened-by, disconnected-by}
 use Rattle.journal.specs.Journal.{listOf}
-use Rattle.model.specs.Model.{Stores, Stepped, stepped, Done, after, badReply, replyStep, longUser, checked, credentialsWith, credentialsStep, soundOperation, lastPacket, lastHeaders, srmAsked, sends, sendsConnect, connectSends, frontFor, realmIn, connectChallenged, connectOpened, connectAnswer, replyAnswer, awaited}
-use Rattle.engine.specs.Plan.{asksPlan}
-use Rattle.engine.specs.Guard.{refusal}
-use Rattle.engine.specs.Carry.{Written, written, within, tookBy, sentPlan, repliesBy}
-use Rattle.engine.specs.Last.{lastFrom}
-use Rattle.engine.specs.Accept.{Answering, answering, among, leaving, headersOf, srmAskedBy, connectReplies, acceptedHeaders, answerFor, challengedBy, openedBy, acceptedBy, repliedPeer, credentialsBy}
-use Rattle.model.specs.declared.server.Operation.{Operation}
-use Rattle.model.specs.declared.server.Operation.the-variants.{Nothing, Putting, Getting, Sending, Gathering as GatheringOp, Connecting, Draining}
-use Rattle.model.specs.declared.server.Await.the-variants as await
-use Rattle.model.specs.declared.server.Engine.{Engine}
-use Rattle.model.specs.declared.server.Request.the-variants as request
-use Rattle.model.specs.declared.server.Took.{Took}
-use Rattle.engine.specs.declared.plan.Plan.{Plan}
+use Rattle.model.specs.Step.{Stores, Stepped, stepped, Done, after, sends, sendsConnect}
+use Rattle.model.specs.Guard.{badReply, longUser, checked, soundOperation, sameAwait}
+use Rattle.model.specs.Calls.{replyGivenStep, credentialsWith, credentialsGivenStep, replyAnswer}
+use Rattle.model.specs.Request.{lastPacket, lastHeaders, realmIn}
+use Rattle.model.specs.Connect.{srmAsked, connectSends, frontFor, connectChallenged, connectOpened, connectAnswer}
+use Rattle.engine.specs.Step.{asksPlan, Written, written, within, tookBy, sentPlan, repliesBy}
+use Rattle.engine.specs.Guard.{refusedWith}
+use Rattle.engine.specs.Request.{lastFrom}
+use Rattle.engine.specs.Connect.{Answering, answering, among, leaving, headersOf, srmAskedBy, connectReplies, acceptedHeaders, answerFor, challengedBy, openedBy, acceptedBy, repliedPeer, credentialsBy}
+use Rattle.server.specs.declared.Operation.{Operation}
+use Rattle.server.specs.declared.Operation.the-variants.{Nothing, Putting, Getting, Sending, Gathering as GatheringOp, Connecting, Draining}
+use Rattle.server.specs.declared.Await.the-variants as await
+use Rattle.server.specs.declared.CallKind.the-variants as kind
+use Rattle.server.specs.declared.Refusal.the-variants as refusal
+use Rattle.server.specs.declared.Engine.{Engine}
+use Rattle.server.specs.declared.HostRequest.the-variants as request
+use Rattle.server.specs.declared.CallResult.{CallResult}
+use Rattle.engine.specs.declared.step.Plan.{Plan}
 use Rattle.engine.proofs.Carried.{took-sent, sent-written}
-use Rattle.model.proofs.server.Operation.{the-type}
+use Rattle.server.proofs.Operation.{the-type}
 use Rattle.model.proofs.FromHost.{reply-headers-fit}
 use Rattle.engine.proofs.Guards.{Goes}
 use Rattle.engine.proofs.LastPacket.{last-headers}
@@ -59,19 +64,19 @@ front-by p none (some t) = refl
 -- ---- what the functions of the code found
 
 -- the peer when a reply is made
-module _ (e : Engine) (q : List ℕ) (m : ℕ) (now : m ≡ awaited (e .awaits)) where
-  pub replied-closing : m ≡ 4 → (n : ℕ) (i : ConnectionId) (p : Peer) → n ≡ lastFrom q → i ≡ idIn (first 0xCB (headersFrom q n))
+module _ (e : Engine) (q : List ℕ) (m : Bool) (now : m ≡ sameAwait (e .awaits) await.Disconnect) where
+  pub replied-closing : m ≡ true → (n : ℕ) (i : ConnectionId) (p : Peer) → n ≡ lastFrom q → i ≡ idIn (first 0xCB (headersFrom q n))
       → p ≡ disconnectedBy (e .peer) i → p ≡ repliedPeer e q
   unfolding repliedPeer
   replied-closing k n i p h c w =
       w
       ∙ ap (λ (i : ConnectionId). disconnectedBy (e .peer) i) (c ∙ ap (λ (n : ℕ). idIn (first 0xCB (headersFrom q n))) h ∙ ap (λ (hs : List Header). idIn (first 0xCB hs)) (last-headers q))
       ∙ sym (disconnected-by (e .peer) (first 0xCB (headersOf q)))
-      ∙ sym (simp (eq-eqb (awaited (e .awaits)) 4 (sym now ∙ k)))
+      ∙ sym (simp (sym now ∙ k))
 
-  pub replied-other : (m ≡ 4 → ⊥) → e .peer ≡ repliedPeer e q
+  pub replied-other : m ≡ false → e .peer ≡ repliedPeer e q
   unfolding repliedPeer
-  replied-other k = sym (simp (ne-eqb (awaited (e .awaits)) 4 (λ (z : awaited (e .awaits) ≡ 4). k (now ∙ z))))
+  replied-other k = sym (simp (sym now ∙ k))
 
 -- the challenge that is answered, or none
 pub challenge-known : (q : List ℕ) (n : ℕ) (d x : DigestChallenge) → n ≡ lastFrom q → d ≡ answeredIn (headersFrom q n) → d ≡ x
@@ -84,7 +89,7 @@ module _ (e : Engine) (p : Peer) (code : ℕ) (f : ConnectionId) (q hs y : List 
   made c n r b =
       sentInto (sendBytes n code (fieldsOf (e .settings .«max_packet_length»)) (allBytes (connectHeaders (idGiven f) r (headersFrom hs 0) c b))) y
 
-  pub accepted-sent : (c : Option Credentials) (n m : ℕ) (b : Bool) (z : Sent) (x : Plan) (r : Took)
+  pub accepted-sent : (c : Option Credentials) (n m : ℕ) (b : Bool) (z : Sent) (x : Plan) (r : CallResult)
       → z ≡ made c n (headersFrom q m) b → n ≡ p .«remote_max_packet_length» → m ≡ lastFrom q
       → b ≡ srmAskedBy e q → x ≡ sentPlan e p (z .answer) → r ≡ tookBy x
       → written r (z .reply) ≡ connectReplies e p code (acceptedHeaders e f q hs c) y
@@ -98,12 +103,12 @@ module _ (e : Engine) (p : Peer) (code : ℕ) (f : ConnectionId) (q hs y : List 
   not-challenged h w k i =
       ap (λ (w : Written). leaving h w) i ∙ ap (λ (d : DigestChallenge). challengedBy d e p code f hs q h y) k
 
-  pub challenged : (h z : List ℕ) (n : Octets16) (u r : Bool) (a m : Found) (x : Plan) (t : Took) → challenge.Challenge n u r a ≡ answeredIn (headersOf q)
+  pub challenged : (h z : List ℕ) (n : Octets16) (u r : Bool) (a m : Found) (x : Plan) (t : CallResult) → challenge.Challenge n u r a ≡ answeredIn (headersOf q)
       → t ≡ tookBy x → x ≡ asksPlan e p (Connecting code f (length hs)) await.Credentials (request.Credentials n u r m)
       → m ≡ realmIn q (firstPlace 0x4D q 7) → z ≡ front hs h
       → answering t z y ≡ challengedBy (answeredIn (headersOf q)) e p code f hs q h y
   challenged h z n u r a m x t k i j l o =
-      ap₂ (λ (t : Took) (z : List ℕ). answering t z y)
+      ap₂ (λ (t : CallResult) (z : List ℕ). answering t z y)
       (i ∙ ap (λ (x : Plan). tookBy x) (j ∙ ap (λ (m : Found). asksPlan e p (Connecting code f (length hs)) await.Credentials (request.Credentials n u r m)) l)) o
       ∙ ap (λ (d : DigestChallenge). challengedBy d e p code f hs q h y) k
 
@@ -189,13 +194,13 @@ module _ (e : Engine) (s : Stores) where
 
     -- ---- a call for a reply
 
-    to-connect : awaited (e .awaits) ≡ 3 → connectAnswer e code hs s ≡ replyAnswer e code hs s
+    to-connect : sameAwait (e .awaits) await.Connect ≡ true → connectAnswer e code hs s ≡ replyAnswer e code hs s
     unfolding replyAnswer
-    to-connect k = sym (simp (eq-eqb (awaited (e .awaits)) 3 k))
+    to-connect k = sym (simp k)
 
-    to-another : (awaited (e .awaits) ≡ 3 → ⊥) → sends e (repliedPeer e (lastPacket e s)) code hs s ≡ replyAnswer e code hs s
+    to-another : sameAwait (e .awaits) await.Connect ≡ false → sends e (repliedPeer e (lastPacket e s)) code hs s ≡ replyAnswer e code hs s
     unfolding replyAnswer repliedPeer lastHeaders
-    to-another k = sym (simp (ne-eqb (awaited (e .awaits)) 3 k) (go (eqb (awaited (e .awaits)) 4)))
+    to-another k = sym (simp k (go (sameAwait (e .awaits) await.Disconnect)))
       where
         go : (t : Bool)
             → pick t (sends e (disconnectedPeer (e .peer) (first 0xCB (lastHeaders e s))) code hs s) (sends e (e .peer) code hs s)
@@ -203,30 +208,30 @@ module _ (e : Engine) (s : Stores) where
         go true = refl
         go false = refl
 
-    module _ (g : Goes 3 6 e s) (t : Bool) (bad : t ≡ badReply code hs) where
-      pub reply-bad : t ≡ true → (r : Took) → r ≡ refusal 8 e → stepped r s ≡ replyStep e code hs s
-      unfolding replyStep
-      reply-bad k r h = ap (λ (r : Took). stepped r s) h ∙ sym (simp (sym bad ∙ k)) ∙ sym (g .whole _)
+    module _ (g : Goes kind.ReplyGiven e s) (t : Bool) (bad : t ≡ badReply code hs) where
+      pub reply-bad : t ≡ true → (r : CallResult) → r ≡ refusedWith refusal.BadAnswer e → stepped r s ≡ replyGivenStep e code hs s
+      unfolding replyGivenStep
+      reply-bad k r h = ap (λ (r : CallResult). stepped r s) h ∙ sym (simp (sym bad ∙ k)) ∙ sym (g .whole _)
 
-      reply-by : t ≡ false → (x : Stepped) → x ≡ after 0 (replyAnswer e code hs s) → x ≡ replyStep e code hs s
-      unfolding replyStep
+      reply-by : t ≡ false → (x : Stepped) → x ≡ after 0 (replyAnswer e code hs s) → x ≡ replyGivenStep e code hs s
+      unfolding replyGivenStep
       reply-by k x h = h ∙ sym (simp (sym bad ∙ k)) ∙ sym (g .whole _)
 
-      module _ (good : t ≡ false) (n : ℕ) (now : n ≡ awaited (e .awaits)) where
-        pub reply-connect : n ≡ 3 → (a : Answering) → a ≡ acceptedBy e code hs (take (e .length) (s .packet)) (s .headers) (s .reply)
-            → among a s ≡ replyStep e code hs s
+      module _ (good : t ≡ false) (n : Bool) (now : n ≡ sameAwait (e .awaits) await.Connect) where
+        pub reply-connect : n ≡ true → (a : Answering) → a ≡ acceptedBy e code hs (take (e .length) (s .packet)) (s .headers) (s .reply)
+            → among a s ≡ replyGivenStep e code hs s
         unfolding lastPacket
         reply-connect k a h =
             reply-by good (among a s) (ap (λ (a : Answering). among a s) h ∙ answer-is ∙ ap (λ (d : Done). after 0 d) (to-connect (sym now ∙ k)))
 
-        pub reply-another : (n ≡ 3 → ⊥) → (p : Peer) (w : Written) → p ≡ repliedPeer e (take (e .length) (s .packet)) → w ≡ repliesBy e p code [] hs (s .reply)
-            → within w s ≡ replyStep e code hs s
+        pub reply-another : n ≡ false → (p : Peer) (w : Written) → p ≡ repliedPeer e (take (e .length) (s .packet)) → w ≡ repliesBy e p code [] hs (s .reply)
+            → within w s ≡ replyGivenStep e code hs s
         unfolding lastPacket
         reply-another k p w i h =
             reply-by good (within w s)
             (ap (λ (w : Written). within w s) h ∙ replies-plain p code hs
             ∙ ap (λ (p : Peer). after 0 (sends e p code hs s)) i
-            ∙ ap (λ (d : Done). after 0 d) (to-another (λ (z : awaited (e .awaits) ≡ 3). k (now ∙ z))))
+            ∙ ap (λ (d : Done). after 0 d) (to-another (sym now ∙ k)))
 
 -- good header bytes are not too long
 pub good-reply : (code : ℕ) (hs : List ℕ) (t : Bool) → t ≡ badReply code hs → t ≡ false → length hs ≤ 65535
@@ -236,7 +241,7 @@ good-reply code hs t h k = reply-headers-fit code hs (sym h ∙ k)
 
 -- no Connect waits for them
 pub credentials-other : (o : Operation) (e : Engine) (c : Option Credentials) (q h y : List ℕ) → OneOf (0 ∷ 1 ∷ 2 ∷ 3 ∷ 4 ∷ 6 ∷ []) (tagOf the-type o)
-    → written (refusal 9 e) y ≡ credentialsBy o e c q h y
+    → written (refusedWith refusal.WrongMoment e) y ≡ credentialsBy o e c q h y
 credentials-other Nothing e c q h y k = refl
 credentials-other (Putting g srm) e c q h y k = refl
 credentials-other (Getting g srm confirm wait) e c q h y k = refl
@@ -260,14 +265,14 @@ module _ (e : Engine) (c : Option Credentials) (s : Stores) where
       hs = take n (s .headers)
 
       go : (t : Bool)
-          → within (pick t (written (refusal 8 e) (s .reply)) (connectReplies e (e .peer) code (acceptedHeaders e f (lastPacket e s) hs c) (s .reply))) s
+          → within (pick t (written (refusedWith refusal.BadAnswer e) (s .reply)) (connectReplies e (e .peer) code (acceptedHeaders e f (lastPacket e s) hs c) (s .reply))) s
           ≡ checked t e s (connectSends e (e .peer) code f (listOf (readHeaders hs 0)) c s)
       go true = refl
       go false = accepted-replies e s (e .peer) code f hs c
 
-  pub credentials-call : Goes 10 10 e s → (w : Written) → w ≡ credentialsBy (e .operation) e c (take (e .length) (s .packet)) (s .headers) (s .reply)
-      → within w s ≡ credentialsStep e c s
-  unfolding credentialsStep lastPacket
+  pub credentials-call : Goes kind.CredentialsGiven e s → (w : Written) → w ≡ credentialsBy (e .operation) e c (take (e .length) (s .packet)) (s .headers) (s .reply)
+      → within w s ≡ credentialsGivenStep e c s
+  unfolding credentialsGivenStep lastPacket
   credentials-call g w h = ap (λ (w : Written). within w s) h ∙ credentials-is (e .operation) ∙ sym (g .whole _)
 
 -- a user id counts where there are credentials; m says whether it does
@@ -299,8 +304,8 @@ module _ (has named m : Bool) (is : m ≡ has && named) (user password : List �
 
   module _ (o : Operation) (code : ℕ) (f : ConnectionId) (n : ℕ) (waits : o ≡ Connecting code f n) (e : Engine) (q h y : List ℕ)
       (t : Bool) (long : t ≡ (m && ltb 255 (length user))) where
-    pub credentials-long : t ≡ true → (r : Took) → r ≡ refusal 8 e → written r y ≡ credentialsBy o e told q h y
-    credentials-long k r i = ap (λ (r : Took). written r y) i ∙ sym (simp (waits, sym long-is ∙ sym long ∙ k))
+    pub credentials-long : t ≡ true → (r : CallResult) → r ≡ refusedWith refusal.BadAnswer e → written r y ≡ credentialsBy o e told q h y
+    credentials-long k r i = ap (λ (r : CallResult). written r y) i ∙ sym (simp (waits, sym long-is ∙ sym long ∙ k))
 
     pub credentials-go : t ≡ false → (w : Written)
         → w ≡ connectReplies e (e .peer) code (acceptedHeaders e f q (take n h) (credentialsOf has (given m user) password)) y

@@ -14,22 +14,27 @@ use Rattle.packet.specs.declared.opcode.Opcode.{Opcode}
 use Rattle.packet.specs.declared.packet.Parsed.the-variants as parsed
 use Rattle.incoming.specs.Frame.{Frames, frames, framed}
 use Rattle.incoming.specs.Survey.{surveyOf}
-use Rattle.incoming.specs.declared.io.Frame.{Frame}
-use Rattle.incoming.specs.declared.io.Framed.{Framed}
+use Rattle.incoming.specs.declared.frame.Frame.{Frame}
+use Rattle.incoming.specs.declared.frame.Framed.{Framed}
 use Rattle.incoming.specs.Gather.{Gathering, gathering, gatherAll, headersOf}
 use Rattle.incoming.specs.declared.gather.Gathered.{Gathered}
 use Rattle.incoming.specs.declared.gather.Keep.{Keep}
 use Rattle.journal.specs.Journal.{headersOf as headersIn}
-use Rattle.model.specs.Model.{Stores, stores, Done, Stepped, stepped, ends, after, lengthOf, packetDone, framedAs, withPacket, offers, bytesStep, limitOf, gathers, unknownByte, soundOperation}
-use Rattle.engine.specs.Plan.{planned, endsPlan}
-use Rattle.engine.specs.Carry.{Written, carried, tookBy}
-use Rattle.engine.specs.Route.{unreadableRoute, headingRoute, routeAs, packetRoute, keepOf, fromOf, kindPlan, actsGathered, acts}
-use Rattle.model.specs.declared.server.Engine.{Engine}
-use Rattle.engine.specs.Turn.{withTaken}
-use Rattle.model.specs.declared.server.Took.{Took}
-use Rattle.engine.specs.declared.plan.Plan.{Plan}
-use Rattle.engine.specs.declared.route.Kind.{Kind}
-use Rattle.engine.specs.declared.route.Route.{Route}
+use Rattle.model.specs.Step.{Stores, stores, Done, Stepped, stepped, ends, after, limitOf}
+use Rattle.model.specs.Dispatch.{lengthOf, packetDone, unknownByte}
+use Rattle.model.specs.Calls.{framedAs, withPacket, offers, bytesOfferedStep}
+use Rattle.model.specs.Operation.{gathers}
+use Rattle.model.specs.Guard.{soundOperation}
+use Rattle.engine.specs.Step.{planned, endsPlan, Written, carried, tookBy}
+use Rattle.engine.specs.Dispatch.{unreadableRoute, headingRoute, routeAs, packetRoute, acts, withTaken}
+use Rattle.engine.specs.Operation.{keepOf, fromOf, kindPlan, actsGathered}
+use Rattle.server.specs.declared.CallKind.the-variants as kind
+use Rattle.server.specs.declared.End.the-variants as end
+use Rattle.server.specs.declared.Engine.{Engine}
+use Rattle.server.specs.declared.CallResult.{CallResult}
+use Rattle.engine.specs.declared.step.Plan.{Plan}
+use Rattle.engine.specs.declared.operation.GatherKind.{GatherKind}
+use Rattle.engine.specs.declared.dispatch.Route.{Route}
 use Rattle.engine.proofs.Guards.{Goes}
 use Rattle.engine.proofs.Ready.{parts, Ready, ready}
 use Rattle.engine.proofs.Routes.{packet-acts}
@@ -62,12 +67,12 @@ heading-way e q o final from n h = go (requestOf q) refl h
         rw (← a, ← b, ← d, y .headers, y .bytes)
 
 -- what `gather` gives, in the words of the model
-pub gathered-way : (e : Engine) (k : Kind) (q : List ℕ) (hs : List Header) (g : Gathered) (s : Stores) (from limit : ℕ) (keep : Keep) (x : Gathering)
+pub gathered-way : (e : Engine) (k : GatherKind) (q : List ℕ) (hs : List Header) (g : Gathered) (s : Stores) (from limit : ℕ) (keep : Keep) (x : Gathering)
     → x ≡ gatherAll keep limit (headersOf (readHeaders q from)) (gathering g (s .headers) (s .body)) → from ≡ fromOf k → keep ≡ keepOf k
     → limit ≡ limitOf e → readHeaders q (fromOf k) ≡ some hs → x ≡ gathers e (keepOf k) hs g s
 gathered-way e k q hs g s from limit keep x h a b c r = h ∙ rw (a, b, c, r)
 
-pub gathered-planned : (e : Engine) (k : Kind) (final asked srm confirm : Bool) (got : Gathered) (h b : List ℕ) (s : Stores) (x : Gathering) (p : Plan)
+pub gathered-planned : (e : Engine) (k : GatherKind) (final asked srm confirm : Bool) (got : Gathered) (h b : List ℕ) (s : Stores) (x : Gathering) (p : Plan)
     → gathering got h b ≡ x → p ≡ kindPlan e k got final asked srm confirm
     → planned p (stores (s .packet) h b (s .reply)) ≡ actsGathered e k final asked srm confirm x s
 gathered-planned e k final asked srm confirm got h b s x p w z = rw (← w, z)
@@ -92,18 +97,18 @@ done-call e n s at p h b y w l k c =
 -- ---- bytes
 
 -- a call that goes on, by where the frame stands
-pub framed-call : (e : Engine) (i : List ℕ) (s : Stores) (f : Framed) (q : List ℕ) (x : Frame) (d : Stepped) → Goes 0 0 e s
-    → frames f q ≡ framed (s .packet) (e .begun) 0 i → f .frame ≡ x → d ≡ framedAs x e (f .begun) (f .taken) (withPacket s q) → d ≡ bytesStep e i s
-unfolding bytesStep
+pub framed-call : (e : Engine) (i : List ℕ) (s : Stores) (f : Framed) (q : List ℕ) (x : Frame) (d : Stepped) → Goes kind.FromPeer e s
+    → frames f q ≡ framed (s .packet) (e .begun) 0 i → f .frame ≡ x → d ≡ framedAs x e (f .begun) (f .taken) (withPacket s q) → d ≡ bytesOfferedStep e i s
+unfolding bytesOfferedStep
 framed-call e i s f q x d g h k w =
     w ∙ ap (λ (y : Frame). framedAs y e (f .begun) (f .taken) (withPacket s q)) (sym k) ∙ ap (λ (y : Frames). offers e y s) h
     ∙ sym (g .whole (offers e (framed (s .packet) (e .begun) 0 i) s))
 
 -- so many bytes were taken
-pub taken-after : (r w : Took) (t : ℕ) (s : Stores) (d : Done) → w ≡ withTaken r t → stepped r s ≡ after 0 d → stepped w s ≡ after t d
-taken-after r w t s d h k = ap (λ (x : Took). stepped x s) h ∙ ap (λ (x : Stepped). stepped (withTaken (x .took) t) (x .stores)) k
+pub taken-after : (r w : CallResult) (t : ℕ) (s : Stores) (d : Done) → w ≡ withTaken r t → stepped r s ≡ after 0 d → stepped w s ≡ after t d
+taken-after r w t s d h k = ap (λ (x : CallResult). stepped x s) h ∙ ap (λ (x : Stepped). stepped (withTaken (x .took) t) (x .stores)) k
 
--- number 3 has no reply to write
-pub short-took : (e : Engine) (r : Took) (p : Plan) (s : Stores) → r ≡ tookBy p → p ≡ endsPlan e (e .peer) 3 → stepped r s ≡ after 0 (ends e (e .peer) 3 s)
+-- the end after a length under 3 has no reply to write
+pub short-took : (e : Engine) (r : CallResult) (p : Plan) (s : Stores) → r ≡ tookBy p → p ≡ endsPlan e (e .peer) end.LengthTooSmall → stepped r s ≡ after 0 (ends e (e .peer) end.LengthTooSmall s)
 unfolding endsPlan
-short-took e r p s h k = ap (λ (x : Took). stepped x s) (h ∙ ap (λ (x : Plan). tookBy x) k)
+short-took e r p s h k = ap (λ (x : CallResult). stepped x s) (h ∙ ap (λ (x : Plan). tookBy x) k)

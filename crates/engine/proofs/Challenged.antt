@@ -10,8 +10,8 @@ use borrow.Author.Tests.{le-ltb}
 use lib.ListN.{length, take, length-take}
 use Rattle.packet.specs.Flags.{flagBits}
 use Rattle.packet.specs.AuthWrite.{given, overlong}
-use Rattle.model.specs.Model.{bit, optionsOf, realmOf}
-use Rattle.model.specs.declared.server.Settings.{Settings}
+use Rattle.model.specs.Connect.{bit, optionsOf, realmOf}
+use Rattle.server.specs.declared.Settings.{Settings}
 
 pub options-are : (st : Settings) → flagBits (st .«user_id_required») (st .«read_only») ≡ optionsOf st
 unfolding flagBits

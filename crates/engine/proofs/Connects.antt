@@ -19,9 +19,9 @@ use Rattle.packet.proofs.HeaderLaws.{first-agrees}
 use Rattle.packet.proofs.AuthLaws.{within}
 use Rattle.packet.proofs.TagWrites.{Within}
 use Rattle.journal.specs.Journal.{headersOf as headersIn, responseIn}
-use Rattle.model.specs.Model.{userIn, placedAt}
-use Rattle.engine.specs.Route.{answeredAs, answeredBy, Below}
-use Rattle.engine.specs.declared.connecting.Answered.the-variants.{Missing, User}
+use Rattle.model.specs.Request.{userIn, placedAt}
+use Rattle.engine.specs.Connect.{answeredAs, answeredBy, Below}
+use Rattle.engine.specs.declared.connect.Answered.the-variants.{Missing, User}
 
 -- what is read, by cases
 unread : (x : Option Response) (u w : Found) → responseRead x u ≡ response.Unreadable → answeredAs x w ≡ Missing

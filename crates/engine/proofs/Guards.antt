@@ -8,10 +8,16 @@ use native.Mathlib.Omega.{arith}
 use lib.ListN.{length, take, length-take}
 use lib.Dec.{ltb, leb}
 use borrow.Author.Tests.{ltb-true, leb-true}
-use Rattle.model.specs.Model.{Stores, Stepped, short, sound, awaited, guarded, refuse, limitOf, soundOperation}
+use Rattle.model.specs.Step.{Stores, Stepped, limitOf}
+use Rattle.model.specs.Guard.{short, sound, fits, guarded, refuse, soundOperation}
 use Rattle.model.proofs.Fit.{and-left, and-right, Room, room}
-use Rattle.engine.specs.Guard.{shortBy, refusedBy}
-use Rattle.model.specs.declared.server.Engine.{Engine}
+use Rattle.engine.specs.Guard.{shortBy, guardedBy}
+use Rattle.server.specs.declared.CallKind.{CallKind}
+use Rattle.server.specs.declared.Refusal.{Refusal}
+use Rattle.server.specs.declared.Refusal.the-variants as refusal
+use Rattle.engine.specs.declared.guard.Guarded.{Guarded}
+use Rattle.engine.specs.declared.guard.Guarded.the-variants.{Proceed, Refuse}
+use Rattle.server.specs.declared.Engine.{Engine}
 
 -- counts in bounds
 pub record Bounds (e : Engine) : Type 0 where
@@ -50,13 +56,11 @@ prefix-in n s h k = let l = length-take n s in record { inside = omega arith; co
 -- ---- the guard
 
 -- what a call that goes on knows
-pub record Goes (from to : ℕ) (e : Engine) (s : Stores) : Type 0 where
+pub record Goes (k : CallKind) (e : Engine) (s : Stores) : Type 0 where
   pub room : Room (limitOf e) s
   pub bounds : Bounds e
   pub last : Prefix (e .length) (s .packet)
-  pub low : from ≤ awaited (e .awaits)
-  pub high : awaited (e .awaits) ≤ to
-  pub whole : (go : Stepped) → guarded from to e s go ≡ go
+  pub whole : (go : Stepped) → guarded k e s go ≡ go
 
 -- by the stores themselves
 abbrev pub shortIn : ℕ → Stores → Bool
@@ -66,42 +70,48 @@ pub same-short : (limit : ℕ) (s : Stores) (t : Bool) → shortIn limit s ≡ t
 unfolding short shortBy
 same-short limit s t h = h
 
-abbrev pub refusedIn : ℕ → ℕ → Engine → Stores → ℕ
-refusedIn from to e s = refusedBy from to e (length (s .packet)) (length (s .headers)) (length (s .body)) (length (s .reply))
+abbrev pub guardedIn : CallKind → Engine → Stores → Guarded
+guardedIn k e s = guardedBy k e (length (s .packet)) (length (s .headers)) (length (s .body)) (length (s .reply))
 
-module _ (from to : ℕ) (e : Engine) (s : Stores) where
+-- a refusal is told by the guard's answer, and an answer that lets a call proceed is none
+pub told-refusal : (r q : Refusal) → Refuse r ≡ Refuse q → r ≡ q
+told-refusal r q h = cc
+
+pub no-refusal : (r : Refusal) → Proceed ≡ Refuse r → ⊥
+no-refusal r h = let z : _≡_ {A = ℕ} 0 1 = cc in omega arith
+
+module _ (k : CallKind) (e : Engine) (s : Stores) where
   fitting : Bool
-  fitting = sound e && (leb from (awaited (e .awaits)) && leb (awaited (e .awaits)) to)
+  fitting = sound e && fits k (e .awaits)
 
-  -- where the number is not 0, the model refuses with it
-  pub turned : (go : Stepped) (n : ℕ) → n ≡ refusedIn from to e s → (n ≡ 0 → ⊥) → refuse n e s ≡ guarded from to e s go
-  unfolding refusedBy fitting
-  turned go n = by (shortIn (limitOf e) s) fitting refl refl
+  -- where the guard refuses, the model refuses with the same
+  pub turned : (go : Stepped) (x : Guarded) (r : Refusal) → x ≡ guardedIn k e s → x ≡ Refuse r → refuse r e s ≡ guarded k e s go
+  unfolding guardedBy fitting
+  turned go x r p w = by (shortIn (limitOf e) s) fitting refl refl (sym p ∙ w)
     where
-      by : (t f : Bool) → shortIn (limitOf e) s ≡ t → fitting ≡ f
-          → n ≡ refusedIn from to e s → (n ≡ 0 → ⊥) → refuse n e s ≡ guarded from to e s go
-      by true f h k q w = let z : n ≡ 10 = simp h at q in simp (same-short (limitOf e) s true h, z)
-      by false true h k q w = let z : n ≡ 0 = simp (h, k) at q in absurd (w z)
-      by false false h k q w = let z : n ≡ 9 = simp (h, k) at q in simp (same-short (limitOf e) s false h, k, z)
+      by : (t f : Bool) → shortIn (limitOf e) s ≡ t → fitting ≡ f → guardedIn k e s ≡ Refuse r → refuse r e s ≡ guarded k e s go
+      by true f h i q =
+          let z : Refuse refusal.StoreTooShort ≡ Refuse r = simp h at q in
+          simp (same-short (limitOf e) s true h, sym (told-refusal _ _ z))
+      by false true h i q = let z : Proceed ≡ Refuse r = simp (h, i) at q in absurd (no-refusal r z)
+      by false false h i q =
+          let z : Refuse refusal.WrongMoment ≡ Refuse r = simp (h, i) at q in
+          simp (same-short (limitOf e) s false h, i, sym (told-refusal _ _ z))
 
-  -- where it is 0, the call goes on
-  pub going : (n : ℕ) → n ≡ refusedIn from to e s → n ≡ 0 → Goes from to e s
-  unfolding refusedBy fitting
-  going n p z = by (shortIn (limitOf e) s) fitting refl refl (sym p ∙ z)
+  -- where it lets the call proceed, the call goes on
+  pub going : (x : Guarded) → x ≡ guardedIn k e s → x ≡ Proceed → Goes k e s
+  unfolding guardedBy fitting
+  going x p w = by (shortIn (limitOf e) s) fitting refl refl (sym p ∙ w)
     where
-      by : (t f : Bool) → shortIn (limitOf e) s ≡ t → fitting ≡ f
-          → refusedIn from to e s ≡ 0 → Goes from to e s
-      by true f h k q = let z : _≡_ {A = ℕ} 10 0 = simp h at q in absurd (omega arith)
-      by false false h k q = let z : _≡_ {A = ℕ} 9 0 = simp (h, k) at q in absurd (omega arith)
-      by false true h k q =
+      by : (t f : Bool) → shortIn (limitOf e) s ≡ t → fitting ≡ f → guardedIn k e s ≡ Proceed → Goes k e s
+      by true f h i q = let z : Refuse refusal.StoreTooShort ≡ Proceed = simp h at q in absurd (no-refusal _ (sym z))
+      by false false h i q = let z : Refuse refusal.WrongMoment ≡ Proceed = simp (h, i) at q in absurd (no-refusal _ (sym z))
+      by false true h i q =
           let z = room (limitOf e) s (same-short (limitOf e) s false h) in
-          let u = bounds e (and-left _ _ k) in
-          let v = and-right (sound e) _ k in
+          let u = bounds e (and-left _ _ i) in
           record {
             room = z;
             bounds = u;
             last = prefix-in _ _ (u .length) (z .packet);
-            low = leb-true _ _ (and-left _ _ v);
-            high = leb-true _ _ (and-right (leb from (awaited (e .awaits))) _ v);
-            whole = λ go. simp (same-short (limitOf e) s false h, k);
+            whole = λ go. simp (same-short (limitOf e) s false h, i);
           }

@@ -38,14 +38,18 @@ use Rattle.connection.specs.declared.peer.Challenge.{Challenge}
 use Rattle.connection.specs.declared.peer.Challenge.the-variants.{Stored, Absent}
 use Rattle.connection.proofs.Challenges.{first-in-bytes}
 use Rattle.connection.proofs.ByNumbers.{checkBy, check-by}
-use Rattle.model.specs.Model.{Stores, stepped, after, guarded, passwordAnswer, clientResponse, lastHeaders, lastPacket, checks}
-use Rattle.engine.specs.Plan.{asksPlan}
-use Rattle.engine.specs.Carry.{tookBy, passwordPlan}
-use Rattle.model.specs.declared.server.Engine.{Engine}
-use Rattle.model.specs.declared.server.Took.{Took}
-use Rattle.engine.specs.declared.plan.Plan.{Plan}
+use Rattle.model.specs.Step.{Stores, stepped, after}
+use Rattle.model.specs.Guard.{guarded}
+use Rattle.model.specs.Connect.{passwordAnswer, checks}
+use Rattle.model.specs.Request.{clientResponse, lastHeaders, lastPacket}
+use Rattle.engine.specs.Step.{asksPlan, tookBy}
+use Rattle.engine.specs.Connect.{passwordPlan}
+use Rattle.server.specs.declared.CallKind.the-variants as kind
+use Rattle.server.specs.declared.Engine.{Engine}
+use Rattle.server.specs.declared.CallResult.{CallResult}
+use Rattle.engine.specs.declared.step.Plan.{Plan}
 use Rattle.engine.proofs.Guards.{Goes}
-use Rattle.engine.specs.Last.{fromIn, lastFrom}
+use Rattle.engine.specs.Request.{fromIn, lastFrom}
 
 -- where the headers start, by what the reader of packets gives
 pub from-parsed : (r : Option Packet) (n : ℕ) (o : Opcode) (f : Bool) (h l : ℕ) → parsedAs r n ≡ parsed.Request o f h l → h ≡ fromIn r n
@@ -150,12 +154,12 @@ right-at ch q p a b o e =
 pub found-last : (id : ℕ) (q : List ℕ) (n : ℕ) (f v : Found) → n ≡ lastFrom q → f ≡ firstIn id q n → f ≡ v → firstIn id q (lastFrom q) ≡ v
 found-last id q n f v h k e = ap (λ (m : ℕ). firstIn id q m) (sym h) ∙ sym k ∙ e
 
-pub password-call : (e : Engine) (s : Stores) (r : Took) (x : Plan) (t : Bool) (p : Option (List ℕ)) → Goes 8 8 e s → r ≡ tookBy x → x ≡ passwordPlan e t
+pub password-call : (e : Engine) (s : Stores) (r : CallResult) (x : Plan) (t : Bool) (p : Option (List ℕ)) → Goes kind.PasswordGiven e s → r ≡ tookBy x → x ≡ passwordPlan e t
     → t ≡ checks (e .peer .challenge) (responseIn (first 0x4E (headersIn (requestOf (take (e .length) (s .packet)))))) p
-    → stepped r s ≡ guarded 8 8 e s (after 0 (passwordAnswer e p s))
+    → stepped r s ≡ guarded kind.PasswordGiven e s (after 0 (passwordAnswer e p s))
 unfolding passwordPlan passwordAnswer asksPlan clientResponse lastHeaders lastPacket
 password-call e s r x t p g h k c =
-    ap (λ (y : Took). stepped y s) (h ∙ ap (λ (y : Plan). tookBy y) k) ∙ by t c ∙ sym (g .whole (after 0 (passwordAnswer e p s)))
+    ap (λ (y : CallResult). stepped y s) (h ∙ ap (λ (y : Plan). tookBy y) k) ∙ by t c ∙ sym (g .whole (after 0 (passwordAnswer e p s)))
   where
     by : (t : Bool) → t ≡ checks (e .peer .challenge) (responseIn (first 0x4E (headersIn (requestOf (take (e .length) (s .packet)))))) p
         → stepped (tookBy (passwordPlan e t)) s ≡ after 0 (passwordAnswer e p s)

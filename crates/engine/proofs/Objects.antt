@@ -11,27 +11,35 @@ use lib.ListN.{length}
 use lib.Dec.{ltb}
 use lib.Seq.{paste}
 use Rattle.connection.proofs.Front.{front-paste}
-use Rattle.connection.specs.Send.{front}
+use Rattle.connection.specs.Reply.{front}
 use Rattle.connection.specs.Peer.{freshPeer}
 use Rattle.incoming.specs.declared.gather.Gathered.{Gathered}
-use Rattle.outgoing.specs.Outgoing.{Made, nextPacket, bodyGiven}
-use Rattle.outgoing.specs.declared.body.Outgoing.{Outgoing}
-use Rattle.outgoing.specs.declared.body.Chunk.{Chunk}
-use Rattle.model.specs.Model.{Stores, Done, stepped, withHeaders, after, refuse, bodyFor, objectFor, badHeaders, sendsPacket, sendsNext, capacityOf, objectOf, soundOperation, engineWith, started, startStep}
-use Rattle.engine.specs.Guard.{startNumber, refusal}
-use Rattle.engine.specs.Carry.{Written, within, carried, packetPlan, packetSent}
-use Rattle.model.specs.declared.server.Settings.{Settings}
-use Rattle.model.specs.declared.server.Operation.{Operation}
-use Rattle.model.specs.declared.server.Operation.the-variants.{Nothing, Putting, Getting, Sending, Gathering as GatheringOp, Connecting, Draining}
-use Rattle.model.specs.declared.server.Await.the-variants as await
-use Rattle.model.specs.declared.server.Engine.{Engine}
-use Rattle.model.specs.declared.server.Outcome.the-variants as outcome
-use Rattle.model.specs.declared.server.Took.{Took}
-use Rattle.engine.specs.declared.plan.Plan.{Plan}
-use Rattle.model.proofs.server.Operation.{the-type}
+use Rattle.outgoing.specs.Object.{Made, nextPacket, bodyGiven}
+use Rattle.outgoing.specs.declared.object.Outgoing.{Outgoing}
+use Rattle.outgoing.specs.declared.object.Chunk.{Chunk}
+use Rattle.model.specs.Step.{Stores, Done, stepped, withHeaders, after, capacityOf, engineWith}
+use Rattle.model.specs.Guard.{refuse, badHeaders, soundOperation}
+use Rattle.model.specs.Calls.{bodyFor, objectFor, started, startStep}
+use Rattle.model.specs.Object.{sendsPacket, sendsNext, objectOf}
+use Rattle.engine.specs.Guard.{guardedStart, refusedWith}
+use Rattle.engine.specs.Step.{Written, within, carried}
+use Rattle.engine.specs.Object.{packetPlan, packetSent}
+use Rattle.server.specs.declared.Settings.{Settings}
+use Rattle.server.specs.declared.Operation.{Operation}
+use Rattle.server.specs.declared.Operation.the-variants.{Nothing, Putting, Getting, Sending, Gathering as GatheringOp, Connecting, Draining}
+use Rattle.server.specs.declared.Await.the-variants as await
+use Rattle.server.specs.declared.Engine.{Engine}
+use Rattle.server.specs.declared.Outcome.the-variants as outcome
+use Rattle.server.specs.declared.CallResult.{CallResult}
+use Rattle.engine.specs.declared.step.Plan.{Plan}
+use Rattle.server.proofs.Operation.{the-type}
 use Rattle.model.proofs.Steps.{OutgoingFits, outgoing-within}
 use Rattle.model.proofs.FromHost.{headers-fit}
-use Rattle.engine.proofs.Guards.{shortIn, same-short}
+use Rattle.server.specs.declared.Refusal.{Refusal}
+use Rattle.server.specs.declared.Refusal.the-variants as refusal
+use Rattle.engine.specs.declared.guard.Guarded.{Guarded}
+use Rattle.engine.specs.declared.guard.Guarded.the-variants.{Proceed, Refuse}
+use Rattle.engine.proofs.Guards.{shortIn, same-short, told-refusal, no-refusal}
 use Rattle.engine.proofs.Carried.{packet-carried}
 
 -- ---- a packet of an object
@@ -49,7 +57,7 @@ packet-call e s srm wait w m h =
 -- ---- body bytes
 
 -- nothing is sent
-pub body-other : (o : Operation) (e : Engine) (d : List ℕ) (s : Stores) → OneOf (0 ∷ 1 ∷ 2 ∷ 4 ∷ 5 ∷ 6 ∷ []) (tagOf the-type o) → refuse 9 e s ≡ bodyFor o e d s
+pub body-other : (o : Operation) (e : Engine) (d : List ℕ) (s : Stores) → OneOf (0 ∷ 1 ∷ 2 ∷ 4 ∷ 5 ∷ 6 ∷ []) (tagOf the-type o) → refuse refusal.WrongMoment e s ≡ bodyFor o e d s
 body-other Nothing e d s k = refl
 body-other (Putting g srm) e d s k = refl
 body-other (Getting g srm confirm wait) e d s k = refl
@@ -63,7 +71,7 @@ module _ (p : Operation) (o : Outgoing) (c : Chunk) (srm wait : Bool) (is : p �
   sending-bounds limit k = outgoing-within o c (simp is at k)
 
   -- more than were asked for
-  pub body-much : (e : Engine) (d : List ℕ) (s : Stores) → c .room < length d → refuse 9 e s ≡ bodyFor p e d s
+  pub body-much : (e : Engine) (d : List ℕ) (s : Stores) → c .room < length d → refuse refusal.WrongMoment e s ≡ bodyFor p e d s
   body-much e d s w = simp (is, lt-ltb _ _ w)
 
   pub body-goes : (e : Engine) (d : List ℕ) (s : Stores) → length d ≤ c .room
@@ -77,7 +85,7 @@ pub store-front : (hs y : List ℕ) → length hs ≤ length y → paste y 0 hs 
 store-front hs y h = front-paste [] y hs (omega arith)
 
 pub object-other : (o : Operation) (e : Engine) (hs : List ℕ) (has : Bool) (s : Stores) → OneOf (0 ∷ 1 ∷ 3 ∷ 4 ∷ 5 ∷ 6 ∷ []) (tagOf the-type o)
-    → refuse 9 e s ≡ objectFor o e hs has s
+    → refuse refusal.WrongMoment e s ≡ objectFor o e hs has s
 object-other Nothing e hs has s k = refl
 object-other (Putting g srm) e hs has s k = refl
 object-other (Sending o c srm wait) e hs has s k = refl
@@ -92,7 +100,7 @@ good-length hs t h k = headers-fit hs (sym h ∙ k)
 
 module _ (p : Operation) (g : Gathered) (srm confirm wait : Bool) (is : p ≡ Getting g srm confirm wait) (e : Engine) (hs : List ℕ)
     (t : Bool) (bad : t ≡ badHeaders hs) (has : Bool) (s : Stores) where
-  pub object-bad : t ≡ true → refuse 8 e s ≡ objectFor p e hs has s
+  pub object-bad : t ≡ true → refuse refusal.BadAnswer e s ≡ objectFor p e hs has s
   object-bad h = simp (is, sym bad ∙ h)
 
   pub object-goes : t ≡ false → (o : Outgoing) (q : Bool) (h : List ℕ) (w : Written)
@@ -108,33 +116,41 @@ module _ (p : Operation) (g : Gathered) (srm confirm wait : Bool) (is : p ≡ Ge
 
 -- ---- the start
 
-module _ (st : Settings) (s : Stores) (n : ℕ) (e : Engine) where
+module _ (st : Settings) (s : Stores) (x : Guarded) (e : Engine) where
   abbrev limit : ℕ
   limit = st .«max_object_size»
 
   abbrev realm : Bool
   realm = ltb 254 (st .«realm_length»)
 
-  -- what the number is of
-  abbrev pub Number : Type 0
-  Number = n ≡ startNumber limit (st .«realm_length») (length (s .packet)) (length (s .headers)) (length (s .body)) (length (s .reply))
+  -- what the guard says of the start
+  abbrev pub Said : Type 0
+  Said = x ≡ guardedStart limit (st .«realm_length») (length (s .packet)) (length (s .headers)) (length (s .body)) (length (s .reply))
 
-  pub start-refused : Number → e ≡ engineWith st freshPeer Nothing await.Nothing 0 0 → (n ≡ 0 → ⊥) → (r : Took) → r ≡ refusal n e
-      → stepped r s ≡ startStep st s
-  unfolding startStep startNumber
-  start-refused number k w r h = go (shortIn limit s) realm refl refl
+  pub start-refused : Said → e ≡ engineWith st freshPeer Nothing await.Nothing 0 0 → (q : Refusal) → x ≡ Refuse q → (r : CallResult)
+      → r ≡ refusedWith q e → stepped r s ≡ startStep st s
+  unfolding startStep guardedStart
+  start-refused said k q w r h = go (shortIn limit s) realm refl refl (sym said ∙ w)
     where
-      go : (t u : Bool) → shortIn limit s ≡ t → realm ≡ u → stepped r s ≡ startStep st s
-      go true u a b = let z : n ≡ 10 = simp a at number in simp (h, k, z, same-short limit s true a)
-      go false true a b = let z : n ≡ 8 = simp (a, b) at number in simp (h, k, z, same-short limit s false a, b)
-      go false false a b = let z : n ≡ 0 = simp (a, b) at number in absurd (w z)
+      go : (t u : Bool) → shortIn limit s ≡ t → realm ≡ u
+          → guardedStart limit (st .«realm_length») (length (s .packet)) (length (s .headers)) (length (s .body)) (length (s .reply)) ≡ Refuse q
+          → stepped r s ≡ startStep st s
+      go true u a b i =
+          let z : Refuse refusal.StoreTooShort ≡ Refuse q = simp a at i in
+          simp (h, k, sym (told-refusal _ _ z), same-short limit s true a)
+      go false true a b i =
+          let z : Refuse refusal.BadAnswer ≡ Refuse q = simp (a, b) at i in
+          simp (h, k, sym (told-refusal _ _ z), same-short limit s false a, b)
+      go false false a b i = let z : Proceed ≡ Refuse q = simp (a, b) at i in absurd (no-refusal q z)
 
-  pub start-goes : Number → e ≡ engineWith st freshPeer Nothing await.Bytes 0 0 → n ≡ 0
+  pub start-goes : Said → e ≡ engineWith st freshPeer Nothing await.Bytes 0 0 → x ≡ Proceed
       → stepped (record { engine = e; taken = 0; outcome = outcome.WantsBytes }) s ≡ startStep st s
-  unfolding startStep startNumber started
-  start-goes number k w = go (shortIn limit s) realm refl refl
+  unfolding startStep guardedStart started
+  start-goes said k w = go (shortIn limit s) realm refl refl (sym said ∙ w)
     where
-      go : (t u : Bool) → shortIn limit s ≡ t → realm ≡ u → stepped (record { engine = e; taken = 0; outcome = outcome.WantsBytes }) s ≡ startStep st s
-      go true u a b = let z : n ≡ 10 = simp a at number in absurd (omega arith)
-      go false true a b = let z : n ≡ 8 = simp (a, b) at number in absurd (omega arith)
-      go false false a b = simp (k, same-short limit s false a, b)
+      go : (t u : Bool) → shortIn limit s ≡ t → realm ≡ u
+          → guardedStart limit (st .«realm_length») (length (s .packet)) (length (s .headers)) (length (s .body)) (length (s .reply)) ≡ Proceed
+          → stepped (record { engine = e; taken = 0; outcome = outcome.WantsBytes }) s ≡ startStep st s
+      go true u a b i = let z : Refuse refusal.StoreTooShort ≡ Proceed = simp a at i in absurd (no-refusal _ (sym z))
+      go false true a b i = let z : Refuse refusal.BadAnswer ≡ Proceed = simp (a, b) at i in absurd (no-refusal _ (sym z))
+      go false false a b i = simp (k, same-short limit s false a, b)

@@ -9,15 +9,19 @@ use Rattle.packet.specs.declared.opcode.Opcode.{Opcode}
 use Rattle.connection.specs.declared.peer.Peer.{Peer}
 use Rattle.incoming.specs.Gather.{Gathering}
 use Rattle.incoming.specs.declared.survey.Survey.{Survey}
-use Rattle.model.specs.Model.{Stores, Done, withGathered, wants, asks, ends, replies, continues, putContinues, putGathered, getContinues, getGathered, headersGathered}
-use Rattle.engine.specs.Plan.{planned, wantsPlan, asksPlan, endsPlan, codePlan, continuePlan, putContinuePlan, putPlan, getContinuePlan, getPlan, headersPlan}
-use Rattle.model.specs.declared.server.Operation.{Operation}
-use Rattle.model.specs.declared.server.Operation.the-variants.{Nothing, Putting, Getting, Gathering as GatheringOp}
-use Rattle.model.specs.declared.server.Await.{Await}
-use Rattle.model.specs.declared.server.Await.the-variants as await
-use Rattle.model.specs.declared.server.Engine.{Engine}
-use Rattle.model.specs.declared.server.Request.{Request}
-use Rattle.engine.specs.declared.plan.Plan.{Plan}
+use Rattle.model.specs.Step.{Stores, Done, withGathered, wants, asks, ends, replies, continues}
+use Rattle.model.specs.Operation.{putContinues, putGathered, getContinues, getGathered, headersGathered}
+use Rattle.engine.specs.Step.{planned, wantsPlan, asksPlan, endsPlan, codePlan, continuePlan}
+use Rattle.engine.specs.Operation.{putContinuePlan, putPlan, getContinuePlan, getPlan, headersPlan}
+use Rattle.server.specs.declared.Operation.{Operation}
+use Rattle.server.specs.declared.Operation.the-variants.{Nothing, Putting, Getting, Gathering as GatheringOp}
+use Rattle.server.specs.declared.Await.{Await}
+use Rattle.server.specs.declared.Await.the-variants as await
+use Rattle.server.specs.declared.End.{End}
+use Rattle.server.specs.declared.End.the-variants as end
+use Rattle.server.specs.declared.Engine.{Engine}
+use Rattle.server.specs.declared.HostRequest.{HostRequest}
+use Rattle.engine.specs.declared.step.Plan.{Plan}
 
 -- the plan, carried out over these stores, is this step
 pub record Carries (p : Plan) (s : Stores) (d : Done) : Type 0 where
@@ -27,11 +31,11 @@ pub wants-planned : (e : Engine) (p : Peer) (o : Operation) (s : Stores) → Car
 unfolding wantsPlan
 wants-planned e p o s = record { is = refl }
 
-pub asks-planned : (e : Engine) (p : Peer) (o : Operation) (a : Await) (r : Request) (s : Stores) → Carries (asksPlan e p o a r) s (asks e p o a r s)
+pub asks-planned : (e : Engine) (p : Peer) (o : Operation) (a : Await) (r : HostRequest) (s : Stores) → Carries (asksPlan e p o a r) s (asks e p o a r s)
 unfolding asksPlan
 asks-planned e p o a r s = record { is = refl }
 
-pub ends-planned : (e : Engine) (p : Peer) (n : ℕ) (s : Stores) → Carries (endsPlan e p n) s (ends e p n s)
+pub ends-planned : (e : Engine) (p : Peer) (x : End) (s : Stores) → Carries (endsPlan e p x) s (ends e p x s)
 unfolding endsPlan
 ends-planned e p n s = record { is = refl }
 
@@ -55,7 +59,7 @@ pub put-planned : (e : Engine) (r : Packet) (v : Survey) (srm confirm : Bool) (g
     → Carries (putPlan e (g .got) (r .final) (v .additional) srm confirm) (withGathered s g) (putGathered e r v srm confirm g s)
 unfolding putPlan
 put-planned e r v srm confirm g s =
-    pick-planned (g .got .full) (ends-planned e (e .peer) 6 t)
+    pick-planned (g .got .full) (ends-planned e (e .peer) end.HeadersTooLarge t)
     (pick-planned (r .final) (pick-planned (g .got .over) (code-planned e (e .peer) await.Taken 0xCD t) (asks-planned e (e .peer) Nothing await.Reply _ t)) (go srm))
   where
     t : Stores
@@ -69,7 +73,7 @@ pub get-planned : (e : Engine) (r : Packet) (v : Survey) (srm confirm : Bool) (g
     → Carries (getPlan e (g .got) (r .final) (v .wait) srm confirm) (withGathered s g) (getGathered e r v srm confirm g s)
 unfolding getPlan
 get-planned e r v srm confirm g s =
-    pick-planned (g .got .full) (ends-planned e (e .peer) 6 t)
+    pick-planned (g .got .full) (ends-planned e (e .peer) end.HeadersTooLarge t)
     (pick-planned (r .final) (asks-planned e (e .peer) _ await.Get _ t) (go srm))
   where
     t : Stores
@@ -83,7 +87,7 @@ pub headers-planned : (e : Engine) (r : Packet) (o : Opcode) (g : Gathering) (s 
     → Carries (headersPlan e o (g .got) (r .final)) (withGathered s g) (headersGathered e r o g s)
 unfolding headersPlan
 headers-planned e r o g s =
-    pick-planned (g .got .full) (ends-planned e (e .peer) 6 t)
+    pick-planned (g .got .full) (ends-planned e (e .peer) end.HeadersTooLarge t)
     (pick-planned (r .final) (asks-planned e (e .peer) Nothing await.Reply _ t) (continue-planned e (GatheringOp o (g .got)) false t))
   where
     t : Stores

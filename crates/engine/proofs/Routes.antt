@@ -21,20 +21,28 @@ use Rattle.connection.specs.declared.peer.Challenge.{Challenge}
 use Rattle.connection.specs.declared.peer.Challenge.the-variants.{Stored, Absent}
 use Rattle.connection.specs.declared.peer.Peer.{Peer}
 use Rattle.journal.specs.Journal.{responseIn, headersOf as headersIn}
-use Rattle.model.specs.Model.{Stores, Done, engineWith, lastPacket, lastHeaders, clientResponse, userPlace, verifies, wants, asks, ends, replies, repliesCode, nothingGathered, gathers, putPacket, getPacket, headersPacket, connectPacket, Rejection, admits, rejects, rejection, drains, rejected, dispatches, admittedAs, dispatch, interrupts, inside, busy, readAs, lengthOf, packetDone}
-use Rattle.engine.specs.Route.{headingOf, askRoute, codeRoute, admissionOf, rejectedRoute, putRoute, getRoute, headersRoute, dispatchRoute, admittedRoute, openRoute, interruptsRoute, insideRoute, headingRoute, routeAs, packetRoute, briefPlan, keepOf, kindPlan, actsGathered, answeredAs, verifiesPlan, limitedPlan, connectPlan, acts}
-use Rattle.model.specs.declared.server.Operation.{Operation}
-use Rattle.model.specs.declared.server.Operation.the-variants.{Nothing, Putting, Getting, Sending, Gathering as GatheringOp, Connecting, Draining}
-use Rattle.model.specs.declared.server.Await.{Await}
-use Rattle.model.specs.declared.server.Await.the-variants as await
-use Rattle.model.specs.declared.server.Engine.{Engine}
-use Rattle.model.specs.declared.server.Request.{Request}
-use Rattle.model.specs.declared.server.Request.the-variants as request
-use Rattle.engine.specs.declared.route.Brief.the-variants as brief
-use Rattle.engine.specs.declared.route.Kind.{Kind}
-use Rattle.engine.specs.declared.route.Kind.the-variants as kind
-use Rattle.engine.specs.declared.route.Route.{Route}
-use Rattle.engine.specs.declared.route.Route.the-variants.{Plain, Connect, Gather, Send}
+use Rattle.model.specs.Step.{Stores, Done, engineWith, wants, asks, ends, replies, repliesCode}
+use Rattle.model.specs.Request.{lastPacket, lastHeaders, clientResponse, userPlace}
+use Rattle.model.specs.Connect.{verifies, connectPacket}
+use Rattle.model.specs.Operation.{nothingGathered, gathers, putPacket, getPacket, headersPacket}
+use Rattle.model.specs.Dispatch.{Rejection, admits, rejects, rejection, drains, rejected, dispatches, admittedAs, dispatch, interrupts, inside, busy, readAs, lengthOf, packetDone}
+use Rattle.engine.specs.Dispatch.{headingOf, askRoute, codeRoute, admissionOf, rejectedRoute, putRoute, getRoute, headersRoute, dispatchRoute, admittedRoute, openRoute, interruptsRoute, insideRoute, headingRoute, routeAs, packetRoute, simplePlan, acts}
+use Rattle.engine.specs.Operation.{keepOf, kindPlan, actsGathered}
+use Rattle.engine.specs.Connect.{answeredAs, verifiesPlan, limitedPlan, connectPlan}
+use Rattle.server.specs.declared.Operation.{Operation}
+use Rattle.server.specs.declared.Operation.the-variants.{Nothing, Putting, Getting, Sending, Gathering as GatheringOp, Connecting, Draining}
+use Rattle.server.specs.declared.Await.{Await}
+use Rattle.server.specs.declared.Await.the-variants as await
+use Rattle.server.specs.declared.End.{End}
+use Rattle.server.specs.declared.End.the-variants as end
+use Rattle.server.specs.declared.Engine.{Engine}
+use Rattle.server.specs.declared.HostRequest.{HostRequest}
+use Rattle.server.specs.declared.HostRequest.the-variants as request
+use Rattle.engine.specs.declared.dispatch.Simple.the-variants as brief
+use Rattle.engine.specs.declared.operation.GatherKind.{GatherKind}
+use Rattle.engine.specs.declared.operation.GatherKind.the-variants as kind
+use Rattle.engine.specs.declared.dispatch.Route.{Route}
+use Rattle.engine.specs.declared.dispatch.Route.the-variants.{Plain, Connect, Gather, Send}
 use Rattle.engine.proofs.Plans.{Carries, pick-planned, wants-planned, asks-planned, ends-planned, code-planned, put-planned, get-planned, headers-planned}
 
 -- acting on the way, with the packet, is this step
@@ -49,21 +57,21 @@ pick-acts false a b = b
 -- ---- steps of few bytes
 
 module _ (e : Engine) (q : List ℕ) (s : Stores) where
-  ask-acts : (a : Await) (r : Request) → Acts (askRoute a r) e q s (asks e (e .peer) Nothing a r s)
-  unfolding briefPlan
+  ask-acts : (a : Await) (r : HostRequest) → Acts (askRoute a r) e q s (asks e (e .peer) Nothing a r s)
+  unfolding simplePlan
   ask-acts a r = record { is = asks-planned e (e .peer) Nothing a r s .is }
 
   byte-acts : (a : Await) (b : ℕ) → Acts (Plain (brief.Code a b)) e q s (replies e (e .peer) Nothing a (packetBytes b [] []) s)
-  unfolding briefPlan
+  unfolding simplePlan
   byte-acts a b = record { is = code-planned e (e .peer) a b s .is }
 
   drain-acts : (code : ℕ) → Acts (Plain (brief.Drain code)) e q s (wants e (e .peer) (Draining code) s)
-  unfolding briefPlan
+  unfolding simplePlan
   drain-acts code = record { is = wants-planned e (e .peer) (Draining code) s .is }
 
-  end-acts : (n : ℕ) → Acts (Plain (brief.End n)) e q s (ends e (e .peer) n s)
-  unfolding briefPlan
-  end-acts n = record { is = ends-planned e (e .peer) n s .is }
+  end-acts : (x : End) → Acts (Plain (brief.End x)) e q s (ends e (e .peer) x s)
+  unfolding simplePlan
+  end-acts x = record { is = ends-planned e (e .peer) x s .is }
 
   code-acts : (code : ℕ) → Acts (codeRoute code) e q s (repliesCode e (e .peer) Nothing code s)
   code-acts code = byte-acts await.Taken (sentCode code)
@@ -95,7 +103,7 @@ module _ (e : Engine) (s : Stores) where
 
 module _ (e : Engine) (r : Packet) (s : Stores) (known : requestOf (lastPacket e s) ≡ some r) where
   -- the packet's headers are the request's
-  known-acts : (k : Kind) (g : Gathered) (final asked srm confirm : Bool)
+  known-acts : (k : GatherKind) (g : Gathered) (final asked srm confirm : Bool)
       → acts (Gather k g final asked srm confirm) e (lastPacket e s) s ≡ actsGathered e k final asked srm confirm (gathers e (keepOf k) (r .headers) g s) s
   known-acts k g final asked srm confirm =
       ap (λ (x : Option Packet). actsGathered e k final asked srm confirm (gathers e (keepOf k) (headersIn x) g s) s) known
@@ -159,7 +167,7 @@ module _ (e : Engine) (r : Packet) (s : Stores) (known : requestOf (lastPacket e
 
 read-acts : (e : Engine) (s : Stores) (x : Option Packet) → requestOf (lastPacket e s) ≡ x
     → Acts (routeAs x e (lastPacket e s)) e (lastPacket e s) s (readAs x e (lastPacket e s) s)
-read-acts e s none h = pick-acts (busy (e .operation)) (end-acts e (lastPacket e s) s 4) (code-acts e (lastPacket e s) s _)
+read-acts e s none h = pick-acts (busy (e .operation)) (end-acts e (lastPacket e s) s end.Unreadable) (code-acts e (lastPacket e s) s _)
 read-acts e s (some r) h = heading-acts e r s h
 
 pub packet-acts : (e : Engine) (n : ℕ) (s : Stores)

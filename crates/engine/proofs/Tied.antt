@@ -1,5 +1,5 @@
 -- What a caller learns from each call's contract is the model's step, so `contracts-uphold` speaks of the functions' own clauses. `Learnt`
--- is the reading of an `ensures` clause that the check makes: a contract that stops saying what demand 3 needs breaks its line here.
+-- is the reading of an `ensures` clause that the check makes: a contract that stops saying what the records theorem needs breaks its line here.
 -- Assumes nothing.
 use mathlib.Core.Path.{_≡_}
 use denote.Ref.{now}
@@ -10,46 +10,47 @@ use borrow.Fn.Kinds.{endedOf}
 use Rattle.packet.specs.AuthWrite.{given}
 use Rattle.connection.specs.Pieces.{credentialsOf}
 use Rattle.journal.specs.Calls.{bytesOffered, streamEnded, replyTaken, replyGiven, objectGiven, bodyGiven, bodyFailed, abortAcknowledged, passwordGiven, nonceGiven, credentialsGiven}
-use Rattle.model.specs.Model.{Stores, stores, stepped, startStep}
+use Rattle.model.specs.Step.{Stores, stores, stepped}
+use Rattle.model.specs.Calls.{startStep}
 use Rattle.model.specs.Runs.{State}
 use Rattle.model.specs.Contracts.{Says}
-use Rattle.model.specs.declared.server.Engine.{Engine}
-use Rattle.engine.proofs.arrival.bytes
-use Rattle.engine.proofs.arrival.bytes.Kinds as bytes-kinds
-use Rattle.engine.proofs.arrival.bytes.Reads as bytes-reads
-use Rattle.engine.proofs.session.end_of_stream
-use Rattle.engine.proofs.session.end_of_stream.Kinds as end-of-stream-kinds
-use Rattle.engine.proofs.session.end_of_stream.Reads as end-of-stream-reads
-use Rattle.engine.proofs.arrival.reply_taken
-use Rattle.engine.proofs.arrival.reply_taken.Kinds as reply-taken-kinds
-use Rattle.engine.proofs.arrival.reply_taken.Reads as reply-taken-reads
-use Rattle.engine.proofs.host.object
-use Rattle.engine.proofs.host.object.Kinds as object-kinds
-use Rattle.engine.proofs.host.object.Reads as object-reads
-use Rattle.engine.proofs.host.body
-use Rattle.engine.proofs.host.body.Kinds as body-kinds
-use Rattle.engine.proofs.host.body.Reads as body-reads
-use Rattle.engine.proofs.host.body_failed
-use Rattle.engine.proofs.host.body_failed.Kinds as body-failed-kinds
-use Rattle.engine.proofs.host.body_failed.Reads as body-failed-reads
-use Rattle.engine.proofs.host.acknowledge
-use Rattle.engine.proofs.host.acknowledge.Kinds as acknowledge-kinds
-use Rattle.engine.proofs.host.acknowledge.Reads as acknowledge-reads
-use Rattle.engine.proofs.host.password
-use Rattle.engine.proofs.host.password.Kinds as password-kinds
-use Rattle.engine.proofs.host.password.Reads as password-reads
-use Rattle.engine.proofs.host.nonce
-use Rattle.engine.proofs.host.nonce.Kinds as nonce-kinds
-use Rattle.engine.proofs.host.nonce.Reads as nonce-reads
-use Rattle.engine.proofs.session.start
-use Rattle.engine.proofs.session.start.Kinds as start-kinds
-use Rattle.engine.proofs.session.start.Reads as start-reads
-use Rattle.engine.proofs.host.reply
-use Rattle.engine.proofs.host.reply.Kinds as reply-kinds
-use Rattle.engine.proofs.host.reply.Reads as reply-reads
-use Rattle.engine.proofs.host.credentials
-use Rattle.engine.proofs.host.credentials.Kinds as credentials-kinds
-use Rattle.engine.proofs.host.credentials.Reads as credentials-reads
+use Rattle.server.specs.declared.Engine.{Engine}
+use Rattle.engine.proofs.calls.bytes_offered
+use Rattle.engine.proofs.calls.bytes_offered.Kinds as bytes-offered-kinds
+use Rattle.engine.proofs.calls.bytes_offered.Reads as bytes-offered-reads
+use Rattle.engine.proofs.calls.stream_ended
+use Rattle.engine.proofs.calls.stream_ended.Kinds as stream-ended-kinds
+use Rattle.engine.proofs.calls.stream_ended.Reads as stream-ended-reads
+use Rattle.engine.proofs.calls.reply_taken
+use Rattle.engine.proofs.calls.reply_taken.Kinds as reply-taken-kinds
+use Rattle.engine.proofs.calls.reply_taken.Reads as reply-taken-reads
+use Rattle.engine.proofs.calls.object_given
+use Rattle.engine.proofs.calls.object_given.Kinds as object-given-kinds
+use Rattle.engine.proofs.calls.object_given.Reads as object-given-reads
+use Rattle.engine.proofs.calls.body_given
+use Rattle.engine.proofs.calls.body_given.Kinds as body-given-kinds
+use Rattle.engine.proofs.calls.body_given.Reads as body-given-reads
+use Rattle.engine.proofs.calls.body_failed
+use Rattle.engine.proofs.calls.body_failed.Kinds as body-failed-kinds
+use Rattle.engine.proofs.calls.body_failed.Reads as body-failed-reads
+use Rattle.engine.proofs.calls.abort_acknowledged
+use Rattle.engine.proofs.calls.abort_acknowledged.Kinds as abort-acknowledged-kinds
+use Rattle.engine.proofs.calls.abort_acknowledged.Reads as abort-acknowledged-reads
+use Rattle.engine.proofs.calls.password_given
+use Rattle.engine.proofs.calls.password_given.Kinds as password-given-kinds
+use Rattle.engine.proofs.calls.password_given.Reads as password-given-reads
+use Rattle.engine.proofs.calls.nonce_given
+use Rattle.engine.proofs.calls.nonce_given.Kinds as nonce-given-kinds
+use Rattle.engine.proofs.calls.nonce_given.Reads as nonce-given-reads
+use Rattle.engine.proofs.calls.start
+use Rattle.engine.proofs.calls.start.Kinds as start-kinds
+use Rattle.engine.proofs.calls.start.Reads as start-reads
+use Rattle.engine.proofs.calls.reply_given
+use Rattle.engine.proofs.calls.reply_given.Kinds as reply-given-kinds
+use Rattle.engine.proofs.calls.reply_given.Reads as reply-given-reads
+use Rattle.engine.proofs.calls.credentials_given
+use Rattle.engine.proofs.calls.credentials_given.Kinds as credentials-given-kinds
+use Rattle.engine.proofs.calls.credentials_given.Reads as credentials-given-reads
 
 abbrev before : Engine → Stores → State
 before e s = record { engine = e; stores = s }
@@ -62,21 +63,21 @@ pub start-says : (κs : Lfts 4) (a : ArgsD start.signature κs) (r : ResD start.
     ≡ startStep (a .0) (stores (now (p .0)) (now (p .1 .0)) (now (p .1 .1 .0)) (now (p .1 .1 .1 .0)))
 start-says κs a r x h = h
 
-pub bytes-says : (κs : Lfts 5) (a : ArgsD bytes.signature κs) (r : ResD bytes.signature κs) (x : AtExit (endedOf 5 bytes-kinds.ps bytes-kinds.r) κs)
-    → bytes-reads.Learnt κs a r x
+pub bytes-says : (κs : Lfts 5) (a : ArgsD bytes_offered.signature κs) (r : ResD bytes_offered.signature κs) (x : AtExit (endedOf 5 bytes-offered-kinds.ps bytes-offered-kinds.r) κs)
+    → bytes-offered-reads.Learnt κs a r x
     → let p = a .1 .1 in
     let q = x .1 .1 in
     Says (before (a .0) (stores (now (p .0)) (now (p .1 .0)) (now (p .1 .1 .0)) (now (p .1 .1 .1 .0)))) (bytesOffered (now (a .1 .0))) r
     (stores (now (q .0)) (now (q .1 .0)) (now (q .1 .1 .0)) (now (q .1 .1 .1 .0)))
 bytes-says κs a r x h = h
 
-pub end-of-stream-says : (κs : Lfts 4) (a : ArgsD end_of_stream.signature κs) (r : ResD end_of_stream.signature κs) (x : AtExit (endedOf 4 end-of-stream-kinds.ps end-of-stream-kinds.r) κs)
-    → end-of-stream-reads.Learnt κs a r x
+pub stream-ended-says : (κs : Lfts 4) (a : ArgsD stream_ended.signature κs) (r : ResD stream_ended.signature κs) (x : AtExit (endedOf 4 stream-ended-kinds.ps stream-ended-kinds.r) κs)
+    → stream-ended-reads.Learnt κs a r x
     → let p = a .1 in
     let q = x .1 in
     Says (before (a .0) (stores (now (p .0)) (now (p .1 .0)) (now (p .1 .1 .0)) (now (p .1 .1 .1 .0)))) streamEnded r
     (stores (now (q .0)) (now (q .1 .0)) (now (q .1 .1 .0)) (now (q .1 .1 .1 .0)))
-end-of-stream-says κs a r x h = h
+stream-ended-says κs a r x h = h
 
 pub reply-taken-says : (κs : Lfts 4) (a : ArgsD reply_taken.signature κs) (r : ResD reply_taken.signature κs) (x : AtExit (endedOf 4 reply-taken-kinds.ps reply-taken-kinds.r) κs)
     → reply-taken-reads.Learnt κs a r x
@@ -86,16 +87,16 @@ pub reply-taken-says : (κs : Lfts 4) (a : ArgsD reply_taken.signature κs) (r :
     (stores (now (q .0)) (now (q .1 .0)) (now (q .1 .1 .0)) (now (q .1 .1 .1 .0)))
 reply-taken-says κs a r x h = h
 
-pub object-says : (κs : Lfts 5) (a : ArgsD object.signature κs) (r : ResD object.signature κs) (x : AtExit (endedOf 5 object-kinds.ps object-kinds.r) κs)
-    → object-reads.Learnt κs a r x
+pub object-says : (κs : Lfts 5) (a : ArgsD object_given.signature κs) (r : ResD object_given.signature κs) (x : AtExit (endedOf 5 object-given-kinds.ps object-given-kinds.r) κs)
+    → object-given-reads.Learnt κs a r x
     → let p = a .1 .1 .1 in
     let q = x .1 .1 .1 in
     Says (before (a .0) (stores (now (p .0)) (now (p .1 .0)) (now (p .1 .1 .0)) (now (p .1 .1 .1 .0)))) (objectGiven (now (a .1 .0)) (a .1 .1 .0)) r
     (stores (now (q .0)) (now (q .1 .0)) (now (q .1 .1 .0)) (now (q .1 .1 .1 .0)))
 object-says κs a r x h = h
 
-pub body-says : (κs : Lfts 5) (a : ArgsD body.signature κs) (r : ResD body.signature κs) (x : AtExit (endedOf 5 body-kinds.ps body-kinds.r) κs)
-    → body-reads.Learnt κs a r x
+pub body-says : (κs : Lfts 5) (a : ArgsD body_given.signature κs) (r : ResD body_given.signature κs) (x : AtExit (endedOf 5 body-given-kinds.ps body-given-kinds.r) κs)
+    → body-given-reads.Learnt κs a r x
     → let p = a .1 .1 in
     let q = x .1 .1 in
     Says (before (a .0) (stores (now (p .0)) (now (p .1 .0)) (now (p .1 .1 .0)) (now (p .1 .1 .1 .0)))) (bodyGiven (now (a .1 .0))) r
@@ -110,40 +111,40 @@ pub body-failed-says : (κs : Lfts 4) (a : ArgsD body_failed.signature κs) (r :
     (stores (now (q .0)) (now (q .1 .0)) (now (q .1 .1 .0)) (now (q .1 .1 .1 .0)))
 body-failed-says κs a r x h = h
 
-pub acknowledge-says : (κs : Lfts 4) (a : ArgsD acknowledge.signature κs) (r : ResD acknowledge.signature κs) (x : AtExit (endedOf 4 acknowledge-kinds.ps acknowledge-kinds.r) κs)
-    → acknowledge-reads.Learnt κs a r x
+pub acknowledge-says : (κs : Lfts 4) (a : ArgsD abort_acknowledged.signature κs) (r : ResD abort_acknowledged.signature κs) (x : AtExit (endedOf 4 abort-acknowledged-kinds.ps abort-acknowledged-kinds.r) κs)
+    → abort-acknowledged-reads.Learnt κs a r x
     → let p = a .1 in
     let q = x .1 in
     Says (before (a .0) (stores (now (p .0)) (now (p .1 .0)) (now (p .1 .1 .0)) (now (p .1 .1 .1 .0)))) abortAcknowledged r
     (stores (now (q .0)) (now (q .1 .0)) (now (q .1 .1 .0)) (now (q .1 .1 .1 .0)))
 acknowledge-says κs a r x h = h
 
-pub password-says : (κs : Lfts 5) (a : ArgsD password.signature κs) (r : ResD password.signature κs) (x : AtExit (endedOf 5 password-kinds.ps password-kinds.r) κs)
-    → password-reads.Learnt κs a r x
+pub password-says : (κs : Lfts 5) (a : ArgsD password_given.signature κs) (r : ResD password_given.signature κs) (x : AtExit (endedOf 5 password-given-kinds.ps password-given-kinds.r) κs)
+    → password-given-reads.Learnt κs a r x
     → let p = a .1 .1 .1 in
     let q = x .1 .1 .1 in
     Says (before (a .0) (stores (now (p .0)) (now (p .1 .0)) (now (p .1 .1 .0)) (now (p .1 .1 .1 .0)))) (passwordGiven (given (a .1 .0) (now (a .1 .1 .0)))) r
     (stores (now (q .0)) (now (q .1 .0)) (now (q .1 .1 .0)) (now (q .1 .1 .1 .0)))
 password-says κs a r x h = h
 
-pub nonce-says : (κs : Lfts 4) (a : ArgsD nonce.signature κs) (r : ResD nonce.signature κs) (x : AtExit (endedOf 4 nonce-kinds.ps nonce-kinds.r) κs)
-    → nonce-reads.Learnt κs a r x
+pub nonce-says : (κs : Lfts 4) (a : ArgsD nonce_given.signature κs) (r : ResD nonce_given.signature κs) (x : AtExit (endedOf 4 nonce-given-kinds.ps nonce-given-kinds.r) κs)
+    → nonce-given-reads.Learnt κs a r x
     → let p = a .1 .1 .1 in
     let q = x .1 .1 .1 in
     Says (before (a .0) (stores (now (p .0)) (now (p .1 .0)) (now (p .1 .1 .0)) (now (p .1 .1 .1 .0)))) (nonceGiven (a .1 .0) (a .1 .1 .0)) r
     (stores (now (q .0)) (now (q .1 .0)) (now (q .1 .1 .0)) (now (q .1 .1 .1 .0)))
 nonce-says κs a r x h = h
 
-pub reply-says : (κs : Lfts 5) (a : ArgsD reply.signature κs) (r : ResD reply.signature κs) (x : AtExit (endedOf 5 reply-kinds.ps reply-kinds.r) κs)
-    → reply-reads.Learnt κs a r x
+pub reply-says : (κs : Lfts 5) (a : ArgsD reply_given.signature κs) (r : ResD reply_given.signature κs) (x : AtExit (endedOf 5 reply-given-kinds.ps reply-given-kinds.r) κs)
+    → reply-given-reads.Learnt κs a r x
     → let p = a .1 .1 .1 in
     let q = x .1 .1 .1 in
     Says (before (a .0) (stores (now (p .0)) (now (p .1 .0)) (now (p .1 .1 .0)) (now (p .1 .1 .1 .0)))) (replyGiven (a .1 .0) (now (a .1 .1 .0))) r
     (stores (now (q .0)) (now (q .1 .0)) (now (q .1 .1 .0)) (now (q .1 .1 .1 .0)))
 reply-says κs a r x h = h
 
-pub credentials-says : (κs : Lfts 6) (a : ArgsD credentials.signature κs) (r : ResD credentials.signature κs) (x : AtExit (endedOf 6 credentials-kinds.ps credentials-kinds.r) κs)
-    → credentials-reads.Learnt κs a r x
+pub credentials-says : (κs : Lfts 6) (a : ArgsD credentials_given.signature κs) (r : ResD credentials_given.signature κs) (x : AtExit (endedOf 6 credentials-given-kinds.ps credentials-given-kinds.r) κs)
+    → credentials-given-reads.Learnt κs a r x
     → let p = a .1 .1 .1 .1 .1 in
     let q = x .1 .1 .1 .1 .1 in
     let c = credentialsOf (a .1 .0) (given (a .1 .1 .0) (now (a .1 .1 .1 .0))) (now (a .1 .1 .1 .1 .0)) in

@@ -3,20 +3,24 @@ use mathlib.Core.Path.{_≡_, refl, sym, ap, _∙_}
 use mathlib.Core.Bool.{Bool, true, false, _&&_, not}
 use mathlib.Core.List.{List}
 use Prim.Native.Nat.{ℕ, _≤_}
-use lib.Dec.{eqb}
 use Rattle.base.specs.Pick.{pick}
-use Rattle.outgoing.specs.Outgoing.{nextPacket}
-use Rattle.outgoing.specs.declared.body.Outgoing.{Outgoing}
-use Rattle.model.specs.Model.{Stores, Done, withReply, limitOf, capacityOf, awaited, soundOperation, goesOn, ends, sendsNext, after, takenStep}
-use Rattle.engine.specs.Plan.{planned}
-use Rattle.engine.specs.Carry.{Written, within, carried, PlanMade, planMade, objectPlan}
-use Rattle.engine.specs.Turn.{goesTurn, turnOf, turnActs}
-use Rattle.model.specs.declared.server.Operation.{Operation}
-use Rattle.model.specs.declared.server.Operation.the-variants.{Nothing, Putting, Getting, Sending, Gathering as GatheringOp, Connecting, Draining}
-use Rattle.model.specs.declared.server.Engine.{Engine}
-use Rattle.engine.specs.declared.plan.Plan.{Plan}
-use Rattle.engine.specs.declared.arrival.Turn.{Turn}
-use Rattle.engine.specs.declared.arrival.Turn.the-variants.{Send, Wait, End}
+use Rattle.outgoing.specs.Object.{nextPacket}
+use Rattle.outgoing.specs.declared.object.Outgoing.{Outgoing}
+use Rattle.model.specs.Step.{Stores, Done, withReply, limitOf, capacityOf, ends, after}
+use Rattle.model.specs.Guard.{sameAwait, soundOperation}
+use Rattle.model.specs.Object.{goesOn, sendsNext}
+use Rattle.model.specs.Calls.{replyTakenStep}
+use Rattle.engine.specs.Step.{planned, Written, within, carried}
+use Rattle.engine.specs.Object.{PlanMade, planMade, objectPlan, goesTurn, turnOf, turnActs}
+use Rattle.server.specs.declared.Operation.{Operation}
+use Rattle.server.specs.declared.Operation.the-variants.{Nothing, Putting, Getting, Sending, Gathering as GatheringOp, Connecting, Draining}
+use Rattle.server.specs.declared.CallKind.the-variants as kind
+use Rattle.server.specs.declared.End.the-variants as end
+use Rattle.server.specs.declared.Await.the-variants as await
+use Rattle.server.specs.declared.Engine.{Engine}
+use Rattle.engine.specs.declared.step.Plan.{Plan}
+use Rattle.engine.specs.declared.object.Turn.{Turn}
+use Rattle.engine.specs.declared.object.Turn.the-variants.{Send, Wait, End}
 use Rattle.model.proofs.Steps.{outgoing-within}
 use Rattle.engine.proofs.Carried.{packet-carried}
 use Rattle.engine.proofs.Guards.{Goes}
@@ -41,7 +45,7 @@ goes-ready limit (Connecting c f n) s = tt
 goes-ready limit (Draining code) s = tt
 
 pub turn-ready : (e : Engine) → soundOperation (limitOf e) (e .operation) ≡ true → TurnReady (turnOf e)
-turn-ready e s = ready-pick (eqb (awaited (e .awaits)) 1) _ _ (goes-ready (limitOf e) (e .operation) s) tt
+turn-ready e s = ready-pick (sameAwait (e .awaits) await.Taken) _ _ (goes-ready (limitOf e) (e .operation) s) tt
 
 module _ (e : Engine) (s : Stores) where
   acts-pick : (t : Bool) (x y : Turn) → turnActs (pick t x y) e s ≡ pick t (turnActs x e s) (turnActs y e s)
@@ -57,17 +61,17 @@ module _ (e : Engine) (s : Stores) where
   goes-acts (Connecting c f n) = refl
   goes-acts (Draining code) = refl
 
-  turn-acts : turnActs (turnOf e) e s ≡ pick (eqb (awaited (e .awaits)) 1) (goesOn (e .operation) e s) (ends e (e .peer) 5 s)
+  turn-acts : turnActs (turnOf e) e s ≡ pick (sameAwait (e .awaits) await.Taken) (goesOn (e .operation) e s) (ends e (e .peer) end.OtherOperation s)
   turn-acts =
-      acts-pick (eqb (awaited (e .awaits)) 1) (goesTurn (e .operation)) End
-      ∙ ap (λ (d : Done). pick (eqb (awaited (e .awaits)) 1) d (ends e (e .peer) 5 s)) (goes-acts (e .operation))
+      acts-pick (sameAwait (e .awaits) await.Taken) (goesTurn (e .operation)) End
+      ∙ ap (λ (d : Done). pick (sameAwait (e .awaits) await.Taken) d (ends e (e .peer) end.OtherOperation s)) (goes-acts (e .operation))
 
-  pub taken-call : (p : Plan) (y : List ℕ) (w : Written) → Goes 1 2 e s → w ≡ carried p y → planned p (withReply s y) ≡ turnActs (turnOf e) e s
-      → within w s ≡ takenStep e s
-  unfolding takenStep
+  pub taken-call : (p : Plan) (y : List ℕ) (w : Written) → Goes kind.ReplyTaken e s → w ≡ carried p y → planned p (withReply s y) ≡ turnActs (turnOf e) e s
+      → within w s ≡ replyTakenStep e s
+  unfolding replyTakenStep
   taken-call p y w g h k =
       ap (λ (x : Written). within x s) h ∙ ap (λ (d : Done). after 0 d) (k ∙ turn-acts)
-      ∙ sym (g .whole (after 0 (pick (eqb (awaited (e .awaits)) 1) (goesOn (e .operation) e s) (ends e (e .peer) 5 s))))
+      ∙ sym (g .whole (after 0 (pick (sameAwait (e .awaits) await.Taken) (goesOn (e .operation) e s) (ends e (e .peer) end.OtherOperation s))))
 
   -- by the code's own answer
   pub by-turn : (t : Turn) (d : Done) → turnOf e ≡ t → d ≡ turnActs t e s → d ≡ turnActs (turnOf e) e s

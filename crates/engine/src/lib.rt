@@ -1,11 +1,9 @@
-// The server engine: a state machine over lent stores (the source's engine/server.rs).
-pub mod accept;
-pub mod arrival;
-pub mod carry;
-pub mod connecting;
-pub mod guard;
-pub mod host;
-pub mod last;
-pub mod plan;
-pub mod route;
-pub mod session;
+// The server engine: a state machine over lent stores (the source's engine/server.rs). A host needs `calls`, and the types of `server`.
+pub mod calls;
+mod connect;
+mod dispatch;
+mod guard;
+mod object;
+mod operation;
+mod request;
+mod step;

@@ -14,8 +14,8 @@ use Rattle.base.specs.Pick.{pick}
 use Rattle.base.specs.Bytes.{be16}
 pub use Rattle.packet.proofs.HeaderBytes.{Octets}
 use Rattle.journal.specs.Journal.{Read, more, whole, short, readStep, readUp}
-use Rattle.incoming.specs.declared.io.Frame.{Frame}
-use Rattle.incoming.specs.declared.io.Frame.the-variants.{More, Whole, Short}
+use Rattle.incoming.specs.declared.frame.Frame.{Frame}
+use Rattle.incoming.specs.declared.frame.Frame.the-variants.{More, Whole, Short}
 use Rattle.incoming.specs.Frame.{Frames, frameEnd, framed}
 
 -- the bytes that the journal has are those in the store

@@ -13,7 +13,7 @@ use lib.Dec.{leb, ltb}
 use borrow.Author.Tests.{leb-true, leb-false, ltb-true, lt-ltb, le-ltb, le-leb}
 use Rattle.base.specs.Pick.{pick}
 use Rattle.packet.specs.Header.{Header, bytesOf, allBytes}
-use Rattle.journal.specs.Carried.{isBody, isSrm, Carried, bare, joinBody, joined, bodyLength, sizeOf, carriedOne, carriedBy, keptByGet}
+use Rattle.journal.specs.Record.{isBody, isSrm, Record, bare, joinBody, joined, bodyLength, sizeOf, carriedOne, carriedBy, keptByGet}
 use Rattle.journal.proofs.Laws.{joined-bare, joined-assoc, size-joined}
 use Rattle.incoming.specs.declared.gather.Keep.{Keep}
 use Rattle.incoming.specs.declared.gather.Keep.the-variants as keep
@@ -184,7 +184,7 @@ kept-begins limit h b r l =
 -- ---- a Put
 
 -- a Put's gathering stands for what was carried
-pub record PutAgrees (limit : ℕ) (g : Gathering) (c : Carried) : Type 0 where
+pub record PutAgrees (limit : ℕ) (g : Gathering) (c : Record) : Type 0 where
   pub room : 65535 ≤ length (g .headers)
   pub body-room : limit ≤ length (g .body)
   pub full : g .got .full ≡ false
@@ -196,7 +196,7 @@ pub record PutAgrees (limit : ℕ) (g : Gathering) (c : Carried) : Type 0 where
   pub body : g .got .over ≡ false → (g .got .body ≡ sizeOf c) × (c .body ≡ pick (g .got .came) (some (take (g .got .body) (g .body))) none)
 
 -- what a header of a Put carries, by what becomes of it
-abbrev carriedAs : Fate → Header → Carried
+abbrev carriedAs : Fate → Header → Record
 carriedAs kept h = record { headers = bytesOf h; body = none }
 carriedAs stored h = record { headers = []; body = some (h .value) }
 carriedAs dropped h = bare
@@ -224,14 +224,14 @@ carried-on false n d v b l e =
     let z : n ≡ 0 = l ∙ ap bodyLength e in
     rw (e, z)
 
-module _ (limit : ℕ) (g : Gathering) (c : Carried) (a : PutAgrees limit g c) where
+module _ (limit : ℕ) (g : Gathering) (c : Record) (a : PutAgrees limit g c) where
   -- a header that is kept
   keep-joins : (bs : List ℕ) → length (c .headers ++ bs) ≤ 65535 → PutAgrees limit (keepBytes g bs) (joined c (record { headers = bs; body = none }))
   unfolding keepBytes
   keep-joins bs l =
       let s = length-append (c .headers) bs in
       let h : g .got .kept + length bs ≤ 65535 = omega arith in
-      let b : joinBody (c .body) none ≡ c .body = ap (λ (d : Carried). d .body) (joined-bare c) in
+      let b : joinBody (c .body) none ≡ c .body = ap (λ (d : Record). d .body) (joined-bare c) in
       rw (le-leb _ _ h, b)
       (record {
         room = omega (arith, paste-length (g .headers) bs (g .got .kept) (omega arith));
@@ -317,7 +317,7 @@ one-carried h = go (isBody (h .id)) (isSrm (h .id))
     go false true = refl
     go false false = refl
 
-pub put-agrees : (limit : ℕ) (hs : List Header) (g : Gathering) (c : Carried) → PutAgrees limit g c
+pub put-agrees : (limit : ℕ) (hs : List Header) (g : Gathering) (c : Record) → PutAgrees limit g c
     → length (c .headers ++ carriedBy hs .headers) ≤ 65535 → PutAgrees limit (gatherAll keep.Put limit hs g) (joined c (carriedBy hs))
 unfolding gatherAll carriedBy
 put-agrees limit [] g c a l = rw (joined-bare c) a

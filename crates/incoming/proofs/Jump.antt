@@ -7,7 +7,7 @@ use lib.ListN.{length, getD, set, take, drop, length-append, length-drop, List·
 use lib.Seq.{paste, paste-zero, paste-suc, length-take-le, getD-take, take-take, drop-cons, drop-drop}
 use borrow.Author.Tests.{le-ltb, lt-leb}
 use Rattle.base.specs.Bytes.{be16}
-use Rattle.incoming.specs.declared.io.Frame.the-variants.{More}
+use Rattle.incoming.specs.declared.frame.Frame.the-variants.{More}
 use Rattle.incoming.specs.Frame.{framed, frameEnd}
 
 -- what stands before a paste stays

@@ -1,4 +1,4 @@
--- What several proofs cite.
+-- The lemmas that proofs of this crate and of the engine cite: frames, the survey, gathering, and how they go with the journal.
 pub mod Jump
 pub mod Stored
 pub mod Frames

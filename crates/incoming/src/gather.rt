@@ -1,10 +1,12 @@
-// Gathering an operation's packets: headers go to the header store as received, the body bytes of a Put to the body store.
+// Gathering an operation's packets (docs/PROTOCOL.md#put, #get, #headers-only): headers go to the header store as received, the body bytes
+// of a Put to the body store.
 ghost use mathlib.Core.Path.{_≡_};
 ghost use mathlib.Core.Bool.{true};
 ghost use mathlib.Core.List.{List};
 ghost use Prim.Native.Nat.{ℕ, _+_, _≤_};
 ghost use lib.ListN.{length};
-ghost use Rattle.journal.specs.Carried.{isBody, isSrm};
+ghost use Rattle.journal.specs.Record.{isBody, isSrm};
+ghost use Rattle.packet.specs.Limits.{maxPacket};
 ghost use Rattle.packet.specs.Header.{part, bytesOf, readHeaders};
 ghost use Rattle.packet.specs.HeaderList.{readableFrom};
 ghost use Rattle.incoming.specs.Gather.{gathering, isStored, isDropped, keepBytes, storeBytes};
@@ -12,55 +14,65 @@ ghost use Rattle.incoming.specs.Gather.{gatherOne, gatherAll, headersOf}
 use base::copy_into;
 use packet::header::HeaderAt;
 use packet::header::header_at;
+use packet::header_id::BODY;
+use packet::header_id::END_OF_BODY;
+use packet::header_id::SINGLE_RESPONSE_MODE;
+use packet::header_id::SINGLE_RESPONSE_MODE_PARAMETERS;
+use packet::limits::MAX_PACKET;
 
 // Which headers of an operation's packets are kept.
 pub enum Keep {
-    // All but body and SRM headers; body bytes go to the body store.
+    // All but the body headers and the headers of Single Response Mode (SRM); body bytes go to the body store.
     Put,
-    // All but SRM headers.
+    // All but the SRM headers.
     Get,
+    // All headers.
     All,
 }
 
 // An operation's kept headers and body, as counts of bytes in their stores.
 pub struct Gathered {
+    // How many bytes of kept headers there are.
     pub kept: usize,
+    // How many body bytes there are.
     pub body: usize,
-    // A body header came.
+    // A body header came: an empty body is not the same as none.
     pub came: bool,
-    // A body header was past the limit, and not stored.
+    // A body header passed the limit, and was not stored.
     pub over: bool,
-    // A header did not fit the header store, and gathering stopped there.
+    // A header did not fit the header store, and gathering stopped there (the engine ends with 6).
     pub full: bool,
 }
 
+// Tells whether `id` is Body or EndOfBody.
 fn is_body(id: u8) -> bool
     ensures { λ r. ⌜ r ≡ isBody id ⌝ }
 {
-    if id == 0x48 {
+    if id == BODY {
         return true;
     }
-    id == 0x49
+    id == END_OF_BODY
 }
 
+// Tells whether `id` is one of the two SRM headers.
 fn is_srm(id: u8) -> bool
     ensures { λ r. ⌜ r ≡ isSrm id ⌝ }
 {
-    if id == 0x97 {
+    if id == SINGLE_RESPONSE_MODE {
         return true;
     }
-    id == 0x98
+    id == SINGLE_RESPONSE_MODE_PARAMETERS
 }
 
-// A header's bytes to the header store, where they fit.
+// Appends the bytes of a header to the header store, if the kept headers then stay within 65,535 bytes.
 fn keep_bytes(bytes: &[u8], g: Gathered, headers: &mut [u8]) -> Gathered
-    requires { ⌜ (g .kept ≤ 65535) × (65535 ≤ length (now headers)) ⌝ }
+    requires { ⌜ (g .kept ≤ maxPacket) × (maxPacket ≤ length (now headers)) ⌝ }
     ensures model { λ r. ⌜ ((b : List ℕ) → gathering r (now (headers .exit)) b
         ≡ keepBytes (gathering g (now (headers .entry)) b) (now (bytes .entry))) ⌝ }
 {
     let kept = g.kept;
     let mut r = g;
-    if 65535 - kept < bytes.len() {
+    if MAX_PACKET - kept < bytes.len() {
         r.full = true;
         return r;
     }
@@ -70,7 +82,8 @@ fn keep_bytes(bytes: &[u8], g: Gathered, headers: &mut [u8]) -> Gathered
     r
 }
 
-// A body header's bytes to the body store, where they do not pass the limit.
+// Appends the bytes of a body header to the body store, unless they pass the limit: then none of them is stored, but a later header that
+// fits still is, as in the source.
 fn store_bytes(bytes: &[u8], g: Gathered, limit: usize, body: &mut [u8]) -> Gathered
     requires { ⌜ (g .body ≤ limit) × (limit ≤ length (now body)) ⌝ }
     ensures model { λ r. ⌜ ((h : List ℕ) → gathering r h (now (body .exit))
@@ -89,7 +102,7 @@ fn store_bytes(bytes: &[u8], g: Gathered, limit: usize, body: &mut [u8]) -> Gath
     r
 }
 
-// Whether a header's value is stored as body bytes.
+// Tells whether the value of a header with `id` is stored as body bytes.
 fn is_stored(keep: Keep, id: u8) -> bool
     ensures { λ r. ⌜ r ≡ isStored keep id ⌝ }
 {
@@ -100,7 +113,7 @@ fn is_stored(keep: Keep, id: u8) -> bool
     }
 }
 
-// Whether a header is dropped.
+// Tells whether a header with `id` is dropped: the engine answers the SRM headers itself.
 fn is_dropped(keep: Keep, id: u8) -> bool
     ensures { λ r. ⌜ r ≡ isDropped keep id ⌝ }
 {
@@ -111,7 +124,7 @@ fn is_dropped(keep: Keep, id: u8) -> bool
     }
 }
 
-// One header: its bytes are those from `at` to `end`, its value's those from `start` on.
+// Gathers one header. Its bytes stand from `at` up to `end`, those of its value from `start` on.
 fn gather_one(
     p: &[u8],
     at: usize,
@@ -125,7 +138,7 @@ fn gather_one(
     body: &mut [u8],
 ) -> Gathered
     requires { ⌜ (bytesOf (record { id = id; value = part (now p) start «end» }) ≡ part (now p) at «end») × (at ≤ start) × (start ≤ «end»)
-        × («end» ≤ length (now p)) × (g .kept ≤ 65535) × (65535 ≤ length (now headers)) × (g .body ≤ limit)
+        × («end» ≤ length (now p)) × (g .kept ≤ maxPacket) × (maxPacket ≤ length (now headers)) × (g .body ≤ limit)
         × (limit ≤ length (now body)) ⌝ }
     ensures model { λ r. ⌜ gathering r (now (headers .exit)) (now (body .exit))
         ≡ gatherOne keep limit (gathering g (now (headers .entry)) (now (body .entry)))
@@ -140,7 +153,7 @@ fn gather_one(
     keep_bytes(&p[at..end], g, headers)
 }
 
-// The headers of a packet from a place on, which can be read.
+// Gathers the headers of a packet from `from` on, which can all be read, in list order and up to a header that does not fit.
 pub fn gather(
     p: &[u8],
     from: usize,
@@ -150,12 +163,12 @@ pub fn gather(
     headers: &mut [u8],
     body: &mut [u8],
 ) -> Gathered
-    requires { ⌜ (readableFrom (now p) from ≡ true) × (begun .kept ≤ 65535) × (65535 ≤ length (now headers))
+    requires { ⌜ (readableFrom (now p) from ≡ true) × (begun .kept ≤ maxPacket) × (maxPacket ≤ length (now headers))
         × (begun .body ≤ limit) × (limit ≤ length (now body)) ⌝ }
     ensures model { λ r. ⌜ gathering r (now (headers .exit)) (now (body .exit))
         ≡ gatherAll keep limit (headersOf (readHeaders (now (p .entry)) from))
         (gathering begun (now (headers .entry)) (now (body .entry))) ⌝ }
-    ensures within { λ r. ⌜ (r .kept ≤ 65535) × (r .body ≤ limit) ⌝ }
+    ensures within { λ r. ⌜ (r .kept ≤ maxPacket) × (r .body ≤ limit) ⌝ }
 {
     let mut g = begun;
     let mut at = from;

@@ -1,30 +1,37 @@
-// What the engine asks of the headers of every packet, found in the one pass that reads them.
+// What the engine asks of the headers of every packet, found in the one pass that reads them (docs/PROTOCOL.md#admission, #srm).
 ghost use mathlib.Core.Path.{_≡_};
 ghost use lib.ListN.{length};
+ghost use Rattle.packet.specs.HeaderIds as header-id;
 ghost use Rattle.packet.specs.Header.{readHeaders};
 ghost use Rattle.incoming.specs.Noted.{noteId, noteMode, noteParameter, noteOne, surveyNoted};
 ghost use Rattle.incoming.specs.Survey.{unreadableSurvey, surveyOf};
 use packet::header::HeaderAt;
 use packet::header::be32_at;
 use packet::header::header_at;
+use packet::header_id::CONNECTION_ID;
+use packet::header_id::SINGLE_RESPONSE_MODE;
+use packet::header_id::SINGLE_RESPONSE_MODE_PARAMETERS;
 use packet::srm::ENABLE;
 use packet::srm::requests_additional_packet;
 use packet::srm::requests_wait;
 
+// What the engine asks of the headers of every packet.
 pub struct Survey {
-    // The first ConnectionID, where there is one.
+    // The first ConnectionID, or 0 if there is none.
     pub id: u32,
+    // There is a ConnectionID.
     pub has_id: bool,
-    // The headers are readable.
+    // The headers can be read.
     pub readable: bool,
-    // The first SingleResponseMode is Enable.
+    // The first SingleResponseMode is Enable: the client asks for Single Response Mode (SRM).
     pub enable: bool,
-    // The first SingleResponseModeParameters asks for an additional packet, or to wait.
+    // The first SingleResponseModeParameters asks for an additional packet.
     pub additional: bool,
+    // The first SingleResponseModeParameters asks the engine to wait.
     pub wait: bool,
 }
 
-// What was found up to a place: the first of each of the three headers.
+// What was found of the three headers up to a place; of each the first counts.
 struct Noted {
     id: u32,
     has_id: bool,
@@ -35,6 +42,7 @@ struct Noted {
     wait: bool,
 }
 
+// Notes the connection id `id`, unless one was found before.
 fn note_id(n: Noted, id: u32) -> Noted
     ensures { λ r. ⌜ r ≡ noteId n id ⌝ }
 {
@@ -47,6 +55,7 @@ fn note_id(n: Noted, id: u32) -> Noted
     r
 }
 
+// Notes the mode `mode`, unless one was found before.
 fn note_mode(n: Noted, mode: u8) -> Noted
     ensures { λ r. ⌜ r ≡ noteMode n mode ⌝ }
 {
@@ -59,6 +68,7 @@ fn note_mode(n: Noted, mode: u8) -> Noted
     r
 }
 
+// Notes the parameter `parameter`, unless one was found before.
 fn note_parameter(n: Noted, parameter: u8) -> Noted
     ensures { λ r. ⌜ r ≡ noteParameter n parameter ⌝ }
 {
@@ -72,20 +82,20 @@ fn note_parameter(n: Noted, parameter: u8) -> Noted
     r
 }
 
-// One header more. The three have values of four bytes and of one byte.
+// Notes the header with `id` and `value`. A connection id has four bytes, a mode and a parameter one.
 fn note(n: Noted, id: u8, value: &[u8]) -> Noted
-    requires { ⌜ (id ≡ 0xCB → length (now value) ≡ 4) × (id ≡ 0x97 → length (now value) ≡ 1) × (id ≡ 0x98 → length (now value) ≡ 1) ⌝ }
+    requires { ⌜ (id ≡ header-id.connectionId → length (now value) ≡ 4) × (id ≡ header-id.singleResponseMode → length (now value) ≡ 1) × (id ≡ header-id.singleResponseModeParameters → length (now value) ≡ 1) ⌝ }
     ensures { λ r. ⌜ r ≡ noteOne n (record { id = id; value = now (value .entry) }) ⌝ }
 {
     match id {
-        0xCB => note_id(n, be32_at(value, 0)),
-        0x97 => note_mode(n, value[0]),
-        0x98 => note_parameter(n, value[0]),
+        CONNECTION_ID => note_id(n, be32_at(value, 0)),
+        SINGLE_RESPONSE_MODE => note_mode(n, value[0]),
+        SINGLE_RESPONSE_MODE_PARAMETERS => note_parameter(n, value[0]),
         _ => n,
     }
 }
 
-// What is noted of all headers.
+// Makes the survey of readable headers from what was noted of them.
 fn surveyed(n: Noted) -> Survey
     ensures { λ r. ⌜ r ≡ surveyNoted n ⌝ }
 {
@@ -99,7 +109,7 @@ fn surveyed(n: Noted) -> Survey
     }
 }
 
-// Of unreadable headers nothing is asked.
+// Makes the survey of headers that cannot be read: the engine asks nothing more of them.
 fn unreadable() -> Survey
     ensures { λ r. ⌜ r ≡ unreadableSurvey ⌝ }
 {
@@ -113,7 +123,7 @@ fn unreadable() -> Survey
     }
 }
 
-// The headers of a packet from a place on.
+// Surveys the headers of a packet from `from` on, in one pass.
 pub fn survey_headers(p: &[u8], from: usize) -> Survey
     ensures { λ r. ⌜ r ≡ surveyOf (readHeaders (now (p .entry)) from) ⌝ }
 {

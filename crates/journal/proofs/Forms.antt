@@ -14,7 +14,7 @@ use Rattle.packet.specs.Header.{allBytes}
 use Rattle.packet.specs.Packet.{Request, requestOf}
 use Rattle.packet.specs.declared.opcode.Opcode.{Opcode}
 use Rattle.packet.specs.declared.opcode.Opcode.the-variants.{Connect, Disconnect, Put, Get, SetPath, Action, Session, Abort, UserDefined}
-use Rattle.journal.specs.Carried.{Carried, bare, joined, sizeOf, carriedBy, keptByGet}
+use Rattle.journal.specs.Record.{Record, bare, joined, sizeOf, carriedBy, keptByGet}
 use Rattle.journal.specs.Calls.{Call, bytesOffered, streamEnded, replyTaken, replyGiven, objectGiven, bodyGiven, bodyFailed, abortAcknowledged, passwordGiven, nonceGiven, credentialsGiven, Verdict, goes, refused, Fed}
 use Rattle.journal.specs.Journal.{Opened, nothing, putting, getting, sending, gathering, draining, busy, Journal, fresh, Entry, unchanged, begin, after, opens, stands, end, admitted, asksSrm, putRead, gatherRead, turnedAway, dropped, firstRead, stopped, requestRead, packetRead, journalPacket, Read, more, whole, short, readUp, bytesRead, replyTo, replyLast, replied, objectSent, takenAt, passwordChecked, challenged, passes, journalCall, journalFed, journalStep, journalRecords, Marked, readIn, callReads, fedReads, packets}
 use Rattle.journal.specs.PutForm.{readablePut, isFinal, carriedIn, admits, Form, Apart}
@@ -24,7 +24,7 @@ use Rattle.journal.proofs.Scan.{run, forms, past, forms-sound, forms-co
 -- ---- records told
 
 -- the records of these forms, which begin at or after a place and lie apart
-record Told (at : ℕ) (rs : List Carried) (fs : List Form) : Type 0 where
+record Told (at : ℕ) (rs : List Record) (fs : List Form) : Type 0 where
   same : rs ≡ map (λ (f : Form). f .given) fs
   apart : Apart at fs
 
@@ -32,7 +32,7 @@ earlier : (m n : ℕ) (l : List Form) → m ≤ n → Apart n l → Apart m l
 earlier m n [] h w = tt
 earlier m n (f ∷ l) h w = (omega (arith, w .0), w .1)
 
-sooner : {m n : ℕ} {rs : List Carried} {fs : List Form} → m ≤ n → Told n rs fs → Told m rs fs
+sooner : {m n : ℕ} {rs : List Record} {fs : List Form} → m ≤ n → Told n rs fs → Told m rs fs
 sooner {m} {n} {rs} {fs} h w = record { same = w .same; apart = earlier m n fs h (w .apart) }
 
 -- ---- an ended journal reads nothing and gives nothing
@@ -61,7 +61,7 @@ ended-packets (f ∷ fs) j e =
 -- ---- what is open
 
 -- what an open Put carries; none where no Put is open
-abbrev carrying : Opened → Option Carried
+abbrev carrying : Opened → Option Record
 carrying nothing = none
 carrying (putting c s) = some c
 carrying (getting k) = none
@@ -74,11 +74,11 @@ carrying-pick true o u e f = e
 carrying-pick false o u e f = f
 
 -- the form that an open Put may still become in the packets ps that come next; `at` is its first packet, n its packets so far
-abbrev pending : ℕ → Option Carried → ℕ → ℕ → List Marked → List Form
+abbrev pending : ℕ → Option Record → ℕ → ℕ → List Marked → List Form
 pending limit none at n ps = []
 pending limit (some c) at n ps = run limit at n c ps
 
-pending-none : (limit : ℕ) (c : Option Carried) (at n : ℕ) → pending limit c at n [] ≡ []
+pending-none : (limit : ℕ) (c : Option Record) (at n : ℕ) → pending limit c at n [] ≡ []
 pending-none limit none at n = refl
 pending-none limit (some c) at n = refl
 
@@ -182,15 +182,15 @@ module _ (j : Journal) (fs : List Fed) (h : j .ended ≡ false) (ih : (d : Journ
         go false e = simp e (w r)
 
   -- a Put packet p of a Put that began at `at`; its n packets before this one carry c
-  module _ (at n : ℕ) (place : at + n ≡ i) (p : List ℕ) (r : Request) (k : requestOf p ≡ some r) (e : sameOpcode (r .opcode) Put ≡ true) (o : Opened) (c : Carried) (srm next : Bool) where
-    abbrev total : Carried
+  module _ (at n : ℕ) (place : at + n ≡ i) (p : List ℕ) (r : Request) (k : requestOf p ≡ some r) (e : sameOpcode (r .opcode) Put ≡ true) (o : Opened) (c : Record) (srm next : Bool) where
+    abbrev total : Record
     total = joined c (carriedBy (r .headers))
 
     -- the last packet, within the limit; and one that goes on
     found : Goal at (record { next = after j (some r) nothing; given = total ∷ [] }) (record { first = at; count = n + 1; given = total } ∷ [])
     found =
         let w : Told (at + (n + 1)) _ _ = sooner (omega arith) (ih (after j (some r) nothing) h (i + 1) 0 (i + 1) (omega arith)) in
-        record { same = ap (λ (l : List Carried). total ∷ l) (w .same); apart = (omega arith, w .apart) }
+        record { same = ap (λ (l : List Record). total ∷ l) (w .same); apart = (omega arith, w .apart) }
 
     goes-on : Goal at (unchanged (after j (some r) (putting total next))) (run limit at (n + 1) total (packets (after j (some r) (putting total next)) fs))
     goes-on = ih (after j (some r) (putting total next)) h at (n + 1) (i + 1) (omega arith)
@@ -239,7 +239,7 @@ module _ (j : Journal) (fs : List Fed) (h : j .ended ≡ false) (ih : (d : Journ
             let w = follows i 0 (omega arith) p r k e nothing bare (j .standing .srm) (j .standing .srm || asksSrm (j .settings) (r .headers)) in
             simp (k, f, is-put (r .opcode) e, put-put, put-abort) (simp (k, is-put (r .opcode) e, put-put) at (sooner late w))
 
-    in-a-put : (c : Carried) (s : Bool) (q : Option Request) → requestOf p ≡ q → Here p (putting c s) at n false (readAt (putting c s) q j)
+    in-a-put : (c : Record) (s : Bool) (q : Option Request) → requestOf p ≡ q → Here p (putting c s) at n false (readAt (putting c s) q j)
     unfolding readablePut
     in-a-put c s none k = simp k (halts at late (putting c s))
     in-a-put c s (some r) k = go (sameOpcode (r .opcode) Put) (sameOpcode (r .opcode) Abort) refl refl
@@ -288,7 +288,7 @@ module _ (j : Journal) (fs : List Fed) (h : j .ended ≡ false) (ih : (d : Journ
   -- an operation that is no Put closes, or becomes another
   moved-told : (o u : Opened) → j .opened ≡ o → carrying o ≡ none → carrying u ≡ none → After (unchanged (opens j u)) []
   moved-told o u e q r =
-      subst (λ (c : Option Carried). Told at (journalRecords (opens j u) fs) (pending (j .settings .limit) c at n (packets (opens j u) fs) ++ forms (j .settings .limit) i (packets (opens j u) fs)))
+      subst (λ (c : Option Record). Told at (journalRecords (opens j u) fs) (pending (j .settings .limit) c at n (packets (opens j u) fs) ++ forms (j .settings .limit) i (packets (opens j u) fs)))
       (r ∙ sym (ap carrying e ∙ q)) (ih (opens j u) h at n i place)
 
   -- Connect and Disconnect change what the journal stands at, and nothing that is open

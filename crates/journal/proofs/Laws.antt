@@ -9,7 +9,7 @@ use lib.ListN.{length, length-append}
 use lib.Dec.{leb, ltb}
 use Rattle.base.specs.Pick.{pick}
 use Rattle.base.specs.Bytes.{be16}
-use Rattle.journal.specs.Carried.{Carried, bare, joinBody, joined, bodyLength, sizeOf}
+use Rattle.journal.specs.Record.{Record, bare, joinBody, joined, bodyLength, sizeOf}
 use Rattle.journal.specs.Journal.{Read, more, whole, short, readStep, readUp}
 
 -- ---- bodies
@@ -31,15 +31,15 @@ body-length (some a) (some b) = length-append a b
 
 -- ---- what packets carry
 
-pub joined-bare : (c : Carried) → joined c bare ≡ c
+pub joined-bare : (c : Record) → joined c bare ≡ c
 joined-bare c = ap₂ (λ (h : List ℕ) (b : Option (List ℕ)). record { headers = h; body = b }) (append-nil (c .headers)) (body-none (c .body))
 
-pub joined-assoc : (c d e : Carried) → joined (joined c d) e ≡ joined c (joined d e)
+pub joined-assoc : (c d e : Record) → joined (joined c d) e ≡ joined c (joined d e)
 joined-assoc c d e =
     ap₂ (λ (h : List ℕ) (b : Option (List ℕ)). record { headers = h; body = b })
     (append-assoc (c .headers) (d .headers) (e .headers)) (body-assoc (c .body) (d .body) (e .body))
 
-pub size-joined : (c d : Carried) → sizeOf (joined c d) ≡ sizeOf c + sizeOf d
+pub size-joined : (c d : Record) → sizeOf (joined c d) ≡ sizeOf c + sizeOf d
 size-joined c d = body-length (c .body) (d .body)
 
 -- ---- bytes in two pieces

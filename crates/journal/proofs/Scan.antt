@@ -11,7 +11,7 @@ use lib.Seq.{take-nil, drop-nil, drop-drop}
 use lib.Dec.{leb, eqb}
 use borrow.Author.Tests.{leb-true, le-leb, lt-leb, eqb-true, eqb-false}
 use Rattle.base.specs.Pick.{pick}
-use Rattle.journal.specs.Carried.{Carried, bare, joined, sizeOf}
+use Rattle.journal.specs.Record.{Record, bare, joined, sizeOf}
 use Rattle.journal.specs.Journal.{Opened, nothing, putting, getting, sending, gathering, draining, busy, Marked}
 use Rattle.journal.specs.PutForm.{readablePut, isFinal, carriedIn, admits, Starts, Puts, carried, OnePut, Form, runOf, IsForm, In, Apart}
 use Rattle.journal.specs.Claim.{OneList}
@@ -21,13 +21,13 @@ use Rattle.journal.proofs.Laws.{joined-bare, joined-assoc, size-joined}
 -- packet that may begin one; places count from i
 
 -- what is carried, with a packet more
-abbrev pub adds : Carried → Marked → Carried
+abbrev pub adds : Record → Marked → Record
 adds c p = joined c (carriedIn (p .bytes))
 
-abbrev pub closing : ℕ → ℕ → ℕ → Carried → List Form
+abbrev pub closing : ℕ → ℕ → ℕ → Record → List Form
 closing limit at n c = pick (leb (sizeOf c) limit) (record { first = at; count = n; given = c } ∷ []) []
 
-abbrev pub run : ℕ → ℕ → ℕ → Carried → List Marked → List Form
+abbrev pub run : ℕ → ℕ → ℕ → Record → List Marked → List Form
 run limit at n c [] = []
 run limit at n c (p ∷ ps) =
     pick (readablePut (p .bytes))
@@ -45,11 +45,11 @@ forms limit i [] = []
 forms limit i (p ∷ ps) = begins limit i p ps ++ forms limit (i + 1) ps
 
 -- a Put past the limit comes to nothing
-pub past : (limit at n : ℕ) (c : Carried) (ps : List Marked) → limit < sizeOf c → run limit at n c ps ≡ []
+pub past : (limit at n : ℕ) (c : Record) (ps : List Marked) → limit < sizeOf c → run limit at n c ps ≡ []
 past limit at n c [] h = refl
 past limit at n c (p ∷ ps) h = go (readablePut (p .bytes)) (isFinal (p .bytes)) refl refl (past limit at (n + 1) total ps longer)
   where
-    total : Carried
+    total : Record
     total = adds c p
 
     longer : limit < sizeOf total
@@ -80,16 +80,16 @@ in-right : (f : Form) (k l : List Form) → In f l → In f (k ++ l)
 in-right f [] l w = w
 in-right f (g ∷ k) l w = inr (in-right f k l w)
 
-form-eq : (f : Form) (a n : ℕ) (c : Carried) → f .first ≡ a → f .count ≡ n → f .given ≡ c → f ≡ record { first = a; count = n; given = c }
+form-eq : (f : Form) (a n : ℕ) (c : Record) → f .first ≡ a → f .count ≡ n → f .given ≡ c → f ≡ record { first = a; count = n; given = c }
 form-eq f a n c i j k =
     ap (λ (x : ℕ). record { first = x; count = f .count; given = f .given }) i
     ∙ ap (λ (x : ℕ). record { first = a; count = x; given = f .given }) j
-    ∙ ap (λ (x : Carried). record { first = a; count = n; given = x }) k
+    ∙ ap (λ (x : Record). record { first = a; count = n; given = x }) k
 
 -- ---- a Put that is followed
 
 -- the form that `run` finds in the packets ps that come next
-record Found (limit at n : ℕ) (c : Carried) (ps : List Marked) (f : Form) : Type 0 where
+record Found (limit at n : ℕ) (c : Record) (ps : List Marked) (f : Form) : Type 0 where
   more : ℕ
   first : f .first ≡ at
   count : f .count ≡ n + more
@@ -102,8 +102,8 @@ puts-cons : (p : Marked) (l : List Marked) → readablePut (p .bytes) ≡ true �
 puts-cons p [] e j w = absurd w
 puts-cons p (q ∷ l) e j w = (e, j, w)
 
-module _ (limit at n : ℕ) (c : Carried) (p : Marked) (ps : List Marked) (f : Form) where
-  abbrev total : Carried
+module _ (limit at n : ℕ) (c : Record) (p : Marked) (ps : List Marked) (f : Form) where
+  abbrev total : Record
   total = adds c p
 
   module _ (e : readablePut (p .bytes) ≡ true) where
@@ -133,7 +133,7 @@ module _ (limit at n : ℕ) (c : Carried) (p : Marked) (ps : List Marked) (f : F
           given = w .given ∙ joined-assoc c (carriedIn (p .bytes)) (carried (take (w .more) ps));
         }
 
-run-sound : (limit at n : ℕ) (c : Carried) (ps : List Marked) (f : Form) → In f (run limit at n c ps) → Found limit at n c ps f
+run-sound : (limit at n : ℕ) (c : Record) (ps : List Marked) (f : Form) → In f (run limit at n c ps) → Found limit at n c ps f
 run-sound limit at n c [] f w = absurd w
 run-sound limit at n c (p ∷ ps) f w =
     go (readablePut (p .bytes)) (isFinal (p .bytes)) (leb (sizeOf (adds c p)) limit) refl refl refl w (run-sound limit at (n + 1) (adds c p) ps f)
@@ -145,7 +145,7 @@ run-sound limit at n c (p ∷ ps) f w =
     go true true false e j g k ih = absurd (simp (e, j, g) at k)
     go true false v e j g k ih = found-later limit at n c p ps f e j (ih (simp (e, j) at k))
 
-run-complete : (limit at n : ℕ) (c : Carried) (ps : List Marked) (f : Form) (k : ℕ) → f .first ≡ at → f .count ≡ n + k → length (take k ps) ≡ k → Puts (take k ps)
+run-complete : (limit at n : ℕ) (c : Record) (ps : List Marked) (f : Form) (k : ℕ) → f .first ≡ at → f .count ≡ n + k → length (take k ps) ≡ k → Puts (take k ps)
     → sizeOf (f .given) ≤ limit → f .given ≡ joined c (carried (take k ps)) → In f (run limit at n c ps)
 run-complete limit at n c [] f zero a b s w l g = absurd w
 run-complete limit at n c [] f (suc k) a b s w l g = absurd w

@@ -1,39 +1,46 @@
--- The calls on an engine, by their arguments other than state and stores, and what the journal is fed of each.
+-- The calls on an engine, by their arguments other than state and stores, and what the journal is fed of each (docs/PROTOCOL.md#journal).
 use Prim.Native.Nat.{ℕ}
 use mathlib.Core.List.{List}
 use mathlib.Core.Bool.{Bool}
 use mathlib.Core.Option.{Option}
 use Rattle.digest.specs.declared.md5.Octets16.{Octets16}
 
--- what the host gives to answer a peer's challenge
+-- What the host gives to answer a peer's challenge.
 pub record Credentials : Type 0 where
   pub user : Option (List ℕ)
   pub password : List ℕ
 
+-- A call on an engine, by its arguments other than state and stores.
 pub data Call : Type 0 where
-  -- bytes from the peer; the end of its stream; the reply that waited was sent
+  -- The host offers bytes from the peer.
   bytesOffered : List ℕ → Call
+  -- The host says that the peer's stream has ended.
   streamEnded : Call
+  -- The host says that it has sent the reply that waited.
   replyTaken : Call
-  -- the host's answers: a reply of code and header bytes; an object of header bytes, with a body or without
+  -- The host answers with a reply: a code and header bytes.
   replyGiven : ℕ → List ℕ → Call
+  -- The host answers a Get with an object: header bytes, with a body or without.
   objectGiven : List ℕ → Bool → Call
-  -- body bytes that were asked for, none at the body's end; the read failed
+  -- The host gives body bytes that were asked for; no bytes are the body's end.
   bodyGiven : List ℕ → Call
+  -- The host could not read the body.
   bodyFailed : Call
-  -- an Abort is acknowledged
+  -- The host acknowledges an Abort.
   abortAcknowledged : Call
-  -- the password, if there is one; 16 bytes for a challenge, and its realm's bytes; credentials for the peer's challenge, if there are any
+  -- The host gives the password, if there is one.
   passwordGiven : Option (List ℕ) → Call
+  -- The host gives a nonce for a new challenge, and the bytes of its realm.
   nonceGiven : Octets16 → List ℕ → Call
+  -- The host gives credentials to answer the peer's challenge, if it has any.
   credentialsGiven : Option Credentials → Call
 
--- a call is refused, changing nothing, with a number; or it goes
+-- A call was refused with a number, and changed nothing; or it went.
 pub data Verdict : Type 0 where
   goes : Verdict
   refused : ℕ → Verdict
 
--- a call as the journal is fed it; `reply` is the first byte of the reply that is taken
+-- A call as the journal is fed it; `reply` is the first byte of the reply that is taken.
 pub record Fed : Type 0 where
   pub call : Call
   pub verdict : Verdict

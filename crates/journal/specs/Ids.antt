@@ -1,29 +1,29 @@
--- Connection ids (document 01, Connect): the open ones are a list of at most 64 numbers.
-use mathlib.Core.Bool.{Bool, false, _||_}
+-- Connection ids (docs/PROTOCOL.md#connection-ids): the open ones are a list of at most 64 numbers. The source's set has no bound.
+use mathlib.Core.Bool.{Bool, _||_}
 use mathlib.Core.List.{List, [], _∷_}
 use Prim.Native.Nat.{ℕ, zero, suc, _+_, _%_, _^_}
 use lib.Dec.{eqb}
 use Rattle.base.specs.Pick.{pick}
+pub use Rattle.packet.specs.Codes.{member}
 
--- the id is open
-abbrev pub member : ℕ → List ℕ → Bool
-member x [] = false
-member x (y ∷ ys) = eqb x y || member x ys
-
--- all but x
+-- All numbers of the list but `x`.
 unfoldable pub without : ℕ → List ℕ → List ℕ
 without x [] = []
 without x (y ∷ ys) = pick (eqb x y) (without x ys) (y ∷ without x ys)
 
--- a candidate is passed over where it is open, or is 0xFFFFFFFF, which is reserved
-abbrev pub taken : List ℕ → ℕ → Bool
-taken ids c = eqb c 0xFFFFFFFF || member c ids
+-- The number that the source reserves as an invalid connection id.
+abbrev pub invalidId : ℕ
+invalidId = 0xFFFFFFFF
 
--- the first of n candidates from c on, wrapping to 0, that is not passed over
+-- The search passes the candidate `c` over: it is open, or reserved.
+abbrev pub taken : List ℕ → ℕ → Bool
+taken ids c = eqb c invalidId || member c ids
+
+-- The first of `n` candidates from `c` on, wrapping to 0, that the search does not pass over.
 unfoldable pub firstFree : ℕ → List ℕ → ℕ → ℕ
 firstFree zero ids c = c
 firstFree (suc n) ids c = pick (taken ids c) (firstFree n ids ((c + 1) % 2 ^ 32)) c
 
--- the id that the search yields: at most 66 are looked at
+-- The id that the search yields. Of 66 candidates in a row at most 64 are open and one is reserved, so one is free.
 abbrev pub newId : List ℕ → ℕ → ℕ
 newId ids counter = firstFree 66 ids counter

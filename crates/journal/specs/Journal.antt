@@ -1,5 +1,6 @@
--- The journal: document 01's book of demand 3. A machine of its own that says which records are handed over. It is fed the calls'
--- arguments, whether a call is refused, and the first byte of each reply taken; nothing of the engine's state or stores.
+-- The journal, which the requirements call the book: a machine of its own that says which records are handed over
+-- (docs/PROTOCOL.md#journal). It is fed the calls' arguments, whether a call is refused, and the first byte of each reply taken; nothing of
+-- the engine's state or stores.
 use Prim.Native.Nat.{ℕ, _+_, _%_, _^_}
 use mathlib.Core.List.{List, [], _∷_, _++_}
 use mathlib.Core.Bool.{Bool, true, false, _&&_, _||_, not}
@@ -9,26 +10,31 @@ use lib.Dec.{leb, ltb, eqb}
 use Rattle.base.specs.Pick.{pick}
 use Rattle.base.specs.Bytes.{be16, be32}
 use Rattle.digest.specs.Md5.{octets16}
+use Rattle.packet.specs.Limits.{maxConnections}
+use Rattle.packet.specs.HeaderIds as header-id
+use Rattle.packet.specs.ResponseCodes as response
+use Rattle.packet.specs.Modes as modes
 use Rattle.packet.specs.FirstByte.{sameOpcode}
-use Rattle.packet.specs.Codes.{isSuccess}
+use Rattle.packet.specs.Codes.{isSuccess, sentCode}
 use Rattle.packet.specs.Header.{Header, readHeaders, first, allBytes}
 use Rattle.packet.specs.Packet.{Request, requestOf}
 use Rattle.packet.specs.Auth.{Response, responseOf, verified}
 use Rattle.packet.specs.declared.opcode.Opcode.{Opcode}
 use Rattle.packet.specs.declared.opcode.Opcode.the-variants.{Connect, Disconnect, Put, Get, SetPath, Action, Session, Abort, UserDefined}
-use Rattle.journal.specs.Carried.{Carried, joined, sizeOf, carriedBy, keptByGet}
+use Rattle.journal.specs.Record.{Record, joined, sizeOf, carriedBy, keptByGet}
 use Rattle.journal.specs.Ids.{member, without, newId}
 use Rattle.journal.specs.Calls.{Call, bytesOffered, streamEnded, replyTaken, replyGiven, objectGiven, bodyGiven, bodyFailed, abortAcknowledged, passwordGiven, nonceGiven, credentialsGiven, Verdict, goes, refused, Fed}
 
 -- ---- what the journal keeps
 
--- settings: the Put limit, whether single response mode (SRM) is supported, whether a password is required
+-- What the host sets at the start: the Put limit, whether Single Response Mode (SRM) is supported, whether a password is required.
 pub record Settings : Type 0 where
   pub limit : ℕ
   pub srm : Bool
   pub authentication : Bool
 
--- what Connect and Disconnect change: whether the password is given, the nonce of the challenge sent, the open ids, the id counter, SRM
+-- What Connect and Disconnect change: whether the password was given, the nonce of the challenge that was sent, the open ids, the id
+-- counter, and the session's SRM.
 pub record Standing : Type 0 where
   pub authenticated : Bool
   pub challenge : Option (List ℕ)
@@ -36,17 +42,17 @@ pub record Standing : Type 0 where
   pub next : ℕ
   pub srm : Bool
 
--- what is open: a Put with what it carried so far and its SRM; a Get with its kept headers, then sending an object; an Action, Session
--- or user-defined operation with its kept headers; or a turned-away operation whose packets are drained
+-- What is open: nothing; a Put, with what it carried so far and its SRM; a Get, with its kept headers; a Get whose object is sent; an
+-- Action, Session or user-defined operation, with its kept headers; or an operation that was turned away and is drained.
 pub data Opened : Type 0 where
   nothing : Opened
-  putting : Carried → Bool → Opened
+  putting : Record → Bool → Opened
   getting : List ℕ → Opened
   sending : Opened
   gathering : Opcode → List ℕ → Opened
   draining : Opened
 
--- an operation is open
+-- An operation is open.
 abbrev pub busy : Opened → Bool
 busy nothing = false
 busy (putting c s) = true
@@ -55,7 +61,7 @@ busy sending = true
 busy (gathering o k) = true
 busy draining = true
 
--- also the bytes of the packet begun, and the last packet read
+-- The whole journal: also the bytes of the packet that has begun, and the last packet read.
 pub record Journal : Type 0 where
   pub settings : Settings
   pub begun : List ℕ
@@ -64,7 +70,7 @@ pub record Journal : Type 0 where
   pub standing : Standing
   pub ended : Bool
 
--- at first a fresh engine's
+-- A journal at the start, which stands as a fresh engine does.
 abbrev pub fresh : Settings → Journal
 fresh st =
     record {
@@ -76,89 +82,95 @@ fresh st =
       ended = false;
     }
 
--- ---- a step: the journal afterwards, and the records handed over; then what a step may change, each in turn
+-- ---- a step, and what a step may change, each in turn
 
+-- A step: the journal afterwards, and the records handed over.
 pub record Entry : Type 0 where
   pub next : Journal
-  pub given : List Carried
+  pub given : List Record
 
+-- A step to the journal `j` that hands nothing over.
 abbrev pub unchanged : Journal → Entry
 unchanged j = record { next = j; given = [] }
 
--- these bytes of a packet have come
+-- The journal once the bytes `p` of a packet have come.
 abbrev pub begin : Journal → List ℕ → Journal
 begin j p =
     record { settings = j .settings; begun = p; last = j .last; opened = j .opened; standing = j .standing; ended = j .ended }
 
--- a packet was read, and this is open now
+-- The journal once the packet `r` was read and `o` is open.
 abbrev pub after : Journal → Option Request → Opened → Journal
 after j r o = record { settings = j .settings; begun = []; last = r; opened = o; standing = j .standing; ended = j .ended }
 
--- this is open now
+-- The journal with `o` open.
 abbrev pub opens : Journal → Opened → Journal
 opens j o =
     record { settings = j .settings; begun = j .begun; last = j .last; opened = o; standing = j .standing; ended = j .ended }
 
--- its standing is this now
+-- The journal with the standing `s`.
 abbrev pub stands : Journal → Standing → Journal
 stands j s =
     record { settings = j .settings; begun = j .begun; last = j .last; opened = j .opened; standing = s; ended = j .ended }
 
--- nothing is read any more
+-- The journal once it has ended: it reads nothing any more.
 abbrev pub end : Journal → Journal
 end j =
     record { settings = j .settings; begun = []; last = j .last; opened = j .opened; standing = j .standing; ended = true }
 
--- ---- admission
+-- ---- admission (docs/PROTOCOL.md#admission)
 
+-- The opcode is Disconnect.
 abbrev pub isDisconnect : Opcode → Bool
 isDisconnect o = sameOpcode o Disconnect
 
--- a password is required and not given; Disconnect is excepted
+-- A password is required and was not given. A Disconnect may not be refused (IrOBEX 1.5, section 3.4.2).
 unfoldable pub unauthorized : Settings → Standing → Opcode → Bool
 unauthorized st s o = st .authentication && (not (s .authenticated) && not (isDisconnect o))
 
--- the first ConnectionID is not open
+-- The connection id that a header names is not open.
 abbrev pub notOpen : List ℕ → Option (List ℕ) → Bool
 notOpen ids none = false
 notOpen ids (some v) = not (member (be32 v 0) ids)
 
--- what a packet that opens an operation must pass
+-- The request passes: it is not unauthorized, and the first ConnectionID that it names, if any, is open.
 unfoldable pub admitted : Settings → Standing → Request → Bool
-admitted st s r = not (unauthorized st s (r .opcode)) && not (notOpen (s .ids) (first 0xCB (r .headers)))
+admitted st s r = not (unauthorized st s (r .opcode)) && not (notOpen (s .ids) (first header-id.connectionId (r .headers)))
 
--- SRM is asked for: the first SingleResponseMode is Enable
+-- The value of a SingleResponseMode header is Enable.
 abbrev pub isEnable : Option (List ℕ) → Bool
 isEnable none = false
-isEnable (some v) = eqb (getD v 0 0) 1
+isEnable (some v) = eqb (getD v 0 0) modes.enable
 
--- and SRM is supported
+-- The headers ask for SRM, and SRM is supported.
 unfoldable pub asksSrm : Settings → List Header → Bool
-asksSrm st hs = st .srm && isEnable (first 0x97 hs)
+asksSrm st hs = st .srm && isEnable (first header-id.singleResponseMode hs)
 
--- ---- packets
+-- ---- packets (docs/PROTOCOL.md#put, #get, #headers-only, #drain, #unreadable, #other-operation)
 
--- a Put packet, with what the Put carries up to here: final, it closes, and is a record if within the limit; not final and past the
--- limit, it closes unless SRM is on. `srm` is the operation's at this packet, `next` from the next packet on
-unfoldable pub putRead : Journal → Request → Bool → Bool → Carried → Entry
+-- A Put packet is read, and `c` is what the Put carries up to here. A final packet closes the Put, with a record if the body is within the
+-- limit. Any other closes it if the body is past the limit, unless SRM is on: without SRM the client waits for the reply, so it is refused
+-- right away. `srm` holds at this packet, `next` from the next one on.
+unfoldable pub putRead : Journal → Request → Bool → Bool → Record → Entry
 putRead j r srm next c =
     pick (r .final)
     (record { next = after j (some r) nothing; given = pick (leb (sizeOf c) (j .settings .limit)) (c ∷ []) [] })
     (unchanged (after j (some r) (pick (leb (sizeOf c) (j .settings .limit) || srm) (putting c next) nothing)))
 
--- a packet of Action, Session or a user-defined operation
+-- A packet of Action, Session or a user-defined operation is read.
 abbrev pub gatherRead : Journal → Request → Opcode → List ℕ → Entry
 gatherRead j r o k = unchanged (after j (some r) (pick (r .final) nothing (gathering o k)))
 
--- turned away: a Put or Get that is not final is drained under SRM; all else is dropped
+-- A Put or Get is turned away. With the session's SRM on, the client keeps sending the request without waiting, so a request that is not
+-- final is drained; else it is dropped.
 abbrev pub turnedAway : Journal → Request → Entry
 turnedAway j r = unchanged (after j (some r) (pick (j .standing .srm && not (r .final)) draining nothing))
 
--- read, and nothing is open afterwards
+-- A packet was read, and nothing is open afterwards.
 abbrev pub dropped : Journal → Request → Entry
 dropped j r = unchanged (after j (some r) nothing)
 
--- nothing is open: Connect, Disconnect and SetPath act by the host's answers; any other opens if admitted
+-- A packet is read with nothing open. Connect, Disconnect and SetPath act by the host's answers; any other opens an operation if it is
+-- admitted.
 unfoldable pub firstRead : Opcode → Journal → Request → Entry
 firstRead Connect j r = dropped j r
 firstRead Disconnect j r = dropped j r
@@ -175,11 +187,11 @@ firstRead Session j r = pick (admitted (j .settings) (j .standing) r) (gatherRea
 firstRead (UserDefined x) j r =
     pick (admitted (j .settings) (j .standing) r) (gatherRead j r (UserDefined x) (allBytes (r .headers))) (dropped j r)
 
--- inside an operation another opcode ends the journal; a drain goes on under any opcode, up to a final packet
+-- The journal ends: another operation started before the last one ended.
 abbrev pub stopped : Journal → Entry
 stopped j = unchanged (end j)
 
--- a packet that can be read, by what is open
+-- A packet that can be read, by what is open. A drain goes on under any opcode, up to a final packet.
 abbrev pub requestRead : Opened → Journal → Request → Entry
 requestRead nothing j r = firstRead (r .opcode) j r
 requestRead (putting c s) j r =
@@ -191,86 +203,88 @@ requestRead (gathering o k) j r =
     pick (sameOpcode (r .opcode) o) (gatherRead j r o (k ++ allBytes (r .headers))) (stopped j)
 requestRead draining j r = unchanged (after j (some r) (pick (r .final) nothing draining))
 
--- unreadable: ended if anything is open; Abort, final or not, closes what is open
+-- A packet is read: one that is unreadable ends the journal if anything is open; Abort, final or not, closes what is open.
 abbrev pub packetRead : Option Request → Journal → Entry
 packetRead none j = unchanged (pick (busy (j .opened)) (end j) (after j none nothing))
 packetRead (some r) j = pick (sameOpcode (r .opcode) Abort) (dropped j r) (requestRead (j .opened) j r)
 
--- a whole packet
+-- A whole packet has come.
 unfoldable pub journalPacket : Journal → List ℕ → Entry
 journalPacket j p = packetRead (requestOf p) j
 
--- ---- bytes up to a packet's end; a length under 3 ends the journal at the third byte
+-- ---- bytes up to a packet's end; a length under 3 ends the journal at the third byte (docs/PROTOCOL.md#frames)
 
--- the bytes of a packet that goes on; a whole packet; a length that is too short
+-- What some bytes are: a packet that goes on, a whole packet, or a length under 3.
 pub data Read : Type 0 where
   more : List ℕ → Read
   whole : List ℕ → Read
   short : Read
 
--- by the bytes p that have come: what they are, else `rest`
+-- What the bytes `p` that have come are; `rest` if the packet goes on.
 unfoldable pub readStep : List ℕ → Read → Read
 readStep p rest =
     pick (ltb (length p) 3) rest
     (pick (ltb (be16 p 1) 3) short
     (pick (leb (be16 p 1) (length p)) (whole p) rest))
 
--- byte by byte after p; what follows a packet's end is not looked at
+-- What the bytes are, one by one behind `p`; what follows a packet's end is not looked at.
 unfoldable pub readUp : List ℕ → List ℕ → Read
 readUp p [] = more p
 readUp p (x ∷ xs) = readStep (p ++ (x ∷ [])) (readUp (p ++ (x ∷ [])) xs)
 
--- by what the bytes are
+-- The step by what the bytes are.
 abbrev pub bytesRead : Journal → Read → Entry
 bytesRead j (more p) = unchanged (begin j p)
 bytesRead j (whole p) = journalPacket j p
 bytesRead j short = unchanged (end j)
 
--- ---- the host's answers
+-- ---- the host's answers (docs/PROTOCOL.md#connect, #connection-ids, #disconnect)
 
--- other ids, counter and SRM
+-- A standing with other ids, counter and SRM.
 abbrev pub withIds : Standing → List ℕ → ℕ → Bool → Standing
 withIds s ids next srm = record { authenticated = s .authenticated; challenge = s .challenge; ids = ids; next = next; srm = srm }
 
--- the id is opened where it is not, with a counter; a 65th leaves all as it was, SRM too
+-- The id is opened if it is not open yet, with the counter `next`. A 65th leaves all as it was, SRM too.
 unfoldable pub openId : Standing → Bool → ℕ → ℕ → Standing
 openId s srm id next =
     pick (member id (s .ids)) (withIds s (s .ids) (s .next) srm)
-    (pick (leb 64 (length (s .ids))) s
+    (pick (leb maxConnections (length (s .ids))) s
     (withIds s (s .ids ++ (id ∷ [])) next srm))
 
--- after success: the answer's first ConnectionID is opened, else for a Target the one that the search yields; then SRM
+-- A Connect succeeds: the answer's first ConnectionID is opened, else, for a Target, the one that the search yields; then SRM.
 abbrev pub opensFor : Standing → Bool → Option (List ℕ) → Option (List ℕ) → Standing
 opensFor s srm (some v) target = openId s srm (be32 v 0) (s .next)
 opensFor s srm none (some t) = openId s srm (newId (s .ids) (s .next)) ((newId (s .ids) (s .next) + 1) % 2 ^ 32)
 opensFor s srm none none = withIds s (s .ids) (s .next) srm
 
--- none where they cannot be read
+-- The headers that were read; none if they could not be read.
 abbrev pub listOf : Option (List Header) → List Header
 listOf none = []
 listOf (some hs) = hs
 
--- the host's answer to a Connect: any code but success changes nothing
+-- The host's answer to a Connect: any code but success changes nothing.
 unfoldable pub connected : Settings → Standing → List Header → ℕ → List Header → Standing
 connected st s request code answer =
-    pick (isSuccess code) (opensFor s (s .srm || asksSrm st request) (first 0xCB answer) (first 0x46 request)) s
+    pick (isSuccess code) (opensFor s (s .srm || asksSrm st request) (first header-id.connectionId answer) (first header-id.target request)) s
 
--- Disconnect clears what Connect set where it names no id or the last closes
+-- All that Connect set is cleared, but not the counter and the challenge.
 abbrev pub cleared : Standing → Standing
 cleared s = record { authenticated = false; challenge = s .challenge; ids = []; next = s .next; srm = false }
 
+-- A Disconnect leaves these ids open; if none is left, all is cleared.
 abbrev pub leaves : Standing → List ℕ → Standing
 leaves s [] = cleared s
 leaves s (i ∷ is) = withIds s (i ∷ is) (s .next) (s .srm)
 
+-- A Disconnect closes the id that it names; if it names none, all is cleared.
 abbrev pub disconnected : Standing → Option (List ℕ) → Standing
 disconnected s none = cleared s
 disconnected s (some v) = leaves s (without (be32 v 0) (s .ids))
 
--- a reply to the last packet, where nothing is open
+-- The host's reply to the last packet, with nothing open.
 abbrev pub replyTo : Opcode → Journal → Request → ℕ → List ℕ → Journal
 replyTo Connect j r code hs = stands j (connected (j .settings) (j .standing) (r .headers) code (listOf (readHeaders hs 0)))
-replyTo Disconnect j r code hs = stands j (disconnected (j .standing) (first 0xCB (r .headers)))
+replyTo Disconnect j r code hs = stands j (disconnected (j .standing) (first header-id.connectionId (r .headers)))
 replyTo Put j r code hs = j
 replyTo Get j r code hs = j
 replyTo SetPath j r code hs = j
@@ -279,12 +293,12 @@ replyTo Session j r code hs = j
 replyTo Abort j r code hs = j
 replyTo (UserDefined x) j r code hs = j
 
--- nothing changes where that could not be read
+-- The host's reply, by the last packet; nothing changes if that could not be read.
 abbrev pub replyLast : Option Request → Journal → ℕ → List ℕ → Journal
 replyLast none j code hs = j
 replyLast (some r) j code hs = replyTo (r .opcode) j r code hs
 
--- a Get closes on an answer that is a reply
+-- The host answers with a reply: a Get closes.
 abbrev pub replied : Opened → Journal → ℕ → List ℕ → Journal
 replied nothing j code hs = replyLast (j .last) j code hs
 replied (getting k) j code hs = opens j nothing
@@ -293,7 +307,7 @@ replied sending j code hs = j
 replied (gathering o k) j code hs = j
 replied draining j code hs = j
 
--- a Get's object is sent from now on
+-- The host answers with an object: a Get sends it from now on.
 abbrev pub objectSent : Opened → Journal → Journal
 objectSent (getting k) j = opens j sending
 objectSent nothing j = j
@@ -302,45 +316,48 @@ objectSent sending j = j
 objectSent (gathering o k) j = j
 objectSent draining j = j
 
--- after an object, on the first reply taken that is not 0x90
+-- A reply was taken: a Get that sends its object closes on the first one that is not Continue.
 abbrev pub takenAt : Opened → Journal → ℕ → Journal
-takenAt sending j b = pick (eqb b 0x90) j (opens j nothing)
+takenAt sending j b = pick (eqb b (sentCode response.continue)) j (opens j nothing)
 takenAt nothing j b = j
 takenAt (putting c s) j b = j
 takenAt (getting k) j b = j
 takenAt (gathering o k) j b = j
 takenAt draining j b = j
 
--- the check of the last packet's first AuthenticateResponse against the challenge
+-- The check of a response against the challenge: without a challenge, a readable response or a password it fails.
 abbrev pub passesWith : Option (List ℕ) → Option Response → Option (List ℕ) → Bool
 passesWith none r p = false
 passesWith (some n) none p = false
 passesWith (some n) (some r) none = false
 passesWith (some n) (some r) (some p) = verified n r p
 
+-- The response that an AuthenticateResponse header carries.
 abbrev pub responseIn : Option (List ℕ) → Option Response
 responseIn none = none
 responseIn (some v) = responseOf v
 
--- none where the packet could not be read
+-- The headers of the last packet; none if it could not be read.
 abbrev pub headersOf : Option Request → List Header
 headersOf none = []
 headersOf (some r) = r .headers
 
+-- The password is right: the check of the last packet's first AuthenticateResponse against the challenge.
 unfoldable pub passes : Journal → Option (List ℕ) → Bool
-passes j p = passesWith (j .standing .challenge) (responseIn (first 0x4E (headersOf (j .last)))) p
+passes j p = passesWith (j .standing .challenge) (responseIn (first header-id.authenticateResponse (headersOf (j .last)))) p
 
--- right: the password is given from now on, and the challenge is used up
+-- A right password is given from now on, and uses the challenge up.
 abbrev pub passwordChecked : Standing → Bool → Standing
 passwordChecked s true = record { authenticated = true; challenge = none; ids = s .ids; next = s .next; srm = s .srm }
 passwordChecked s false = s
 
--- a new challenge: the password is given no longer
+-- A new challenge is sent: the password is given no longer.
 abbrev pub challenged : Standing → List ℕ → Standing
 challenged s n = record { authenticated = false; challenge = some n; ids = s .ids; next = s .next; srm = s .srm }
 
 -- ---- a call
 
+-- The step of a call that goes.
 abbrev pub journalCall : Journal → Call → ℕ → Entry
 journalCall j (bytesOffered i) b = bytesRead j (readUp (j .begun) i)
 journalCall j streamEnded b = unchanged (end j)
@@ -354,32 +371,34 @@ journalCall j (passwordGiven p) b = unchanged (stands j (passwordChecked (j .sta
 journalCall j (nonceGiven n l) b = unchanged (stands j (challenged (j .standing) (octets16 n)))
 journalCall j (credentialsGiven c) b = unchanged j
 
--- refused or ended: no step
+-- The step of a call; a call that was refused, or that comes after the end, is no step.
 abbrev pub journalFed : Journal → Call → Verdict → ℕ → Entry
 journalFed j c (refused n) b = unchanged j
 journalFed j c goes b = pick (j .ended) (unchanged j) (journalCall j c b)
 
--- a call as it is fed
+-- The step of a call as it is fed.
 unfoldable pub journalStep : Journal → Fed → Entry
 journalStep j f = journalFed j (f .call) (f .verdict) (f .reply)
 
--- the records that a list of calls must hand over
-abbrev pub journalRecords : Journal → List Fed → List Carried
+-- The records that a list of calls must hand over.
+abbrev pub journalRecords : Journal → List Fed → List Record
 journalRecords j [] = []
 journalRecords j (f ∷ fs) = journalStep j f .given ++ journalRecords (journalStep j f .next) fs
 
--- ---- the packets that are read, in whatever pieces they come, each with the journal before it
+-- ---- the packets that are read
 
+-- A packet that was read, with the journal before it.
 pub record Marked : Type 0 where
   pub before : Journal
   pub bytes : List ℕ
 
+-- The packet that some bytes end, if they end one.
 abbrev pub readIn : Journal → Read → List Marked
 readIn j (more p) = []
 readIn j (whole p) = record { before = j; bytes = p } ∷ []
 readIn j short = []
 
--- by the call
+-- The packets that a call reads.
 abbrev pub callReads : Journal → Call → List Marked
 callReads j (bytesOffered i) = readIn j (readUp (j .begun) i)
 callReads j streamEnded = []
@@ -393,18 +412,19 @@ callReads j (passwordGiven p) = []
 callReads j (nonceGiven n l) = []
 callReads j (credentialsGiven c) = []
 
+-- The packets that a call reads, by its verdict.
 abbrev pub fedReads : Journal → Call → Verdict → List Marked
 fedReads j c (refused n) = []
 fedReads j c goes = pick (j .ended) [] (callReads j c)
 
--- of a list of calls
+-- The packets that a list of calls reads, in whatever pieces they come.
 abbrev pub packets : Journal → List Fed → List Marked
 packets j [] = []
 packets j (f ∷ fs) = fedReads j (f .call) (f .verdict) ++ packets (journalStep j f .next) fs
 
--- ---- the one premise of demand 3: the kept headers stay within 65,535 bytes
+-- ---- the one premise of the records theorem: the kept headers stay within 65,535 bytes
 
--- the kept headers of an operation once a further packet of it is read
+-- The kept headers of an operation once a further packet of it was read.
 abbrev pub keptWith : Opened → Request → List ℕ
 keptWith nothing r = []
 keptWith (putting c s) r = pick (sameOpcode (r .opcode) Put) (c .headers ++ carriedBy (r .headers) .headers) []
@@ -413,10 +433,11 @@ keptWith sending r = []
 keptWith (gathering o k) r = pick (sameOpcode (r .opcode) o) (k ++ allBytes (r .headers)) []
 keptWith draining r = []
 
+-- The kept headers once a packet was read; none if it could not be read.
 abbrev pub keptRead : Opened → Option Request → List ℕ
 keptRead o none = []
 keptRead o (some r) = keptWith o r
 
--- the kept headers after a packet
+-- The kept headers after a packet.
 unfoldable pub keptAfter : Marked → List ℕ
 keptAfter m = keptRead (m .before .opened) (requestOf (m .bytes))

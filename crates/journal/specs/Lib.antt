@@ -1,5 +1,5 @@
--- What the calls hand over, defined without the engine. In the order in which they build on one another.
-pub mod Carried
+-- What the calls hand over, defined without the engine, in the order in which the files build on one another.
+pub mod Record
 pub mod Ids
 pub mod Calls
 pub mod Journal

@@ -1,10 +1,7 @@
 // Plays a session on standard input to the engine many times and counts what comes back, for its throughput: load COUNT READ.
 use base::be16_at;
 use base::copy_into;
-use engine::arrival;
-use engine::host;
-use engine::session;
-use engine::session::default_settings;
+use engine::calls;
 use libc::STDIN_FILENO;
 use lines::output::least;
 use lines::output::put;
@@ -12,11 +9,12 @@ use lines::output::put_number;
 use lines::output::write;
 use lines::word::byte_at;
 use lines::word::number;
-use model::server::Body;
-use model::server::Engine;
-use model::server::Outcome;
-use model::server::Request;
-use model::server::Took;
+use server::Body;
+use server::CallResult;
+use server::Engine;
+use server::HostRequest;
+use server::Outcome;
+use server::default_settings;
 use std::num::wrapping_add_usize;
 
 // The longest body of a Put, and the object's length.
@@ -125,11 +123,11 @@ fn read_object(p: Progress, room: usize) -> Progress {
     q
 }
 
-fn asked(p: Progress, request: Request, body: &[u8]) -> Progress {
+fn asked(p: Progress, request: HostRequest, body: &[u8]) -> Progress {
     match request {
-        Request::Put { kept: _, body: b } => count_record(p, last_of(b, body)),
-        Request::Get { kept: _ } => begin_object(p),
-        Request::Read { room } => read_object(p, room),
+        HostRequest::Put { kept: _, body: b } => count_record(p, last_of(b, body)),
+        HostRequest::Get { kept: _ } => begin_object(p),
+        HostRequest::Read { room } => read_object(p, room),
         _ => p,
     }
 }
@@ -156,15 +154,15 @@ fn noted(
 // Success for everything, the object for a Get.
 fn answer(
     e: Engine,
-    request: Request,
+    request: HostRequest,
     chunk: &[u8],
     packet: &mut [u8],
     headers: &mut [u8],
     body: &mut [u8],
     reply: &mut [u8],
-) -> Took {
+) -> CallResult {
     match request {
-        Request::Get { kept: _ } => host::object(
+        HostRequest::Get { kept: _ } => calls::object_given(
             e,
             &chunk[0..0],
             true,
@@ -173,9 +171,15 @@ fn answer(
             body,
             reply,
         ),
-        Request::Read { room: _ } => host::body(e, chunk, packet, headers, body, reply),
-        Request::Abort { length: _ } => host::acknowledge(e, packet, headers, body, reply),
-        _ => host::reply(e, 0x20, &chunk[0..0], packet, headers, body, reply),
+        HostRequest::Read { room: _ } => calls::body_given(e, chunk, packet, headers, body, reply),
+        HostRequest::Abort { length: _ } => calls::abort_acknowledged(
+            e,
+            packet,
+            headers,
+            body,
+            reply,
+        ),
+        _ => calls::reply_given(e, 0x20, &chunk[0..0], packet, headers, body, reply),
     }
 }
 
@@ -189,15 +193,15 @@ fn call(
     headers: &mut [u8],
     body: &mut [u8],
     reply: &mut [u8],
-) -> Took {
+) -> CallResult {
     match outcome {
         Outcome::Request(request) => answer(e, request, chunk, packet, headers, body, reply),
-        Outcome::Reply { length: _ } => arrival::reply_taken(e, packet, headers, body, reply),
+        Outcome::Reply { length: _ } => calls::reply_taken(e, packet, headers, body, reply),
         _ => {
             if piece.len() == 0 {
-                return session::end_of_stream(e, packet, headers, body, reply);
+                return calls::stream_ended(e, packet, headers, body, reply);
             }
-            arrival::bytes(e, piece, packet, headers, body, reply)
+            calls::bytes_offered(e, piece, packet, headers, body, reply)
         }
     }
 }
@@ -213,7 +217,7 @@ fn next(
     headers: &mut [u8],
     body: &mut [u8],
     reply: &mut [u8],
-) -> Took {
+) -> CallResult {
     let to = least(p.to, input.len());
     let from = least(p.from, to);
     let given = least(p.given, zeros.len());
@@ -259,7 +263,7 @@ fn play(
     reply: &mut [u8],
 ) -> Progress {
     let mut q = begin(p);
-    let mut took = session::start(default_settings(LIMIT), packet, headers, body, reply);
+    let mut took = calls::start(default_settings(LIMIT), packet, headers, body, reply);
     let mut left = CALLS;
     while left > 0 {
         let outcome = took.outcome;

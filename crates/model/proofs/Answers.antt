@@ -17,20 +17,23 @@ use Rattle.packet.specs.declared.opcode.Opcode.the-variants as op
 use Rattle.journal.specs.Calls.{Credentials}
 use Rattle.journal.specs.Journal.{Settings as JournalSettings, Standing, Opened, Journal, unchanged, stands, asksSrm, opensFor, connected, disconnected, replyTo, replyLast, replied, passesWith, responseIn, passes, headersOf, passwordChecked, challenged, listOf}
 use Rattle.incoming.specs.Survey.{surveyOf}
-use Rattle.connection.specs.Send.{fieldsOf, sendBytes, front}
+use Rattle.connection.specs.Reply.{fieldsOf, sendBytes, front}
 use Rattle.connection.specs.Peer.{verifiedPeer, challengedPeer, openedFor, disconnectedPeer}
-use Rattle.connection.specs.Connect.{answeredChallenge}
+use Rattle.connection.specs.ConnectReply.{answeredChallenge}
 use Rattle.connection.specs.declared.peer.Challenge.{Challenge}
 use Rattle.connection.specs.declared.peer.Challenge.the-variants.{Stored, Absent}
 use Rattle.connection.specs.declared.peer.Peer.{Peer}
-use Rattle.model.specs.Model.{Stores, withHeaders, asks, sent, sends, sendsConnect, lastPacket, lastHeaders, clientResponse, srmAsked, connectSends, frontFor, credentialsFor, connectChallenged, connectOpened, connectAnswer, checks, passwordAnswer, nonceAnswer}
-use Rattle.model.specs.Claims.{settingsOf}
-use Rattle.model.specs.declared.server.Operation.the-variants.{Nothing, Connecting}
+use Rattle.model.specs.Step.{Stores, withHeaders, asks, sent, sends, sendsConnect}
+use Rattle.model.specs.Request.{lastPacket, lastHeaders, clientResponse}
+use Rattle.model.specs.Connect.{srmAsked, connectSends, frontFor, credentialsFor, connectChallenged, connectOpened, connectAnswer, checks, passwordAnswer, nonceAnswer}
+use Rattle.model.specs.Theorem.{settingsOf}
+use Rattle.server.specs.declared.Operation.the-variants.{Nothing, Connecting}
 use Rattle.connection.specs.declared.peer.ConnectionId.{ConnectionId}
-use Rattle.model.specs.declared.server.Await.the-variants as await
-use Rattle.model.specs.declared.server.Engine.{Engine}
-use Rattle.model.specs.declared.server.Request.the-variants as request
-use Rattle.model.specs.declared.server.Outcome.the-variants as outcome
+use Rattle.server.specs.declared.Await.the-variants as await
+use Rattle.server.specs.declared.End.the-variants as why
+use Rattle.server.specs.declared.Engine.{Engine}
+use Rattle.server.specs.declared.HostRequest.the-variants as request
+use Rattle.server.specs.declared.Outcome.the-variants as outcome
 use Rattle.connection.proofs.Standings.{PeerFits, challengeBytes, standingOf, verified-standing, challenged-standing, disconnected-standing, opened-standing, full-standing}
 use Rattle.model.proofs.Coupling.{Held, AskedBy, Told, told-done, told-ends, told-replies}
 
@@ -38,7 +41,7 @@ use Rattle.model.proofs.Coupling.{Held, AskedBy, Told, told-done, told-
 
 module _ (e : Engine) (s : Stores) (p : Peer) (j : Journal) (w : Held (e .settings) p Nothing s [] j) where
   sent-told : (x : Option (List ℕ)) → Told (sent e p x s) (unchanged j)
-  sent-told none = told-ends e p s j 7
+  sent-told none = told-ends e p s j why.ReplyTooLarge
   sent-told (some q) = told-replies e p s j Nothing q refl w
 
   pub sends-told : (code : ℕ) (hs : List ℕ) → Told (sends e p code hs s) (unchanged j)

@@ -13,23 +13,24 @@ use Rattle.packet.specs.Codes.{sentCode}
 use Rattle.packet.specs.Packet.{Request as Packet, requestOf, packetBytes}
 use Rattle.packet.specs.declared.opcode.Opcode.{Opcode}
 use Rattle.packet.specs.declared.opcode.Opcode.the-variants as op
-use Rattle.journal.specs.Carried.{Carried}
+use Rattle.journal.specs.Record.{Record}
 use Rattle.journal.specs.Journal.{Opened, nothing, putting, getting, sending, gathering, draining, Journal, Entry, unchanged, opens, replyTo, replyLast, takenAt, headersOf as headersIn}
 use Rattle.incoming.specs.Gather.{gathering as gatheringOf}
 use Rattle.incoming.specs.declared.gather.Gathered.{Gathered}
-use Rattle.connection.specs.Send.{front}
+use Rattle.connection.specs.Reply.{front}
 use Rattle.connection.specs.declared.peer.Peer.{Peer}
-use Rattle.model.specs.Model.{Stores, withReply, engineWith, Done, done, wants, ends, replies, repliesCode}
+use Rattle.model.specs.Step.{Stores, withReply, engineWith, Done, done, wants, ends, replies, repliesCode}
 use Rattle.model.specs.Runs.{handed}
-use Rattle.model.specs.Claims.{settingsOf}
-use Rattle.model.specs.declared.server.Settings.{Settings}
-use Rattle.model.specs.declared.server.Operation.{Operation}
-use Rattle.model.specs.declared.server.Operation.the-variants.{Nothing, Putting, Getting, Sending, Gathering as GatheringOp, Connecting, Draining}
-use Rattle.model.specs.declared.server.Await.{Await}
-use Rattle.model.specs.declared.server.Await.the-variants as await
-use Rattle.model.specs.declared.server.Engine.{Engine}
-use Rattle.model.specs.declared.server.Outcome.{Outcome}
-use Rattle.model.specs.declared.server.Outcome.the-variants as outcome
+use Rattle.model.specs.Theorem.{settingsOf}
+use Rattle.server.specs.declared.Settings.{Settings}
+use Rattle.server.specs.declared.Operation.{Operation}
+use Rattle.server.specs.declared.Operation.the-variants.{Nothing, Putting, Getting, Sending, Gathering as GatheringOp, Connecting, Draining}
+use Rattle.server.specs.declared.Await.{Await}
+use Rattle.server.specs.declared.Await.the-variants as await
+use Rattle.server.specs.declared.End.{End}
+use Rattle.server.specs.declared.Engine.{Engine}
+use Rattle.server.specs.declared.Outcome.{Outcome}
+use Rattle.server.specs.declared.Outcome.the-variants as outcome
 use Rattle.connection.proofs.Standings.{standingOf}
 use Rattle.incoming.proofs.Gathers.{PutAgrees, KeptAgrees}
 
@@ -37,7 +38,7 @@ use Rattle.incoming.proofs.Gathers.{PutAgrees, KeptAgrees}
 
 -- a Put: what the journal carries is gathered in the stores
 pub record PutOpen (limit : ℕ) (g : Gathered) (srm : Bool) (h b : List ℕ) (x : Opened) : Type 0 where
-  pub carries : Carried
+  pub carries : Record
   pub is : x ≡ putting carries srm
   pub agrees : PutAgrees limit (gatheringOf g h b) carries
 
@@ -116,7 +117,7 @@ pub told-pick : (t : Bool) (a b : Done) (x : Entry) → (t ≡ true → Told a x
 told-pick true a b x f g = f refl
 told-pick false a b x f g = g refl
 
-pub told-done : (e : Engine) (p : Peer) (o : Operation) (a : Await) (c : Outcome) (z : Stores) (j : Journal) (l : List Carried)
+pub told-done : (e : Engine) (p : Peer) (o : Operation) (a : Await) (c : Outcome) (z : Stores) (j : Journal) (l : List Record)
     → CoupledAt a o (e .settings) p 0 (e .length) z j → handed c z ≡ l
     → Told (done (engineWith (e .settings) p o a 0 (e .length)) c z) (record { next = j; given = l })
 unfolding engineWith
@@ -143,8 +144,8 @@ taken-still limit (Connecting c f n) h b x j y q w = absurd w
 taken-still limit (Draining c) h b x j y q w = ap (λ (u : Opened). takenAt u j y) w
 
 module _ (e : Engine) (p : Peer) (z : Stores) (j : Journal) where
-  pub told-ends : (n : ℕ) → Told (ends e p n z) (unchanged j)
-  told-ends n = told-done e p Nothing await.Nothing (outcome.End n) z j [] tt refl
+  pub told-ends : (x : End) → Told (ends e p x z) (unchanged j)
+  told-ends x = told-done e p Nothing await.Nothing (outcome.End x) z j [] tt refl
 
   pub told-wants : (o : Operation) → Held (e .settings) p o z [] j → Told (wants e p o z) (unchanged j)
   told-wants o w = told-done e p o await.Bytes outcome.WantsBytes z j [] w refl

@@ -13,7 +13,7 @@ use Rattle.packet.specs.Packet.{Request as Packet, requestOf, connectLimit, bac
 use Rattle.packet.specs.Auth.{Response}
 use Rattle.packet.specs.declared.opcode.Opcode.{Opcode}
 use Rattle.packet.specs.declared.opcode.Opcode.the-variants as op
-use Rattle.journal.specs.Carried.{bare, carriedBy}
+use Rattle.journal.specs.Record.{bare, carriedBy}
 use Rattle.journal.specs.Ids.{member}
 use Rattle.journal.specs.Journal.{Standing, nothing, draining, Journal, Entry, unchanged, after, unauthorized, notOpen, admitted, asksSrm, putRead, gatherRead, turnedAway, dropped, firstRead, headersOf as headersIn}
 use Rattle.incoming.specs.Survey.{idOf, present, surveyOf}
@@ -23,15 +23,19 @@ use Rattle.connection.specs.Peer.{idsOf, limited}
 use Rattle.connection.specs.declared.peer.Challenge.{Challenge}
 use Rattle.connection.specs.declared.peer.Challenge.the-variants.{Stored, Absent}
 use Rattle.connection.specs.declared.peer.Peer.{Peer}
-use Rattle.model.specs.Model.{Stores, Done, wants, asks, repliesCode, putPacket, headersPacket, lastPacket, limitOf, nothingGathered, clientResponse, userPlace, verifies, connectPacket, Rejection, admits, rejects, rejection, drains, rejected, confirms, dispatches, admittedAs, dispatch}
+use Rattle.model.specs.Step.{Stores, Done, wants, asks, repliesCode, limitOf}
+use Rattle.model.specs.Operation.{putPacket, headersPacket, nothingGathered}
+use Rattle.model.specs.Request.{lastPacket, clientResponse, userPlace}
+use Rattle.model.specs.Connect.{verifies, connectPacket}
+use Rattle.model.specs.Dispatch.{Rejection, admits, rejects, rejection, drains, rejected, confirms, dispatches, admittedAs, dispatch}
 use Rattle.model.specs.Runs.{handedBy}
-use Rattle.model.specs.declared.server.Operation.the-variants.{Nothing, Draining}
-use Rattle.model.specs.declared.server.Await.{Await}
-use Rattle.model.specs.declared.server.Await.the-variants as await
-use Rattle.model.specs.declared.server.Engine.{Engine}
-use Rattle.model.specs.declared.server.Request.{Request}
-use Rattle.model.specs.declared.server.Request.the-variants as request
-use Rattle.model.specs.declared.server.Outcome.the-variants as outcome
+use Rattle.server.specs.declared.Operation.the-variants.{Nothing, Draining}
+use Rattle.server.specs.declared.Await.{Await}
+use Rattle.server.specs.declared.Await.the-variants as await
+use Rattle.server.specs.declared.Engine.{Engine}
+use Rattle.server.specs.declared.HostRequest.{HostRequest}
+use Rattle.server.specs.declared.HostRequest.the-variants as request
+use Rattle.server.specs.declared.Outcome.the-variants as outcome
 use Rattle.connection.proofs.Standings.{standingOf, limited-standing}
 use Rattle.incoming.proofs.Gathers.{KeptAgrees, put-begins, carried-headers, kept-headers, kept-begins}
 use Rattle.model.proofs.Fit.{Base}
@@ -103,7 +107,7 @@ module _ (e : Engine) (s : Stores) (j : Journal) (f : Fixed (e .settings) (e .pe
 
   module _ (last : requestOf (take (e .length) (s .packet)) ≡ some r) where
     -- the host is asked about this packet
-    asks-told : (o : Opcode) (p : Peer) (a : Await) (q : Request) → r .opcode ≡ o → standingOf p ≡ standingOf (e .peer)
+    asks-told : (o : Opcode) (p : Peer) (a : Await) (q : HostRequest) → r .opcode ≡ o → standingOf p ≡ standingOf (e .peer)
         → (AskedBy (e .settings) p o (e .length) s (after j (some r) nothing) → CoupledAt a Nothing (e .settings) p 0 (e .length) s (after j (some r) nothing))
         → handedBy q s ≡ [] → Told (asks e p Nothing a q s) (dropped j r)
     asks-told o p a q i k w g =

@@ -13,23 +13,25 @@ use Rattle.packet.specs.Codes.{sentCode}
 use Rattle.packet.specs.Packet.{packetBytes}
 use Rattle.journal.specs.Calls.{goes}
 use Rattle.incoming.specs.Frame.{frameEnd}
-use Rattle.incoming.specs.declared.io.Frame.the-variants.{More}
+use Rattle.incoming.specs.declared.frame.Frame.the-variants.{More}
 use Rattle.incoming.specs.declared.gather.Gathered.{Gathered}
-use Rattle.outgoing.specs.declared.body.Outgoing.{Outgoing}
-use Rattle.outgoing.specs.declared.body.Chunk.{Chunk}
-use Rattle.connection.specs.Send.{front}
+use Rattle.outgoing.specs.declared.object.Outgoing.{Outgoing}
+use Rattle.outgoing.specs.declared.object.Chunk.{Chunk}
+use Rattle.connection.specs.Reply.{front}
 use Rattle.connection.specs.declared.peer.Peer.{Peer}
-use Rattle.model.specs.Model.{Stores, withHeaders, stores, withReply, engineWith, Done, done, wants, asks, ends, replies, repliesCode, continueBytes, continues, limitOf, short, soundOperation, sound}
-use Rattle.model.specs.Refusal.{Waits, bytes, taking, reply, object, acknowledgement, password, nonce, credentials, nothing, reading, asked, told, verdictOf}
-use Rattle.model.specs.declared.server.Operation.{Operation}
-use Rattle.model.specs.declared.server.Operation.the-variants.{Nothing, Putting, Getting, Sending, Gathering as GatheringOp, Connecting, Draining}
+use Rattle.model.specs.Step.{Stores, withHeaders, stores, withReply, engineWith, Done, done, wants, asks, ends, replies, repliesCode, continueBytes, continues, limitOf}
+use Rattle.model.specs.Guard.{short, soundOperation, sound}
+use Rattle.model.specs.Refusals.{Waits, bytes, taking, reply, object, acknowledgement, password, nonce, credentials, nothing, reading, asked, told, verdictOf}
+use Rattle.server.specs.declared.Operation.{Operation}
+use Rattle.server.specs.declared.Operation.the-variants.{Nothing, Putting, Getting, Sending, Gathering as GatheringOp, Connecting, Draining}
 use Rattle.connection.specs.declared.peer.ConnectionId.{ConnectionId}
-use Rattle.model.specs.declared.server.Await.{Await}
-use Rattle.model.specs.declared.server.Await.the-variants as await
-use Rattle.model.specs.declared.server.Engine.{Engine}
-use Rattle.model.specs.declared.server.Request.{Request}
-use Rattle.model.specs.declared.server.Outcome.{Outcome}
-use Rattle.model.specs.declared.server.Outcome.the-variants as outcome
+use Rattle.server.specs.declared.Await.{Await}
+use Rattle.server.specs.declared.Await.the-variants as await
+use Rattle.server.specs.declared.End.{End}
+use Rattle.server.specs.declared.Engine.{Engine}
+use Rattle.server.specs.declared.HostRequest.{HostRequest}
+use Rattle.server.specs.declared.Outcome.{Outcome}
+use Rattle.server.specs.declared.Outcome.the-variants as outcome
 use Rattle.connection.proofs.Front.{front-length}
 use Rattle.connection.proofs.Standings.{PeerFits}
 use Rattle.incoming.proofs.Frames.{Octets}
@@ -227,12 +229,12 @@ module _ (e : Engine) (s : Stores) (h : Base e s) where
       → Fine (wants e p o z)
   fine-wants p o z f r k x = fine-done p o await.Bytes outcome.WantsBytes z f r k x (λ w. refl) refl
 
-  pub fine-asks : (p : Peer) (a : Await) (q : Request) (z : Stores) → PeerFits p → Room (limitOf e) z → Shape a Nothing → asked q ≡ waitsOf a Nothing
+  pub fine-asks : (p : Peer) (a : Await) (q : HostRequest) (z : Stores) → PeerFits p → Room (limitOf e) z → Shape a Nothing → asked q ≡ waitsOf a Nothing
       → Fine (asks e p Nothing a q z)
   fine-asks p a q z f r x w = fine-done p Nothing a (outcome.Request q) z f r refl x (λ v. w) refl
 
-  pub fine-ends : (p : Peer) (n : ℕ) (z : Stores) → PeerFits p → Room (limitOf e) z → Fine (ends e p n z)
-  fine-ends p n z f r = fine-done p Nothing await.Nothing (outcome.End n) z f r refl refl (λ w. refl) refl
+  pub fine-ends : (p : Peer) (x : End) (z : Stores) → PeerFits p → Room (limitOf e) z → Fine (ends e p x z)
+  fine-ends p x z f r = fine-done p Nothing await.Nothing (outcome.End x) z f r refl refl (λ w. refl) refl
 
   pub fine-replies : (p : Peer) (o : Operation) (a : Await) (q : List ℕ) (z : Stores) → PeerFits p → Room (limitOf e) z
       → soundOperation (limitOf e) o ≡ true → Shape a o

@@ -15,24 +15,30 @@ use Rattle.packet.specs.Header.{readHeaders}
 use Rattle.packet.specs.declared.opcode.Opcode.the-variants as op
 use Rattle.journal.specs.Calls.{Call, replyGiven, objectGiven, bodyGiven, bodyFailed, abortAcknowledged, passwordGiven, nonceGiven, credentialsGiven, Credentials, goes, refused}
 use Rattle.journal.specs.Journal.{Opened, nothing, getting, sending, Journal, unchanged, opens, replied, objectSent, journalCall, journalFed, listOf}
-use Rattle.outgoing.specs.Outgoing.{bodyGiven as givenBody}
-use Rattle.outgoing.specs.declared.body.Outgoing.{Outgoing}
-use Rattle.outgoing.specs.declared.body.Chunk.{Chunk}
-use Rattle.connection.specs.Send.{front}
-use Rattle.model.specs.Model.{Stores, withHeaders, connectSends, Done, refuse, after, limitOf, sends, sendsPacket, sendsNext, awaited, badHeaders, badReply, checked, replyAnswer, objectOf, objectFor, bodyFor, longUser, credentialsWith, soundOperation}
+use Rattle.outgoing.specs.Object.{bodyGiven as givenBody}
+use Rattle.outgoing.specs.declared.object.Outgoing.{Outgoing}
+use Rattle.outgoing.specs.declared.object.Chunk.{Chunk}
+use Rattle.connection.specs.Reply.{front}
+use Rattle.model.specs.Step.{Stores, withHeaders, Done, after, limitOf, sends}
+use Rattle.model.specs.Connect.{connectSends}
+use Rattle.model.specs.Guard.{refuse, sameAwait, fits, badHeaders, badReply, checked, longUser, soundOperation}
+use Rattle.model.specs.Object.{sendsPacket, sendsNext, objectOf}
+use Rattle.model.specs.Calls.{replyAnswer, objectFor, bodyFor, credentialsWith}
 use Rattle.model.specs.Runs.{State}
-use Rattle.model.specs.Refusal.{Waits, roomIn, bad}
-use Rattle.model.specs.declared.server.Operation.{Operation}
-use Rattle.model.specs.declared.server.Await.{Await}
-use Rattle.model.specs.declared.server.Await.the-variants as await
-use Rattle.model.specs.declared.server.Engine.{Engine}
+use Rattle.model.specs.Refusals.{Waits, roomIn, bad}
+use Rattle.server.specs.declared.Operation.{Operation}
+use Rattle.server.specs.declared.CallKind.the-variants as kind
+use Rattle.server.specs.declared.Refusal.the-variants as refusal
+use Rattle.server.specs.declared.Await.{Await}
+use Rattle.server.specs.declared.Await.the-variants as await
+use Rattle.server.specs.declared.Engine.{Engine}
 use Rattle.outgoing.proofs.Sent.{body-sends}
 use Rattle.model.proofs.Fit.{and-left, and-right, or-left, or-right, room-headers, IsGetting, IsSending, IsConnecting, Shape, roomOf, waitsOf, Base, Sits, Fine, fine-code}
 use Rattle.model.proofs.Steps.{OutgoingFits, outgoing-within, sends-next-fine, sends-packet-fine, reply-fine, password-fine, nonce-fine, connect-sends-fine}
 use Rattle.model.proofs.Coupling.{KeptOpen, OpenedAt, Held, Coupled, Told, told-pick, told-code}
 use Rattle.model.proofs.Gathers.{next-told, fails-told, sends-told as made-told}
 use Rattle.model.proofs.Answers.{sends-told, connect-sends-told, connect-told, disconnect-told, password-told, nonce-told}
-use Rattle.model.proofs.Moments.{awaited-is, range-is, inRange, Agree, Agrees, fed-goes, agree-goes, agree-refused, agrees}
+use Rattle.model.proofs.Moments.{same-await, or-second, Agree, Agrees, fed-goes, agree-goes, agree-refused, agrees}
 use Rattle.model.proofs.FromPeer.{coupled-at}
 
 -- an answer's headers that are not refused fit the header store
@@ -69,18 +75,18 @@ module _ (w : Waits) (s : State) (h : Sits (s .engine) (s .stores)) (k : w ≡ w
   checked-agrees : (c : Call) (b : Bool) (d : Done) → (b ≡ false → Fine d)
       → (b ≡ false → (j : Journal) → Coupled e st j → Told d (journalFed j c goes (getD (st .reply) 0 0)))
       → Agree w s c (pick b (refused 8) goes) (checked b e st d)
-  checked-agrees c true d f g = agree-refused w s h k c 8
+  checked-agrees c true d f g = agree-refused w s h k c refusal.BadAnswer
   checked-agrees c false d f g = agree-goes w s h k c 0 d (f refl) (λ j x u. g refl j x)
 
   -- ---- a reply
 
   module _ (code : ℕ) (hs : List ℕ) where
     -- to a Get it is sent as it is, and closes it; to any other request it is sent as it is
-    plain-reply : (t : Bool) → eqb (awaited (e .awaits)) 5 ≡ t → (eqb (awaited (e .awaits)) 5 ≡ false → e .awaits ≡ await.Reply) → (j : Journal)
+    plain-reply : (t : Bool) → sameAwait (e .awaits) await.Get ≡ t → (sameAwait (e .awaits) await.Get ≡ false → e .awaits ≡ await.Reply) → (j : Journal)
         → Coupled e st j
         → Told (sends e (e .peer) code hs st) (journalFed j (replyGiven code hs) goes (getD (st .reply) 0 0))
     plain-reply true i o j x =
-        let at = awaited-is (e .awaits) 5 (eqb-true _ _ i) in
+        let at = same-await (e .awaits) await.Get i in
         let y = coupled-at w s h k await.Get j at x in
         let g = get-open at j (y .opened) in
         entered (replyGiven code hs) j _ (y .fixed .ended)
@@ -93,27 +99,21 @@ module _ (w : Waits) (s : State) (h : Sits (s .engine) (s .stores)) (k : w ≡ w
         (subst (λ (u : Journal). Told (sends e (e .peer) code hs st) (unchanged u)) (sym (ap (λ (v : Opened). replied v j code hs) (y .0 .opened) ∙ y .1 code hs))
         (sends-told e st (e .peer) j (y .0) code hs))
 
-    reply-told : inRange 3 6 (e .awaits) ≡ true → (j : Journal) → Coupled e st j
+    reply-told : fits kind.ReplyGiven (e .awaits) ≡ true → (j : Journal) → Coupled e st j
         → Told (replyAnswer e code hs st) (journalFed j (replyGiven code hs) goes (getD (st .reply) 0 0))
     unfolding replyAnswer
     reply-told r j x =
-        told-pick (eqb (awaited (e .awaits)) 3) _ _ _
-        (λ m. let y = coupled-at w s h k await.Connect j (awaited-is (e .awaits) 3 (eqb-true _ _ m)) x in
+        told-pick (sameAwait (e .awaits) await.Connect) _ _ _
+        (λ m. let y = coupled-at w s h k await.Connect j (same-await (e .awaits) await.Connect m) x in
         entered (replyGiven code hs) j _ (y .held .fixed .ended) (connect-told e st j op.Connect y (h .base .peer) code hs refl))
-        (λ m. told-pick (eqb (awaited (e .awaits)) 4) _ _ _
-        (λ n. let y = coupled-at w s h k await.Disconnect j (awaited-is (e .awaits) 4 (eqb-true _ _ n)) x in
+        (λ m. told-pick (sameAwait (e .awaits) await.Disconnect) _ _ _
+        (λ n. let y = coupled-at w s h k await.Disconnect j (same-await (e .awaits) await.Disconnect n) x in
         entered (replyGiven code hs) j _ (y .held .fixed .ended) (disconnect-told e st j op.Disconnect y (h .base .peer) code hs refl))
-        (λ n. plain-reply (eqb (awaited (e .awaits)) 5) refl (λ o. awaited-is (e .awaits) 6 (six m n o)) j x))
+        (λ n. plain-reply (sameAwait (e .awaits) await.Get) refl (λ o. same-await (e .awaits) await.Reply (reply-left m n o)) j x))
       where
-        six : eqb (awaited (e .awaits)) 3 ≡ false → eqb (awaited (e .awaits)) 4 ≡ false → eqb (awaited (e .awaits)) 5 ≡ false
-            → awaited (e .awaits) ≡ 6
-        six m n o =
-            let lower : 3 ≤ awaited (e .awaits) = leb-true _ _ (and-left _ _ r) in
-            let upper : awaited (e .awaits) ≤ 6 = leb-true _ _ (and-right (leb 3 (awaited (e .awaits))) _ r) in
-            let a : awaited (e .awaits) ≡ 3 → ⊥ = eqb-false _ _ m in
-            let b : awaited (e .awaits) ≡ 4 → ⊥ = eqb-false _ _ n in
-            let c : awaited (e .awaits) ≡ 5 → ⊥ = eqb-false _ _ o in
-            omega arith
+        reply-left : sameAwait (e .awaits) await.Connect ≡ false → sameAwait (e .awaits) await.Disconnect ≡ false
+            → sameAwait (e .awaits) await.Get ≡ false → sameAwait (e .awaits) await.Reply ≡ true
+        reply-left m n o = or-second _ _ (or-second _ _ (or-second _ _ r m) n) o
 
     pub reply-agrees : Agrees w s (replyGiven code hs)
     unfolding bad
@@ -155,7 +155,7 @@ module _ (w : Waits) (s : State) (h : Sits (s .engine) (s .stores)) (k : w ≡ w
     unfolding bad
     object-agrees =
         agrees w s h k (objectGiven hs has)
-        (λ r. let at = range-is (e .awaits) 5 r in object-at at (shape-at await.Get at))
+        (λ r. let at = same-await (e .awaits) await.Get r in object-at at (shape-at await.Get at))
 
   -- ---- body bytes
 
@@ -171,10 +171,10 @@ module _ (w : Waits) (s : State) (h : Sits (s .engine) (s .stores)) (k : w ≡ w
   module _ (d : List ℕ) where
     -- more than were asked for is refused with 9
     body-at : e .awaits ≡ await.Body → (o : Outgoing) (c : Chunk) (srm wait : Bool) → OutgoingFits o c → (t : Bool) → ltb (c .room) (length d) ≡ t
-        → Agree w s (bodyGiven d) (pick (leb (length d) (c .room)) goes (refused 9)) (pick t (refuse 9 e st) (after 0 (sendsPacket e srm wait (givenBody o c d (st .reply)) st)))
+        → Agree w s (bodyGiven d) (pick (leb (length d) (c .room)) goes (refused 9)) (pick t (refuse refusal.WrongMoment e st) (after 0 (sendsPacket e srm wait (givenBody o c d (st .reply)) st)))
     body-at at o c srm wait y true i =
         let more : c .room < length d = ltb-true _ _ i in
-        subst (λ (t : Bool). Agree w s (bodyGiven d) (pick t goes (refused 9)) (refuse 9 e st)) (sym (lt-leb (length d) (c .room) more)) (agree-refused w s h k (bodyGiven d) 9)
+        subst (λ (t : Bool). Agree w s (bodyGiven d) (pick t goes (refused 9)) (refuse refusal.WrongMoment e st)) (sym (lt-leb (length d) (c .room) more)) (agree-refused w s h k (bodyGiven d) refusal.WrongMoment)
     body-at at o c srm wait y false i =
         let within : length d ≤ c .room = ltb-false _ _ i in
         let m = body-sends o c d (st .reply) (h .base .room .reply) within (y .begun) (y .chunk) (y .sent) in
@@ -196,13 +196,13 @@ module _ (w : Waits) (s : State) (h : Sits (s .engine) (s .stores)) (k : w ≡ w
     unfolding bad
     body-agrees =
         agrees w s h k (bodyGiven d)
-        (λ r. let at = range-is (e .awaits) 11 r in body-for at (shape-at await.Body at))
+        (λ r. let at = same-await (e .awaits) await.Body r in body-for at (shape-at await.Body at))
 
   pub body-failed-agrees : Agrees w s bodyFailed
   unfolding bad
   body-failed-agrees =
       agrees w s h k bodyFailed
-      (λ r. let at = range-is (e .awaits) 11 r in
+      (λ r. let at = same-await (e .awaits) await.Body r in
       agree-goes w s h k bodyFailed 0 _ (fine-code e st (h .base) (e .peer) 0x50 st (h .base .peer) (h .base .room))
       (λ j x u. let l = body-held at j x in entered bodyFailed j _ (l .fixed .ended)
       (fails-told e st j (l .fixed) (l .begun) (body-open at j x) (st .reply))))
@@ -214,7 +214,7 @@ module _ (w : Waits) (s : State) (h : Sits (s .engine) (s .stores)) (k : w ≡ w
   acknowledge-agrees =
       agrees w s h k abortAcknowledged
       (λ r. agree-goes w s h k abortAcknowledged 0 _ (fine-code e st (h .base) (e .peer) 0x20 st (h .base .peer) (h .base .room))
-      (λ j x u. let y = coupled-at w s h k await.Acknowledgement j (range-is (e .awaits) 7 r) x in
+      (λ j x u. let y = coupled-at w s h k await.Acknowledgement j (same-await (e .awaits) await.Acknowledgement r) x in
       entered abortAcknowledged j _ (y .fixed .ended) (told-code e (e .peer) st j 0x20 y)))
 
   pub password-agrees : (p : Option (List ℕ)) → Agrees w s (passwordGiven p)
@@ -222,7 +222,7 @@ module _ (w : Waits) (s : State) (h : Sits (s .engine) (s .stores)) (k : w ≡ w
   password-agrees p =
       agrees w s h k (passwordGiven p)
       (λ r. agree-goes w s h k (passwordGiven p) 0 _ (password-fine e st (h .base) p)
-      (λ j x u. let y = coupled-at w s h k await.Password j (range-is (e .awaits) 8 r) x in
+      (λ j x u. let y = coupled-at w s h k await.Password j (same-await (e .awaits) await.Password r) x in
       entered (passwordGiven p) j _ (y .held .fixed .ended) (password-told e st j op.Connect y refl p)))
 
   pub nonce-agrees : (n : Octets16) (l : List ℕ) → Agrees w s (nonceGiven n l)
@@ -230,7 +230,7 @@ module _ (w : Waits) (s : State) (h : Sits (s .engine) (s .stores)) (k : w ≡ w
   nonce-agrees n l =
       agrees w s h k (nonceGiven n l)
       (λ r. agree-goes w s h k (nonceGiven n l) 0 _ (nonce-fine e st (h .base) n l)
-      (λ j x u. let y = coupled-at w s h k await.Nonce j (range-is (e .awaits) 9 r) x in
+      (λ j x u. let y = coupled-at w s h k await.Nonce j (same-await (e .awaits) await.Nonce r) x in
       entered (nonceGiven n l) j _ (y .held .fixed .ended) (nonce-told e st j op.Connect y n l)))
 
   credentials-at : (c : Option Credentials) → e .awaits ≡ await.Credentials → IsConnecting (e .operation)
@@ -247,4 +247,4 @@ module _ (w : Waits) (s : State) (h : Sits (s .engine) (s .stores)) (k : w ≡ w
   unfolding bad
   credentials-agree c =
       agrees w s h k (credentialsGiven c)
-      (λ r. let at = range-is (e .awaits) 10 r in credentials-at c at (shape-at await.Credentials at))
+      (λ r. let at = same-await (e .awaits) await.Credentials r in credentials-at c at (shape-at await.Credentials at))

@@ -12,25 +12,32 @@ use Rattle.packet.specs.Packet.{requestOf}
 use Rattle.journal.specs.Calls.{bytesOffered, streamEnded, replyTaken, goes}
 use Rattle.journal.specs.Journal.{Journal, unchanged, begin, end, Read, more, whole, short, readUp, bytesRead, packetRead, journalPacket, takenAt, journalCall, journalFed, readIn, fedReads, keptRead, keptAfter}
 use Rattle.incoming.specs.Frame.{Frames, framed}
-use Rattle.incoming.specs.declared.io.Frame.{Frame}
-use Rattle.incoming.specs.declared.io.Frame.the-variants.{More, Whole, Short}
-use Rattle.model.specs.Model.{Stores, done, wants, ends, after, engineWith, limitOf, lastPacket, lengthOf, packetDone, framedAs, withPacket, offers, awaited, goesOn, soundOperation}
+use Rattle.incoming.specs.declared.frame.Frame.{Frame}
+use Rattle.incoming.specs.declared.frame.Frame.the-variants.{More, Whole, Short}
+use Rattle.model.specs.Step.{Stores, done, wants, ends, after, engineWith, limitOf}
+use Rattle.model.specs.Request.{lastPacket}
+use Rattle.model.specs.Dispatch.{lengthOf, packetDone}
+use Rattle.model.specs.Calls.{framedAs, withPacket, offers}
+use Rattle.model.specs.Guard.{sameAwait, fits, soundOperation}
+use Rattle.model.specs.Object.{goesOn}
 use Rattle.model.specs.Runs.{State}
-use Rattle.model.specs.Refusal.{Waits, bad}
-use Rattle.model.specs.Claims.{Kept}
-use Rattle.model.specs.declared.server.Operation.{Operation}
-use Rattle.model.specs.declared.server.Operation.the-variants.{Nothing, Putting, Getting, Sending, Gathering as GatheringOp, Connecting, Draining}
-use Rattle.model.specs.declared.server.Await.{Await}
-use Rattle.model.specs.declared.server.Await.the-variants as await
-use Rattle.model.specs.declared.server.Engine.{Engine}
-use Rattle.model.specs.declared.server.Outcome.the-variants as outcome
+use Rattle.model.specs.Refusals.{Waits, bad}
+use Rattle.model.specs.Theorem.{Kept}
+use Rattle.server.specs.declared.Operation.{Operation}
+use Rattle.server.specs.declared.Operation.the-variants.{Nothing, Putting, Getting, Sending, Gathering as GatheringOp, Connecting, Draining}
+use Rattle.server.specs.declared.End.the-variants as why
+use Rattle.server.specs.declared.CallKind.the-variants as kind
+use Rattle.server.specs.declared.Await.{Await}
+use Rattle.server.specs.declared.Await.the-variants as await
+use Rattle.server.specs.declared.Engine.{Engine}
+use Rattle.server.specs.declared.Outcome.the-variants as outcome
 use Rattle.incoming.proofs.Frames.{Octets, Agrees as Frames-agree, frames-agree}
 use Rattle.model.proofs.Fit.{and-left, and-right, Room, Shape, waitsOf, Base, Sits, Fine, fine-pick, fine-wants, fine-ends}
 use Rattle.model.proofs.Steps.{outgoing-within, sends-next-fine, read-fine}
 use Rattle.model.proofs.Coupling.{OpenedAt, Held, CoupledAt, Coupled, Told, told-pick, told-ends, told-wants}
 use Rattle.model.proofs.Gathers.{next-told}
 use Rattle.model.proofs.Packets.{read-told}
-use Rattle.model.proofs.Moments.{awaited-is, range-is, Agree, Agrees, fed-goes, agree-goes, agrees}
+use Rattle.model.proofs.Moments.{same-await, or-second, Agree, Agrees, fed-goes, agree-goes, agrees}
 
 module _ (w : Waits) (s : State) (h : Sits (s .engine) (s .stores)) (k : w ≡ waitsOf (s .engine .awaits) (s .engine .operation)) where
   abbrev e : Engine
@@ -139,14 +146,14 @@ module _ (w : Waits) (s : State) (h : Sits (s .engine) (s .stores)) (k : w ≡ w
         (whole-told q g j (coupled-at await.Bytes j at x) (kept-reads j (whole q) (coupled-at await.Bytes j at x) y u))))
     read-agrees short y g =
         frame-at Short (g .0)
-        (agree-goes w s h k (bytesOffered i) (f .result .taken) _ (fine-ends e st (h .base) (e .peer) 3 z (h .base .peer) (room-at (g .1)))
-        (λ j x u. subst (Told _) (sym (journal-reads j short (coupled-at await.Bytes j at x) y)) (told-ends e (e .peer) z (end j) 3)))
+        (agree-goes w s h k (bytesOffered i) (f .result .taken) _ (fine-ends e st (h .base) (e .peer) why.LengthTooSmall z (h .base .peer) (room-at (g .1)))
+        (λ j x u. subst (Told _) (sym (journal-reads j short (coupled-at await.Bytes j at x) y)) (told-ends e (e .peer) z (end j) why.LengthTooSmall)))
 
   pub bytes-agree : (i : List ℕ) → Octets i → Agrees w s (bytesOffered i)
   unfolding bad
   bytes-agree i o =
       agrees w s h k (bytesOffered i)
-      (λ r. read-agrees i o (range-is (e .awaits) 0 r) _ refl
+      (λ r. read-agrees i o (same-await (e .awaits) await.Bytes r) _ refl
       (frames-agree (st .packet) i (e .begun) 0 (h .begun .small) (h .base .room .packet) (h .begun .octets) o (h .begun .goes-on)))
 
   -- ---- the end of the stream
@@ -155,9 +162,9 @@ module _ (w : Waits) (s : State) (h : Sits (s .engine) (s .stores)) (k : w ≡ w
   unfolding bad
   end-agrees =
       agrees w s h k streamEnded
-      (λ r. agree-goes w s h k streamEnded 0 _ (fine-ends e st (h .base) (e .peer) (pick (eqb (e .begun) 0) 1 2) st (h .base .peer) (h .base .room))
-      (λ j x u. subst (Told _) (sym (fed-goes j streamEnded (getD (st .reply) 0 0) (coupled-at await.Bytes j (range-is (e .awaits) 0 r) x .fixed .ended)))
-      (told-ends e (e .peer) st (end j) (pick (eqb (e .begun) 0) 1 2))))
+      (λ r. agree-goes w s h k streamEnded 0 _ (fine-ends e st (h .base) (e .peer) (pick (eqb (e .begun) 0) why.Disconnected why.Truncated) st (h .base .peer) (h .base .room))
+      (λ j x u. subst (Told _) (sym (fed-goes j streamEnded (getD (st .reply) 0 0) (coupled-at await.Bytes j (same-await (e .awaits) await.Bytes r) x .fixed .ended)))
+      (told-ends e (e .peer) st (end j) (pick (eqb (e .begun) 0) why.Disconnected why.Truncated))))
 
   -- ---- a reply is taken
 
@@ -185,9 +192,9 @@ module _ (w : Waits) (s : State) (h : Sits (s .engine) (s .stores)) (k : w ≡ w
   goes-on-told j l (Connecting q g m) p c x = x
   goes-on-told j l (Draining q) p c x = x
 
-  taken-goes : (t : Bool) → eqb (awaited (e .awaits)) 1 ≡ t → leb (awaited (e .awaits)) 2 ≡ true → leb 1 (awaited (e .awaits)) ≡ true
-      → Agree w s replyTaken goes (after 0 (pick t (goesOn (e .operation) e st) (ends e (e .peer) 5 st)))
-  taken-goes true i l m =
+  taken-goes : (t : Bool) → sameAwait (e .awaits) await.Taken ≡ t → fits kind.ReplyTaken (e .awaits) ≡ true
+      → Agree w s replyTaken goes (after 0 (pick t (goesOn (e .operation) e st) (ends e (e .peer) why.OtherOperation st)))
+  taken-goes true i r =
       agree-goes w s h k replyTaken 0 _
       (goes-on-fine (e .operation) (h .counts)
       (fine-wants e st (h .base) (e .peer) (e .operation) st (h .base .peer) (h .base .room) (h .counts) (subst (λ (x : Await). Shape x (e .operation)) at (h .shape))))
@@ -197,22 +204,15 @@ module _ (w : Waits) (s : State) (h : Sits (s .engine) (s .stores)) (k : w ≡ w
       (told-wants e (e .peer) st _ (e .operation) (y .1))))
     where
       at : e .awaits ≡ await.Taken
-      at = awaited-is (e .awaits) 1 (eqb-true _ _ i)
-  taken-goes false i l m =
-      agree-goes w s h k replyTaken 0 _ (fine-ends e st (h .base) (e .peer) 5 st (h .base .peer) (h .base .room))
-      (λ j x u. subst (Told _) (sym (ap (λ (t : Bool). pick t (unchanged j) (journalCall j replyTaken (getD (st .reply) 0 0))) (coupled-at await.Last j at x))) (told-ends e (e .peer) st j 5))
+      at = same-await (e .awaits) await.Taken i
+  taken-goes false i r =
+      agree-goes w s h k replyTaken 0 _ (fine-ends e st (h .base) (e .peer) why.OtherOperation st (h .base .peer) (h .base .room))
+      (λ j x u. subst (Told _) (sym (ap (λ (t : Bool). pick t (unchanged j) (journalCall j replyTaken (getD (st .reply) 0 0))) (coupled-at await.Last j at x))) (told-ends e (e .peer) st j why.OtherOperation))
     where
-      two : awaited (e .awaits) ≡ 2
-      two =
-          let upper : awaited (e .awaits) ≤ 2 = leb-true _ _ l in
-          let lower : 1 ≤ awaited (e .awaits) = leb-true _ _ m in
-          let other : awaited (e .awaits) ≡ 1 → ⊥ = eqb-false _ _ i in
-          omega arith
-
       at : e .awaits ≡ await.Last
-      at = awaited-is (e .awaits) 2 two
+      at = same-await (e .awaits) await.Last (or-second _ _ r i)
 
   pub taken-agrees : Agrees w s replyTaken
   unfolding bad
   taken-agrees =
-      agrees w s h k replyTaken (λ r. taken-goes (eqb (awaited (e .awaits)) 1) refl (and-right (leb 1 (awaited (e .awaits))) _ r) (and-left _ _ r))
+      agrees w s h k replyTaken (λ r. taken-goes (sameAwait (e .awaits) await.Taken) refl r)

@@ -15,26 +15,28 @@ use Rattle.packet.specs.Header.{allBytes}
 use Rattle.packet.specs.Packet.{Request as Packet, packetBytes}
 use Rattle.packet.specs.declared.opcode.Opcode.{Opcode}
 use Rattle.packet.specs.declared.opcode.Opcode.the-variants as op
-use Rattle.journal.specs.Carried.{Carried, joined, sizeOf, carriedBy, keptByGet}
+use Rattle.journal.specs.Record.{Record, joined, sizeOf, carriedBy, keptByGet}
 use Rattle.journal.specs.Journal.{Settings as JournalSettings, Opened, nothing, putting, getting, sending, gathering, Journal, unchanged, after, putRead, gatherRead, replyTo, takenAt}
 use Rattle.incoming.specs.Gather.{Gathering, gathering as gatheringOf}
 use Rattle.incoming.specs.declared.survey.Survey.{Survey}
 use Rattle.incoming.specs.declared.gather.Keep.the-variants as keep
 use Rattle.incoming.specs.declared.gather.Gathered.{Gathered}
-use Rattle.outgoing.specs.Outgoing.{Made, nextPacket}
-use Rattle.outgoing.specs.declared.body.Outgoing.{Outgoing}
-use Rattle.outgoing.specs.declared.body.Next.{Next}
-use Rattle.outgoing.specs.declared.body.Next.the-variants as next
-use Rattle.connection.specs.Send.{front}
-use Rattle.model.specs.Model.{Stores, withReply, withGathered, repliesCode, limitOf, continueBytes, putBody, putGathered, putPacket, getGathered, getPacket, headersRequest, headersGathered, headersPacket, gathers, capacityOf, sendsMade, sendsPacket, sendsNext}
+use Rattle.outgoing.specs.Object.{Made, nextPacket}
+use Rattle.outgoing.specs.declared.object.Outgoing.{Outgoing}
+use Rattle.outgoing.specs.declared.object.Next.{Next}
+use Rattle.outgoing.specs.declared.object.Next.the-variants as next
+use Rattle.connection.specs.Reply.{front}
+use Rattle.model.specs.Step.{Stores, withReply, withGathered, repliesCode, limitOf, continueBytes, capacityOf}
+use Rattle.model.specs.Operation.{putBody, putGathered, putPacket, getGathered, getPacket, headersRequest, headersGathered, headersPacket, gathers}
+use Rattle.model.specs.Object.{sendsMade, sendsPacket, sendsNext}
 use Rattle.model.specs.Runs.{bodyIn, handed}
-use Rattle.model.specs.declared.server.Operation.{Operation}
-use Rattle.model.specs.declared.server.Operation.the-variants.{Nothing, Putting, Getting, Sending, Gathering as GatheringOp}
-use Rattle.model.specs.declared.server.Await.the-variants as await
-use Rattle.model.specs.declared.server.Engine.{Engine}
-use Rattle.model.specs.declared.server.Body.the-variants as body
-use Rattle.model.specs.declared.server.Request.the-variants as request
-use Rattle.model.specs.declared.server.Outcome.the-variants as outcome
+use Rattle.server.specs.declared.Operation.{Operation}
+use Rattle.server.specs.declared.Operation.the-variants.{Nothing, Putting, Getting, Sending, Gathering as GatheringOp}
+use Rattle.server.specs.declared.Await.the-variants as await
+use Rattle.server.specs.declared.Engine.{Engine}
+use Rattle.server.specs.declared.Body.the-variants as body
+use Rattle.server.specs.declared.HostRequest.the-variants as request
+use Rattle.server.specs.declared.Outcome.the-variants as outcome
 use Rattle.incoming.proofs.Gathers.{PutAgrees, KeptAgrees, put-agrees, get-agrees, all-agrees}
 use Rattle.outgoing.proofs.Sent.{SendsFrom}
 use Rattle.model.proofs.Fit.{Base}
@@ -60,7 +62,7 @@ module _ (e : Engine) (s : Stores) (j : Journal) (f : Fixed (e .settings) (e .pe
 
   -- ---- Put
 
-  module _ (x : Gathering) (c : Carried) (w : PutAgrees (limitOf e) x c) where
+  module _ (x : Gathering) (c : Record) (w : PutAgrees (limitOf e) x c) where
     limit-is : j .settings .limit ≡ limitOf e
     limit-is = ap (λ (u : JournalSettings). u .limit) (f .settings)
 
@@ -106,7 +108,7 @@ module _ (e : Engine) (s : Stores) (j : Journal) (f : Fixed (e .settings) (e .pe
         (held-after (Putting (x .got) confirm) (putting c confirm) (withGathered s x) (put-open confirm)))
 
   -- a Put packet, where c was carried before
-  pub put-packet : (v : Survey) (srm confirm : Bool) (g : Gathered) (c : Carried) → PutAgrees (limitOf e) (gatheringOf g (s .headers) (s .body)) c
+  pub put-packet : (v : Survey) (srm confirm : Bool) (g : Gathered) (c : Record) → PutAgrees (limitOf e) (gatheringOf g (s .headers) (s .body)) c
       → length (c .headers ++ carriedBy (r .headers) .headers) ≤ 65535 → r .opcode ≡ op.Put
       → Told (putPacket e r v srm confirm g s) (putRead j r srm (pick srm true confirm) (joined c (carriedBy (r .headers))))
   unfolding putPacket

@@ -1,4 +1,4 @@
--- Theorems over the definitions of specs/. `Cases`: the table. The rest proves demand 3 (`Demand3`): what holds of the engine
+-- Theorems over the definitions of specs/. `Cases`: the table. The rest proves the records theorem (`Records`): what holds of the engine
 -- alone (`Fit`, `Steps`), how it stands to the journal (`Coupling`), packets (`Gathers`, `Dispatch`, `Packets`) and the host's answers
 -- (`Answers`), and the calls (`Moments`, `FromPeer`, `FromHost`).
 pub mod Cases
@@ -12,5 +12,5 @@ pub mod Answers
 pub mod Moments
 pub mod FromPeer
 pub mod FromHost
-pub mod Demand3
+pub mod Records
 pub mod Contracts

@@ -1,59 +1,54 @@
--- A call is taken where what is awaited lies in the call's range, and that is where the call fits what waits. What remains of a call is
+-- A call goes on if its kind fits what is awaited, and that is exactly if the call is one that is waited for. What remains of a call is
 -- then one step, or a refusal.
 -- Assumes nothing.
 use mathlib.Core.Path.{_≡_, refl, sym, ap, ap₂, _∙_, subst}
-use mathlib.Core.Bool.{Bool, true, false, _&&_}
+use mathlib.Core.Bool.{Bool, true, false, _&&_, _||_, true≢false}
 use Prim.Native.Nat.{ℕ, _≤_}
 use native.Mathlib.Omega.{arith}
 use lib.ListN.{length, getD}
 use lib.Dec.{leb, eqb}
-use borrow.Author.Tests.{leb-true}
+use borrow.Author.Tests.{eqb-true}
 use Rattle.base.specs.Pick.{pick}
 use Rattle.journal.specs.Calls.{Call, bytesOffered, streamEnded, replyTaken, replyGiven, objectGiven, bodyGiven, bodyFailed, abortAcknowledged, passwordGiven, nonceGiven, credentialsGiven, Verdict, goes, refused}
 use Rattle.journal.specs.Journal.{Journal, unchanged, journalCall, journalFed, fedReads}
 use Rattle.incoming.specs.Frame.{framed}
-use Rattle.model.specs.Model.{Stores, Stepped, Done, done, refuse, after, ends, repliesCode, limitOf, sound, awaited, guarded, offers, goesOn, bytesStep, endStep, takenStep, badReply, checked, replyAnswer, replyStep, objectFor, objectStep, bodyFor, bodyStep, bodyFailedStep, acknowledgeStep, passwordAnswer, passwordStep, nonceAnswer, nonceStep, credentialsWith, credentialsStep}
+use Rattle.model.specs.Step.{Stores, Stepped, Done, done, after, ends, repliesCode, limitOf}
+use Rattle.model.specs.Guard.{refuse, sound, awaitNumber, sameAwait, fits, guarded, badReply, checked}
+use Rattle.model.specs.Calls.{offers, bytesOfferedStep, streamEndedStep, replyTakenStep, replyAnswer, replyGivenStep, objectFor, objectGivenStep, bodyFor, bodyGivenStep, bodyFailedStep, abortAcknowledgedStep, passwordGivenStep, nonceGivenStep, credentialsWith, credentialsGivenStep}
+use Rattle.model.specs.Object.{goesOn}
+use Rattle.model.specs.Connect.{passwordAnswer, nonceAnswer}
 use Rattle.model.specs.Runs.{State, stepOf, stateOf}
-use Rattle.model.specs.Refusal.{Waits, roomIn, told, fits, bad, verdict, verdictAt, verdictOf}
-use Rattle.model.specs.Claims.{Kept}
-use Rattle.model.specs.declared.server.Operation.{Operation}
-use Rattle.model.specs.declared.server.Operation.the-variants.{Nothing}
-use Rattle.model.specs.declared.server.Await.{Await}
-use Rattle.model.specs.declared.server.Await.the-variants as await
-use Rattle.model.specs.declared.server.Engine.{Engine}
+use Rattle.model.specs.Refusals.{Waits, roomIn, told, expected, bad, verdict, verdictAt, verdictOf}
+use Rattle.model.specs.Theorem.{Kept}
+use Rattle.server.specs.Numbers.{refusalNumber}
+use Rattle.server.specs.declared.CallKind.{CallKind}
+use Rattle.server.specs.declared.CallKind.the-variants as kind
+use Rattle.server.specs.declared.End.the-variants as end
+use Rattle.server.specs.declared.Refusal.{Refusal}
+use Rattle.server.specs.declared.Refusal.the-variants as refusal
+use Rattle.server.specs.declared.Operation.{Operation}
+use Rattle.server.specs.declared.Operation.the-variants.{Nothing}
+use Rattle.server.specs.declared.Await.{Await}
+use Rattle.server.specs.declared.Await.the-variants as await
+use Rattle.server.specs.declared.Engine.{Engine}
 use Rattle.model.proofs.Fit.{and-left, and-right, not-short, waitsOf, Sits, is-sound, Fine}
 use Rattle.model.proofs.Coupling.{Coupled, Told}
 
--- ---- ranges
+-- ---- moments
 
-abbrev pub fromOf : Call → ℕ
-fromOf (bytesOffered i) = 0
-fromOf streamEnded = 0
-fromOf replyTaken = 1
-fromOf (replyGiven code hs) = 3
-fromOf (objectGiven hs b) = 5
-fromOf (bodyGiven d) = 11
-fromOf bodyFailed = 11
-fromOf abortAcknowledged = 7
-fromOf (passwordGiven p) = 8
-fromOf (nonceGiven n l) = 9
-fromOf (credentialsGiven c) = 10
-
-abbrev pub toOf : Call → ℕ
-toOf (bytesOffered i) = 0
-toOf streamEnded = 0
-toOf replyTaken = 2
-toOf (replyGiven code hs) = 6
-toOf (objectGiven hs b) = 5
-toOf (bodyGiven d) = 11
-toOf bodyFailed = 11
-toOf abortAcknowledged = 7
-toOf (passwordGiven p) = 8
-toOf (nonceGiven n l) = 9
-toOf (credentialsGiven c) = 10
-
-abbrev pub inRange : ℕ → ℕ → Await → Bool
-inRange from to a = leb from (awaited a) && leb (awaited a) to
+-- the kind of a call
+abbrev pub kindOf : Call → CallKind
+kindOf (bytesOffered i) = kind.FromPeer
+kindOf streamEnded = kind.FromPeer
+kindOf replyTaken = kind.ReplyTaken
+kindOf (replyGiven code hs) = kind.ReplyGiven
+kindOf (objectGiven hs b) = kind.ObjectGiven
+kindOf (bodyGiven d) = kind.FromBody
+kindOf bodyFailed = kind.FromBody
+kindOf abortAcknowledged = kind.AbortAcknowledged
+kindOf (passwordGiven p) = kind.PasswordGiven
+kindOf (nonceGiven n l) = kind.NonceGiven
+kindOf (credentialsGiven c) = kind.CredentialsGiven
 
 -- body bytes must also be no more than were asked for
 abbrev pub fitting : Call → Waits → Bool
@@ -87,10 +82,10 @@ each P b t l c d g r k p n e y z await.Body = y
 each P b t l c d g r k p n e y z await.Nothing = z
 
 abbrev Moment : Call → Operation → Await → Type 0
-Moment c o a = fits c (waitsOf a o) ≡ (inRange (fromOf c) (toOf c) a && fitting c (waitsOf a o))
+Moment c o a = expected c (waitsOf a o) ≡ (fits (kindOf c) a && fitting c (waitsOf a o))
 
 moment : (c : Call) (o : Operation) (a : Await) → Moment c o a
-unfolding fits
+unfolding expected
 moment (bytesOffered i) o a = each (Moment (bytesOffered i) o) refl refl refl refl refl refl refl refl refl refl refl refl refl a
 moment streamEnded o a = each (Moment streamEnded o) refl refl refl refl refl refl refl refl refl refl refl refl refl a
 moment replyTaken o a = each (Moment replyTaken o) refl refl refl refl refl refl refl refl refl refl refl refl refl a
@@ -104,32 +99,31 @@ moment (nonceGiven n l) o a = each (Moment (nonceGiven n l) o) refl refl refl re
 moment (credentialsGiven c) o a = each (Moment (credentialsGiven c) o) refl refl refl refl refl refl refl refl refl refl refl refl refl a
 
 -- what is awaited is told by its number
-abbrev pub awaitOf : ℕ → Await
+abbrev awaitOf : ℕ → Await
 awaitOf n =
     pick (eqb n 0) await.Bytes (pick (eqb n 1) await.Taken (pick (eqb n 2) await.Last (pick (eqb n 3) await.Connect (pick (eqb n 4) await.Disconnect
     (pick (eqb n 5) await.Get (pick (eqb n 6) await.Reply (pick (eqb n 7) await.Acknowledgement (pick (eqb n 8) await.Password (pick (eqb n 9) await.Nonce
     (pick (eqb n 10) await.Credentials (pick (eqb n 11) await.Body await.Nothing)))))))))))
 
-pub awaited-is : (a : Await) (n : ℕ) → awaited a ≡ n → a ≡ awaitOf n
-awaited-is a n e = sym (back a) ∙ ap awaitOf e
+pub same-await : (a b : Await) → sameAwait a b ≡ true → a ≡ b
+same-await a b h = let n : awaitNumber a ≡ awaitNumber b = eqb-true _ _ h in sym (back a) ∙ ap awaitOf n ∙ back b
   where
-    back : (a : Await) → awaitOf (awaited a) ≡ a
-    back a = each (λ (x : Await). awaitOf (awaited x) ≡ x) refl refl refl refl refl refl refl refl refl refl refl refl refl a
+    back : (x : Await) → awaitOf (awaitNumber x) ≡ x
+    back x = each (λ (y : Await). awaitOf (awaitNumber y) ≡ y) refl refl refl refl refl refl refl refl refl refl refl refl refl x
 
-pub range-is : (a : Await) (n : ℕ) → inRange n n a ≡ true → a ≡ awaitOf n
-range-is a n h =
-    let l : n ≤ awaited a = leb-true _ _ (and-left _ _ h) in
-    let u : awaited a ≤ n = leb-true _ _ (and-right (leb n (awaited a)) _ h) in
-    awaited-is a n (omega arith)
+-- where one of two tests holds and the first fails, the second holds
+pub or-second : (a b : Bool) → (a || b) ≡ true → a ≡ false → b ≡ true
+or-second true b h k = absurd (true≢false k)
+or-second false b h k = h
 
--- ---- a call in its range
+-- ---- a call at its moment
 
 abbrev pub goFor : State → Call → Stepped
 goFor s (bytesOffered i) = offers (s .engine) (framed (s .stores .packet) (s .engine .begun) 0 i) (s .stores)
-goFor s streamEnded = after 0 (ends (s .engine) (s .engine .peer) (pick (eqb (s .engine .begun) 0) 1 2) (s .stores))
+goFor s streamEnded = after 0 (ends (s .engine) (s .engine .peer) (pick (eqb (s .engine .begun) 0) end.Disconnected end.Truncated) (s .stores))
 goFor s replyTaken =
-    after 0 (pick (eqb (awaited (s .engine .awaits)) 1) (goesOn (s .engine .operation) (s .engine) (s .stores))
-    (ends (s .engine) (s .engine .peer) 5 (s .stores)))
+    after 0 (pick (sameAwait (s .engine .awaits) await.Taken) (goesOn (s .engine .operation) (s .engine) (s .stores))
+    (ends (s .engine) (s .engine .peer) end.OtherOperation (s .stores)))
 goFor s (replyGiven code hs) = checked (badReply code hs) (s .engine) (s .stores) (replyAnswer (s .engine) code hs (s .stores))
 goFor s (objectGiven hs b) = objectFor (s .engine .operation) (s .engine) hs b (s .stores)
 goFor s (bodyGiven d) = bodyFor (s .engine .operation) (s .engine) d (s .stores)
@@ -139,8 +133,8 @@ goFor s (passwordGiven p) = after 0 (passwordAnswer (s .engine) p (s .stores))
 goFor s (nonceGiven n l) = after 0 (nonceAnswer (s .engine) n l (s .stores))
 goFor s (credentialsGiven c) = credentialsWith (s .engine .operation) (s .engine) c (s .stores)
 
-step-is : (s : State) (c : Call) → stepOf s c ≡ guarded (fromOf c) (toOf c) (s .engine) (s .stores) (goFor s c)
-unfolding bytesStep endStep takenStep replyStep objectStep bodyStep bodyFailedStep acknowledgeStep passwordStep nonceStep credentialsStep
+step-is : (s : State) (c : Call) → stepOf s c ≡ guarded (kindOf c) (s .engine) (s .stores) (goFor s c)
+unfolding bytesOfferedStep streamEndedStep replyTakenStep replyGivenStep objectGivenStep bodyGivenStep bodyFailedStep abortAcknowledgedStep passwordGivenStep nonceGivenStep credentialsGivenStep
 step-is s (bytesOffered i) = refl
 step-is s streamEnded = refl
 step-is s replyTaken = refl
@@ -181,7 +175,7 @@ module _ (w : Waits) (s : State) (h : Sits (s .engine) (s .stores)) (k : w ≡ w
   st = s .stores
 
   abbrev ranged : Bool
-  ranged = inRange (fromOf c) (toOf c) (e .awaits)
+  ranged = fits (kindOf c) (e .awaits)
 
   abbrev fitted : Bool
   fitted = fitting c (waitsOf (e .awaits) (e .operation))
@@ -193,26 +187,26 @@ module _ (w : Waits) (s : State) (h : Sits (s .engine) (s .stores)) (k : w ≡ w
   agree-goes t d f g = record { due = f .goes; sits = f .sits; waits = f .waits w; unmoved = λ n i. absurd (let z : _≡_ {A = ℕ} 0 1 = cc in omega arith); journal = g }
 
   -- a call that is refused
-  pub agree-refused : (n : ℕ) → Agree w s c (refused n) (refuse n e st)
-  agree-refused n = record { due = refl; sits = h; waits = k; unmoved = λ m i. refl; journal = λ j x y. record { given = refl; after = x } }
+  pub agree-refused : (r : Refusal) → Agree w s c (refused (refusalNumber r)) (refuse r e st)
+  agree-refused r = record { due = refl; sits = h; waits = k; unmoved = λ m i. refl; journal = λ j x y. record { given = refl; after = x } }
 
   verdict-by : (t : Bool) → ranged ≡ t
       → verdictAt w s c ≡ pick (t && fitted) (pick (bad c) (refused 8) goes) (refused 9)
   unfolding verdict
   verdict-by t i =
-      ap (λ (x : Bool). pick x (refused 10) (pick (fits c w) (pick (bad c) (refused 8) goes) (refused 9)))
+      ap (λ (x : Bool). pick x (refused 10) (pick (expected c w) (pick (bad c) (refused 8) goes) (refused 9)))
       (not-short (limitOf e) st (h .base .room))
       ∙ ap (λ (x : Bool). pick x (pick (bad c) (refused 8) goes) (refused 9))
-      (ap (fits c) k ∙ moment c (e .operation) (e .awaits) ∙ ap (λ (x : Bool). x && fitted) i)
+      (ap (expected c) k ∙ moment c (e .operation) (e .awaits) ∙ ap (λ (x : Bool). x && fitted) i)
 
-  step-by : (t : Bool) → ranged ≡ t → stepOf s c ≡ pick t (goFor s c) (refuse 9 e st)
+  step-by : (t : Bool) → ranged ≡ t → stepOf s c ≡ pick t (goFor s c) (refuse refusal.WrongMoment e st)
   step-by t i =
       step-is s c
-      ∙ ap (λ (x : Bool). pick x (refuse 10 e st) (pick (sound e && ranged) (goFor s c) (refuse 9 e st)))
+      ∙ ap (λ (x : Bool). pick x (refuse refusal.StoreTooShort e st) (pick (sound e && ranged) (goFor s c) (refuse refusal.WrongMoment e st)))
       (not-short (limitOf e) st (h .base .room))
-      ∙ ap₂ (λ (x y : Bool). pick (x && y) (goFor s c) (refuse 9 e st)) (is-sound e st h) i
+      ∙ ap₂ (λ (x y : Bool). pick (x && y) (goFor s c) (refuse refusal.WrongMoment e st)) (is-sound e st h) i
 
-  -- by the range: outside it the call is refused with 9
+  -- by the moment: at another the call is refused with 9
   pub agrees : (ranged ≡ true
       → Agree w s c (pick fitted (pick (bad c) (refused 8) goes) (refused 9)) (goFor s c)) → Agrees w s c
   agrees f = go ranged refl
@@ -222,4 +216,4 @@ module _ (w : Waits) (s : State) (h : Sits (s .engine) (s .stores)) (k : w ≡ w
 
       go : (t : Bool) → ranged ≡ t → Agrees w s c
       go true i = at _ _ (verdict-by true i) (step-by true i) (f i)
-      go false i = at _ _ (verdict-by false i) (step-by false i) (agree-refused 9)
+      go false i = at _ _ (verdict-by false i) (step-by false i) (agree-refused refusal.WrongMoment)

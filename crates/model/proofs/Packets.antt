@@ -14,19 +14,23 @@ use Rattle.packet.specs.Packet.{Request as Packet, requestOf, packetBytes}
 use Rattle.packet.specs.declared.opcode.Opcode.{Opcode}
 use Rattle.packet.specs.declared.opcode.Opcode.the-variants as op
 use Rattle.packet.proofs.OpcodeLaws.{same-equal}
-use Rattle.journal.specs.Carried.{joined, carriedBy, keptByGet}
+use Rattle.journal.specs.Record.{joined, carriedBy, keptByGet}
 use Rattle.journal.specs.Journal.{Opened, nothing, sending, draining, busy as busyOpened, Journal, Entry, unchanged, after, end, putRead, dropped, stopped, requestRead, packetRead, keptWith, keptRead}
 use Rattle.incoming.specs.Survey.{surveyOf}
 use Rattle.incoming.specs.declared.survey.Survey.{Survey}
-use Rattle.connection.specs.Send.{front}
-use Rattle.model.specs.Model.{Stores, withReply, Done, wants, asks, ends, repliesCode, putPacket, limitOf, dispatch, interrupts, inside, busy, unknownByte, unreadable, readAs, soundOperation}
-use Rattle.model.specs.declared.server.Operation.{Operation}
-use Rattle.model.specs.declared.server.Operation.the-variants.{Nothing, Putting, Getting, Sending, Gathering as GatheringOp, Connecting, Draining}
-use Rattle.model.specs.declared.server.Await.the-variants as await
-use Rattle.model.specs.declared.server.Engine.{Engine}
-use Rattle.model.specs.declared.server.Request.{Request}
-use Rattle.model.specs.declared.server.Request.the-variants as request
-use Rattle.model.specs.declared.server.Outcome.the-variants as outcome
+use Rattle.connection.specs.Reply.{front}
+use Rattle.model.specs.Step.{Stores, withReply, Done, wants, asks, ends, repliesCode, limitOf}
+use Rattle.model.specs.Operation.{putPacket}
+use Rattle.model.specs.Dispatch.{dispatch, interrupts, inside, busy, unknownByte, unreadable, readAs}
+use Rattle.model.specs.Guard.{soundOperation}
+use Rattle.server.specs.declared.Operation.{Operation}
+use Rattle.server.specs.declared.Operation.the-variants.{Nothing, Putting, Getting, Sending, Gathering as GatheringOp, Connecting, Draining}
+use Rattle.server.specs.declared.Await.the-variants as await
+use Rattle.server.specs.declared.End.the-variants as why
+use Rattle.server.specs.declared.Engine.{Engine}
+use Rattle.server.specs.declared.HostRequest.{HostRequest}
+use Rattle.server.specs.declared.HostRequest.the-variants as request
+use Rattle.server.specs.declared.Outcome.the-variants as outcome
 use Rattle.incoming.proofs.Frames.{Octets}
 use Rattle.packet.proofs.HeaderBytes.{request-headers}
 use Rattle.model.proofs.Fit.{Base}
@@ -125,8 +129,8 @@ module _ (e : Engine) (s : Stores) (j : Journal) (f : Fixed (e .settings) (e .pe
       (go (busy (e .operation)))
     where
       go : (t : Bool)
-          → Told (pick t (ends e (e .peer) 4 s) (repliesCode e (e .peer) Nothing (pick (unknownByte (firstByte (getD q 0 0))) 0x51 0x40) s)) (unchanged (pick t (end j) (after j none nothing)))
-      go true = told-ends e (e .peer) s (end j) 4
+          → Told (pick t (ends e (e .peer) why.Unreadable s) (repliesCode e (e .peer) Nothing (pick (unknownByte (firstByte (getD q 0 0))) 0x51 0x40) s)) (unchanged (pick t (end j) (after j none nothing)))
+      go true = told-ends e (e .peer) s (end j) why.Unreadable
       go false =
           told-code e (e .peer) s (after j none nothing) _
           (record { fixed = record { settings = f .settings; standing = f .standing; ended = f .ended }; begun = refl; opened = refl })

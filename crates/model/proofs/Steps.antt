@@ -24,29 +24,37 @@ use Rattle.incoming.specs.declared.survey.Survey.{Survey}
 use Rattle.incoming.specs.declared.gather.Keep.{Keep}
 use Rattle.incoming.specs.declared.gather.Keep.the-variants as keep
 use Rattle.incoming.specs.declared.gather.Gathered.{Gathered}
-use Rattle.outgoing.specs.Outgoing.{Made, nextPacket}
-use Rattle.outgoing.specs.declared.body.Outgoing.{Outgoing}
-use Rattle.outgoing.specs.declared.body.Chunk.{Chunk}
-use Rattle.outgoing.specs.declared.body.Next.{Next}
-use Rattle.outgoing.specs.declared.body.Next.the-variants as next
-use Rattle.connection.specs.Send.{fieldsOf, sendBytes, front}
+use Rattle.outgoing.specs.Object.{Made, nextPacket}
+use Rattle.outgoing.specs.declared.object.Outgoing.{Outgoing}
+use Rattle.outgoing.specs.declared.object.Chunk.{Chunk}
+use Rattle.outgoing.specs.declared.object.Next.{Next}
+use Rattle.outgoing.specs.declared.object.Next.the-variants as next
+use Rattle.connection.specs.Reply.{fieldsOf, sendBytes, front}
 use Rattle.connection.specs.Peer.{limited, verifiedPeer, challengedPeer, openedFor}
-use Rattle.connection.specs.Connect.{answeredChallenge}
+use Rattle.connection.specs.ConnectReply.{answeredChallenge}
 use Rattle.connection.specs.declared.peer.Challenge.{Challenge}
 use Rattle.connection.specs.declared.peer.Challenge.the-variants.{Stored, Absent}
 use Rattle.connection.specs.declared.peer.Peer.{Peer}
 use Rattle.journal.specs.Journal.{listOf}
-use Rattle.model.specs.Model.{Stores, withReply, withHeaders, withGathered, sent, sends, sendsConnect, lastPacket, lastHeaders, limitOf, nothingGathered, gathers, putBody, putContinues, putPacket, getContinues, getPacket, headersRequest, headersPacket, capacityOf, sendsMade, sendsPacket, sendsNext, clientResponse, userPlace, verifies, connectPacket, connectSends, frontFor, credentialsFor, connectChallenged, connectOpened, connectAnswer, checks, passwordAnswer, nonceAnswer, Rejection, admits, rejects, rejection, drains, dispatches, admittedAs, dispatch, interrupts, inside, busy, readAs, soundGathered, soundOutgoing, soundOperation, replyAnswer, awaited, srmAsked}
+use Rattle.model.specs.Step.{Stores, withReply, withHeaders, withGathered, sent, sends, sendsConnect, limitOf, capacityOf}
+use Rattle.model.specs.Request.{lastPacket, lastHeaders, clientResponse, userPlace}
+use Rattle.model.specs.Operation.{nothingGathered, gathers, putBody, putContinues, putPacket, getContinues, getPacket, headersRequest, headersPacket}
+use Rattle.model.specs.Object.{sendsMade, sendsPacket, sendsNext}
+use Rattle.model.specs.Connect.{verifies, connectPacket, connectSends, frontFor, credentialsFor, connectChallenged, connectOpened, connectAnswer, checks, passwordAnswer, nonceAnswer, srmAsked}
+use Rattle.model.specs.Dispatch.{Rejection, admits, rejects, rejection, drains, dispatches, admittedAs, dispatch, interrupts, inside, busy, readAs}
+use Rattle.model.specs.Guard.{soundGathered, soundOutgoing, soundOperation, sameAwait}
+use Rattle.model.specs.Calls.{replyAnswer}
 use Rattle.model.specs.Runs.{handedBy}
-use Rattle.model.specs.Refusal.{reply, asked}
-use Rattle.model.specs.declared.server.Operation.{Operation}
-use Rattle.model.specs.declared.server.Operation.the-variants.{Nothing, Putting, Getting, Sending, Gathering as GatheringOp, Connecting, Draining}
+use Rattle.model.specs.Refusals.{reply, asked}
+use Rattle.server.specs.declared.Operation.{Operation}
+use Rattle.server.specs.declared.Operation.the-variants.{Nothing, Putting, Getting, Sending, Gathering as GatheringOp, Connecting, Draining}
 use Rattle.connection.specs.declared.peer.ConnectionId.{ConnectionId}
-use Rattle.model.specs.declared.server.Await.the-variants as await
-use Rattle.model.specs.declared.server.Engine.{Engine}
-use Rattle.model.specs.declared.server.Request.{Request}
-use Rattle.model.specs.declared.server.Request.the-variants as request
-use Rattle.model.specs.declared.server.Outcome.the-variants as outcome
+use Rattle.server.specs.declared.Await.the-variants as await
+use Rattle.server.specs.declared.End.the-variants as end
+use Rattle.server.specs.declared.Engine.{Engine}
+use Rattle.server.specs.declared.HostRequest.{HostRequest}
+use Rattle.server.specs.declared.HostRequest.the-variants as request
+use Rattle.server.specs.declared.Outcome.the-variants as outcome
 use Rattle.connection.proofs.Standings.{PeerFits, limited-fits, verified-fits, challenged-fits, disconnected-fits, opened-fits}
 use Rattle.incoming.proofs.Frames.{Octets}
 use Rattle.incoming.proofs.Gathers.{gather-lengths}
@@ -142,7 +150,7 @@ module _ (e : Engine) (s : Stores) (h : Base e s) where
       let w = gathers-fit keep.Put (r .headers) g c in
       let x = gathers e keep.Put (r .headers) g s in
       let z = withGathered s x in
-      fine-pick (x .got .full) _ _ (fine-ends e s h (e .peer) 6 z (h .peer) (w .room))
+      fine-pick (x .got .full) _ _ (fine-ends e s h (e .peer) end.HeadersTooLarge z (h .peer) (w .room))
       (fine-pick (r .final) _ _
       (fine-pick (x .got .over) _ _ (fine-code e s h (e .peer) 0x4D z (h .peer) (w .room))
       (fine-asks e s h (e .peer) await.Reply (request.Put (x .got .kept) (putBody (x .got))) z (h .peer) (w .room) refl refl))
@@ -160,7 +168,7 @@ module _ (e : Engine) (s : Stores) (h : Base e s) where
       let w = gathers-fit keep.Get (r .headers) g c in
       let x = gathers e keep.Get (r .headers) g s in
       let z = withGathered s x in
-      fine-pick (x .got .full) _ _ (fine-ends e s h (e .peer) 6 z (h .peer) (w .room))
+      fine-pick (x .got .full) _ _ (fine-ends e s h (e .peer) end.HeadersTooLarge z (h .peer) (w .room))
       (fine-pick (r .final) _ _
       (fine-done e s h (e .peer) (Getting (x .got) srm confirm (v .wait)) await.Get (outcome.Request (request.Get (x .got .kept))) z (h .peer) (w .room)
       (w .counts) (record { gathered = x .got; srm = srm; confirm = confirm; wait = v .wait; is = refl }) (λ u. refl) refl)
@@ -172,7 +180,7 @@ module _ (e : Engine) (s : Stores) (h : Base e s) where
       let w = gathers-fit keep.All (r .headers) g c in
       let x = gathers e keep.All (r .headers) g s in
       let z = withGathered s x in
-      fine-pick (x .got .full) _ _ (fine-ends e s h (e .peer) 6 z (h .peer) (w .room))
+      fine-pick (x .got .full) _ _ (fine-ends e s h (e .peer) end.HeadersTooLarge z (h .peer) (w .room))
       (fine-pick (r .final) _ _
       (fine-asks e s h (e .peer) await.Reply (headersRequest o (x .got .kept)) z (h .peer) (w .room) refl (headers-request o (x .got .kept) z .0))
       (fine-continues e s h (GatheringOp o (x .got)) false z (w .room) (w .counts) refl))
@@ -180,7 +188,7 @@ module _ (e : Engine) (s : Stores) (h : Base e s) where
   -- ---- replies
 
   sent-fine : (p : Peer) (x : Option (List ℕ)) → ((q : List ℕ) → x ≡ some q → length q ≤ 65535) → PeerFits p → Fine (sent e p x s)
-  sent-fine p none l f = fine-ends e s h p 7 s f (h .room)
+  sent-fine p none l f = fine-ends e s h p end.ReplyTooLarge s f (h .room)
   sent-fine p (some q) l f = fine-replies e s h p Nothing await.Taken q s f (h .room) refl refl refl (l q refl)
 
   pub sends-fine : (p : Peer) (code : ℕ) (hs : List ℕ) → PeerFits p → Fine (sends e p code hs s)
@@ -277,8 +285,8 @@ module _ (e : Engine) (s : Stores) (h : Base e s) where
   pub reply-fine : (code : ℕ) (hs : List ℕ) → length hs ≤ 65535 → Fine (replyAnswer e code hs s)
   unfolding replyAnswer
   reply-fine code hs l =
-      fine-pick (eqb (awaited (e .awaits)) 3) _ _ (connect-answer-fine code hs l)
-      (fine-pick (eqb (awaited (e .awaits)) 4) _ _ (sends-fine _ code hs (disconnected-fits (e .peer) (first 0xCB (lastHeaders e s)) (h .peer)))
+      fine-pick (sameAwait (e .awaits) await.Connect) _ _ (connect-answer-fine code hs l)
+      (fine-pick (sameAwait (e .awaits) await.Disconnect) _ _ (sends-fine _ code hs (disconnected-fits (e .peer) (first 0xCB (lastHeaders e s)) (h .peer)))
       (sends-fine (e .peer) code hs (h .peer)))
 
   pub password-fine : (p : Option (List ℕ)) → Fine (passwordAnswer e p s)
@@ -341,7 +349,7 @@ module _ (e : Engine) (s : Stores) (h : Base e s) where
   pub read-fine : Octets (lastPacket e s) → soundOperation (limitOf e) (e .operation) ≡ true → (q : List ℕ) (x : Option Packet)
       → Fine (readAs x e q s)
   read-fine o c q none =
-      fine-pick (busy (e .operation)) _ _ (fine-ends e s h (e .peer) 4 s (h .peer) (h .room)) (fine-code e s h (e .peer) _ s (h .peer) (h .room))
+      fine-pick (busy (e .operation)) _ _ (fine-ends e s h (e .peer) end.Unreadable s (h .peer) (h .room)) (fine-code e s h (e .peer) _ s (h .peer) (h .room))
   read-fine o c q (some r) =
       fine-pick (sameOpcode (r .opcode) op.Abort) _ _
       (fine-asks e s h (e .peer) await.Acknowledgement (request.Abort (e .length)) s (h .peer) (h .room) refl refl)

@@ -1,21 +1,23 @@
--- The proved cases, P1 to P12 of document 01, as one table of rows: what is given, and what the definitions make of it.
+-- The proved cases, P1 to P12 (docs/PROTOCOL.md#proved-cases), as one table of rows: what is given, and what the definitions make of it.
 use Prim.Native.Nat.{ℕ}
 use mathlib.Core.List.{List, [], _∷_, _++_}
 use mathlib.Core.Bool.{true, false}
 use mathlib.Core.Option.{none, some}
 use lib.ListN.{take, replicate}
-use Rattle.digest.specs.Unicode.{scalars16}
+use Rattle.text.specs.Unicode.{scalars16}
 use Rattle.packet.specs.FirstByte.{firstByte}
 use Rattle.packet.specs.declared.opcode.FirstByte.{FirstByte}
 use Rattle.packet.specs.declared.opcode.FirstByte.the-variants.{Known}
 use Rattle.packet.specs.declared.opcode.Opcode.the-variants as op
 use Rattle.journal.specs.Ids.{newId}
-use Rattle.journal.specs.Carried.{Carried}
+use Rattle.journal.specs.Record.{Record}
 use Rattle.journal.specs.Calls.{Call, bytesOffered, replyTaken, objectGiven, bodyGiven}
-use Rattle.model.specs.Model.{Stores, started, defaultSettings}
+use Rattle.model.specs.Step.{Stores}
+use Rattle.model.specs.Calls.{started}
+use Rattle.server.specs.Settings.{defaultSettings}
 use Rattle.model.specs.Runs.{State, stepOf, stateOf, records}
-use Rattle.model.specs.declared.server.Outcome.{Outcome}
-use Rattle.model.specs.declared.server.Outcome.the-variants as outcome
+use Rattle.server.specs.declared.Outcome.{Outcome}
+use Rattle.server.specs.declared.Outcome.the-variants as outcome
 
 -- a fresh engine with a Put limit and else the source's settings, and stores of zeros
 abbrev pub freshState : ℕ → State
@@ -49,7 +51,7 @@ pub data Comes : Type 0 where
   operation : FirstByte → Comes
   id : ℕ → Comes
   scalars : List ℕ → Comes
-  session : List (List ℕ) → List Carried → Comes
+  session : List (List ℕ) → List Record → Comes
 
 -- what the definitions make of it
 unfoldable pub comesOf : Given → Comes
@@ -70,7 +72,7 @@ row g c = record { given = g; comes = c }
 unfoldable pub evaluated : Row → Row
 evaluated r = row (r .given) (comesOf (r .given))
 
-abbrev pub putBody : List ℕ → Carried
+abbrev pub putBody : List ℕ → Record
 putBody b = record { headers = []; body = some b }
 
 -- the cases

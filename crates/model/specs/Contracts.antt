@@ -1,45 +1,46 @@
 -- The claims over contracts: a run of calls of which is known only what the calls' contracts say, the state and the stores passed on.
 use mathlib.Core.Path.{_≡_}
 use mathlib.Core.List.{List, [], _∷_, _++_}
-use Rattle.journal.specs.Carried.{Carried}
+use Rattle.journal.specs.Record.{Record}
 use Rattle.journal.specs.Calls.{Call, Verdict}
 use Rattle.journal.specs.Journal.{journalRecords, fresh, packets}
 use Rattle.journal.specs.PutForm.{Exactly}
-use Rattle.model.specs.Model.{Stores, stepped, startStep}
+use Rattle.model.specs.Step.{Stores, stepped}
+use Rattle.model.specs.Calls.{startStep}
 use Rattle.model.specs.Runs.{State, stepOf, handed, AllOctets}
-use Rattle.model.specs.Refusal.{bytes, verdictOf, due, feedOf}
-use Rattle.model.specs.Claims.{settingsOf, Kept}
-use Rattle.model.specs.declared.server.Settings.{Settings}
-use Rattle.model.specs.declared.server.Took.{Took}
-use Rattle.model.specs.declared.server.Outcome.the-variants as outcome
+use Rattle.model.specs.Refusals.{bytes, verdictOf, due, feedOf}
+use Rattle.model.specs.Theorem.{settingsOf, Kept}
+use Rattle.server.specs.declared.Settings.{Settings}
+use Rattle.server.specs.declared.CallResult.{CallResult}
+use Rattle.server.specs.declared.Outcome.the-variants as outcome
 
-abbrev pub state : Took → Stores → State
+abbrev pub state : CallResult → Stores → State
 state r t = record { engine = r .engine; stores = t }
 
--- what a call's contract says of its result and of the stores afterwards
-abbrev pub Says : State → Call → Took → Stores → Type 0
+-- What a call's contract says of its result and of the stores afterwards.
+abbrev pub Says : State → Call → CallResult → Stores → Type 0
 Says s c r t = stepped r t ≡ stepOf s c
 
--- the verdicts that a run returns, and the records that it hands over
-pub data Ran : State → List Call → List Verdict → List Carried → Type 0 where
+-- A run of calls of which only the contracts are known, with the verdicts that it returns and the records that it hands over.
+pub data Ran : State → List Call → List Verdict → List Record → Type 0 where
   none : {s : State} → Ran s [] [] []
-  call : {s : State} {cs : List Call} {vs : List Verdict} {ls : List Carried} (c : Call) (r : Took) (t : Stores) → Says s c r t
+  call : {s : State} {cs : List Call} {vs : List Verdict} {ls : List Record} (c : Call) (r : CallResult) (t : Stores) → Says s c r t
       → Ran (state r t) cs vs ls → Ran s (c ∷ cs) (verdictOf (r .outcome) ∷ vs) (handed (r .outcome) t ++ ls)
 
--- a start that was accepted, by what the start's contract says
-pub record Accepted (st : Settings) (s : Stores) (r : Took) (t : Stores) : Type 0 where
+-- A start that was accepted, by what its contract says.
+pub record Accepted (st : Settings) (s : Stores) (r : CallResult) (t : Stores) : Type 0 where
   pub says : stepped r t ≡ startStep st s
   pub accepted : r .outcome ≡ outcome.WantsBytes
 
--- demand 3 of the functions: from an accepted start, for every list of calls
-pub record Upholds (st : Settings) (s : State) (cs : List Call) (vs : List Verdict) (ls : List Carried) : Type 0 where
+-- The records theorem of the functions themselves, from an accepted start.
+pub record Upholds (st : Settings) (s : State) (cs : List Call) (vs : List Verdict) (ls : List Record) : Type 0 where
   pub refusals : vs ≡ due bytes s cs
   pub journal : Kept (packets (fresh (settingsOf st)) (feedOf bytes s cs)) → ls ≡ journalRecords (fresh (settingsOf st)) (feedOf bytes s cs)
   pub forms : Kept (packets (fresh (settingsOf st)) (feedOf bytes s cs))
       → Exactly (st .«max_object_size») (packets (fresh (settingsOf st)) (feedOf bytes s cs)) ls
 
--- for every list of calls from an accepted start, of which only the contracts are known
+-- The records theorem over contracts, for every list of calls from an accepted start.
 abbrev pub ContractsUphold : Type 0
 ContractsUphold =
-    (st : Settings) (s t : Stores) (r : Took) (cs : List Call) (vs : List Verdict) (ls : List Carried) → Accepted st s r t → AllOctets cs
+    (st : Settings) (s t : Stores) (r : CallResult) (cs : List Call) (vs : List Verdict) (ls : List Record) → Accepted st s r t → AllOctets cs
     → Ran (state r t) cs vs ls → Upholds st (state r t) cs vs ls

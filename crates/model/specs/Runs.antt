@@ -5,47 +5,49 @@ use mathlib.Core.List.{List, [], _∷_, _++_}
 use mathlib.Core.Bool.{false}
 use mathlib.Core.Option.{Option, none, some}
 use lib.ListN.{getD, take}
-use Rattle.journal.specs.Carried.{Carried}
+use Rattle.journal.specs.Record.{Record}
 use Rattle.journal.specs.Calls.{Call, bytesOffered, streamEnded, replyTaken, replyGiven, objectGiven, bodyGiven, bodyFailed, abortAcknowledged, passwordGiven, nonceGiven, credentialsGiven}
-use Rattle.model.specs.Model.{Stores, Stepped, bytesStep, endStep, takenStep, replyStep, objectStep, bodyStep, bodyFailedStep, acknowledgeStep, passwordStep, nonceStep, credentialsStep, started, short}
-use Rattle.model.specs.declared.server.Settings.{Settings}
-use Rattle.model.specs.declared.server.Engine.{Engine}
-use Rattle.model.specs.declared.server.Body.{Body}
-use Rattle.model.specs.declared.server.Body.the-variants as body
-use Rattle.model.specs.declared.server.Request.{Request}
-use Rattle.model.specs.declared.server.Request.the-variants as request
-use Rattle.model.specs.declared.server.Outcome.{Outcome}
-use Rattle.model.specs.declared.server.Outcome.the-variants as outcome
+use Rattle.model.specs.Step.{Stores, Stepped}
+use Rattle.model.specs.Calls.{bytesOfferedStep, streamEndedStep, replyTakenStep, replyGivenStep, objectGivenStep, bodyGivenStep, bodyFailedStep, abortAcknowledgedStep, passwordGivenStep, nonceGivenStep, credentialsGivenStep, started}
+use Rattle.model.specs.Guard.{short}
+use Rattle.server.specs.declared.Settings.{Settings}
+use Rattle.server.specs.declared.Engine.{Engine}
+use Rattle.server.specs.declared.Body.{Body}
+use Rattle.server.specs.declared.Body.the-variants as body
+use Rattle.server.specs.declared.HostRequest.{HostRequest}
+use Rattle.server.specs.declared.HostRequest.the-variants as request
+use Rattle.server.specs.declared.Outcome.{Outcome}
+use Rattle.server.specs.declared.Outcome.the-variants as outcome
 
--- the state and the stores between two calls
+-- The state and the stores between two calls.
 pub record State : Type 0 where
   pub engine : Engine
   pub stores : Stores
 
--- a call is the model's step
+-- A call is the model's step.
 abbrev pub stepOf : State → Call → Stepped
-stepOf s (bytesOffered i) = bytesStep (s .engine) i (s .stores)
-stepOf s streamEnded = endStep (s .engine) (s .stores)
-stepOf s replyTaken = takenStep (s .engine) (s .stores)
-stepOf s (replyGiven code hs) = replyStep (s .engine) code hs (s .stores)
-stepOf s (objectGiven hs b) = objectStep (s .engine) hs b (s .stores)
-stepOf s (bodyGiven d) = bodyStep (s .engine) d (s .stores)
+stepOf s (bytesOffered i) = bytesOfferedStep (s .engine) i (s .stores)
+stepOf s streamEnded = streamEndedStep (s .engine) (s .stores)
+stepOf s replyTaken = replyTakenStep (s .engine) (s .stores)
+stepOf s (replyGiven code hs) = replyGivenStep (s .engine) code hs (s .stores)
+stepOf s (objectGiven hs b) = objectGivenStep (s .engine) hs b (s .stores)
+stepOf s (bodyGiven d) = bodyGivenStep (s .engine) d (s .stores)
 stepOf s bodyFailed = bodyFailedStep (s .engine) (s .stores)
-stepOf s abortAcknowledged = acknowledgeStep (s .engine) (s .stores)
-stepOf s (passwordGiven p) = passwordStep (s .engine) p (s .stores)
-stepOf s (nonceGiven n l) = nonceStep (s .engine) n l (s .stores)
-stepOf s (credentialsGiven c) = credentialsStep (s .engine) c (s .stores)
+stepOf s abortAcknowledged = abortAcknowledgedStep (s .engine) (s .stores)
+stepOf s (passwordGiven p) = passwordGivenStep (s .engine) p (s .stores)
+stepOf s (nonceGiven n l) = nonceGivenStep (s .engine) n l (s .stores)
+stepOf s (credentialsGiven c) = credentialsGivenStep (s .engine) c (s .stores)
 
 abbrev pub stateOf : Stepped → State
 stateOf m = record { engine = m .took .engine; stores = m .stores }
 
--- ---- handing over: a call returns the Put request, with its kept headers and its body bytes or none
+-- ---- handing over: a call returns the Put request, with its kept headers and its body bytes or none (docs/PROTOCOL.md#handing-over)
 
 abbrev pub bodyIn : Body → List ℕ → Option (List ℕ)
 bodyIn body.Missing b = none
 bodyIn (body.Bytes n) b = some (take n b)
 
-abbrev pub handedBy : Request → Stores → List Carried
+abbrev pub handedBy : HostRequest → Stores → List Record
 handedBy (request.Put k b) s = record { headers = take k (s .headers); body = bodyIn b (s .body) } ∷ []
 handedBy (request.Connect n) s = []
 handedBy (request.Disconnect n) s = []
@@ -60,16 +62,16 @@ handedBy request.Nonce s = []
 handedBy (request.Credentials n u r p) s = []
 handedBy (request.Read n) s = []
 
--- by what a call returns
-abbrev pub handed : Outcome → Stores → List Carried
+-- The records that a call hands over, by what it returns.
+abbrev pub handed : Outcome → Stores → List Record
 handed (outcome.Request r) s = handedBy r s
 handed outcome.WantsBytes s = []
 handed (outcome.Reply n) s = []
 handed (outcome.End n) s = []
 handed (outcome.Refused n) s = []
 
--- the records that a list of calls hands over
-abbrev pub records : State → List Call → List Carried
+-- The records that a list of calls hands over, in order.
+abbrev pub records : State → List Call → List Record
 records s [] = []
 records s (c ∷ cs) = handed (stepOf s c .took .outcome) (stepOf s c .stores) ++ records (stateOf (stepOf s c)) cs
 
@@ -79,11 +81,11 @@ pub record Started (st : Settings) (s : State) : Type 0 where
   pub realm : st .«realm_length» ≤ 254
   pub room : short (st .«max_object_size») (s .stores) ≡ false
 
--- what is offered are bytes
+-- Whether a list is one of bytes.
 abbrev pub Octets : List ℕ → Type 0
 Octets l = (k : ℕ) → getD l k 0 < 256
 
--- the bytes of a call
+-- The bytes of a call are bytes.
 abbrev pub Octet : Call → Type 0
 Octet (bytesOffered i) = Octets i
 Octet streamEnded = Unit {0}

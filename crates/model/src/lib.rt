@@ -1,2 +1,1 @@
-// The model of the server engine: its state, requests and outcomes as types; what each call does is in specs/, and demand 3 in proofs/.
-pub mod server;
+// The model has definitions and theorems, and no code: its types are those of `server`.

@@ -13,13 +13,13 @@ use Rattle.packet.specs.Header.{headerAt, part}
 use Rattle.packet.specs.declared.header.HeaderAt.{HeaderAt}
 use Rattle.packet.specs.declared.header.HeaderAt.the-variants.{At, Unreadable, End}
 use Rattle.packet.proofs.HeaderBytes.{header-at-within, part-length}
-use Rattle.outgoing.specs.declared.body.Stop.{Stop}
-use Rattle.outgoing.specs.declared.body.Stop.the-variants.{Full, Long}
-use Rattle.outgoing.specs.declared.body.Fit.{Fit}
-use Rattle.outgoing.specs.declared.body.Fit.the-variants.{Takes, Stops}
-use Rattle.outgoing.specs.declared.body.Outgoing.{Outgoing}
-use Rattle.outgoing.specs.declared.body.Filling as code
-use Rattle.outgoing.specs.Outgoing.{Filling, filling, fillAt, fill, leadAt, leadStore, fillPacket, sentTo, nextFilled, nextOf, nextPacket}
+use Rattle.outgoing.specs.declared.object.Stop.{Stop}
+use Rattle.outgoing.specs.declared.object.Stop.the-variants.{Full, Long}
+use Rattle.outgoing.specs.declared.object.Fit.{Fit}
+use Rattle.outgoing.specs.declared.object.Fit.the-variants.{Takes, Stops}
+use Rattle.outgoing.specs.declared.object.Outgoing.{Outgoing}
+use Rattle.outgoing.specs.declared.object.Filling as code
+use Rattle.outgoing.specs.Object.{Filling, filling, fillAt, fill, leadAt, leadStore, fillPacket, sentTo, nextFilled, nextOf, nextPacket}
 use Rattle.outgoing.specs.Steps.{fitOf, whyOf, fillingOf}
 
 -- what the rest of a fill is, given what becomes of the header

@@ -8,16 +8,16 @@ use lib.ListN.{set}
 use lib.Seq.{paste}
 use borrow.Author.Tests.{eq-eqb, ne-eqb, lt-ltb, le-ltb}
 use Rattle.base.specs.Bytes.{bytes16}
-use Rattle.outgoing.specs.declared.body.Outgoing.{Outgoing}
-use Rattle.outgoing.specs.declared.body.Packet.{Packet}
-use Rattle.outgoing.specs.Outgoing.{made, sending, prefixed, aheadNone, fullChunk, beginChunk, bodyAfter, codeOf, reading}
+use Rattle.outgoing.specs.declared.object.Outgoing.{Outgoing}
+use Rattle.outgoing.specs.declared.object.NextPacket.{NextPacket}
+use Rattle.outgoing.specs.Object.{made, sending, prefixed, aheadNone, fullChunk, beginChunk, bodyAfter, codeOf, reading}
 
 -- the first three bytes are a paste at the front
 pub prefix-pasted : (last : Bool) (n b : ℕ) (y : List ℕ) → b ≡ codeOf last → paste y 0 (b ∷ bytes16 n) 3 ≡ prefixed last n y
 prefix-pasted last n b y e = ap (λ (k : ℕ). paste y 0 (k ∷ bytes16 n) 3) e
 
-pub made-alike : {p q : Packet} {y z : List ℕ} → p ≡ q → y ≡ z → made p y ≡ made q z
-made-alike {p} {q} {y} {z} e f = ap (λ (x : Packet). made x y) e ∙ ap (made q) f
+pub made-alike : {p q : NextPacket} {y z : List ℕ} → p ≡ q → y ≡ z → made p y ≡ made q z
+made-alike {p} {q} {y} {z} e f = ap (λ (x : NextPacket). made x y) e ∙ ap (made q) f
 
 pub sending-alike : (last : Bool) (n : ℕ) {o p : Outgoing} {y z : List ℕ} → o ≡ p → y ≡ z → sending o last n y ≡ sending p last n z
 sending-alike last n {o} {p} {y} {z} e f = ap (λ (x : Outgoing). sending x last n y) e ∙ ap (sending p last n) f

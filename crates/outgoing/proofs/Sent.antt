@@ -16,13 +16,11 @@ use Rattle.packet.specs.Header.{headerAt, part}
 use Rattle.packet.specs.declared.header.HeaderAt.{HeaderAt}
 use Rattle.packet.specs.declared.header.HeaderAt.the-variants.{At, Unreadable, End}
 use Rattle.packet.proofs.HeaderBytes.{part-length, header-at-within}
-use Rattle.outgoing.specs.declared.body.Outgoing.{Outgoing}
-use Rattle.outgoing.specs.declared.body.Chunk.{Chunk}
-use Rattle.outgoing.specs.declared.body.Next.{Next}
-use Rattle.outgoing.specs.declared.body.Next.the-variants.{Send, Read, TooLarge}
-use Rattle.outgoing.specs.Outgoing.{Filled, empty, full, tooLarge, Filling, filling, fillAt, fill, leadAt, leadStore, fillPacket}
-use Rattle.outgoing.specs.Outgoing.{Made, made, prefixed, sending, sentTo, aheadWith, aheadNone, bodyHeader}
-use Rattle.outgoing.specs.Outgoing.{lastChunk, fullChunk, beginChunk, bodyAfter, nextFilled, nextPacket, chunkGiven, bodyGiven}
+use Rattle.outgoing.specs.declared.object.Outgoing.{Outgoing}
+use Rattle.outgoing.specs.declared.object.Chunk.{Chunk}
+use Rattle.outgoing.specs.declared.object.Next.{Next}
+use Rattle.outgoing.specs.declared.object.Next.the-variants.{Send, Read, TooLarge}
+use Rattle.outgoing.specs.Object.{Filled, empty, full, tooLarge, Filling, filling, fillAt, fill, leadAt, leadStore, fillPacket, Made, made, prefixed, sending, sentTo, aheadWith, aheadNone, bodyHeader, lastChunk, fullChunk, beginChunk, bodyAfter, nextFilled, nextPacket, chunkGiven, bodyGiven}
 
 -- ---- what is kept
 

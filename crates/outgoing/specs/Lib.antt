@@ -1,3 +1,3 @@
--- The definitions that the contracts cite.
-pub mod Outgoing
+-- The definitions that the contracts cite: the outgoing object, and the code's own steps.
+pub mod Object
 pub mod Steps

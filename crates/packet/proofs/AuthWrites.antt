@@ -16,7 +16,7 @@ use Rattle.digest.specs.declared.md5.Octets16.{Octets16}
 use Rattle.digest.proofs.Octets.{length-octets16, numbers-octets}
 use Rattle.packet.specs.declared.auth.DigestResponse.{DigestResponse}
 use Rattle.packet.specs.declared.auth.DigestResponse.the-variants.{Response, Unreadable}
-use Rattle.packet.specs.declared.tlv.Put.{Put}
+use Rattle.packet.specs.declared.tlv.Wrote.{Wrote}
 use Rattle.packet.specs.Tags.{writeTag, writeTags, putTag, putting}
 use Rattle.packet.specs.Auth.{optionalTag, realmTag, userTag, challengeTags, answerTags, responseTags, responseFrom, responseOf, challengeFrom, challengeOf, userIdRequired, readOnly, verified}
 use Rattle.packet.specs.Placed.{laid}
@@ -93,7 +93,7 @@ unfolding writeTags challengeTags
 challenge-length n o realm e = omega (arith, length-append n (1 ∷ 1 ∷ o ∷ writeTags (realmTag realm)))
 
 -- nonce, options and realm, one after the other
-pub challenge-steps : (s₀ s₁ s₂ s₃ m n : List ℕ) (at o : ℕ) (realm : Option (List ℕ)) (r₁ r₂ : Put) → n ≡ m → length m ≡ 16
+pub challenge-steps : (s₀ s₁ s₂ s₃ m n : List ℕ) (at o : ℕ) (realm : Option (List ℕ)) (r₁ r₂ : Wrote) → n ≡ m → length m ≡ 16
     → at + length (writeTags (challengeTags m o realm)) ≤ length s₀ → putting r₁ s₁ ≡ putTag s₀ at 0 n → putting r₂ s₂ ≡ putTag s₁ (at + 18) 1 (o ∷ [])
     → s₃ ≡ laid s₂ (at + 21) (writeTags (realmTag realm)) → s₃ ≡ laid s₀ at (writeTags (challengeTags m o realm))
 unfolding writeTags challengeTags
@@ -127,7 +127,7 @@ answer-length d n user e f =
     ap length (answer-bytes d n user) ∙ omega (arith, length-append (0 ∷ length d ∷ d) (w ++ t), length-append w t)
 
 -- digest, user id and nonce, one after the other
-pub answer-steps : (s₀ s₁ s₂ s₃ d d′ n n′ : List ℕ) (at k : ℕ) (user : Option (List ℕ)) (r₁ r₃ : Put) → d′ ≡ d → n′ ≡ n → length d ≡ 16 → length n ≡ 16
+pub answer-steps : (s₀ s₁ s₂ s₃ d d′ n n′ : List ℕ) (at k : ℕ) (user : Option (List ℕ)) (r₁ r₃ : Wrote) → d′ ≡ d → n′ ≡ n → length d ≡ 16 → length n ≡ 16
     → k ≡ length (writeTags (userTag user)) → at + length (writeTags (answerTags d user n)) ≤ length s₀ → putting r₁ s₁ ≡ putTag s₀ at 0 d′
     → s₂ ≡ laid s₁ (at + 18) (writeTags (userTag user)) → putting r₃ s₃ ≡ putTag s₂ (at + 18 + k) 2 n′ → s₃ ≡ laid s₀ at (writeTags (answerTags d user n))
 answer-steps s₀ s₁ s₂ s₃ d d′ n n′ at k user r₁ r₃ qd qn ld ln lk h p₁ p₂ p₃ =

@@ -10,10 +10,10 @@ use lib.ListN.{length, getD, take, drop, length-append, length-drop}
 use lib.Seq.{getD-drop}
 use borrow.Author.Tests.{eq-eqb, ne-eqb, lt-ltb, le-ltb, ltb-true, ltb-false, eqb-true, eqb-false}
 use Rattle.base.specs.Pick.{pick}
-use Rattle.digest.specs.Unicode.{upToZero, codes, units, paired, pieces16, scalars16, wellFormed16, lossy, scalars8, wellFormed8, NoZero, text8, Octets}
-use Rattle.digest.specs.Text.{asciiText}
-use Rattle.digest.proofs.Back16.{scalars16-valid, scalars16-nonzero}
-use Rattle.digest.proofs.Back8.{lossy-valid, scalars8-valid, scalars8-nonzero, scalars8-text8, text8-scalars8}
+use Rattle.text.specs.Unicode.{upToZero, codes, units, paired, pieces16, scalars16, wellFormed16, lossy, scalars8, wellFormed8, NoZero, text8, Octets}
+use Rattle.text.specs.Text.{asciiText}
+use Rattle.text.proofs.Back16.{scalars16-valid, scalars16-nonzero}
+use Rattle.text.proofs.Back8.{lossy-valid, scalars8-valid, scalars8-nonzero, scalars8-text8, text8-scalars8}
 use Rattle.packet.specs.declared.header.HeaderEncoding.{HeaderEncoding}
 use Rattle.packet.specs.declared.header.HeaderEncoding.the-variants.{Unicode, Bytes, U8, U32}
 use Rattle.packet.specs.Header.{Header, encodingOf, tagged, allowed, part, push, readHeaders, allBytes}

@@ -13,7 +13,7 @@ use lib.Dec.{ltb, leb}
 use borrow.Author.Tests.{leb-true, leb-false, ltb-false}
 use Rattle.base.specs.Pick.{pick}
 use Rattle.base.specs.Bytes.{be16, bytes16}
-pub use Rattle.digest.specs.Unicode.{Octets}
+pub use Rattle.text.specs.Unicode.{Octets}
 use Rattle.packet.specs.declared.header.HeaderEncoding.{HeaderEncoding}
 use Rattle.packet.specs.declared.header.HeaderEncoding.the-variants.{Unicode, Bytes, U8, U32}
 use Rattle.packet.specs.declared.header.HeaderAt.{HeaderAt}

@@ -1,11 +1,11 @@
--- The definitions on examples: the source's own (header.rs), and the rows of number 8. Assumes nothing.
+-- The definitions on examples, computed: the source's own (header.rs), and rows of refusal 8. Assumes nothing.
 use mathlib.Core.Path.{_≡_, refl}
 use mathlib.Core.Bool.{Bool, true, false}
 use mathlib.Core.List.{List, [], _∷_, _++_, map}
 use Prim.Native.Nat.{ℕ}
-use Rattle.digest.specs.Unicode.{upToZero, codes, units, isPair, first16, paired, pieces16, scalars16, need, low, high, inside, first8, split8, pieces8, lossy, scalars8, utf8, utf16, joined}
+use Rattle.text.specs.Unicode.{upToZero, codes, units, isPair, first16, paired, pieces16, scalars16, need, low, high, inside, first8, split8, pieces8, lossy, scalars8, utf8, utf16, joined}
 use Rattle.base.specs.Bytes.{bytes32}
-use Rattle.digest.specs.Text.{asciiText}
+use Rattle.text.specs.Text.{asciiText}
 use Rattle.packet.specs.Modes.{isMode, isParameter, isAction}
 use Rattle.packet.specs.Tags.{tagsBy, tags}
 use Rattle.packet.specs.Auth.{same}

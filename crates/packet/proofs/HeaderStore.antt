@@ -15,9 +15,9 @@ use Rattle.base.specs.Pick.{pick}
 use Rattle.base.specs.Bytes.{bytes16}
 use Rattle.packet.specs.declared.header.HeaderEncoding.{HeaderEncoding}
 use Rattle.packet.specs.declared.header.HeaderEncoding.the-variants.{Unicode, Bytes, U8, U32}
-use Rattle.packet.proofs.tlv.Put.{the-type}
-use Rattle.packet.specs.declared.tlv.Put.{Put}
-use Rattle.packet.specs.declared.tlv.Put.the-variants.{Written, TooLong, Short}
+use Rattle.packet.proofs.tlv.Wrote.{the-type}
+use Rattle.packet.specs.declared.tlv.Wrote.{Wrote}
+use Rattle.packet.specs.declared.tlv.Wrote.the-variants.{Written, TooLong, Short}
 use Rattle.packet.specs.Tags.{Putting, putting}
 use Rattle.packet.specs.Placed.{laid}
 use Rattle.packet.specs.Header.{Header, encodingOf, leadOf, lengthField, bytesOf}
@@ -72,7 +72,7 @@ bytes-length h =
 -- ---- the answer
 
 -- what becomes of the store, by the answer
-abbrev pub putBy : Put → List ℕ → ℕ → List ℕ → Putting
+abbrev pub putBy : Wrote → List ℕ → ℕ → List ℕ → Putting
 putBy (Written n) d at bytes = putting (Written n) (laid d at bytes)
 putBy TooLong d at bytes = putting TooLong d
 putBy Short d at bytes = putting Short d
@@ -134,7 +134,7 @@ room-most e len at n h = by (ltb (2 ^ 64 - 1) n) refl
         let m : min n (2 ^ 64 - 1) ≡ n = omega arith in
         rw m refl
 
-pub refused-start : (d : List ℕ) (at : ℕ) (lead : List ℕ) (a r : Put) → OneOf (1 ∷ 2 ∷ []) (tagOf the-type r) → a ≡ r
+pub refused-start : (d : List ℕ) (at : ℕ) (lead : List ℕ) (a r : Wrote) → OneOf (1 ∷ 2 ∷ []) (tagOf the-type r) → a ≡ r
     → putting r d ≡ startBy a d at lead
 refused-start d at lead a (Written end) k q = absurd (written-not end k)
 refused-start d at lead a TooLong k q = rw q refl
@@ -149,7 +149,7 @@ pub record Started (d d₁ : List ℕ) (at : ℕ) (h : Header) (n end : ℕ) : T
   pub room-is : roomFor (encodingOf (h .id)) (length d) at (length (h .value)) ≡ Written end
   pub store-is : d₁ ≡ sets d at (leadBytes (encodingOf (h .id)) (h .id) (length (h .value)))
 
-module _ (d d₁ : List ℕ) (at : ℕ) (h : Header) (n : ℕ) (r : Put) (s : putting r d₁ ≡ startHeader d at (h .id) n)
+module _ (d d₁ : List ℕ) (at : ℕ) (h : Header) (n : ℕ) (r : Wrote) (s : putting r d₁ ≡ startHeader d at (h .id) n)
     (m : n ≡ min (length (h .value)) (2 ^ 64 - 1)) (l : length d < 2 ^ 64) where
   room-same : roomFor (encodingOf (h .id)) (length d) at n ≡ roomFor (encodingOf (h .id)) (length d) at (length (h .value))
   room-same = rw m (room-most (encodingOf (h .id)) (length d) at (length (h .value)) l)
@@ -161,7 +161,7 @@ module _ (d d₁ : List ℕ) (at : ℕ) (h : Header) (n : ℕ) (r : Put) (s : pu
       e : HeaderEncoding
       e = encodingOf (h .id)
 
-      by : (a : Put) → roomFor e (length d) at n ≡ a → r ≡ startBy a d at (leadBytes e (h .id) n) .answer
+      by : (a : Wrote) → roomFor e (length d) at n ≡ a → r ≡ startBy a d at (leadBytes e (h .id) n) .answer
           → d₁ ≡ startBy a d at (leadBytes e (h .id) n) .store → Started d d₁ at h n end
       by (Written to) w x y =
           let f = room-written e (length d) at n to w in
@@ -185,12 +185,12 @@ module _ (d d₁ : List ℕ) (at : ℕ) (h : Header) (n : ℕ) (r : Put) (s : pu
       e : HeaderEncoding
       e = encodingOf (h .id)
 
-      refused : (a : Put) → roomFor e (length d) at n ≡ a → putting r d₁ ≡ putBy a d at (bytesOf h) → putting r d₁ ≡ putHeader d at h
-      refused a w q = q ∙ sym (put-room d at h ∙ ap (λ (r : Put). putBy r d at (bytesOf h)) (sym room-same ∙ w))
+      refused : (a : Wrote) → roomFor e (length d) at n ≡ a → putting r d₁ ≡ putBy a d at (bytesOf h) → putting r d₁ ≡ putHeader d at h
+      refused a w q = q ∙ sym (put-room d at h ∙ ap (λ (r : Wrote). putBy r d at (bytesOf h)) (sym room-same ∙ w))
 
-      by : (a : Put) → roomFor e (length d) at n ≡ a → r ≡ startBy a d at (leadBytes e (h .id) n) .answer
+      by : (a : Wrote) → roomFor e (length d) at n ≡ a → r ≡ startBy a d at (leadBytes e (h .id) n) .answer
           → d₁ ≡ startBy a d at (leadBytes e (h .id) n) .store → putting r d₁ ≡ putHeader d at h
-      by (Written m) w x y = absurd (written-not m (subst (λ (r : Put). OneOf (1 ∷ 2 ∷ []) (tagOf the-type r)) x k))
+      by (Written m) w x y = absurd (written-not m (subst (λ (r : Wrote). OneOf (1 ∷ 2 ∷ []) (tagOf the-type r)) x k))
       by TooLong w x y = refused TooLong w (rw (x, y) refl)
       by Short w x y = refused Short w (rw (x, y) refl)
 
@@ -206,4 +206,4 @@ put-written d d₁ d₂ at h n end w s =
     s ∙ ap (λ (d : List ℕ). laid d (end - n) v) (w .store-is)
     ∙ sets-laid d l v at (end - n) k (omega (arith, w .ends, w .size, w .fits))
     ∙ ap (laid d at) (sym (bytes-lead h)) in
-    ap (putting (Written end)) p ∙ sym (put-room d at h ∙ ap (λ (r : Put). putBy r d at (bytesOf h)) (w .room-is))
+    ap (putting (Written end)) p ∙ sym (put-room d at h ∙ ap (λ (r : Wrote). putBy r d at (bytesOf h)) (w .room-is))

@@ -10,7 +10,7 @@ use lib.Seq.{drop-drop, getD-drop, take-append-seam, drop-append-seam}
 use borrow.Author.Tests.{le-leb, lt-leb}
 use Rattle.base.specs.Pick.{pick}
 use Rattle.base.specs.Bytes.{be16, bytes16}
-use Rattle.digest.specs.Unicode.{Octets}
+use Rattle.text.specs.Unicode.{Octets}
 use Rattle.packet.specs.declared.header.HeaderEncoding.{HeaderEncoding}
 use Rattle.packet.specs.declared.header.HeaderEncoding.the-variants.{Unicode, Bytes, U8, U32}
 use Rattle.packet.specs.declared.header.HeaderAt.{HeaderAt}

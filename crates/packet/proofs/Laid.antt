@@ -13,9 +13,9 @@ use denote.Enum.Declared.{tagOf}
 use types.Run.{OneOf}
 use borrow.Author.Tests.{le-ltb, ltb-false}
 use Rattle.base.specs.Pick.{pick}
-use Rattle.packet.proofs.tlv.Put.{the-type}
-use Rattle.packet.specs.declared.tlv.Put.{Put}
-use Rattle.packet.specs.declared.tlv.Put.the-variants.{Written, TooLong, Short}
+use Rattle.packet.proofs.tlv.Wrote.{the-type}
+use Rattle.packet.specs.declared.tlv.Wrote.{Wrote}
+use Rattle.packet.specs.declared.tlv.Wrote.the-variants.{Written, TooLong, Short}
 use Rattle.packet.specs.Tags.{Putting, putting, writeTag, putTag}
 use Rattle.packet.specs.Placed.{laid, roomOf, placed}
 
@@ -54,7 +54,7 @@ pub set-laid : (d : List ℕ) (at x : ℕ) → at < length d → set d at x ≡ 
 set-laid d at x h = set-split d at x h ∙ simp (append-assoc, add-one)
 
 -- a tag that fits
-pub put-laid : (store v after : List ℕ) (at t : ℕ) (r : Put) → length v ≤ 255 → at + 2 + length v ≤ length store
+pub put-laid : (store v after : List ℕ) (at t : ℕ) (r : Wrote) → length v ≤ 255 → at + 2 + length v ≤ length store
     → putting r after ≡ putTag store at t v → after ≡ laid store at (writeTag (record { tag = t; value = v }))
 unfolding putTag
 put-laid store v after at t r s h e =
@@ -89,20 +89,20 @@ placed-as store bytes at next f e =
     let g = granted (length store) at (length bytes) next f e in
     rw (le-ltb (length store) (at + length bytes) (g .fits), g .allowed, g .next-is)
 
-refused-by : (store bytes : List ℕ) (at : ℕ) (x y : Bool) (r : Put) → OneOf (1 ∷ 2 ∷ []) (tagOf the-type r)
+refused-by : (store bytes : List ℕ) (at : ℕ) (x y : Bool) (r : Wrote) → OneOf (1 ∷ 2 ∷ []) (tagOf the-type r)
     → r ≡ pick x Short (pick y TooLong (Written (at + length bytes)))
     → putting r store ≡ pick x (putting Short store) (pick y (putting TooLong store) (putting (Written (at + length bytes)) (laid store at bytes)))
-refused-by store bytes at true y r k e = ap (λ (r : Put). putting r store) e
-refused-by store bytes at false true r k e = ap (λ (r : Put). putting r store) e
+refused-by store bytes at true y r k e = ap (λ (r : Wrote). putting r store) e
+refused-by store bytes at false true r k e = ap (λ (r : Wrote). putting r store) e
 refused-by store bytes at false false r k e =
-    absurd (written-not (at + length bytes) (subst (λ (r : Put). OneOf (1 ∷ 2 ∷ []) (tagOf the-type r)) e k))
+    absurd (written-not (at + length bytes) (subst (λ (r : Wrote). OneOf (1 ∷ 2 ∷ []) (tagOf the-type r)) e k))
 
 -- as the code says them, which has the length and the test as values of its own
 pub placed-written : (store bytes after : List ℕ) (at need next : ℕ) (f g : Bool) → length bytes ≡ need → g ≡ f
     → Written next ≡ roomOf (length store) at need g → after ≡ laid store at bytes → putting (Written next) after ≡ placed store at f bytes
 placed-written store bytes after at need next f g n q e a = ap (putting (Written next)) a ∙ placed-as store bytes at next f (rw (n, ← q) e)
 
-pub placed-refused : (store bytes : List ℕ) (at need : ℕ) (f g : Bool) (r : Put) → OneOf (1 ∷ 2 ∷ []) (tagOf the-type r) → length bytes ≡ need → g ≡ f
+pub placed-refused : (store bytes : List ℕ) (at need : ℕ) (f g : Bool) (r : Wrote) → OneOf (1 ∷ 2 ∷ []) (tagOf the-type r) → length bytes ≡ need → g ≡ f
     → r ≡ roomOf (length store) at need g → putting r store ≡ placed store at f bytes
 unfolding placed roomOf
 placed-refused store bytes at need f g r k n q e = refused-by store bytes at (ltb (length store) (at + length bytes)) f r k (rw (n, ← q) e)

@@ -1,4 +1,4 @@
--- What several proofs cite, here and in the crates above.
+-- The lemmas that proofs of this crate and of the crates above cite, and the laws of headers, packets, tag lists and codes.
 pub mod TopBit
 pub mod OpcodeLaws
 pub mod CodeLaws

@@ -14,7 +14,7 @@ use Rattle.packet.specs.declared.opcode.Opcode.the-variants.{Connect, Di
 use Rattle.packet.specs.FirstByte.{named, firstByte, valueOf, alwaysFinal, topBit, byteOf, kindOf, sameOpcode}
 use Rattle.base.proofs.Below.{at-each}
 
--- ---- document 01, P1 and P2
+-- ---- proved cases P1 and P2 (docs/PROTOCOL.md#first-byte)
 
 p1 : firstByte 0xE2 ≡ Known Put true
 unfolding firstByte named

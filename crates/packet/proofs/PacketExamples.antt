@@ -1,4 +1,4 @@
--- Examples of IrOBEX 1.5, of the source's doc comments and of document 01, by computing. Assumes nothing.
+-- Examples, computed: those of IrOBEX 1.5 (section 3.4.1.9), of the source's doc comments, and of the proved cases. Assumes nothing.
 use mathlib.Core.Path.{_≡_, refl}
 use mathlib.Core.Bool.{true, false}
 use mathlib.Core.List.{List, [], _∷_, _++_}

@@ -11,7 +11,7 @@ use lib.Dec.{T, eqb}
 use borrow.Author.Tests.{le-ltb}
 use Rattle.base.specs.Pick.{pick}
 use Rattle.base.specs.Bytes.{be16, bytes16}
-use Rattle.digest.specs.Unicode.{Octets}
+use Rattle.text.specs.Unicode.{Octets}
 use Rattle.packet.specs.declared.opcode.Opcode.{Opcode}
 use Rattle.packet.specs.declared.opcode.Opcode.the-variants.{Connect, Disconnect, Put, Get, SetPath, Action, Session, Abort, UserDefined}
 use Rattle.packet.specs.declared.packet.Fields.{Fields}

@@ -15,7 +15,7 @@ use Rattle.packet.specs.declared.tlv.TagAt.{TagAt}
 use Rattle.packet.specs.declared.tlv.TagAt.the-variants.{At, Bad, End}
 use Rattle.packet.specs.declared.tlv.Found.{Found}
 use Rattle.packet.specs.declared.tlv.Found.the-variants as found
-use Rattle.packet.specs.declared.tlv.Put.the-variants.{Written, TooLong, Short}
+use Rattle.packet.specs.declared.tlv.Wrote.the-variants.{Written, TooLong, Short}
 use Rattle.packet.specs.Tags.{Tag, Tags, unreadable, tagList, push, tagsBy, tags, tagAt, counts, lastFrom, lastIn, lastUnder, bytesAt, lastBytes, lastOf, writeTag, writeTags, Putting, putting, putTag}
 use Rattle.packet.proofs.TagLaws.{by-cursor, tags-end, tags-cons}
 

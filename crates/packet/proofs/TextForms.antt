@@ -9,10 +9,10 @@ use lib.Dec.{ltb}
 use lib.ListN.{length, getD, take, drop, length-append, length-take, take-append-drop, drop-of-length-le, List·getD-eq-default}
 use lib.Seq.{drop-cons, take-append-seam, getD-append-add, getD-take, length-take-le}
 use borrow.Author.Tests.{ltb-true, ltb-false}
-use Rattle.digest.specs.Unicode.{upToZero, codes, units, paired, pieces16, scalars16, wellFormed16, lossy, scalars8, wellFormed8, Scalars, NoZero, Octets, utf16, joined, text8, utf16be}
-use Rattle.digest.proofs.Widths.{utf16-1, utf16-2}
-use Rattle.digest.proofs.Back16.{plain16, scalars16-valid, scalars16-nonzero, utf16be-scalars16, utf16be-well-formed}
-use Rattle.digest.proofs.Back8.{scalars8-valid, scalars8-nonzero, text8-scalars8, text8-well-formed}
+use Rattle.text.specs.Unicode.{upToZero, codes, units, paired, pieces16, scalars16, wellFormed16, lossy, scalars8, wellFormed8, Scalars, NoZero, Octets, utf16, joined, text8, utf16be}
+use Rattle.text.proofs.Widths.{utf16-1, utf16-2}
+use Rattle.text.proofs.Back16.{plain16, scalars16-valid, scalars16-nonzero, utf16be-scalars16, utf16be-well-formed}
+use Rattle.text.proofs.Back8.{scalars8-valid, scalars8-nonzero, text8-scalars8, text8-well-formed}
 use Rattle.packet.specs.Canonical.{terminated16}
 
 -- ---- parts of a list (of general use)

@@ -9,10 +9,10 @@ use lib.Dec.{ltb}
 use lib.ListN.{length, set, take, drop, length-append, length-take, length-drop, drop-of-length-le}
 use lib.Seq.{drop-drop, take-length}
 use borrow.Author.Tests.{le-ltb, ltb-true, ltb-false}
-use Rattle.digest.specs.Unicode.{lossy, utf16be}
-use Rattle.digest.specs.Text.{unicodeBytes, Stored, stored, storeText}
-use Rattle.digest.specs.declared.text.Decoded.{Decoded}
-use Rattle.digest.specs.declared.text.Decoded.the-variants.{Written}
+use Rattle.text.specs.Unicode.{lossy, utf16be}
+use Rattle.text.specs.Text.{unicodeBytes, Stored, stored, storeText}
+use Rattle.text.specs.declared.Decoded.{Decoded}
+use Rattle.text.specs.declared.Decoded.the-variants.{Written}
 use Rattle.packet.specs.Canonical.{terminated16}
 use Rattle.packet.specs.Placed.{laid}
 use Rattle.packet.proofs.Laid.{laid-nothing, set-more}

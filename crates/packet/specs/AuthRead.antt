@@ -1,4 +1,4 @@
--- What the readers of digest authentication give (document 01, Digest): the values of Auth as numbers, and the places of the bytes that
+-- What the readers of digest authentication give (docs/PROTOCOL.md#digest): the values of Auth as numbers, and the places of the bytes that
 -- stay where they are.
 use Prim.Native.Nat.{ℕ, _-_}
 use mathlib.Core.List.{List, [], _∷_}
@@ -22,62 +22,68 @@ use Rattle.packet.specs.Auth.{Response, Challenge, responseOf, challenge
 
 -- ---- the response
 
--- a nonce as its two numbers, and a nonce's bytes
+-- The nonce that a response names, as two numbers.
 abbrev pub namedOf : Option (List ℕ) → Named
 namedOf none = nonce.Missing
 namedOf (some n) = nonce.Nonce (numbers16 n)
 
+-- The bytes of the nonce that a response names.
 abbrev pub bytesNamed : Named → Option (List ℕ)
 bytesNamed nonce.Missing = none
 bytesNamed (nonce.Nonce n) = some (octets16 n)
 
+-- The response that was read, with the place of its user id.
 abbrev pub responseRead : Option Response → Found → DigestResponse
 responseRead none u = response.Unreadable
 responseRead (some r) u = response.Response (numbers16 (r .digest)) u (namedOf (r .nonce))
 
--- the response that a tag list is; the user id stands where the last tag 1 does
+-- The response that a payload says; the user id stands where the last tag 1 does.
 unfoldable pub readResponse : List ℕ → DigestResponse
 readResponse v = responseRead (responseOf v) (lastValue v 1)
 
 -- ---- the challenge
 
+-- The challenge that was read, with the place of its realm.
 abbrev pub challengeRead : Option Challenge → Found → DigestChallenge
 challengeRead none r = challenge.Unreadable
 challengeRead (some c) r = challenge.Challenge (numbers16 (c .nonce)) (userIdRequired (c .options)) (readOnly (c .options)) r
 
--- the challenge that a tag list is, and where its realm stands, the charset byte included
+-- The challenge that a payload says, and where its realm stands, the charset byte included.
 unfoldable pub readChallenge : List ℕ → DigestChallenge
 readChallenge v = challengeRead (challengeOf v) (realmPlace v)
 
 -- ---- parts of them
 
--- a tag with a value of n bytes is not tag 0, or n is 16
+-- A tag is not tag 0, or its value is 16 bytes long.
 abbrev pub sixteenOr : ℕ → ℕ → Bool
 sixteenOr t n = not (eqb t 0) || eqb n 16
 
--- each tag 0 of the list, a response's digest or a challenge's nonce, is 16 bytes long
+-- Each tag 0 of the list, a response's digest or a challenge's nonce, is 16 bytes long.
 unfoldable pub allSixteen : List Tag → Bool
 allSixteen [] = true
 allSixteen (t ∷ ts) = sixteenOr (t .tag) (length (t .value)) && allSixteen ts
 
+-- The tags can be read, and each tag 0 is 16 bytes long.
 abbrev pub sixteenIn : Tags → Bool
 sixteenIn unreadable = false
 sixteenIn (tagList ts) = allSixteen ts
 
--- the 16 bytes at a place as two numbers; a value of another length is not named
+-- The 16 bytes at a place as two numbers; a value of another length is missing.
 abbrev pub sixteenAt : List ℕ → Found → Named
 sixteenAt v place.Missing = nonce.Missing
 sixteenAt v (place.At b e) = pick (eqb (e - b) 16) (nonce.Nonce (numbers16 (take 16 (drop b v)))) nonce.Missing
 
--- the value under tag 0, a response's digest or a challenge's nonce: the last, where each is 16 bytes long
+-- The last value under tag 0, a response's digest or a challenge's nonce, if each tag 0 is 16 bytes long.
 unfoldable pub tagZero : List ℕ → Named
 tagZero v = pick (sixteenIn (tags v)) (sixteenAt v (lastValue v 0)) nonce.Missing
 
--- the first byte of the value at a place; empty options are 0
+-- The options at a place: the first byte of the value, 0 if it is empty.
 abbrev pub optionsAt : List ℕ → Found → ℕ
 optionsAt v place.Missing = 0
 optionsAt v (place.At b e) = pick (ltb b e) (getD v b 0) 0
 
--- ---- the check: the named nonce, where there is one, and the digest
+-- ---- the check
+
+-- The check of a response by numbers: the nonce that it names, if it names one, and its digest.
 abbrev pub verifies : Octets16 → Octets16 → Named → List ℕ → Bool
 verifies n d named password = verified (octets16 n) (record { digest = octets16 d; user = none; nonce = bytesNamed named }) password

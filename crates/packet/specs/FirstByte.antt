@@ -1,4 +1,4 @@
--- Document 01, First byte: top bit set, final; low seven bits all ones, Abort; else the low five bits name the opcode.
+-- The first byte of a request (IrOBEX 1.5, section 3.4; docs/PROTOCOL.md#first-byte): its opcode and the Final bit.
 use mathlib.Core.Bool.{Bool, true, false, _&&_, _||_}
 use Prim.Native.Nat.{ℕ, _+_, _%_}
 use lib.Dec.{eqb, leb}
@@ -8,24 +8,7 @@ use Rattle.packet.specs.declared.opcode.Opcode.the-variants.{Connect, Di
 use Rattle.packet.specs.declared.opcode.FirstByte.{FirstByte}
 use Rattle.packet.specs.declared.opcode.FirstByte.the-variants.{Known, Unknown}
 
--- what a value of five bits names
-unfoldable pub named : ℕ → Bool → FirstByte
-named x final =
-    pick (eqb x 0x00) (Known Connect final)
-    (pick (eqb x 0x01) (Known Disconnect final)
-    (pick (eqb x 0x02) (Known Put final)
-    (pick (eqb x 0x03) (Known Get final)
-    (pick (eqb x 0x05) (Known SetPath final)
-    (pick (eqb x 0x06) (Known Action final)
-    (pick (eqb x 0x07) (Known Session final)
-    (pick (leb 0x10 x && leb x 0x1F) (Known (UserDefined x) final)
-    Unknown)))))))
-
--- the first byte of a request: top bit set, final; low seven bits all ones, Abort; else the low five bits
-unfoldable pub firstByte : ℕ → FirstByte
-firstByte b = pick (eqb (b % 128) 0x7F) (Known Abort (leb 0x80 b)) (named (b % 32) (leb 0x80 b))
-
--- the opcode's number, without the Final bit
+-- The number of an opcode, without the Final bit.
 abbrev pub valueOf : Opcode → ℕ
 valueOf Connect = 0x00
 valueOf Disconnect = 0x01
@@ -37,7 +20,25 @@ valueOf Session = 0x07
 valueOf Abort = 0x7F
 valueOf (UserDefined x) = x
 
--- the opcodes that are always sent with the Final bit
+-- What a value of five bits names.
+unfoldable pub named : ℕ → Bool → FirstByte
+named x final =
+    pick (eqb x (valueOf Connect)) (Known Connect final)
+    (pick (eqb x (valueOf Disconnect)) (Known Disconnect final)
+    (pick (eqb x (valueOf Put)) (Known Put final)
+    (pick (eqb x (valueOf Get)) (Known Get final)
+    (pick (eqb x (valueOf SetPath)) (Known SetPath final)
+    (pick (eqb x (valueOf Action)) (Known Action final)
+    (pick (eqb x (valueOf Session)) (Known Session final)
+    (pick (leb 0x10 x && leb x 0x1F) (Known (UserDefined x) final)
+    Unknown)))))))
+
+-- What the first byte of a request says: the top bit is the Final bit; low seven bits that are all ones are Abort; any other byte names an
+-- opcode by its low five bits.
+unfoldable pub firstByte : ℕ → FirstByte
+firstByte b = pick (eqb (b % 128) (valueOf Abort)) (Known Abort (leb 0x80 b)) (named (b % 32) (leb 0x80 b))
+
+-- The opcode is always sent with the Final bit.
 abbrev pub alwaysFinal : Opcode → Bool
 alwaysFinal Connect = true
 alwaysFinal Disconnect = true
@@ -49,15 +50,15 @@ alwaysFinal Session = true
 alwaysFinal Abort = true
 alwaysFinal (UserDefined x) = false
 
--- a byte with its top bit set: 0x80 more, where it was not set
+-- The byte `n` with its top bit set.
 abbrev pub topBit : ℕ → ℕ
 topBit n = n % 128 + 0x80
 
--- the byte sent: the number, with the top bit where final or always final
+-- The byte that is sent for an opcode: with the top bit if it is final or always so.
 unfoldable pub byteOf : Opcode → Bool → ℕ
 byteOf o final = pick (final || alwaysFinal o) (topBit (valueOf o)) (valueOf o)
 
--- a UserDefined, or one of the named
+-- 1 for a UserDefined, 0 for a named opcode.
 abbrev pub kindOf : Opcode → ℕ
 kindOf Connect = 0
 kindOf Disconnect = 0
@@ -69,6 +70,6 @@ kindOf Session = 0
 kindOf Abort = 0
 kindOf (UserDefined x) = 1
 
--- the same opcode, a UserDefined by its value
+-- Two opcodes are the same; two UserDefined are if they hold the same value.
 unfoldable pub sameOpcode : Opcode → Opcode → Bool
 sameOpcode a b = eqb (kindOf a) (kindOf b) && eqb (valueOf a) (valueOf b)

@@ -1,4 +1,5 @@
--- Writing headers into a lent store (the source's Header::encode). A header that is refused changes nothing.
+-- Writing headers into a lent store (the source's Header::encode; docs/PROTOCOL.md#headers). A header that is refused leaves the store as
+-- it was.
 use mathlib.Core.Bool.{Bool, false}
 use mathlib.Core.List.{List, [], _∷_, _++_}
 use Prim.Native.Nat.{ℕ, _+_}
@@ -7,27 +8,29 @@ use lib.ListN.{length}
 use lib.Seq.{sets}
 use Rattle.base.specs.Pick.{pick}
 use Rattle.base.specs.Bytes.{bytes16}
-use Rattle.digest.specs.Unicode.{lossy}
-use Rattle.digest.specs.Text.{asciiText}
+use Rattle.text.specs.Unicode.{lossy}
+use Rattle.text.specs.Text.{asciiText}
 use Rattle.packet.specs.declared.header.HeaderEncoding.{HeaderEncoding}
 use Rattle.packet.specs.declared.header.HeaderEncoding.the-variants.{Unicode, Bytes, U8, U32}
 use Rattle.packet.specs.declared.header.TextForm.{TextForm}
 use Rattle.packet.specs.declared.header.TextForm.the-variants.{Wide, Ended, Bare}
-use Rattle.packet.specs.declared.tlv.Put.{Put}
-use Rattle.packet.specs.declared.tlv.Put.the-variants.{Written, TooLong, Short}
+use Rattle.packet.specs.declared.tlv.Wrote.{Wrote}
+use Rattle.packet.specs.declared.tlv.Wrote.the-variants.{Written, TooLong, Short}
+use Rattle.packet.specs.Limits.{maxPacket}
 use Rattle.packet.specs.Tags.{Putting, putting}
 use Rattle.packet.specs.Placed.{laid}
 use Rattle.packet.specs.Canonical.{terminated16}
 use Rattle.packet.specs.Header.{Header, encodingOf, leadOf, bytesOf}
 
--- a length field says at most 65,535
+-- A header with a value of `n` bytes is longer than its length field can say.
 abbrev pub tooLong : HeaderEncoding → ℕ → Bool
-tooLong Unicode n = ltb 65535 (3 + n)
-tooLong Bytes n = ltb 65535 (3 + n)
+tooLong Unicode n = ltb maxPacket (3 + n)
+tooLong Bytes n = ltb maxPacket (3 + n)
 tooLong U8 n = false
 tooLong U32 n = false
 
--- a header at a place of a store. Its bytes follow the id's own encoding, whatever the value is
+-- The header `h` goes to `at` of the store. Its bytes follow the encoding of its id, whatever the value is. A length over the field is told
+-- before a store that is too short.
 unfoldable pub putHeader : List ℕ → ℕ → Header → Putting
 putHeader store at h =
     let bytes = bytesOf h in
@@ -35,40 +38,43 @@ putHeader store at h =
     (pick (ltb (length store) (at + length bytes)) (putting Short store)
     (putting (Written (at + length bytes)) (laid store at bytes)))
 
--- the number of an answer: 7 a header over 65,535 bytes, 10 a store too short, none (0) where the header is written
-abbrev pub putNumber : Put → ℕ
+-- The number of an answer: 7, a header over 65,535 bytes; 10, a store too short; none (0) if the header was written.
+abbrev pub putNumber : Wrote → ℕ
 putNumber (Written n) = 0
 putNumber TooLong = 7
 putNumber Short = 10
 
--- ---- its parts
+-- ---- the parts of the writer
 
--- the answer, by numbers alone: the encoding, the store's length, the place, the value's length
-unfoldable pub roomFor : HeaderEncoding → ℕ → ℕ → ℕ → Put
+-- The answer by numbers alone: the encoding, the store's length, the place, and the value's length.
+unfoldable pub roomFor : HeaderEncoding → ℕ → ℕ → ℕ → Wrote
 roomFor e len at n = pick (tooLong e n) TooLong (pick (ltb len (at + leadOf e + n)) Short (Written (at + leadOf e + n)))
 
--- id, and length field where there is one
+-- What stands before a value of `n` bytes: the id, and the length field if there is one.
 abbrev pub leadBytes : HeaderEncoding → ℕ → ℕ → List ℕ
 leadBytes Unicode id n = id ∷ bytes16 (3 + n)
 leadBytes Bytes id n = id ∷ bytes16 (3 + n)
 leadBytes U8 id n = id ∷ []
 leadBytes U32 id n = id ∷ []
 
+-- Makes a header.
 abbrev pub header : ℕ → List ℕ → Header
 header id v = record { id = id; value = v }
 
--- room made for a value of n bytes: what stands before it is written
-abbrev pub startBy : Put → List ℕ → ℕ → List ℕ → Putting
+-- The store once room is made: what stands before the value is written.
+abbrev pub startBy : Wrote → List ℕ → ℕ → List ℕ → Putting
 startBy (Written end) d at lead = putting (Written end) (sets d at lead)
 startBy TooLong d at lead = putting TooLong d
 startBy Short d at lead = putting Short d
 
+-- Room is made at `at` for a header with a value of `n` bytes, and what stands before the value is written.
 unfoldable pub startHeader : List ℕ → ℕ → ℕ → ℕ → Putting
 startHeader d at id n = startBy (roomFor (encodingOf id) (length d) at n) d at (leadBytes (encodingOf id) id n)
 
--- ---- text, given in UTF-8
+-- ---- text
 
--- UTF-16 text gets a zero unit, but where it is empty; Type, up to a zero, gets a zero byte; Time, up to a zero, none
+-- The value of a text header, whose text is given in UTF-8: UTF-16 with a zero unit unless it is empty; Type, up to a zero, with a zero
+-- byte; Time, up to a zero, with none.
 abbrev pub textValue : TextForm → List ℕ → List ℕ
 textValue Wide t = terminated16 (lossy t)
 textValue Ended t = asciiText t ++ (0 ∷ [])

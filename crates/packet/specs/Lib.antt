@@ -1,4 +1,8 @@
--- The definitions that the contracts cite.
+-- The definitions that the contracts cite, from the public documents: constants, the first byte, codes, tag lists, headers, packets, and
+-- digest authentication.
+pub mod Limits
+pub mod HeaderIds
+pub mod ResponseCodes
 pub mod FirstByte
 pub mod Codes
 pub mod Modes

@@ -1,5 +1,5 @@
--- Packets (IrOBEX 1.5, section 3.1): a first byte, the 16-bit length of the whole, Connect's four bytes or SetPath's two, and headers to
--- the end.
+-- Packets (IrOBEX 1.5, sections 3.1 and 3.2; docs/PROTOCOL.md#packets): a first byte, the 16-bit length of the whole, Connect's four bytes
+-- or SetPath's two, and headers up to the end.
 use Prim.Native.Nat.{ℕ, _+_, _/_, _%_}
 use mathlib.Core.List.{List, _∷_, _++_}
 use mathlib.Core.Bool.{Bool}
@@ -15,7 +15,7 @@ use Rattle.packet.specs.declared.opcode.Opcode.the-variants.{Connect, Di
 use Rattle.packet.specs.declared.opcode.FirstByte.{FirstByte}
 use Rattle.packet.specs.declared.opcode.FirstByte.the-variants.{Known, Unknown}
 
--- the bytes between length and headers
+-- How many bytes stand between length and headers.
 abbrev pub fieldsOf : Opcode → ℕ
 fieldsOf Connect = 4
 fieldsOf Disconnect = 0
@@ -27,47 +27,50 @@ fieldsOf Session = 0
 fieldsOf Abort = 0
 fieldsOf (UserDefined x) = 0
 
--- where the headers of a request start
+-- Where the headers of a request start.
 abbrev pub prefixOf : Opcode → ℕ
 prefixOf o = 3 + fieldsOf o
 
--- a request as read: its operation, the final mark, its bytes (for the fields) and its headers
+-- A request as read: its opcode, the Final bit, its bytes (for the fields) and its headers.
 pub record Request : Type 0 where
   pub opcode : Opcode
   pub final : Bool
   pub bytes : List ℕ
   pub headers : List Header
 
+-- The request with the headers that were read; `none` is unreadable.
 abbrev pub requestWith : Opcode → Bool → List ℕ → Option (List Header) → Option Request
 requestWith o f p none = none
 requestWith o f p (some hs) = some (record { opcode = o; final = f; bytes = p; headers = hs })
 
--- a whole packet, by its first byte; `none` is unreadable
+-- A whole packet as a request, by its first byte; `none` is unreadable.
 abbrev pub requestBy : FirstByte → List ℕ → Option Request
 requestBy Unknown p = none
 requestBy (Known o f) p = pick (ltb (length p) (prefixOf o)) none (requestWith o f p (readHeaders p (prefixOf o)))
 
+-- A whole packet as a request, whatever its length field says; `none` is unreadable.
 unfoldable pub requestOf : List ℕ → Option Request
 requestOf p = requestBy (firstByte (getD p 0 0)) p
 
--- the packet at the front of some bytes, by its length field
+-- The packet at the front of some bytes as a request, by its length field; `none` is unreadable.
 unfoldable pub requestAt : List ℕ → Option Request
 requestAt s =
     pick (ltb (length s) 3) none
     (pick (ltb (be16 s 1) 3) none
     (pick (ltb (length s) (be16 s 1)) none (requestOf (take (be16 s 1) s))))
 
--- Connect's fields: version, flags, and the peer's limit
+-- The largest packet that the sender of a Connect can receive: its fields are version, flags and this limit.
 unfoldable pub connectLimit : List ℕ → ℕ
 connectLimit p = be16 p 5
 
--- SetPath's flags: bit 0 go up first, bit 1 do not create
+-- SetPath's flag bit 0: the path goes up a level before the name is applied.
 unfoldable pub backup : List ℕ → Bool
 backup p = eqb (getD p 3 0 % 2) 1
 
+-- SetPath's flag bit 1: a folder that does not exist is not created.
 unfoldable pub noCreate : List ℕ → Bool
 noCreate p = eqb (getD p 3 0 / 2 % 2) 1
 
--- a packet: first byte, length of the whole, fields, headers
+-- The bytes of a packet: first byte, length of the whole, fields, headers.
 unfoldable pub packetBytes : ℕ → List ℕ → List ℕ → List ℕ
 packetBytes b fields hs = b ∷ (bytes16 (3 + length fields + length hs) ++ (fields ++ hs))

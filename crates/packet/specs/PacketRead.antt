@@ -1,4 +1,4 @@
--- What the readers of packets give (document 01, Packet): the operation, and where its headers stand.
+-- What the readers of packets give (docs/PROTOCOL.md#packets): the operation, and where its headers stand.
 use Prim.Native.Nat.{ℕ}
 use mathlib.Core.List.{List}
 use mathlib.Core.Option.{Option, none, some}
@@ -13,23 +13,23 @@ use Rattle.packet.specs.declared.packet.Parsed.the-variants as parsed
 use Rattle.packet.specs.declared.packet.SetPathFlags.{SetPathFlags}
 use Rattle.packet.specs.Packet.{Request, prefixOf, requestOf, requestAt, backup, noCreate}
 
--- the length of the packet at the front, once its length field is there
+-- The length of the packet at the front, once its length field has come.
 unfoldable pub packetLength : List ℕ → Length
 packetLength s = pick (ltb (length s) 3) size.Missing (size.Known (be16 s 1))
 
--- a request by its opcode, its final mark, where its headers start, and its length
+-- A request by its opcode, its Final bit, where its headers start, and its length.
 abbrev pub parsedAs : Option Request → ℕ → Parsed
 parsedAs none n = parsed.Unreadable
 parsedAs (some r) n = parsed.Request (r .opcode) (r .final) (prefixOf (r .opcode)) n
 
--- the bytes as one packet, whatever their length field says
+-- The bytes read as one packet, whatever their length field says.
 unfoldable pub parsePacket : List ℕ → Parsed
 parsePacket p = parsedAs (requestOf p) (length p)
 
--- the packet at the front of the bytes, by its length field
+-- The packet at the front of the bytes, by its length field.
 unfoldable pub parseFront : List ℕ → Parsed
 parseFront s = parsedAs (requestAt s) (be16 s 1)
 
--- SetPath's two flags
+-- SetPath's two flags.
 abbrev pub flagsOf : List ℕ → SetPathFlags
 flagsOf p = record { backup = backup p; «no_create» = noCreate p }

@@ -1,4 +1,4 @@
--- Bytes written into a lent store (document 01, Refusals): whole, or refused with the store as it was.
+-- Bytes written into a lent store (docs/PROTOCOL.md#stores): all of them, or none, and then the store is as it was.
 use Prim.Native.Nat.{ℕ, _+_}
 use mathlib.Core.List.{List}
 use mathlib.Core.Bool.{Bool}
@@ -6,19 +6,19 @@ use lib.ListN.{length}
 use lib.Seq.{paste}
 use lib.Dec.{ltb}
 use Rattle.base.specs.Pick.{pick}
-use Rattle.packet.specs.declared.tlv.Put.{Put}
-use Rattle.packet.specs.declared.tlv.Put.the-variants.{Written, TooLong, Short}
+use Rattle.packet.specs.declared.tlv.Wrote.{Wrote}
+use Rattle.packet.specs.declared.tlv.Wrote.the-variants.{Written, TooLong, Short}
 use Rattle.packet.specs.Tags.{Putting, putting}
 
--- the store with the bytes from a place on
+-- The store `d` with the bytes `l` from `at` on.
 abbrev pub laid : List ℕ → ℕ → List ℕ → List ℕ
 laid d at l = paste d at l (length l)
 
--- whether need bytes go to a place of a store of len bytes: number 10 comes before what else forbids them
-unfoldable pub roomOf : ℕ → ℕ → ℕ → Bool → Put
+-- Whether `need` bytes fit at `at` of a store of `len` bytes: a store that is too short is told before what else forbids them.
+unfoldable pub roomOf : ℕ → ℕ → ℕ → Bool → Wrote
 roomOf len at need forbidden = pick (ltb len (at + need)) Short (pick forbidden TooLong (Written (at + need)))
 
--- the same with the store: what is refused changes nothing
+-- The bytes go to `at` of the store; if they are refused, the store stays as it was.
 unfoldable pub placed : List ℕ → ℕ → Bool → List ℕ → Putting
 placed store at forbidden bytes =
     pick (ltb (length store) (at + length bytes)) (putting Short store)

@@ -1,4 +1,6 @@
-// Digest authentication over a tag list's payload (01, Digest; the source's auth.rs). Places are relative to the payload.
+// Digest authentication (IrOBEX 1.5, section 3.6; docs/PROTOCOL.md#digest; the source's auth.rs) proves that both sides share a secret
+// without sending it: the challenger sends a random nonce, and the responder answers with MD5(nonce ":" password). Places are relative to
+// the payload of the header.
 ghost use mathlib.Core.Path.{_≡_};
 ghost use mathlib.Core.Bool.{false, _&&_};
 ghost use mathlib.Core.List.{_∷_};
@@ -7,6 +9,7 @@ ghost use lib.ListN.{length};
 ghost use lib.Dec.{ltb};
 ghost use Rattle.base.specs.Pick.{pick};
 ghost use Rattle.digest.specs.Md5.{octets16};
+ghost use Rattle.packet.specs.Limits.{maxTagValue};
 ghost use Rattle.packet.specs.Tags.{tags, lastValue, writeTags, putting};
 ghost use Rattle.packet.specs.Auth.{realmPlace, same, answers, realmTag, userTag, challengeTags, answerTags};
 ghost use Rattle.packet.specs.Placed.{laid};
@@ -14,10 +17,11 @@ ghost use Rattle.packet.specs.Flags.{flagBits};
 ghost use Rattle.packet.specs.AuthWrite.{given, overlong, writeChallenge, writeDigestResponse};
 ghost use Rattle.packet.specs.AuthRead.{bytesNamed, sixteenOr, sixteenIn, sixteenAt, tagZero, optionsAt, readResponse, readChallenge, verifies};
 use crate::flags::flag_bits;
+use crate::limits::MAX_TAG_VALUE;
 use crate::store::room;
 use crate::tlv::Found;
-use crate::tlv::Put;
 use crate::tlv::TagAt;
+use crate::tlv::Wrote;
 use crate::tlv::last_under;
 use crate::tlv::last_value;
 use crate::tlv::put_tag;
@@ -28,28 +32,37 @@ use digest::md5::octets;
 use digest::md5::octets16_at;
 use digest::md5::request_digest;
 
+// The tag of the nonce in a challenge.
 const CHALLENGE_NONCE_TAG: u8 = 0x00;
 
+// The tag of the options in a challenge.
 const CHALLENGE_OPTIONS_TAG: u8 = 0x01;
 
+// The tag of the realm in a challenge.
 const CHALLENGE_REALM_TAG: u8 = 0x02;
 
+// The tag of the request digest in a response.
 const RESPONSE_DIGEST_TAG: u8 = 0x00;
 
+// The tag of the user id in a response.
 const RESPONSE_USER_ID_TAG: u8 = 0x01;
 
+// The tag of the nonce in a response.
 const RESPONSE_NONCE_TAG: u8 = 0x02;
 
+// The option bit by which the challenger asks for a user id.
 const OPTION_USER_ID_REQUIRED: u8 = 0x01;
 
+// The option bit by which the challenger offers read-only access.
 const OPTION_READ_ONLY: u8 = 0x02;
 
-// The nonce that a response names.
+// The nonce that a response names: the standard lets it name one if several challenges were sent.
 pub enum Named {
     Nonce(Octets16),
     Missing,
 }
 
+// The digest-response that an Authenticate Response header carries.
 pub enum DigestResponse {
     Response {
         digest: Octets16,
@@ -59,6 +72,7 @@ pub enum DigestResponse {
     Unreadable,
 }
 
+// The digest-challenge that an Authenticate Challenge header carries.
 pub enum DigestChallenge {
     Challenge {
         nonce: Octets16,
@@ -69,7 +83,7 @@ pub enum DigestChallenge {
     Unreadable,
 }
 
-// Whether a tag with a value of n bytes is not tag 0, or n is 16.
+// Tells whether `tag` is not tag 0, or `n` is 16: a digest and a challenge's nonce are 16 bytes long.
 fn is_sixteen(tag: u8, n: usize) -> bool
     ensures { λ r. ⌜ r ≡ sixteenOr tag n ⌝ }
 {
@@ -79,7 +93,7 @@ fn is_sixteen(tag: u8, n: usize) -> bool
     n == 16
 }
 
-// Whether tags fill the payload and each tag 0, a digest or a challenge's nonce, is 16 bytes long.
+// Tells whether tags fill the payload and each tag 0, a digest or a challenge's nonce, is 16 bytes long.
 fn all_sixteen(v: &[u8]) -> bool
     ensures { λ r. ⌜ r ≡ sixteenIn (tags (now (v .entry))) ⌝ }
 {
@@ -102,7 +116,7 @@ fn all_sixteen(v: &[u8]) -> bool
     }
 }
 
-// The last value under a tag, where it is 16 bytes long.
+// Reads the last value under `tag`. A value that is not 16 bytes long counts as missing.
 fn sixteen(v: &[u8], tag: u8) -> Named
     ensures { λ r. ⌜ r ≡ sixteenAt (now (v .entry)) (lastValue (now (v .entry)) tag) ⌝ }
 {
@@ -115,7 +129,7 @@ fn sixteen(v: &[u8], tag: u8) -> Named
     Named::Nonce(octets16_at(v, start))
 }
 
-// The value under tag 0, a response's digest or a challenge's nonce, where each is 16 bytes long.
+// Reads the value under tag 0, a response's digest or a challenge's nonce, which is missing if any tag 0 is not 16 bytes long.
 fn tag_zero(v: &[u8]) -> Named
     ensures { λ r. ⌜ r ≡ tagZero (now (v .entry)) ⌝ }
 {
@@ -125,7 +139,7 @@ fn tag_zero(v: &[u8]) -> Named
     sixteen(v, RESPONSE_DIGEST_TAG)
 }
 
-// The options of a challenge.
+// Returns the options of a challenge; an empty value is 0.
 fn options(v: &[u8]) -> u8
     ensures { λ r. ⌜ r ≡ optionsAt (now (v .entry)) (lastValue (now (v .entry)) 1) ⌝ }
 {
@@ -138,14 +152,14 @@ fn options(v: &[u8]) -> u8
     v[start]
 }
 
-// The last realm that is not empty.
+// Finds the last realm that is not empty, its charset byte included.
 pub fn realm(v: &[u8]) -> Found
     ensures { λ r. ⌜ r ≡ realmPlace (now (v .entry)) ⌝ }
 {
     last_under(v, CHALLENGE_REALM_TAG, false)
 }
 
-// Repeated tags: the last holds.
+// Reads a digest-response, ignoring unknown tags. Of a repeated tag the last holds.
 pub fn read_response(v: &[u8]) -> DigestResponse
     ensures { λ r. ⌜ r ≡ readResponse (now (v .entry)) ⌝ }
 {
@@ -159,6 +173,7 @@ pub fn read_response(v: &[u8]) -> DigestResponse
     }
 }
 
+// Reads a digest-challenge, ignoring unknown tags. Of a repeated tag the last holds.
 pub fn read_challenge(v: &[u8]) -> DigestChallenge
     ensures { λ r. ⌜ r ≡ readChallenge (now (v .entry)) ⌝ }
 {
@@ -174,6 +189,7 @@ pub fn read_challenge(v: &[u8]) -> DigestChallenge
     }
 }
 
+// Tells whether `a` and `b` are the same sixteen bytes.
 fn same_octets(a: Octets16, b: Octets16) -> bool
     ensures { λ r. ⌜ r ≡ same (octets16 a) (octets16 b) ⌝ }
 {
@@ -183,7 +199,7 @@ fn same_octets(a: Octets16, b: Octets16) -> bool
     a.second == b.second
 }
 
-// Whether a response names this nonce, or none.
+// Tells whether a response that names `named` answers the challenge with `nonce`, as it does if it names that nonce or none.
 fn answers_nonce(nonce: Octets16, named: Named) -> bool
     ensures { λ r. ⌜ r ≡ answers (octets16 nonce) (bytesNamed named) ⌝ }
 {
@@ -193,7 +209,7 @@ fn answers_nonce(nonce: Octets16, named: Named) -> bool
     }
 }
 
-// Whether a response with this digest, which names this nonce or none, is right for the nonce and the password.
+// Checks a response with `digest`, which names `named`, against the challenge's `nonce` and the expected `password`.
 pub fn verify(nonce: Octets16, digest: Octets16, named: Named, password: &[u8]) -> bool
     ensures { λ r. ⌜ r ≡ verifies nonce digest named (now (password .entry)) ⌝ }
 {
@@ -203,7 +219,7 @@ pub fn verify(nonce: Octets16, digest: Octets16, named: Named, password: &[u8]) 
     same_octets(request_digest(nonce, password), digest)
 }
 
-// How many bytes a tag with a value of n bytes takes, where it is there.
+// Returns how many bytes a tag with a value of `n` bytes takes, or 0 if it is not there.
 fn tag_len(there: bool, n: usize) -> usize
     requires { ⌜ n < 2 ^ 63 + 1 ⌝ }
     ensures { λ r. ⌜ r ≡ pick there (2 + n) 0 ⌝ }
@@ -214,17 +230,17 @@ fn tag_len(there: bool, n: usize) -> usize
     2 + n
 }
 
-// Whether a value of n bytes, where it is there, is too long for its length byte.
+// Tells whether a value of `n` bytes is there and too long for its length byte.
 pub fn is_long(there: bool, n: usize) -> bool
-    ensures { λ r. ⌜ r ≡ (there && ltb 255 n) ⌝ }
+    ensures { λ r. ⌜ r ≡ (there && ltb maxTagValue n) ⌝ }
 {
     if !there {
         return false;
     }
-    255 < n
+    MAX_TAG_VALUE < n
 }
 
-// The realm, where there is one, with its charset in front.
+// Writes the realm with its charset in front, if there is one.
 fn put_realm(store: &mut [u8], at: usize, there: bool, charset: u8, value: &[u8])
     requires { ⌜ (overlong (given there (charset ∷ now value)) ≡ false)
         × (at + length (writeTags (realmTag (given there (charset ∷ now value)))) ≤ length (now store)) ⌝ }
@@ -240,7 +256,7 @@ fn put_realm(store: &mut [u8], at: usize, there: bool, charset: u8, value: &[u8]
     copy_into(store, at + 3, value);
 }
 
-// A user id, where there is one.
+// Writes the user id, if there is one.
 fn put_user(store: &mut [u8], at: usize, there: bool, user: &[u8])
     requires { ⌜ (overlong (given there (now user)) ≡ false)
         × (at + length (writeTags (userTag (given there (now user)))) ≤ length (now store)) ⌝ }
@@ -252,7 +268,7 @@ fn put_user(store: &mut [u8], at: usize, there: bool, user: &[u8])
     put_tag(store, at, RESPONSE_USER_ID_TAG, user);
 }
 
-// The tags of a challenge, which fit.
+// Writes the tags of a challenge, which fit.
 fn put_challenge(
     store: &mut [u8],
     at: usize,
@@ -274,7 +290,7 @@ fn put_challenge(
     put_realm(store, at + 21, has_realm, charset, value);
 }
 
-// Writes a challenge's tag list at a place of the store. A realm, its charset in front, is at most 255 bytes long.
+// Writes the tag list of a challenge at `at` of the store. A realm is at most 254 bytes long, since its charset is one byte more.
 pub fn write_challenge(
     store: &mut [u8],
     at: usize,
@@ -284,7 +300,7 @@ pub fn write_challenge(
     has_realm: bool,
     charset: u8,
     value: &[u8],
-) -> Put
+) -> Wrote
     ensures { λ r. ⌜ putting r (now (store .exit))
         ≡ writeChallenge (now (store .entry)) at nonce (flagBits «user_id_required» «read_only»)
         (given «has_realm» (charset ∷ now (value .entry))) ⌝ }
@@ -292,15 +308,15 @@ pub fn write_challenge(
     let n = value.len() + 1;
     let need = 21 + tag_len(has_realm, n);
     let answer = room(store.len(), at, need, is_long(has_realm, n));
-    let Put::Written(next) = answer else {
+    let Wrote::Written(next) = answer else {
         return answer;
     };
     let bits = flag_bits(user_id_required, read_only);
     put_challenge(store, at, nonce, bits, has_realm, charset, value);
-    Put::Written(next)
+    Wrote::Written(next)
 }
 
-// The tags of a response, which fit.
+// Writes the tags of a response, which fit.
 fn put_response(
     store: &mut [u8],
     at: usize,
@@ -327,7 +343,8 @@ fn put_response(
     );
 }
 
-// Writes the tag list that answers a challenge's nonce at a place of the store. A user id is at most 255 bytes long.
+// Writes the tag list that answers the challenge with `nonce`, at `at` of the store. A user id is at most 255 bytes long here; the standard
+// allows 20.
 pub fn respond(
     store: &mut [u8],
     at: usize,
@@ -335,16 +352,16 @@ pub fn respond(
     has_user: bool,
     user: &[u8],
     password: &[u8],
-) -> Put
+) -> Wrote
     ensures { λ r. ⌜ putting r (now (store .exit))
         ≡ writeDigestResponse (now (store .entry)) at nonce (given «has_user» (now (user .entry))) (now (password .entry)) ⌝ }
 {
     let need = 36 + tag_len(has_user, user.len());
     let answer = room(store.len(), at, need, is_long(has_user, user.len()));
-    let Put::Written(next) = answer else {
+    let Wrote::Written(next) = answer else {
         return answer;
     };
     let digest = request_digest(nonce, password);
     put_response(store, at, digest, has_user, user, nonce);
-    Put::Written(next)
+    Wrote::Written(next)
 }

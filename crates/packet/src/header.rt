@@ -1,4 +1,5 @@
-// Headers of a packet (01, Header; the source's header.rs). The reader is a cursor: a slice and a place in, an enum out.
+// Headers (IrOBEX 1.5, section 2; docs/PROTOCOL.md#headers; the source's header.rs): a one-byte id, for two encodings a 16-bit length, and
+// the value. The reader is a cursor: it takes a slice and a place and returns an enum.
 ghost use mathlib.Core.Path.{_≡_};
 ghost use Prim.Native.Nat.{_+_, _-_, _^_, _<_, _≤_, min};
 ghost use lib.ListN.{length, getD, drop};
@@ -6,41 +7,58 @@ ghost use lib.Seq.{sets};
 ghost use mathlib.Core.Bool.{false};
 ghost use mathlib.Core.List.{[], _∷_, _++_};
 ghost use Rattle.base.specs.Bytes.{be32, bytes32};
-ghost use Rattle.digest.specs.Text.{asciiText, unicodeBytes};
-ghost use Rattle.digest.specs.Unicode.{scalars16, lossy, scalars8, text8};
+ghost use Rattle.text.specs.Text.{asciiText, unicodeBytes};
+ghost use Rattle.text.specs.Unicode.{scalars16, lossy, scalars8, text8};
 ghost use Rattle.packet.specs.Auth.{same};
 ghost use Rattle.packet.specs.Canonical.{terminated16, rewritten, canonical};
 ghost use Rattle.packet.specs.Header.{encodingOf, leadOf, sizeAt, tagged, allowed, encodedAt, headerAt, firstPlace};
+ghost use Rattle.packet.specs.HeaderIds as header-id;
 ghost use Rattle.packet.specs.HeaderList.{readableFrom};
 ghost use Rattle.packet.specs.HeaderWriter.{tooLong, putHeader, roomFor, leadBytes, header, startHeader, textValue};
 ghost use Rattle.packet.specs.Placed.{laid};
 ghost use Rattle.packet.specs.Tags.{putting};
 use crate::action::is_action;
+use crate::header_id::ACTION_ID;
+use crate::header_id::APPLICATION_PARAMETERS;
+use crate::header_id::AUTHENTICATE_CHALLENGE;
+use crate::header_id::AUTHENTICATE_RESPONSE;
+use crate::header_id::PERMISSIONS;
+use crate::header_id::SESSION_PARAMETERS;
+use crate::header_id::SINGLE_RESPONSE_MODE;
+use crate::header_id::SINGLE_RESPONSE_MODE_PARAMETERS;
+use crate::header_id::TIME;
+use crate::header_id::TYPE;
+use crate::limits::MAX_CAPACITY;
 use crate::srm::is_mode;
 use crate::srm::is_parameter;
 use crate::tlv::Found;
-use crate::tlv::Put;
+use crate::tlv::Wrote;
 use crate::tlv::is_tag_list;
 use base::be16_at;
 use base::copy_into;
 use base::wide32;
-use digest::text::ascii_len;
-use digest::text::decode_ascii;
-use digest::text::encode_unicode;
-use digest::text::encoded_unicode_len;
-use digest::text::is_well_formed8;
-use digest::text::is_well_formed16;
+use text::ascii_len;
+use text::decode_ascii;
+use text::encode_unicode;
+use text::encoded_unicode_len;
+use text::is_well_formed8;
+use text::is_well_formed16;
 
+// The encoding of a header's value, which the two top bits of its id select. So every header can be read, user defined and future ones too.
 pub enum HeaderEncoding {
+    // UTF-16 text with a 16-bit length, top bits 00.
     Unicode,
+    // A byte sequence with a 16-bit length, top bits 01.
     Bytes,
+    // One byte, top bits 10.
     U8,
+    // A number of four bytes, top bits 11.
     U32,
 }
 
 // What stands at a place of a packet.
 pub enum HeaderAt {
-    // A whole header, with the place of its value; the next one starts where the value ends.
+    // A whole header, whose value stands from `start` up to `end`; the next header starts at `end`.
     At {
         id: u8,
         encoding: HeaderEncoding,
@@ -53,7 +71,7 @@ pub enum HeaderAt {
 
 // ---- reading
 
-// The encoding of a header's value, by the two top bits of its id.
+// Returns the encoding that the two top bits of `id` select.
 pub fn encoding(id: u8) -> HeaderEncoding
     ensures { λ r. ⌜ r ≡ encodingOf id ⌝ }
 {
@@ -69,7 +87,7 @@ pub fn encoding(id: u8) -> HeaderEncoding
     HeaderEncoding::U32
 }
 
-// How many bytes stand before the value.
+// Returns how many bytes stand before the value: the id, and for two encodings a length.
 fn lead(e: HeaderEncoding) -> usize
     ensures { λ r. ⌜ (r ≡ leadOf e) × (r ≤ 3) ⌝ }
 {
@@ -81,7 +99,7 @@ fn lead(e: HeaderEncoding) -> usize
     }
 }
 
-// How many bytes the header takes in all: what its length field says, or by its encoding.
+// Returns how many bytes the header at `at` takes in all: its length field counts its own three bytes.
 fn size_at(e: HeaderEncoding, s: &[u8], at: usize) -> usize
     requires { ⌜ at + leadOf e ≤ length (now s) ⌝ }
     ensures { λ r. ⌜ (r ≡ sizeAt e (now (s .entry)) at) × (r < 65536) ⌝ }
@@ -94,7 +112,7 @@ fn size_at(e: HeaderEncoding, s: &[u8], at: usize) -> usize
     }
 }
 
-// The byte of a value of one byte.
+// Returns the byte of a value of one byte.
 fn first_byte(value: &[u8]) -> u8
     ensures { λ r. ⌜ r ≡ getD (now (value .entry)) 0 0 ⌝ }
 {
@@ -104,27 +122,30 @@ fn first_byte(value: &[u8]) -> u8
     value[0]
 }
 
-// The ids whose value is a tag list: application, session and authentication parameters.
+// Tells whether the value under `id` is a tag list.
 fn is_tagged(id: u8) -> bool
     ensures { λ r. ⌜ r ≡ tagged id ⌝ }
 {
     match id {
-        0x4C | 0x4D | 0x4E | 0x52 => true,
+        APPLICATION_PARAMETERS
+        | AUTHENTICATE_CHALLENGE
+        | AUTHENTICATE_RESPONSE
+        | SESSION_PARAMETERS => true,
         _ => false,
     }
 }
 
-// Whether the id allows the value. Unknown ids allow any.
+// Tells whether `id` allows `value`. Ids that the standard does not define allow any, so that such headers survive.
 fn is_allowed(id: u8, value: &[u8]) -> bool
     ensures { λ r. ⌜ r ≡ allowed id (now (value .entry)) ⌝ }
 {
-    if id == 0x94 {
+    if id == ACTION_ID {
         return is_action(first_byte(value));
     }
-    if id == 0x97 {
+    if id == SINGLE_RESPONSE_MODE {
         return is_mode(first_byte(value));
     }
-    if id == 0x98 {
+    if id == SINGLE_RESPONSE_MODE_PARAMETERS {
         return is_parameter(first_byte(value));
     }
     if is_tagged(id) {
@@ -133,7 +154,7 @@ fn is_allowed(id: u8, value: &[u8]) -> bool
     true
 }
 
-// The header whose id stands at a place.
+// Reads the header at `at`, whose id and encoding are known.
 fn encoded_at(id: u8, e: HeaderEncoding, s: &[u8], at: usize) -> HeaderAt
     requires { ⌜ at ≤ length (now s) ⌝ }
     ensures { λ r. ⌜ r ≡ encodedAt id e (now (s .entry)) at ⌝ }
@@ -163,6 +184,7 @@ fn encoded_at(id: u8, e: HeaderEncoding, s: &[u8], at: usize) -> HeaderAt
     HeaderAt::Unreadable
 }
 
+// Reads the header at `at`.
 pub fn header_at(s: &[u8], at: usize) -> HeaderAt
     ensures { λ r. ⌜ r ≡ headerAt (now (s .entry)) at ⌝ }
 {
@@ -173,19 +195,20 @@ pub fn header_at(s: &[u8], at: usize) -> HeaderAt
     encoded_at(id, encoding(id), s, at)
 }
 
-// A place in a packet.
+// A place in a packet, from which headers are read.
 pub struct Cursor {
     pub at: usize,
 }
 
 impl Cursor {
+    // Makes a cursor at `at`.
     pub fn new(at: usize) -> Cursor
         ensures { λ r. ⌜ r .at ≡ at ⌝ }
     {
         Cursor { at }
     }
 
-    // What stands there. The next header's cursor is at the end of this one.
+    // Reads the header at the cursor. The next header's cursor stands at the end of this one.
     pub fn read(self, s: &[u8]) -> HeaderAt
         ensures { λ r. ⌜ r ≡ headerAt (now (s .entry)) (self .at) ⌝ }
     {
@@ -193,7 +216,7 @@ impl Cursor {
     }
 }
 
-// Whether headers fill the packet from a place to its end.
+// Tells whether headers fill the packet from `from` up to its end.
 pub fn is_readable(s: &[u8], from: usize) -> bool
     ensures { λ r. ⌜ r ≡ readableFrom (now (s .entry)) from ⌝ }
 {
@@ -218,7 +241,7 @@ pub fn is_readable(s: &[u8], from: usize) -> bool
     }
 }
 
-// Where the value of the first header with the id stands. What follows an unreadable header is not looked at.
+// Finds the value of the first header with `id`, in list order. The search ends at a header that cannot be read.
 pub fn first_header(s: &[u8], from: usize, id: u8) -> Found
     ensures { λ r. ⌜ r ≡ firstPlace id (now (s .entry)) from ⌝ }
 {
@@ -246,7 +269,7 @@ pub fn first_header(s: &[u8], from: usize, id: u8) -> Found
     }
 }
 
-// The 32-bit number at a place, high-order byte first.
+// Reads the 32-bit number at `at`, its high-order byte first.
 pub fn be32_at(s: &[u8], at: usize) -> u32
     requires { ⌜ at + 4 ≤ length (now s) ⌝ }
     ensures { λ r. ⌜ r ≡ be32 (now (s .entry)) at ⌝ }
@@ -255,40 +278,41 @@ pub fn be32_at(s: &[u8], at: usize) -> u32
     (high * 256 + wide32(s[at + 2])) * 256 + wide32(s[at + 3])
 }
 
-// ---- writing: each header's bytes follow its id's own encoding
+// ---- writing: a header's bytes follow the encoding of its id
 
+// Tells whether a value of `n` bytes is too long for the header's length field.
 fn is_too_long(e: HeaderEncoding, n: usize) -> bool
     ensures { λ r. ⌜ r ≡ tooLong e n ⌝ }
 {
     match e {
-        HeaderEncoding::Unicode => 65532 < n,
-        HeaderEncoding::Bytes => 65532 < n,
+        HeaderEncoding::Unicode => MAX_CAPACITY < n,
+        HeaderEncoding::Bytes => MAX_CAPACITY < n,
         HeaderEncoding::U8 => false,
         HeaderEncoding::U32 => false,
     }
 }
 
-// What becomes of a value of n bytes at a place of a store.
-fn room(e: HeaderEncoding, len: usize, at: usize, n: usize) -> Put
+// Tells whether a header with a value of `n` bytes fits at `at` of a store of `len` bytes, and where it ends.
+fn room(e: HeaderEncoding, len: usize, at: usize, n: usize) -> Wrote
     ensures { λ r. ⌜ r ≡ roomFor e len at n ⌝ }
 {
     if is_too_long(e, n) {
-        return Put::TooLong;
+        return Wrote::TooLong;
     }
     if len < at {
-        return Put::Short;
+        return Wrote::Short;
     }
     let first = lead(e);
     if len - at < first {
-        return Put::Short;
+        return Wrote::Short;
     }
     if len - at - first < n {
-        return Put::Short;
+        return Wrote::Short;
     }
-    Put::Written(at + first + n)
+    Wrote::Written(at + first + n)
 }
 
-// What stands before a value of n bytes.
+// Writes what stands before a value of `n` bytes.
 fn put_lead(store: &mut [u8], at: usize, e: HeaderEncoding, id: u8, n: usize)
     requires { ⌜ (at + leadOf e ≤ length (now store)) × (tooLong e n ≡ false) ⌝ }
     ensures { λ r. ⌜ now (store .exit) ≡ sets (now (store .entry)) at (leadBytes e id n) ⌝ }
@@ -301,42 +325,43 @@ fn put_lead(store: &mut [u8], at: usize, e: HeaderEncoding, id: u8, n: usize)
     store[at + 2] = ((3 + n) % 256) as u8;
 }
 
-// Makes room for a value of n bytes, and writes what stands before it. The value is to end where the answer says.
-fn start(store: &mut [u8], at: usize, id: u8, n: usize) -> Put
+// Makes room for a header with a value of `n` bytes and writes what stands before the value. The value is to end at the place that is
+// returned.
+fn start(store: &mut [u8], at: usize, id: u8, n: usize) -> Wrote
     ensures { λ r. ⌜ putting r (now (store .exit)) ≡ startHeader (now (store .entry)) at id n ⌝ }
 {
     let e = encoding(id);
     let answer = room(e, store.len(), at, n);
-    let Put::Written(end) = answer else {
+    let Wrote::Written(end) = answer else {
         return answer;
     };
     put_lead(store, at, e, id, n);
-    Put::Written(end)
+    Wrote::Written(end)
 }
 
-// Writes a header with these bytes as its value at a place of the store. What is refused changes nothing.
-pub fn put_bytes(store: &mut [u8], at: usize, id: u8, value: &[u8]) -> Put
+// Writes a header with the bytes `value` at `at` of the store. A header that is refused leaves the store as it was.
+pub fn put_bytes(store: &mut [u8], at: usize, id: u8, value: &[u8]) -> Wrote
     ensures { λ r. ⌜ putting r (now (store .exit)) ≡ putHeader (now (store .entry)) at (header id (now (value .entry))) ⌝ }
 {
     let n = value.len();
     let answer = start(store, at, id, n);
-    let Put::Written(end) = answer else {
+    let Wrote::Written(end) = answer else {
         return answer;
     };
     copy_into(store, end - n, value);
-    Put::Written(end)
+    Wrote::Written(end)
 }
 
-// A one-byte value.
-pub fn put_u8(store: &mut [u8], at: usize, id: u8, value: u8) -> Put
+// Writes a header with a value of one byte.
+pub fn put_u8(store: &mut [u8], at: usize, id: u8, value: u8) -> Wrote
     ensures { λ r. ⌜ putting r (now (store .exit)) ≡ putHeader (now (store .entry)) at (header id (value ∷ [])) ⌝ }
 {
     let v = [value];
     put_bytes(store, at, id, &v)
 }
 
-// A four-byte value.
-pub fn put_u32(store: &mut [u8], at: usize, id: u8, value: u32) -> Put
+// Writes a header with a value of four bytes, the high-order one first.
+pub fn put_u32(store: &mut [u8], at: usize, id: u8, value: u32) -> Wrote
     ensures { λ r. ⌜ putting r (now (store .exit)) ≡ putHeader (now (store .entry)) at (header id (bytes32 value)) ⌝ }
 {
     let v = [
@@ -348,16 +373,19 @@ pub fn put_u32(store: &mut [u8], at: usize, id: u8, value: u32) -> Put
     put_bytes(store, at, id, &v)
 }
 
-// ---- writing text, given in UTF-8; what is ill-formed is replaced
+// ---- writing text, which is given in UTF-8; what is ill-formed is replaced
 
-// How text is laid out: in UTF-16 with a zero unit, but where it is empty; in UTF-8 with a zero byte; in UTF-8.
+// How the text of a header is laid out.
 enum TextForm {
+    // UTF-16, with a zero unit behind it unless the text is empty.
     Wide,
+    // UTF-8, with a zero byte behind it.
     Ended,
+    // UTF-8, with nothing behind it.
     Bare,
 }
 
-// The sum, or the largest number where that is less.
+// Returns `a + b`, or the largest number if the sum is more.
 fn plus(a: usize, b: usize) -> usize
     ensures { λ r. ⌜ r ≡ min (a + b) (2 ^ 64 - 1) ⌝ }
 {
@@ -367,6 +395,7 @@ fn plus(a: usize, b: usize) -> usize
     a + b
 }
 
+// Returns how many bytes `text` takes in UTF-16 with its zero unit, or the largest number if there are more.
 fn wide_size(text: &[u8]) -> usize
     ensures { λ r. ⌜ r ≡ min (length (terminated16 (lossy (now (text .entry))))) (2 ^ 64 - 1) ⌝ }
 {
@@ -377,7 +406,7 @@ fn wide_size(text: &[u8]) -> usize
     plus(n, 2)
 }
 
-// How many bytes a text takes, or the largest number where that is less.
+// Returns how many bytes `text` takes in the given form, or the largest number if there are more.
 fn text_size(text: &[u8], form: TextForm) -> usize
     ensures { λ r. ⌜ r ≡ min (length (textValue form (now (text .entry)))) (2 ^ 64 - 1) ⌝ }
 {
@@ -388,6 +417,7 @@ fn text_size(text: &[u8], form: TextForm) -> usize
     }
 }
 
+// Writes `text` in UTF-16 from `from` up to `end`.
 fn write_units(store: &mut [u8], from: usize, end: usize, text: &[u8])
     requires { ⌜ (from + length (unicodeBytes (now text)) ≡ end) × (end ≤ length (now store)) ⌝ }
     ensures { λ r. ⌜ now (store .exit) ≡ laid (now (store .entry)) from (unicodeBytes (now (text .entry))) ⌝ }
@@ -395,6 +425,7 @@ fn write_units(store: &mut [u8], from: usize, end: usize, text: &[u8])
     encode_unicode(text, &mut store[from..end]);
 }
 
+// Writes `text` in UTF-16 and a zero unit behind it, unless the text is empty.
 fn write_wide(store: &mut [u8], from: usize, end: usize, text: &[u8])
     requires { ⌜ (from + length (terminated16 (lossy (now text))) ≡ end) × (end ≤ length (now store)) ⌝ }
     ensures { λ r. ⌜ now (store .exit) ≡ laid (now (store .entry)) from (terminated16 (lossy (now (text .entry)))) ⌝ }
@@ -408,6 +439,7 @@ fn write_wide(store: &mut [u8], from: usize, end: usize, text: &[u8])
     store[n + 1] = 0;
 }
 
+// Writes `text` in UTF-8, up to its first zero byte.
 fn write_bare(store: &mut [u8], from: usize, end: usize, text: &[u8])
     requires { ⌜ (from + length (asciiText (now text)) ≡ end) × (end ≤ length (now store)) ⌝ }
     ensures { λ r. ⌜ now (store .exit) ≡ laid (now (store .entry)) from (asciiText (now (text .entry))) ⌝ }
@@ -415,6 +447,7 @@ fn write_bare(store: &mut [u8], from: usize, end: usize, text: &[u8])
     decode_ascii(text, &mut store[from..end]);
 }
 
+// Writes `text` in UTF-8, up to its first zero byte, and a zero byte behind it.
 fn write_ended(store: &mut [u8], from: usize, end: usize, text: &[u8])
     requires { ⌜ (from + length (asciiText (now text) ++ (0 ∷ [])) ≡ end) × (end ≤ length (now store)) ⌝ }
     ensures { λ r. ⌜ now (store .exit) ≡ laid (now (store .entry)) from (asciiText (now (text .entry)) ++ (0 ∷ [])) ⌝ }
@@ -424,7 +457,7 @@ fn write_ended(store: &mut [u8], from: usize, end: usize, text: &[u8])
     store[n] = 0;
 }
 
-// A text, from a place up to its end.
+// Writes `text` in the given form, from `from` up to `end`.
 fn write_text(store: &mut [u8], from: usize, end: usize, text: &[u8], form: TextForm)
     requires { ⌜ (from + length (textValue form (now text)) ≡ end) × (end ≤ length (now store)) ⌝ }
     ensures { λ r. ⌜ now (store .exit) ≡ laid (now (store .entry)) from (textValue form (now (text .entry))) ⌝ }
@@ -436,44 +469,45 @@ fn write_text(store: &mut [u8], from: usize, end: usize, text: &[u8], form: Text
     }
 }
 
-fn put_text(store: &mut [u8], at: usize, id: u8, text: &[u8], form: TextForm) -> Put
+// Writes a header with `text` in the given form.
+fn put_text(store: &mut [u8], at: usize, id: u8, text: &[u8], form: TextForm) -> Wrote
     ensures { λ r. ⌜ putting r (now (store .exit)) ≡ putHeader (now (store .entry)) at (header id (textValue form (now (text .entry)))) ⌝ }
 {
     let n = text_size(text, form);
     let answer = start(store, at, id, n);
-    let Put::Written(end) = answer else {
+    let Wrote::Written(end) = answer else {
         return answer;
     };
     write_text(store, end - n, end, text, form);
-    Put::Written(end)
+    Wrote::Written(end)
 }
 
-// A header with UTF-16 text: a zero unit at its end, unless it is empty.
-pub fn put_unicode(store: &mut [u8], at: usize, id: u8, text: &[u8]) -> Put
+// Writes a header with UTF-16 text: a zero unit ends it, unless the text is empty, for an empty Name is an empty header.
+pub fn put_unicode(store: &mut [u8], at: usize, id: u8, text: &[u8]) -> Wrote
     ensures { λ r. ⌜ putting r (now (store .exit))
         ≡ putHeader (now (store .entry)) at (header id (terminated16 (lossy (now (text .entry))))) ⌝ }
 {
     put_text(store, at, id, text, TextForm::Wide)
 }
 
-// Type: the text up to a zero, and always a zero byte.
-pub fn put_type(store: &mut [u8], at: usize, text: &[u8]) -> Put
+// Writes the Type header: the text up to its first zero, and always a zero byte.
+pub fn put_type(store: &mut [u8], at: usize, text: &[u8]) -> Wrote
     ensures { λ r. ⌜ putting r (now (store .exit))
-        ≡ putHeader (now (store .entry)) at (header 0x42 (asciiText (now (text .entry)) ++ (0 ∷ []))) ⌝ }
+        ≡ putHeader (now (store .entry)) at (header header-id.type (asciiText (now (text .entry)) ++ (0 ∷ []))) ⌝ }
 {
-    put_text(store, at, 0x42, text, TextForm::Ended)
+    put_text(store, at, TYPE, text, TextForm::Ended)
 }
 
-// Time: the text up to a zero, and no zero byte.
-pub fn put_time(store: &mut [u8], at: usize, text: &[u8]) -> Put
-    ensures { λ r. ⌜ putting r (now (store .exit)) ≡ putHeader (now (store .entry)) at (header 0x44 (asciiText (now (text .entry)))) ⌝ }
+// Writes the Time header: the text up to its first zero, and no zero byte.
+pub fn put_time(store: &mut [u8], at: usize, text: &[u8]) -> Wrote
+    ensures { λ r. ⌜ putting r (now (store .exit)) ≡ putHeader (now (store .entry)) at (header header-id.time (asciiText (now (text .entry)))) ⌝ }
 {
-    put_text(store, at, 0x44, text, TextForm::Bare)
+    put_text(store, at, TIME, text, TextForm::Bare)
 }
 
 // ---- canonical bytes: what the writer gives for what the reader reads
 
-// Text in UTF-16: no bytes, or well-formed ones and a zero unit.
+// Tells whether `value` is what the writer gives for UTF-16 text: no bytes, or well-formed ones and a zero unit.
 fn is_terminated16(value: &[u8]) -> bool
     ensures { λ r. ⌜ r ≡ same (terminated16 (scalars16 (now (value .entry)))) (now (value .entry)) ⌝ }
 {
@@ -493,7 +527,7 @@ fn is_terminated16(value: &[u8]) -> bool
     is_well_formed16(&value[..n])
 }
 
-// Type: well-formed UTF-8 and a zero byte.
+// Tells whether `value` is what the writer gives for Type: well-formed UTF-8 and a zero byte.
 fn is_terminated8(value: &[u8]) -> bool
     ensures { λ r. ⌜ r ≡ same (text8 (scalars8 (now (value .entry))) ++ (0 ∷ [])) (now (value .entry)) ⌝ }
 {
@@ -507,7 +541,7 @@ fn is_terminated8(value: &[u8]) -> bool
     is_well_formed8(&value[..n])
 }
 
-// Permissions: the top byte is 0.
+// Tells whether `value` is what the writer gives for Permissions: the top byte is 0.
 fn is_top_zero(value: &[u8]) -> bool
     ensures { λ r. ⌜ r ≡ same (0 ∷ drop 1 (now (value .entry))) (now (value .entry)) ⌝ }
 {
@@ -517,26 +551,26 @@ fn is_top_zero(value: &[u8]) -> bool
     value[0] == 0
 }
 
-// Whether the writer gives this value for what the reader reads from it.
+// Tells whether the writer gives `value` for what the reader reads from it.
 fn is_rewritten(id: u8, value: &[u8]) -> bool
     ensures { λ r. ⌜ r ≡ same (rewritten id (now (value .entry))) (now (value .entry)) ⌝ }
 {
     if id < 0x40 {
         return is_terminated16(value);
     }
-    if id == 0x42 {
+    if id == TYPE {
         return is_terminated8(value);
     }
-    if id == 0x44 {
+    if id == TIME {
         return is_well_formed8(value);
     }
-    if id == 0xD6 {
+    if id == PERMISSIONS {
         return is_top_zero(value);
     }
     true
 }
 
-// Whether headers fill the bytes, each as the writer gives it.
+// Tells whether headers fill the bytes, each as the writer gives it. The engine refuses a host's answer that is not canonical (refusal 8).
 pub fn is_canonical(s: &[u8]) -> bool
     ensures { λ r. ⌜ r ≡ canonical (now (s .entry)) ⌝ }
 {

@@ -1,7 +1,9 @@
-// The first byte of a request: its opcode and the Final bit (01, First byte).
+// The first byte of a request (IrOBEX 1.5, section 3.4; docs/PROTOCOL.md#first-byte): its opcode, and in the top bit the Final bit, which
+// marks the last packet of a request.
 ghost use mathlib.Core.Path.{_≡_};
 ghost use Rattle.packet.specs.FirstByte.{named, firstByte, valueOf, alwaysFinal, byteOf, kindOf, sameOpcode};
 
+// The operation that a request belongs to.
 pub enum Opcode {
     Connect,
     Disconnect,
@@ -11,10 +13,11 @@ pub enum Opcode {
     Action,
     Session,
     Abort,
-    // The value is from 0x10 to 0x1F where it was read.
+    // An opcode that the application defines; if it was read, its value is from 0x10 to 0x1F.
     UserDefined(u8),
 }
 
+// What the first byte of a request says: an opcode and the Final bit, or nothing that is known.
 pub enum FirstByte {
     Known { opcode: Opcode, is_final: bool },
     Unknown,
@@ -23,19 +26,49 @@ pub enum FirstByte {
 // The Final bit of an opcode or a response code.
 pub const FINAL_BIT: u8 = 0x80;
 
-// The opcode that a value of five bits names.
+// Connect chooses a partner and negotiates capabilities.
+pub const CONNECT: u8 = 0x00;
+
+// Disconnect signals the end of the session.
+pub const DISCONNECT: u8 = 0x01;
+
+// Put sends an object.
+pub const PUT: u8 = 0x02;
+
+// Get asks for an object.
+pub const GET: u8 = 0x03;
+
+// SetPath changes the current path on the receiving side.
+pub const SET_PATH: u8 = 0x05;
+
+// Action copies, moves, renames, or sets permissions on the receiving side.
+pub const ACTION: u8 = 0x06;
+
+// Session supports reliable sessions.
+pub const SESSION: u8 = 0x07;
+
+// The first opcode that an application may define.
+pub const FIRST_USER_DEFINED: u8 = 0x10;
+
+// The last opcode that an application may define.
+pub const LAST_USER_DEFINED: u8 = 0x1F;
+
+// Abort ends the current operation.
+pub const ABORT: u8 = 0x7F;
+
+// Names the opcode that a value of five bits says.
 fn try_from(value: u8, is_final: bool) -> FirstByte
     ensures { λ r. ⌜ r ≡ named value «is_final» ⌝ }
 {
     let opcode = match value {
-        0x00 => Opcode::Connect,
-        0x01 => Opcode::Disconnect,
-        0x02 => Opcode::Put,
-        0x03 => Opcode::Get,
-        0x05 => Opcode::SetPath,
-        0x06 => Opcode::Action,
-        0x07 => Opcode::Session,
-        0x10..=0x1F => Opcode::UserDefined(value),
+        CONNECT => Opcode::Connect,
+        DISCONNECT => Opcode::Disconnect,
+        PUT => Opcode::Put,
+        GET => Opcode::Get,
+        SET_PATH => Opcode::SetPath,
+        ACTION => Opcode::Action,
+        SESSION => Opcode::Session,
+        FIRST_USER_DEFINED..=LAST_USER_DEFINED => Opcode::UserDefined(value),
         _ => {
             return FirstByte::Unknown;
         }
@@ -43,12 +76,13 @@ fn try_from(value: u8, is_final: bool) -> FirstByte
     FirstByte::Known { opcode, is_final }
 }
 
-// Bits 5 and 6 are ignored, except for Abort, which sets them: so it is tested first.
+// Decodes the first byte of a request. Reserved bits 5 and 6 are ignored, as the standard requires, except for Abort, which sets them: so
+// Abort is tested first.
 pub fn from_byte(byte: u8) -> FirstByte
     ensures { λ r. ⌜ r ≡ firstByte byte ⌝ }
 {
     let is_final = byte & FINAL_BIT != 0;
-    if byte & 0x7F == 0x7F {
+    if byte & 0x7F == ABORT {
         return FirstByte::Known {
             opcode: Opcode::Abort,
             is_final,
@@ -57,24 +91,24 @@ pub fn from_byte(byte: u8) -> FirstByte
     try_from(byte & 0x1F, is_final)
 }
 
-// The opcode's number, without the Final bit.
+// Returns the number of the opcode `op`, without the Final bit.
 pub fn value(op: Opcode) -> u8
     ensures { λ r. ⌜ r ≡ valueOf op ⌝ }
 {
     match op {
-        Opcode::Connect => 0x00,
-        Opcode::Disconnect => 0x01,
-        Opcode::Put => 0x02,
-        Opcode::Get => 0x03,
-        Opcode::SetPath => 0x05,
-        Opcode::Action => 0x06,
-        Opcode::Session => 0x07,
-        Opcode::Abort => 0x7F,
+        Opcode::Connect => CONNECT,
+        Opcode::Disconnect => DISCONNECT,
+        Opcode::Put => PUT,
+        Opcode::Get => GET,
+        Opcode::SetPath => SET_PATH,
+        Opcode::Action => ACTION,
+        Opcode::Session => SESSION,
+        Opcode::Abort => ABORT,
         Opcode::UserDefined(value) => value,
     }
 }
 
-// Whether the opcode is always sent with the Final bit.
+// Tells whether the opcode `op` must always be sent with the Final bit set.
 pub fn is_always_final(op: Opcode) -> bool
     ensures { λ r. ⌜ r ≡ alwaysFinal op ⌝ }
 {
@@ -91,7 +125,7 @@ pub fn is_always_final(op: Opcode) -> bool
     }
 }
 
-// The byte sent.
+// Returns the byte that is sent: with the Final bit if `is_final` asks for it or the opcode `op` always has it.
 pub fn to_byte(op: Opcode, is_final: bool) -> u8
     ensures { λ r. ⌜ r ≡ byteOf op «is_final» ⌝ }
 {
@@ -105,7 +139,7 @@ pub fn to_byte(op: Opcode, is_final: bool) -> u8
     v
 }
 
-// 1 for a UserDefined, 0 for the named ones: the value that a UserDefined holds can be one of theirs.
+// Returns 1 for a UserDefined and 0 for a named opcode: the value that a UserDefined holds can be that of a named one.
 fn kind(op: Opcode) -> u8
     ensures { λ r. ⌜ r ≡ kindOf op ⌝ }
 {
@@ -122,7 +156,7 @@ fn kind(op: Opcode) -> u8
     }
 }
 
-// Whether two opcodes are the same, a UserDefined by its value.
+// Tells whether `a` and `b` are the same opcode; of two UserDefined, whether they hold the same value.
 pub fn same(a: Opcode, b: Opcode) -> bool
     ensures { λ r. ⌜ r ≡ sameOpcode a b ⌝ }
 {

@@ -1,5 +1,5 @@
-// Packets (01, Packet; the source's packet.rs): a first byte, the 16-bit length of the whole, Connect's four bytes or SetPath's two,
-// and headers to the end.
+// Packets (IrOBEX 1.5, sections 3.1 and 3.2; docs/PROTOCOL.md#packets; the source's packet.rs): a first byte, the 16-bit length of the
+// whole, Connect's four bytes or SetPath's two, and headers up to the end.
 ghost use mathlib.Core.Path.{_≡_};
 ghost use mathlib.Core.List.{_∷_};
 ghost use Prim.Native.Nat.{_+_, _≤_, _<_};
@@ -12,36 +12,40 @@ ghost use Rattle.packet.specs.PacketWrite.{connectBytes, setPathByte, fi
 ghost use Rattle.packet.specs.PacketRead.{packetLength, parsePacket, parseFront, flagsOf};
 use crate::flags::flag_bits;
 use crate::header::is_readable;
+use crate::limits::MAX_PACKET;
+use crate::limits::MIN_PACKET;
 use crate::opcode::FirstByte;
 use crate::opcode::Opcode;
 use crate::opcode::from_byte;
 use crate::opcode::to_byte;
 use crate::response;
 use crate::store::room;
-use crate::tlv::Put;
+use crate::tlv::Wrote;
 use base::be16_at;
 use base::copy_into;
 use base::wide;
 
-// The protocol version sent in Connect packets (1.0).
+// The protocol version that Connect packets name: 1.0, the major version in the high four bits.
 pub const OBEX_VERSION: u8 = 0x10;
 
-// The smallest limit that a device may name, and the default.
-pub const MINIMUM_PACKET_LENGTH: u16 = 255;
-
-// The largest length of a packet.
-pub const MAXIMUM_PACKET_LENGTH: usize = 65535;
-
-// The number of bytes before the headers of a regular packet.
+// The number of bytes before the headers of a regular packet: the first byte and the length.
 pub const PACKET_PREFIX_LENGTH: usize = 3;
 
+// The bit by which SetPath goes up a level before it applies the name.
+const BACKUP: u8 = 0x01;
+
+// The bit by which SetPath does not create a folder.
+const NO_CREATE: u8 = 0x02;
+
+// The length of a packet, or that its length field has not come.
 pub enum Length {
     Known(usize),
     Missing,
 }
 
+// A packet as read.
 pub enum Parsed {
-    // The headers stand from a place to the packet's end, at length.
+    // The headers stand from `headers` up to the packet's end at `length`.
     Request {
         opcode: Opcode,
         is_final: bool,
@@ -51,16 +55,18 @@ pub enum Parsed {
     Unreadable,
 }
 
+// The flags of a SetPath request.
 pub struct SetPathFlags {
-    // Go up a level before applying the name.
+    // The path goes up a level before the name is applied, like `cd ..`.
     pub backup: bool,
-    // Do not create the folder where it does not exist.
+    // A folder that does not exist is not created; the answer is an error instead.
     pub no_create: bool,
 }
 
 // ---- reading
 
-// The length of the packet at the start of buf, once its length field is there.
+// Returns the length of the packet at the start of `buf`, once its length field has come. This is all that a stream transport needs to
+// split bytes into packets.
 pub fn packet_length(buf: &[u8]) -> Length
     ensures { λ r. ⌜ r ≡ packetLength (now (buf .entry)) ⌝ }
 {
@@ -70,7 +76,7 @@ pub fn packet_length(buf: &[u8]) -> Length
     Length::Known(be16_at(buf, 1))
 }
 
-// The number of bytes between the packet length and the headers.
+// Returns how many bytes stand between the length and the headers.
 fn fields_len(opcode: Opcode) -> usize
     ensures { λ r. ⌜ (r ≡ fieldsOf opcode) × (r ≤ 4) ⌝ }
 {
@@ -87,14 +93,14 @@ fn fields_len(opcode: Opcode) -> usize
     }
 }
 
-// The number of bytes before the headers of a request.
+// Returns how many bytes stand before the headers of a request with `opcode`.
 pub fn prefix_len(opcode: Opcode) -> usize
     ensures { λ r. ⌜ r ≡ prefixOf opcode ⌝ }
 {
     PACKET_PREFIX_LENGTH + fields_len(opcode)
 }
 
-// The bytes as one packet, whatever their length field says.
+// Reads `p` as one packet, whatever its length field says.
 pub fn parse_packet(p: &[u8]) -> Parsed
     ensures { λ r. ⌜ r ≡ parsePacket (now (p .entry)) ⌝ }
 {
@@ -119,7 +125,7 @@ pub fn parse_packet(p: &[u8]) -> Parsed
     }
 }
 
-// The packet at the front of the bytes, by its length field.
+// Reads the packet at the front of `s`, by its length field.
 pub fn parse(s: &[u8]) -> Parsed
     ensures { λ r. ⌜ r ≡ parseFront (now (s .entry)) ⌝ }
 {
@@ -136,7 +142,7 @@ pub fn parse(s: &[u8]) -> Parsed
     parse_packet(&s[..n])
 }
 
-// A byte of a packet, 0 past its end.
+// Returns the byte at `at` of a packet, or 0 past its end.
 fn byte_at(p: &[u8], at: usize) -> u8
     ensures { λ r. ⌜ r ≡ getD (now (p .entry)) at 0 ⌝ }
 {
@@ -146,26 +152,28 @@ fn byte_at(p: &[u8], at: usize) -> u8
     p[at]
 }
 
-// The limit that a Connect names.
+// Returns the limit that a Connect names: the largest packet that its sender can receive.
 pub fn connect_limit(p: &[u8]) -> usize
     ensures { λ r. ⌜ r ≡ connectLimit (now (p .entry)) ⌝ }
 {
     wide(byte_at(p, 5)) * 256 + wide(byte_at(p, 6))
 }
 
+// Reads the flags of a SetPath.
 pub fn set_path_flags(p: &[u8]) -> SetPathFlags
     ensures { λ r. ⌜ r ≡ flagsOf (now (p .entry)) ⌝ }
 {
     let flags = byte_at(p, 3);
     SetPathFlags {
-        backup: flags & 0x01 != 0,
-        no_create: flags & 0x02 != 0,
+        backup: flags & BACKUP != 0,
+        no_create: flags & NO_CREATE != 0,
     }
 }
 
 // ---- writing
 
-// The operation specific fields of a request. Those of another operation are ignored, and missing ones have their defaults.
+// The operation specific fields of a request that is to be written. The writer ignores fields of another operation, and gives missing ones
+// their defaults.
 pub enum Fields {
     Default,
     Connect {
@@ -179,7 +187,7 @@ pub enum Fields {
     },
 }
 
-// The fields of a response to a Connect.
+// The fields of a response to a Connect. Such a response cannot be told from any other by its bytes alone.
 pub enum ConnectParameters {
     Parameters {
         version: u8,
@@ -189,7 +197,7 @@ pub enum ConnectParameters {
     Missing,
 }
 
-// The first byte and the length of a packet, at the front of the store.
+// Writes the first byte and the length of a packet at the front of the store.
 pub fn put_prefix(store: &mut [u8], byte: u8, size: usize)
     requires { ⌜ (3 ≤ length (now store)) × (size < 65536) ⌝ }
     ensures { λ r. ⌜ now (store .exit) ≡ laid (now (store .entry)) 0 (byte ∷ bytes16 size) ⌝ }
@@ -199,7 +207,7 @@ pub fn put_prefix(store: &mut [u8], byte: u8, size: usize)
     store[2] = (size % 256) as u8;
 }
 
-// A packet that fits.
+// Writes a packet that fits at the front of the store.
 fn put_packet(store: &mut [u8], byte: u8, fields: &[u8], headers: &[u8])
     requires { ⌜ (3 + length (now fields) + length (now headers) ≤ length (now store))
         × (3 + length (now fields) + length (now headers) < 65536) ⌝ }
@@ -211,28 +219,29 @@ fn put_packet(store: &mut [u8], byte: u8, fields: &[u8], headers: &[u8])
     copy_into(store, n, headers);
 }
 
-// A packet at the front of the store. Its fields are the first n of four bytes.
-fn write_packet(store: &mut [u8], byte: u8, fields: [u8; 4], n: usize, headers: &[u8]) -> Put
+// Writes a packet at the front of the store; its fields are the first `n` of four bytes. A length over 65,535 has no length field.
+fn write_packet(store: &mut [u8], byte: u8, fields: [u8; 4], n: usize, headers: &[u8]) -> Wrote
     requires { ⌜ (length fields ≡ 4) × (n ≤ 4) ⌝ }
     ensures { λ r. ⌜ putting r (now (store .exit))
         ≡ writePacket (now (store .entry)) (packetBytes byte (take n fields) (now (headers .entry))) ⌝ }
 {
     let need = PACKET_PREFIX_LENGTH + n + headers.len();
-    let answer = room(store.len(), 0, need, MAXIMUM_PACKET_LENGTH < need);
-    let Put::Written(next) = answer else {
+    let answer = room(store.len(), 0, need, MAX_PACKET < need);
+    let Wrote::Written(next) = answer else {
         return answer;
     };
     put_packet(store, byte, &fields[..n], headers);
-    Put::Written(next)
+    Wrote::Written(next)
 }
 
+// Returns Connect's four bytes: version, flags and limit.
 fn encode_connect(version: u8, flags: u8, limit: u16) -> [u8; 4]
     ensures { λ r. ⌜ r ≡ version ∷ flags ∷ bytes16 limit ⌝ }
 {
     [version, flags, (limit / 256) as u8, (limit % 256) as u8]
 }
 
-// Connect's four bytes.
+// Returns Connect's four bytes by `fields`, or the defaults: version 1.0, no flags, the smallest limit.
 fn connect_bytes(fields: Fields) -> [u8; 4]
     ensures { λ r. ⌜ r ≡ connectBytes fields ⌝ }
 {
@@ -242,15 +251,15 @@ fn connect_bytes(fields: Fields) -> [u8; 4]
             flags,
             max_packet_length,
         } => encode_connect(version, flags, max_packet_length),
-        Fields::Default => encode_connect(OBEX_VERSION, 0, MINIMUM_PACKET_LENGTH),
+        Fields::Default => encode_connect(OBEX_VERSION, 0, MIN_PACKET),
         Fields::SetPath {
             backup: _,
             no_create: _,
-        } => encode_connect(OBEX_VERSION, 0, MINIMUM_PACKET_LENGTH),
+        } => encode_connect(OBEX_VERSION, 0, MIN_PACKET),
     }
 }
 
-// SetPath's first byte; its second is 0.
+// Returns SetPath's first byte by `fields`, or 0; its second byte, the constants, is 0.
 fn set_path_byte(fields: Fields) -> u8
     ensures { λ r. ⌜ r ≡ setPathByte fields ⌝ }
 {
@@ -265,7 +274,7 @@ fn set_path_byte(fields: Fields) -> u8
     }
 }
 
-// A request's fields, in front of zeros.
+// Returns the fields of a request in front of zeros, four bytes in all.
 fn field_bytes(opcode: Opcode, fields: Fields) -> [u8; 4]
     ensures { λ r. ⌜ r ≡ filled4 (fieldBytes opcode fields) ⌝ }
 {
@@ -279,14 +288,14 @@ fn field_bytes(opcode: Opcode, fields: Fields) -> [u8; 4]
     [0, 0, 0, 0]
 }
 
-// Writes a request at the front of the store. The Final bit is set where it is given or the opcode always has it.
+// Writes a request at the front of the store. The Final bit is set if `is_final` asks for it or the opcode always has it.
 pub fn write_request(
     store: &mut [u8],
     opcode: Opcode,
     is_final: bool,
     fields: Fields,
     headers: &[u8],
-) -> Put
+) -> Wrote
     ensures { λ r. ⌜ putting r (now (store .exit)) ≡ writeRequest (now (store .entry)) opcode «is_final» fields (now (headers .entry)) ⌝ }
 {
     let byte = to_byte(opcode, is_final);
@@ -294,7 +303,7 @@ pub fn write_request(
     write_packet(store, byte, bytes, fields_len(opcode), headers)
 }
 
-// The four bytes of a response to a Connect; four zeros, of which none is written, for any other.
+// Returns the four bytes of a response to a Connect, or four zeros, of which none is written, for any other.
 fn parameter_bytes(connect: ConnectParameters) -> [u8; 4]
     ensures { λ r. ⌜ r ≡ filled4 (parameterBytes connect) ⌝ }
 {
@@ -308,6 +317,7 @@ fn parameter_bytes(connect: ConnectParameters) -> [u8; 4]
     }
 }
 
+// Returns how many of those four bytes are written.
 fn parameters_len(connect: ConnectParameters) -> usize
     ensures { λ r. ⌜ (r ≡ length (parameterBytes connect)) × (r ≤ 4) ⌝ }
 {
@@ -321,8 +331,13 @@ fn parameters_len(connect: ConnectParameters) -> usize
     }
 }
 
-// Writes a response at the front of the store. The byte sent is the code plus 0x80.
-pub fn write_response(store: &mut [u8], code: u8, connect: ConnectParameters, headers: &[u8]) -> Put
+// Writes a response at the front of the store.
+pub fn write_response(
+    store: &mut [u8],
+    code: u8,
+    connect: ConnectParameters,
+    headers: &[u8],
+) -> Wrote
     ensures { λ r. ⌜ putting r (now (store .exit)) ≡ writeResponse (now (store .entry)) code connect (now (headers .entry)) ⌝ }
 {
     let byte = response::to_byte(code);

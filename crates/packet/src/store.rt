@@ -1,20 +1,21 @@
-// Places in a lent store.
+// Room in a lent store.
 ghost use mathlib.Core.Path.{_≡_};
 ghost use Rattle.packet.specs.Placed.{roomOf};
-use crate::tlv::Put;
+use crate::tlv::Wrote;
 
-// Whether need bytes go to a place of a store of len bytes, and what follows them.
-pub fn room(len: usize, at: usize, need: usize, forbidden: bool) -> Put
+// Tells whether `need` bytes fit at `at` of a store of `len` bytes, and where they end. A store that is too short is told before
+// `forbidden`.
+pub fn room(len: usize, at: usize, need: usize, forbidden: bool) -> Wrote
     ensures { λ r. ⌜ r ≡ roomOf len at need forbidden ⌝ }
 {
     if len < at {
-        return Put::Short;
+        return Wrote::Short;
     }
     if len - at < need {
-        return Put::Short;
+        return Wrote::Short;
     }
     if forbidden {
-        return Put::TooLong;
+        return Wrote::TooLong;
     }
-    Put::Written(at + need)
+    Wrote::Written(at + need)
 }

@@ -1,17 +1,19 @@
-// Tag lists: tag, length, that many bytes, filling the payload (01, Tag lists). The reader is a cursor: a slice and a place in,
-// an enum out. The writer appends one tag to a lent store.
+// Tag lists (docs/PROTOCOL.md#tag-lists; the source's tlv.rs): Application Parameters, Authenticate Challenge, Authenticate Response and
+// Session Parameters carry a sequence of tag, length and value. The reader is a cursor: it takes a slice and a place and returns an enum.
+// The writer appends one tag to a lent store.
 ghost use mathlib.Core.Path.{_≡_};
 ghost use Rattle.packet.specs.Tags.{tagAt, isTagList, counts, lastUnder, lastValue, putTag, putting};
+use crate::limits::MAX_TAG_VALUE;
 use base::copy_into;
 use base::wide;
 
 // What stands at a place of a payload.
 pub enum TagAt {
-    // A whole tag: where its value starts, and where the next tag does.
+    // A whole tag, with the places where its value starts and where the next tag does.
     At { tag: u8, start: usize, next: usize },
-    // A tag that is cut off.
+    // A tag that the payload's end cuts off.
     Bad,
-    // The payload's end.
+    // The payload ends here.
     End,
 }
 
@@ -21,16 +23,17 @@ pub enum Found {
     Missing,
 }
 
-// What became of a tag to be written.
-pub enum Put {
-    // The place after it.
+// What became of bytes that were to be written.
+pub enum Wrote {
+    // The bytes were written, and end at this place.
     Written(usize),
-    // A length is one byte, so a value is at most 255 long.
+    // A length field cannot say how long the value is: one byte says at most 255, two say 65,535.
     TooLong,
-    // The store does not hold it.
+    // The store is too short.
     Short,
 }
 
+// Reads the tag at `at`.
 pub fn tag_at(s: &[u8], at: usize) -> TagAt
     ensures { λ r. ⌜ r ≡ tagAt (now (s .entry)) at ⌝ }
 {
@@ -52,7 +55,7 @@ pub fn tag_at(s: &[u8], at: usize) -> TagAt
     }
 }
 
-// Whether tags fill the payload.
+// Tells whether whole tags fill the payload.
 pub fn is_tag_list(s: &[u8]) -> bool
     ensures { λ r. ⌜ r ≡ isTagList (now (s .entry)) ⌝ }
 {
@@ -76,7 +79,7 @@ pub fn is_tag_list(s: &[u8]) -> bool
     }
 }
 
-// Whether a tag t with a value of n bytes is one of those looked for; empty says whether an empty value is.
+// Tells whether the tag `t` with a value of `n` bytes is one that is looked for; `empty` says whether an empty value counts.
 fn is_wanted(tag: u8, empty: bool, t: u8, n: usize) -> bool
     ensures { λ r. ⌜ r ≡ counts tag empty t n ⌝ }
 {
@@ -89,7 +92,7 @@ fn is_wanted(tag: u8, empty: bool, t: u8, n: usize) -> bool
     0 < n
 }
 
-// The last value under a tag; empty says whether an empty one counts. It is missing too where the payload is no tag list.
+// Finds the last value under `tag`; `empty` says whether an empty value counts. If the payload is no tag list, nothing is found.
 pub fn last_under(s: &[u8], tag: u8, empty: bool) -> Found
     ensures { λ r. ⌜ r ≡ lastUnder (now (s .entry)) tag empty ⌝ }
 {
@@ -117,29 +120,29 @@ pub fn last_under(s: &[u8], tag: u8, empty: bool) -> Found
     }
 }
 
-// The last value under a tag, an empty one too.
+// Finds the last value under `tag`, even an empty one.
 pub fn last_value(s: &[u8], tag: u8) -> Found
     ensures { λ r. ⌜ r ≡ lastValue (now (s .entry)) tag ⌝ }
 {
     last_under(s, tag, true)
 }
 
-// Writes a tag at a place of the store. What is refused changes nothing.
-pub fn put_tag(store: &mut [u8], at: usize, tag: u8, value: &[u8]) -> Put
+// Writes a tag at `at` of the store. A tag that is refused leaves the store as it was.
+pub fn put_tag(store: &mut [u8], at: usize, tag: u8, value: &[u8]) -> Wrote
     ensures { λ r. ⌜ putting r (now (store .exit)) ≡ putTag (now (store .entry)) at tag (now (value .entry)) ⌝ }
 {
     let n = value.len();
-    if 255 < n {
-        return Put::TooLong;
+    if MAX_TAG_VALUE < n {
+        return Wrote::TooLong;
     }
     if store.len() < at {
-        return Put::Short;
+        return Wrote::Short;
     }
     if store.len() - at < n + 2 {
-        return Put::Short;
+        return Wrote::Short;
     }
     store[at] = tag;
     store[at + 1] = n as u8;
     copy_into(store, at + 2, value);
-    Put::Written(at + 2 + n)
+    Wrote::Written(at + 2 + n)
 }

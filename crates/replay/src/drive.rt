@@ -7,17 +7,15 @@ use crate::state::Replay;
 use crate::state::after_call;
 use crate::state::with_output;
 use base::copy_into;
-use engine::arrival;
-use engine::host;
-use engine::session;
+use engine::calls;
 use lines::output::flush;
 use lines::output::least;
-use model::server::Engine;
-use model::server::Operation;
-use model::server::Outcome;
-use model::server::Request;
-use model::server::Settings;
-use model::server::Took;
+use server::CallResult;
+use server::Engine;
+use server::HostRequest;
+use server::Operation;
+use server::Outcome;
+use server::Settings;
 
 // ---- the start
 
@@ -88,9 +86,9 @@ fn start(
     headers: &mut [u8],
     body: &mut [u8],
     reply: &mut [u8],
-) -> Took {
+) -> CallResult {
     clear_stores(cleared(o), packet, headers, body, reply);
-    session::start(settings_of(o), packet, headers, body, reply)
+    calls::start(settings_of(o), packet, headers, body, reply)
 }
 
 // ---- one call
@@ -104,13 +102,13 @@ fn peer_call(
     headers: &mut [u8],
     body: &mut [u8],
     reply: &mut [u8],
-) -> Took {
+) -> CallResult {
     match call {
-        Call::Bytes => arrival::bytes(e, input, packet, headers, body, reply),
-        Call::EndOfStream => session::end_of_stream(e, packet, headers, body, reply),
-        Call::Acknowledge => host::acknowledge(e, packet, headers, body, reply),
+        Call::Bytes => calls::bytes_offered(e, input, packet, headers, body, reply),
+        Call::EndOfStream => calls::stream_ended(e, packet, headers, body, reply),
+        Call::Acknowledge => calls::abort_acknowledged(e, packet, headers, body, reply),
         Call::Start(o) => start(o, packet, headers, body, reply),
-        _ => arrival::reply_taken(e, packet, headers, body, reply),
+        _ => calls::reply_taken(e, packet, headers, body, reply),
     }
 }
 
@@ -125,14 +123,14 @@ fn host_call(
     headers: &mut [u8],
     body: &mut [u8],
     reply: &mut [u8],
-) -> Took {
+) -> CallResult {
     match call {
-        Call::Nonce(n) => host::nonce(e, n, realm, packet, headers, body, reply),
-        Call::Reply(code) => host::reply(e, code, b, packet, headers, body, reply),
-        Call::Object(has_body) => host::object(e, a, has_body, packet, headers, body, reply),
-        Call::Body => host::body(e, a, packet, headers, body, reply),
-        Call::BodyFailed => host::body_failed(e, packet, headers, body, reply),
-        Call::Password(has_password) => host::password(
+        Call::Nonce(n) => calls::nonce_given(e, n, realm, packet, headers, body, reply),
+        Call::Reply(code) => calls::reply_given(e, code, b, packet, headers, body, reply),
+        Call::Object(has_body) => calls::object_given(e, a, has_body, packet, headers, body, reply),
+        Call::Body => calls::body_given(e, a, packet, headers, body, reply),
+        Call::BodyFailed => calls::body_failed(e, packet, headers, body, reply),
+        Call::Password(has_password) => calls::password_given(
             e,
             has_password,
             a,
@@ -144,7 +142,7 @@ fn host_call(
         Call::Credentials {
             has_credentials,
             has_user,
-        } => host::credentials(
+        } => calls::credentials_given(
             e,
             has_credentials,
             has_user,
@@ -274,9 +272,9 @@ fn unless(hold: bool, call: Call) -> Call {
     call
 }
 
-fn answers(request: Request, hold: bool) -> Call {
+fn answers(request: HostRequest, hold: bool) -> Call {
     match request {
-        Request::Abort { length: _ } => unless(hold, Call::Acknowledge),
+        HostRequest::Abort { length: _ } => unless(hold, Call::Acknowledge),
         _ => Call::Nothing,
     }
 }

@@ -15,7 +15,7 @@ use command::decode;
 use command::default_options;
 use drive::run;
 use drive::settings_of;
-use engine::session;
+use engine::calls;
 use lines::input::keep;
 use lines::input::read;
 use lines::output::least;
@@ -268,7 +268,7 @@ fn sessions(
     out: &mut [u8; 1048576],
 ) {
     let settings = settings_of(default_options());
-    let first = session::start(settings, packet, headers, body, reply);
+    let first = calls::start(settings, packet, headers, body, reply);
     turns(
         begun(first),
         input,

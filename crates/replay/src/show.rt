@@ -15,10 +15,12 @@ use lines::output::put_hex;
 use lines::output::put_number;
 use lines::output::put_u32;
 use lines::word::byte_at;
-use model::server::Body;
-use model::server::Outcome;
-use model::server::Request;
 use packet::tlv::Found;
+use server::Body;
+use server::HostRequest;
+use server::Outcome;
+use server::end_number;
+use server::refusal_number;
 
 // ---- words
 
@@ -195,13 +197,13 @@ fn put_credentials(
 fn put_packet_request(
     out: &mut [u8],
     n: usize,
-    request: Request,
+    request: HostRequest,
     packet: &[u8],
     longest: usize,
 ) -> usize {
     match request {
-        Request::Connect { length } => put_connect(out, n, packet, length, longest),
-        Request::Disconnect { length } => put_packet(
+        HostRequest::Connect { length } => put_connect(out, n, packet, length, longest),
+        HostRequest::Disconnect { length } => put_packet(
             out,
             n,
             b"disconnect",
@@ -210,14 +212,14 @@ fn put_packet_request(
             length,
             longest,
         ),
-        Request::SetPath {
+        HostRequest::SetPath {
             length,
             backup,
             no_create,
         } => put_set_path(out, n, packet, length, backup, no_create, longest),
-        Request::Abort { length } => put_packet(out, n, b"abort", packet, 3, length, longest),
-        Request::Password { user_id } => put_password(out, n, user_id, packet, longest),
-        Request::Credentials {
+        HostRequest::Abort { length } => put_packet(out, n, b"abort", packet, 3, length, longest),
+        HostRequest::Password { user_id } => put_password(out, n, user_id, packet, longest),
+        HostRequest::Credentials {
             nonce,
             user_id_required,
             read_only,
@@ -230,18 +232,26 @@ fn put_packet_request(
 fn put_request(
     out: &mut [u8],
     n: usize,
-    request: Request,
+    request: HostRequest,
     packet: &[u8],
     headers: &[u8],
     body: &[u8],
     longest: usize,
 ) -> usize {
     match request {
-        Request::Put { kept, body: bytes } => put_put(out, n, headers, kept, bytes, body, longest),
-        Request::Get { kept } => put_kept(out, n, b"get", headers, kept, longest),
-        Request::Action { kept } => put_kept(out, n, b"action", headers, kept, longest),
-        Request::Session { kept } => put_kept(out, n, b"session", headers, kept, longest),
-        Request::UserDefined { opcode, kept } => put_user_defined(
+        HostRequest::Put { kept, body: bytes } => put_put(
+            out,
+            n,
+            headers,
+            kept,
+            bytes,
+            body,
+            longest,
+        ),
+        HostRequest::Get { kept } => put_kept(out, n, b"get", headers, kept, longest),
+        HostRequest::Action { kept } => put_kept(out, n, b"action", headers, kept, longest),
+        HostRequest::Session { kept } => put_kept(out, n, b"session", headers, kept, longest),
+        HostRequest::UserDefined { opcode, kept } => put_user_defined(
             out,
             n,
             headers,
@@ -249,7 +259,7 @@ fn put_request(
             opcode,
             longest,
         ),
-        Request::Read { room } => {
+        HostRequest::Read { room } => {
             let a = put(out, n, b"body-read ");
             put_number(out, a, room)
         }
@@ -257,8 +267,8 @@ fn put_request(
     }
 }
 
-fn is_nonce(request: Request) -> bool {
-    if let Request::Nonce = request {
+fn is_nonce(request: HostRequest) -> bool {
+    if let HostRequest::Nonce = request {
         true
     } else {
         false
@@ -269,7 +279,7 @@ fn is_nonce(request: Request) -> bool {
 fn put_asked(
     out: &mut [u8],
     n: usize,
-    request: Request,
+    request: HostRequest,
     packet: &[u8],
     headers: &[u8],
     body: &[u8],
@@ -303,8 +313,13 @@ pub(crate) fn put_outcome(
         Outcome::WantsBytes => n,
         Outcome::Reply { length } => put_reply(out, n, reply, length, longest),
         Outcome::Request(request) => put_asked(out, n, request, packet, headers, body, longest),
-        Outcome::End(number) => put_numbered(out, n, b"end ", wide(number)),
-        Outcome::Refused(number) => put_numbered(out, n, b"refused ", wide(number)),
+        Outcome::End(end) => put_numbered(out, n, b"end ", wide(end_number(end))),
+        Outcome::Refused(refusal) => put_numbered(
+            out,
+            n,
+            b"refused ",
+            wide(refusal_number(refusal)),
+        ),
     }
 }
 

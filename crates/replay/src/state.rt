@@ -7,9 +7,9 @@ use lines::word::byte_at;
 use lines::word::find;
 use lines::word::number;
 use lines::word::unhex;
-use model::server::Engine;
-use model::server::Outcome;
-use model::server::Took;
+use server::CallResult;
+use server::Engine;
+use server::Outcome;
 
 // How much of each store is lent to the engine.
 pub struct Lent {
@@ -59,7 +59,7 @@ fn no_bytes() -> Stream {
     }
 }
 
-pub(crate) fn begun(r: Took) -> Replay {
+pub(crate) fn begun(r: CallResult) -> Replay {
     let engine = r.engine;
     let outcome = r.outcome;
     Replay {
@@ -92,7 +92,7 @@ fn moved(place: usize, end: usize, n: usize) -> usize {
 }
 
 // After a call.
-pub(crate) fn after_call(s: Replay, realm: [u8; 254], r: Took) -> Replay {
+pub(crate) fn after_call(s: Replay, realm: [u8; 254], r: CallResult) -> Replay {
     let engine = r.engine;
     let outcome = r.outcome;
     let stream = s.stream;

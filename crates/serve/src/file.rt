@@ -2,12 +2,12 @@
 use crate::log;
 use crate::name::is_file_name;
 use crate::name::name_in;
-use model::server::Body;
 use packet::response::FORBIDDEN;
 use packet::response::INTERNAL_SERVER_ERROR;
 use packet::response::NOT_FOUND;
 use packet::response::NOT_IMPLEMENTED;
 use packet::response::SUCCESS;
+use server::Body;
 ghost use mathlib.Core.Path.{_≡_};
 ghost use mathlib.Core.Bool.{true};
 ghost use Rattle.serve.specs.Name.{fileName};

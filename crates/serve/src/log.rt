@@ -1,15 +1,15 @@
 // What is done, in lines on standard error.
 use crate::file::Opened;
 use crate::file::front;
+use host::names::put_name;
 use libc::STDERR_FILENO;
 use lines::output;
-use model::server::Request;
 use packet::response::FORBIDDEN;
 use packet::response::INTERNAL_SERVER_ERROR;
 use packet::response::NOT_FOUND;
 use packet::response::NOT_IMPLEMENTED;
 use packet::response::SUCCESS;
-use stream::name::put_name;
+use server::HostRequest;
 
 fn write(out: &[u8], n: usize) {
     io::write_all(STDERR_FILENO, front(out, n));
@@ -92,7 +92,7 @@ pub(crate) fn get(name: &[u8], opened: Opened) {
 }
 
 // A request by its name alone.
-pub(crate) fn request(request: Request) {
+pub(crate) fn request(request: HostRequest) {
     let mut out = [0u8; 32];
     let a = put_name(&mut out, 0, request);
     let n = output::put(&mut out, a, b"\n");

@@ -1,27 +1,26 @@
 // A server for a person: the peer's bytes come on standard input, and replies go to standard output. A Put writes a file of the
 // working folder, a Get reads one. What it does goes to standard error, a line an operation.
+mod answers;
 mod file;
-mod host;
 mod log;
 mod name;
 
+use crate::answers::Answered;
+use crate::answers::answer;
 use crate::file::front;
-use crate::host::Answered;
-use crate::host::answer;
-use engine::arrival;
-use engine::session;
-use engine::session::default_settings;
+use engine::calls;
+use host::feed::Rest;
+use host::feed::Step;
+use host::feed::feed;
+use host::feed::over;
 use libc::STDOUT_FILENO;
-use model::server::Outcome;
-use model::server::Settings;
-use stream::feed::Rest;
-use stream::feed::Step;
-use stream::feed::feed;
-use stream::feed::over;
+use server::Outcome;
+use server::Settings;
+use server::default_settings;
 
 // The last step, and the file that is being sent, or -1.
 struct Serving {
-    step: Step,
+    step: host::feed::Step,
     file: i32,
 }
 
@@ -32,10 +31,10 @@ fn settings() -> Settings {
     s
 }
 
-fn after_answer(a: Answered, rest: Rest) -> Serving {
+fn after_answer(a: Answered, rest: host::feed::Rest) -> Serving {
     let took = a.took;
     Serving {
-        step: Step { took, rest },
+        step: host::feed::Step { took, rest },
         file: a.file,
     }
 }
@@ -57,14 +56,14 @@ fn turn(
     let outcome = last.outcome;
     match outcome {
         Outcome::WantsBytes => {
-            let step = feed(e, rest, input, packet, headers, body, reply);
+            let step = host::feed::feed(e, rest, input, packet, headers, body, reply);
             Serving { step, file }
         }
         Outcome::Reply { length } => {
             io::write_all(STDOUT_FILENO, front(reply, length));
-            let took = arrival::reply_taken(e, packet, headers, body, reply);
+            let took = calls::reply_taken(e, packet, headers, body, reply);
             Serving {
-                step: Step { took, rest },
+                step: host::feed::Step { took, rest },
                 file,
             }
         }
@@ -85,10 +84,10 @@ fn serve(
     body: &mut [u8],
     reply: &mut [u8],
 ) {
-    let took = session::start(settings(), packet, headers, body, reply);
-    let rest = Rest { at: 0, end: 0 };
+    let took = calls::start(settings(), packet, headers, body, reply);
+    let rest = host::feed::Rest { at: 0, end: 0 };
     let mut s = Serving {
-        step: Step { took, rest },
+        step: host::feed::Step { took, rest },
         file: -1,
     };
     let mut left = u64::MAX;
@@ -96,7 +95,7 @@ fn serve(
         let step = s.step;
         let last = step.took;
         let outcome = last.outcome;
-        let number = over(outcome);
+        let number = host::feed::over(outcome);
         if number != 0 {
             log::end(number);
             return;

@@ -1,5 +1,4 @@
 // The names of files, as Name headers give them.
-use digest::text;
 use packet::header::first_header;
 use packet::tlv::Found;
 ghost use mathlib.Core.Path.{_≡_};

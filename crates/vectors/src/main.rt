@@ -1,6 +1,5 @@
 // Answers stored questions, a line each: a word and bytes in hexadecimal. What it writes is compared with the original's answers.
 use digest::md5;
-use digest::text;
 use libc::STDIN_FILENO;
 use libc::STDOUT_FILENO;
 use lines::output::pair;

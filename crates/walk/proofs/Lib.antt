@@ -1,3 +1,3 @@
--- What the proofs share, and the theorems of the walk.
+-- What the walks by hand share, and the theorems of the walk.
 pub mod Held
 pub mod Walks

@@ -1,2 +1,2 @@
--- The definitions that the contracts and the theorems cite.
+-- The definitions that the contracts and the theorems of the walk cite.
 pub mod Walk

@@ -1,39 +1,39 @@
-// The walk over headers, as a struct that holds the packet's bytes and its place (01, 'Once the core is in place'). The work is
-// header_at's, the cursor form, which takes a plain slice; each function here takes the struct apart or makes it.
+// The walk over headers, as a struct that holds the packet's bytes and its place. The work is `header_at`'s, the cursor form, which takes a
+// plain slice; each function here takes the struct apart or makes one.
 ghost use mathlib.Core.Path.{_≡_};
 ghost use Rattle.packet.specs.Header.{headerAt, readHeaders};
 ghost use Rattle.walk.specs.Walk.{walkAt, movedTo, countOf};
 use packet::header::HeaderAt;
 use packet::header::header_at;
 
-// The packet's bytes and the place in them.
+// The packet's bytes, and the place in them where the walk stands.
 pub struct Walk<'a> {
     pub packet: &'a [u8],
     pub at: usize,
 }
 
-// A walk that starts at a place: a packet's headers start behind its prefix.
+// Starts a walk at `at`; a packet's headers start behind its prefix.
 pub fn new<'a>(packet: &'a [u8], at: usize) -> Walk<'a>
     ensures { λ r. ⌜ r ≡ walkAt (packet .entry) at ⌝ }
 {
     Walk { packet, at }
 }
 
-// Where the walk stands.
+// Returns the place where the walk stands.
 pub fn place<'a>(w: Walk<'a>) -> usize
     ensures { λ r. ⌜ r ≡ w .entry .at ⌝ }
 {
     w.at
 }
 
-// What stands there: a header, the end, or what is unreadable.
+// Reads the header where the walk stands.
 pub fn next<'a>(w: Walk<'a>) -> HeaderAt
     ensures { λ r. ⌜ r ≡ headerAt (now (w .entry .packet)) (w .entry .at) ⌝ }
 {
     header_at(w.packet, w.at)
 }
 
-// The same packet, another place: behind a header, where its value ends.
+// Returns the walk over the same packet that stands at `at`: behind a header, `at` is where its value ends.
 pub fn moved<'a>(w: Walk<'a>, at: usize) -> Walk<'a>
     ensures { λ r. ⌜ r ≡ movedTo (w .entry) at ⌝ }
 {
@@ -43,19 +43,20 @@ pub fn moved<'a>(w: Walk<'a>, at: usize) -> Walk<'a>
     }
 }
 
-// A step of a walk, for callers with a plain slice.
+// Reads the header at `at`, for callers that have a plain slice.
 pub fn step(packet: &[u8], at: usize) -> HeaderAt
     ensures { λ r. ⌜ r ≡ headerAt (now (packet .entry)) at ⌝ }
 {
     next(new(packet, at))
 }
 
+// How many headers there are, or that they cannot be read.
 pub enum Count {
     Headers(usize),
     Unreadable,
 }
 
-// How many headers a packet has from a place to its end (the source's Headers::parse and Headers::len).
+// Counts the headers of a packet from `from` up to its end (the source's Headers::parse and Headers::len).
 pub fn len(packet: &[u8], from: usize) -> Count
     ensures { λ r. ⌜ r ≡ countOf (readHeaders (now (packet .entry)) from) ⌝ }
 {

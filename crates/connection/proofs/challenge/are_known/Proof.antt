@@ -12,7 +12,7 @@ use Rattle.base.specs.Pick.{pick}
 use Rattle.packet.specs.Header.{Header, part, readHeaders}
 use Rattle.packet.specs.declared.header.HeaderAt.the-variants.{Unreadable, End}
 use Rattle.packet.proofs.HeaderLaws.{Here, by-cursor}
-use Rattle.connection.specs.Connect.{challenges}
+use Rattle.connection.specs.ConnectReply.{challenges}
 use Rattle.connection.specs.Pieces.{knownIn, knownHeader}
 use Rattle.connection.proofs.Challenges.{known-step}
 use Rattle.connection.proofs.challenge.are_known.Statement.{statement}

@@ -1,7 +1,7 @@
 -- `engine::guard::is_sound` meets its contract. Each `return` rewrites with the tests that led there.
 use borrow.Author.Needs.{needs}
 use borrow.Author.Tests.{lt-ltb, le-ltb, lt-leb, le-leb}
-use Rattle.model.specs.Model.{sound}
+use Rattle.model.specs.Guard.{sound}
 use Rattle.engine.proofs.guard.is_sound.Statement.{statement}
 use Rattle.engine.proofs.guard.is_sound.Tie as tie
 

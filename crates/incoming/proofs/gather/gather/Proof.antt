@@ -1,4 +1,4 @@
--- incoming::gather::gather meets its contract. The invariant: gathering what is left, from here on, gives what the whole packet gives.
+-- `incoming::gather::gather` meets its contract. The invariant: gathering what is left, from here on, gives what the whole packet gives.
 use borrow.Author.Needs.{needs}
 use native.Mathlib.Omega.{arith}
 use Prim.Native.Nat.{_-_, _≤_}

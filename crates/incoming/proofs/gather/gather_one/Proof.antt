@@ -1,4 +1,4 @@
--- incoming::gather::gather_one meets its contract. The two tests are those of what becomes of the header, and each of the three has its function.
+-- `incoming::gather::gather_one` meets its contract. The two tests are those of what becomes of the header, and each of the three has its function.
 use mathlib.Core.Path.{sym, ap, _∙_}
 use denote.Ref.{now}
 use Rattle.packet.specs.Header.{part}

@@ -1,6 +1,6 @@
--- incoming::gather::is_body meets its contract. The two tests are the definition's.
+-- `incoming::gather::is_body` meets its contract. The two tests are the definition's.
 use borrow.Author.Tests.{eq-eqb, ne-eqb}
-use Rattle.journal.specs.Carried.{isBody}
+use Rattle.journal.specs.Record.{isBody}
 use Rattle.incoming.proofs.gather.is_body.Statement.{statement}
 use Rattle.incoming.proofs.gather.is_body.Tie as tie
 

@@ -1,4 +1,4 @@
--- incoming::gather::is_dropped meets its contract. Each kind of operation has its own row, and Put and Get ask `is_srm`.
+-- `incoming::gather::is_dropped` meets its contract. Each kind of operation has its own row, and Put and Get ask `is_srm`.
 use borrow.Author.Needs.{needs}
 use Rattle.incoming.proofs.gather.is_dropped.Statement.{statement}
 use Rattle.incoming.proofs.gather.is_dropped.Tie as tie

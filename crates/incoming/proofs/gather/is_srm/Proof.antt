@@ -1,6 +1,6 @@
--- incoming::gather::is_srm meets its contract. The two tests are the definition's.
+-- `incoming::gather::is_srm` meets its contract. The two tests are the definition's.
 use borrow.Author.Tests.{eq-eqb, ne-eqb}
-use Rattle.journal.specs.Carried.{isSrm}
+use Rattle.journal.specs.Record.{isSrm}
 use Rattle.incoming.proofs.gather.is_srm.Statement.{statement}
 use Rattle.incoming.proofs.gather.is_srm.Tie as tie
 

@@ -1,4 +1,4 @@
--- incoming::gather::is_stored meets its contract. Each kind of operation has its own row, and a Put asks `is_body`.
+-- `incoming::gather::is_stored` meets its contract. Each kind of operation has its own row, and a Put asks `is_body`.
 use borrow.Author.Needs.{needs}
 use Rattle.incoming.proofs.gather.is_stored.Statement.{statement}
 use Rattle.incoming.proofs.gather.is_stored.Tie as tie

@@ -1,4 +1,4 @@
--- incoming::gather::store_bytes meets its contract. By the test the bytes fit, and are pasted where the stored ones end, or they do not.
+-- `incoming::gather::store_bytes` meets its contract. By the test the bytes fit, and are pasted where the stored ones end, or they do not.
 use native.Mathlib.Omega.{arith}
 use denote.Ref.{now}
 use Rattle.incoming.proofs.Stored.{stores, stores-not}

@@ -1,4 +1,4 @@
--- incoming::survey::note meets its contract. The arms are the three ids, and no other id is noted.
+-- `incoming::survey::note` meets its contract. The arms are the three ids, and no other id is noted.
 use native.Mathlib.Omega.{arith}
 use mathlib.Core.Path.{ap, _∙_}
 use Rattle.incoming.specs.Noted.{noteId}

@@ -1,4 +1,4 @@
--- incoming::survey::note_parameter meets its contract. The test is the definition's.
+-- `incoming::survey::note_parameter` meets its contract. The test is the definition's.
 use Rattle.incoming.specs.Noted.{noteParameter}
 use borrow.Author.Needs.{needs}
 use Rattle.incoming.proofs.survey.note_parameter.Statement.{statement}

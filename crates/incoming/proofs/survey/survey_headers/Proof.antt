@@ -1,4 +1,4 @@
--- incoming::survey::survey_headers meets its contract. The invariant: what is noted, and what is left from here on, give the whole survey.
+-- `incoming::survey::survey_headers` meets its contract. The invariant: what is noted, and what is left from here on, give the whole survey.
 use borrow.Author.Needs.{needs}
 use native.Mathlib.Omega.{arith}
 use Prim.Native.Nat.{_-_}

@@ -5,7 +5,7 @@ use mathlib.Core.Bool.{false}
 use Prim.Native.Nat.{ℕ, _+_, _<_}
 use borrow.Author.Tests.{lt-ltb, le-ltb}
 use Rattle.packet.specs.declared.header.HeaderEncoding.{HeaderEncoding}
-use Rattle.packet.specs.declared.tlv.Put.the-variants.{Short}
+use Rattle.packet.specs.declared.tlv.Wrote.the-variants.{Short}
 use Rattle.packet.specs.Header.{leadOf}
 use Rattle.packet.specs.HeaderWriter.{tooLong, roomFor}
 use borrow.Author.Needs.{needs}

@@ -4,7 +4,7 @@ use mathlib.Core.Path.{_≡_, sym, ap, _∙_}
 use lib.ListN.{length}
 use lib.Seq.{sets}
 use Rattle.packet.specs.declared.header.HeaderEncoding.{HeaderEncoding}
-use Rattle.packet.specs.declared.tlv.Put.the-variants.{Written}
+use Rattle.packet.specs.declared.tlv.Wrote.the-variants.{Written}
 use Rattle.packet.specs.Tags.{putting}
 use Rattle.packet.specs.Header.{encodingOf}
 use Rattle.packet.specs.HeaderWriter.{roomFor, leadBytes, startHeader}

@@ -2,7 +2,7 @@
 use native.Mathlib.Omega.{arith}
 use mathlib.Core.List.{[], _∷_}
 use lib.ListN.{length-append}
-use Rattle.digest.specs.Text.{asciiText}
+use Rattle.text.specs.Text.{asciiText}
 use borrow.Author.Needs.{needs}
 use Rattle.packet.proofs.header.text_size.Statement.{statement}
 use Rattle.packet.proofs.header.text_size.Tie as tie

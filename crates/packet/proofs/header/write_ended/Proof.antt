@@ -3,7 +3,7 @@ use native.Mathlib.Omega.{arith}
 use mathlib.Core.List.{[], _∷_}
 use Prim.Native.Nat.{_-_}
 use lib.ListN.{length-append}
-use Rattle.digest.specs.Text.{asciiText}
+use Rattle.text.specs.Text.{asciiText}
 use Rattle.packet.proofs.TextStore.{zero-after}
 use borrow.Author.Needs.{needs}
 use Rattle.packet.proofs.header.write_ended.Statement.{statement}

@@ -2,8 +2,8 @@
 use native.Mathlib.Omega.{arith}
 use Prim.Native.Nat.{_-_}
 use lib.ListN.{length-set}
-use Rattle.digest.specs.Unicode.{lossy}
-use Rattle.digest.specs.Text.{unicodeBytes}
+use Rattle.text.specs.Unicode.{lossy}
+use Rattle.text.specs.Text.{unicodeBytes}
 use Rattle.packet.specs.Canonical.{terminated16}
 use Rattle.packet.proofs.TextStore.{none-pasted, Unit16, unit16, zeros-after}
 use borrow.Author.Needs.{needs}

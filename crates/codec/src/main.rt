@@ -1,0 +1,1026 @@
+// Answers stored questions on the records below the engine, a line each, in the words of the original's `oracle leaf`.
+use base::wide;
+use check::same;
+use digest::md5;
+use digest::md5::Octets16;
+use libc::STDOUT_FILENO;
+use lines::input::keep;
+use lines::input::read;
+use lines::output::digits;
+use lines::output::pair;
+use lines::word::after;
+use lines::word::byte_at;
+use lines::word::find;
+use lines::word::unhex;
+use packet::action::permissions;
+use packet::auth;
+use packet::auth::DigestChallenge;
+use packet::auth::DigestResponse;
+use packet::auth::Named;
+use packet::flags::flag_bits;
+use packet::header;
+use packet::header::HeaderAt;
+use packet::header::HeaderEncoding;
+use packet::opcode;
+use packet::opcode::FirstByte;
+use packet::opcode::Opcode;
+use packet::packet as packets;
+use packet::packet::ConnectParameters;
+use packet::packet::Fields;
+use packet::packet::Length;
+use packet::packet::Parsed;
+use packet::response;
+use packet::tlv;
+use packet::tlv::Found;
+use packet::tlv::TagAt;
+use packet::tlv::Wrote;
+ghost use Prim.Native.Nat.{_≤_, _<_};
+ghost use lib.ListN.{length};
+
+enum Question {
+    First,
+    Code,
+    Length,
+    Tags,
+    Headers,
+    Packet,
+    Challenge,
+    ResponseList,
+    Verify,
+    WriteChallenge,
+    Respond,
+    Request,
+    Response,
+    Digest,
+    Unknown,
+}
+
+// How a header's value is shown and written.
+enum Kind {
+    Unicode,
+    Type,
+    Time,
+    Tags,
+    Bytes,
+    U8,
+    U32,
+}
+
+// A header or a tag of a list, with the place of its value. Nothing is there where it ends no later than it was looked for.
+struct Piece {
+    id: u8,
+    start: usize,
+    end: usize,
+}
+
+// ---- writing
+
+fn put(s: &[u8]) {
+    io::write_all(STDOUT_FILENO, s);
+}
+
+fn put_number(n: usize) {
+    io::print_decimal(STDOUT_FILENO, n as u64);
+}
+
+fn put_byte(b: u8) {
+    let two = pair(b);
+    put(&two);
+}
+
+fn put_octets(n: Octets16) {
+    let bytes = md5::octets(n);
+    let mut out = [0u8; 32];
+    let n = digits(&bytes, &mut out);
+    put(&out[0..n]);
+}
+
+// Bytes in hexadecimal; of more than 512, how many and their MD5.
+fn put_digits(s: &[u8]) {
+    if 512 < s.len() {
+        put(b"#");
+        put_number(s.len());
+        put(b":");
+        let sum = md5::digest(s);
+        put_octets(md5::octets16_at(&sum, 0));
+        return;
+    }
+    let mut out = [0u8; 1024];
+    let n = digits(s, &mut out);
+    put(&out[0..n]);
+}
+
+// Bytes in hexadecimal, or a dash.
+fn put_hex(s: &[u8]) {
+    if s.len() == 0 {
+        put(b"-");
+    }
+    put_digits(s);
+}
+
+fn put_flag(b: bool) {
+    if b {
+        put(b"1");
+    } else {
+        put(b"0");
+    }
+}
+
+fn put_final(is_final: bool) {
+    if is_final {
+        put(b"final");
+    } else {
+        put(b"more");
+    }
+}
+
+fn put_name(op: Opcode) {
+    match op {
+        Opcode::Connect => put(b"connect"),
+        Opcode::Disconnect => put(b"disconnect"),
+        Opcode::Put => put(b"put"),
+        Opcode::Get => put(b"get"),
+        Opcode::SetPath => put(b"set_path"),
+        Opcode::Action => put(b"action"),
+        Opcode::Session => put(b"session"),
+        Opcode::Abort => put(b"abort"),
+        Opcode::UserDefined(_) => put(b"user_defined"),
+    }
+}
+
+// ---- reading
+
+fn question_of(w: &[u8]) -> Question {
+    if same(w, b"first") {
+        return Question::First;
+    }
+    if same(w, b"code") {
+        return Question::Code;
+    }
+    if same(w, b"length") {
+        return Question::Length;
+    }
+    if same(w, b"tags") {
+        return Question::Tags;
+    }
+    if same(w, b"headers") {
+        return Question::Headers;
+    }
+    if same(w, b"packet") {
+        return Question::Packet;
+    }
+    if same(w, b"challenge") {
+        return Question::Challenge;
+    }
+    if same(w, b"response-list") {
+        return Question::ResponseList;
+    }
+    if same(w, b"verify") {
+        return Question::Verify;
+    }
+    if same(w, b"write-challenge") {
+        return Question::WriteChallenge;
+    }
+    if same(w, b"respond") {
+        return Question::Respond;
+    }
+    if same(w, b"request") {
+        return Question::Request;
+    }
+    if same(w, b"response") {
+        return Question::Response;
+    }
+    if same(w, b"digest") {
+        return Question::Digest;
+    }
+    Question::Unknown
+}
+
+// ---- bytes that name things
+
+fn first(byte: u8) {
+    let FirstByte::Known {
+        opcode: op,
+        is_final,
+    } = opcode::from_byte(byte)
+    else {
+        put(b"unknown");
+        return;
+    };
+    put_name(op);
+    put(b" ");
+    put_byte(opcode::value(op));
+    put(b" ");
+    put_final(is_final);
+    put(b" ");
+    put_byte(opcode::to_byte(op, is_final));
+}
+
+// A code and its Final bit: the original takes the bit away.
+fn code(byte: u8) {
+    let b = byte & 0x7F;
+    if !response::is_code(b) {
+        put(b"unknown");
+        return;
+    }
+    put_byte(b);
+    if response::is_success(b) {
+        put(b" success ");
+    } else {
+        put(b" other ");
+    }
+    put_byte(response::to_byte(b));
+}
+
+fn packet_length(s: &[u8]) {
+    match packets::packet_length(s) {
+        Length::Known(n) => put_number(n),
+        Length::Missing => put(b"none"),
+    }
+}
+
+// ---- tag lists
+
+fn piece_at(len: usize, id: u8, start: usize, end: usize) -> Piece
+    ensures { λ r. ⌜ (r .start ≤ r .end) × (r .end ≤ len) ⌝ }
+{
+    if len < end {
+        return Piece {
+            id: 0,
+            start: 0,
+            end: 0,
+        };
+    }
+    if end < start {
+        return Piece {
+            id: 0,
+            start: 0,
+            end: 0,
+        };
+    }
+    Piece { id, start, end }
+}
+
+fn tag_piece(s: &[u8], at: usize) -> Piece
+    ensures { λ r. ⌜ (r .start ≤ r .end) × (r .end ≤ length (now (s .entry))) ⌝ }
+{
+    match tlv::tag_at(s, at) {
+        TagAt::At { tag, start, next } => piece_at(s.len(), tag, start, next),
+        TagAt::Bad => piece_at(0, 0, 0, 0),
+        TagAt::End => piece_at(0, 0, 0, 0),
+    }
+}
+
+fn put_tag(separator: &[u8], tag: u8, value: &[u8]) {
+    put(separator);
+    put_byte(tag);
+    put(b"=");
+    put_hex(value);
+}
+
+fn put_tags(s: &[u8], separator: &[u8]) {
+    if s.len() == 0 {
+        put(b"-");
+    }
+    let mut at = 0;
+    while at < s.len() {
+        let p = tag_piece(s, at);
+        let start = p.start;
+        let end = p.end;
+        if end <= at {
+            return;
+        }
+        if at == 0 {
+            put_tag(b"", p.id, &s[start..end]);
+        } else {
+            put_tag(separator, p.id, &s[start..end]);
+        }
+        at = end;
+    }
+}
+
+fn tags(s: &[u8]) {
+    if tlv::is_tag_list(s) {
+        put_tags(s, b" ");
+    } else {
+        put(b"unreadable");
+    }
+}
+
+// ---- headers
+
+fn bytes_kind(id: u8) -> Kind {
+    match id {
+        0x42 => Kind::Type,
+        0x44 => Kind::Time,
+        0x4C | 0x4D | 0x4E | 0x52 => Kind::Tags,
+        _ => Kind::Bytes,
+    }
+}
+
+fn kind_of(id: u8) -> Kind {
+    match header::encoding(id) {
+        HeaderEncoding::Unicode => Kind::Unicode,
+        HeaderEncoding::Bytes => bytes_kind(id),
+        HeaderEncoding::U8 => Kind::U8,
+        HeaderEncoding::U32 => Kind::U32,
+    }
+}
+
+fn header_piece(s: &[u8], at: usize) -> Piece
+    ensures { λ r. ⌜ (r .start ≤ r .end) × (r .end ≤ length (now (s .entry))) ⌝ }
+{
+    match header::header_at(s, at) {
+        HeaderAt::At {
+            id,
+            encoding: _,
+            start,
+            end,
+        } => piece_at(s.len(), id, start, end),
+        HeaderAt::Unreadable => piece_at(0, 0, 0, 0),
+        HeaderAt::End => piece_at(0, 0, 0, 0),
+    }
+}
+
+// A value of four bytes; of Permissions, as it is written back.
+fn number_of(id: u8, v: &[u8]) -> u32 {
+    if v.len() < 4 {
+        return 0;
+    }
+    let n = header::be32_at(v, 0);
+    if id == 0xD6 { permissions(n) } else { n }
+}
+
+fn put_u32(n: u32) {
+    put_byte((n / 16777216 % 256) as u8);
+    put_byte((n / 65536 % 256) as u8);
+    put_byte((n / 256 % 256) as u8);
+    put_byte((n % 256) as u8);
+}
+
+fn stored(done: text::Decoded, len: usize) -> usize
+    ensures { λ r. ⌜ r ≤ len ⌝ }
+{
+    match done {
+        text::Decoded::Written(n) => { if n <= len { n } else { 0 } }
+        text::Decoded::Short => 0,
+    }
+}
+
+fn decoded_unicode(v: &[u8], text: &mut [u8]) -> usize
+    ensures { λ r. ⌜ r ≤ length (now (text .exit)) ⌝ }
+{
+    let done = text::decode_unicode(v, text);
+    stored(done, text.len())
+}
+
+fn decoded_ascii(v: &[u8], text: &mut [u8]) -> usize
+    ensures { λ r. ⌜ r ≤ length (now (text .exit)) ⌝ }
+{
+    let done = text::decode_ascii(v, text);
+    stored(done, text.len())
+}
+
+fn is_wide(kind: Kind) -> bool {
+    if let Kind::Unicode = kind {
+        true
+    } else {
+        false
+    }
+}
+
+// The text of a header's value.
+fn decoded(kind: Kind, v: &[u8], text: &mut [u8]) -> usize
+    ensures { λ r. ⌜ r ≤ length (now (text .exit)) ⌝ }
+{
+    if is_wide(kind) {
+        return decoded_unicode(v, text);
+    }
+    decoded_ascii(v, text)
+}
+
+// The header as the writers give it, from its text where it has one.
+fn write_header(kind: Kind, id: u8, v: &[u8], text: &[u8], store: &mut [u8]) -> Wrote {
+    match kind {
+        Kind::Unicode => header::put_unicode(store, 0, id, text),
+        Kind::Type => header::put_type(store, 0, text),
+        Kind::Time => header::put_time(store, 0, text),
+        Kind::U8 => header::put_u8(store, 0, id, byte_at(v, 0)),
+        Kind::U32 => header::put_u32(store, 0, id, number_of(id, v)),
+        Kind::Bytes => header::put_bytes(store, 0, id, v),
+        Kind::Tags => header::put_bytes(store, 0, id, v),
+    }
+}
+
+fn put_value(kind: Kind, id: u8, v: &[u8], text: &[u8]) {
+    match kind {
+        Kind::Unicode => put_named(b":text:", text),
+        Kind::Type => put_named(b":text:", text),
+        Kind::Time => put_named(b":text:", text),
+        Kind::U8 => put_named(b":u8:", v),
+        Kind::Bytes => put_named(b":bytes:", v),
+        Kind::U32 => {
+            put(b":u32:");
+            put_u32(number_of(id, v));
+        }
+        Kind::Tags => {
+            put(b":tags:");
+            put_tags(v, b";");
+        }
+    }
+}
+
+fn put_named(name: &[u8], v: &[u8]) {
+    put(name);
+    put_hex(v);
+}
+
+// Why a text is not written: its length as a header, or of Type and Time itself.
+fn put_refused(id: u8, text: &[u8]) {
+    if id < 0x40 {
+        put(b":error HeaderTooLarge ");
+        put_number(sum(text::encoded_unicode_len(text), 5));
+    } else {
+        put_named(b":", text);
+    }
+}
+
+// What became of a header: its bytes, or its text where that is too long to be written.
+fn put_written(done: Wrote, store: &[u8], id: u8, text: &[u8]) {
+    match done {
+        Wrote::Written(n) => {
+            if n <= store.len() {
+                put_digits(&store[0..n]);
+            }
+        }
+        Wrote::TooLong => {
+            put(b"<");
+            put_byte(id);
+            put_refused(id, text);
+            put(b">");
+        }
+        Wrote::Short => put(b"short"),
+    }
+}
+
+// A header's value, or the header as it is written.
+fn show(id: u8, v: &[u8], is_rewritten: bool, text: &mut [u8], store: &mut [u8]) {
+    let k = kind_of(id);
+    let n = decoded(k, v, text);
+    if is_rewritten {
+        let done = write_header(k, id, v, &text[0..n], store);
+        put_written(done, store, id, &text[0..n]);
+    } else {
+        put(b" ");
+        put_byte(id);
+        put_value(k, id, v, &text[0..n]);
+    }
+}
+
+fn show_short(id: u8, v: &[u8], is_rewritten: bool) {
+    let mut text = [0u8; 1600];
+    let mut store = [0u8; 3300];
+    show(id, v, is_rewritten, &mut text, &mut store);
+}
+
+fn show_long(id: u8, v: &[u8], is_rewritten: bool) {
+    let mut text = [0u8; 200000];
+    let mut store = [0u8; 66000];
+    show(id, v, is_rewritten, &mut text, &mut store);
+}
+
+fn show_header(id: u8, v: &[u8], is_rewritten: bool) {
+    if v.len() < 500 {
+        show_short(id, v, is_rewritten);
+    } else {
+        show_long(id, v, is_rewritten);
+    }
+}
+
+fn count_headers(s: &[u8]) -> usize {
+    let mut n = 0;
+    let mut at = 0;
+    while at < s.len() {
+        let p = header_piece(s, at);
+        if p.end <= at {
+            return n;
+        }
+        at = p.end;
+        n += 1;
+    }
+    n
+}
+
+fn each_header(s: &[u8], is_rewritten: bool) {
+    let mut at = 0;
+    while at < s.len() {
+        let p = header_piece(s, at);
+        let start = p.start;
+        let end = p.end;
+        if end <= at {
+            return;
+        }
+        show_header(p.id, &s[start..end], is_rewritten);
+        at = end;
+    }
+}
+
+// Headers that fill the bytes: how many, their values, what the writers give for them, and whether that is the same.
+fn put_headers(s: &[u8]) {
+    put_number(count_headers(s));
+    each_header(s, false);
+    put(b" = ");
+    if s.len() == 0 {
+        put(b"-");
+    }
+    each_header(s, true);
+    if header::is_canonical(s) {
+        put(b" canonical");
+    } else {
+        put(b" other");
+    }
+}
+
+fn headers(s: &[u8]) {
+    if header::is_readable(s, 0) {
+        put_headers(s);
+    } else {
+        put(b"unreadable");
+    }
+}
+
+// ---- packets
+
+fn put_connect(op: Opcode, p: &[u8]) {
+    if opcode::value(op) != 0 {
+        put(b"none");
+        return;
+    }
+    let n = packets::connect_limit(p);
+    put_byte(byte_at(p, 3));
+    put_byte(byte_at(p, 4));
+    put_byte((n / 256 % 256) as u8);
+    put_byte((n % 256) as u8);
+}
+
+fn put_set_path(op: Opcode, p: &[u8]) {
+    if opcode::value(op) != 5 {
+        put(b"none");
+        return;
+    }
+    let flags = packets::set_path_flags(p);
+    put_byte(flag_bits(flags.backup, flags.no_create));
+}
+
+fn put_request(op: Opcode, is_final: bool, p: &[u8], left: usize, headers: &[u8]) {
+    put_name(op);
+    put(b" ");
+    put_byte(opcode::value(op));
+    put(b" ");
+    put_final(is_final);
+    put(b" connect=");
+    put_connect(op, p);
+    put(b" set_path=");
+    put_set_path(op, p);
+    put(b" left=");
+    put_number(left);
+    put(b" ");
+    put_headers(headers);
+}
+
+fn parsed(s: &[u8]) {
+    let Parsed::Request {
+        opcode,
+        is_final,
+        headers,
+        length,
+    } = packets::parse(s)
+    else {
+        put(b"unreadable");
+        return;
+    };
+    let p = piece_at(s.len(), 0, headers, length);
+    let start = p.start;
+    let end = p.end;
+    put_request(opcode, is_final, &s[0..end], s.len() - end, &s[start..end]);
+}
+
+// What became of a packet or a tag list: its bytes, or which length is refused.
+fn put_done(done: Wrote, store: &[u8], refusal: &[u8], size: usize) {
+    match done {
+        Wrote::Written(n) => {
+            if n <= store.len() {
+                put_digits(&store[0..n]);
+            }
+        }
+        Wrote::TooLong => {
+            put(refusal);
+            put_number(size);
+        }
+        Wrote::Short => put(b"short"),
+    }
+}
+
+fn u16_at(s: &[u8], at: usize) -> u16
+    requires { ⌜ at < 8 ⌝ }
+{
+    let n = wide(byte_at(s, at)) * 256 + wide(byte_at(s, at + 1));
+    n as u16
+}
+
+// The fields that a word names: four bytes, one, or the defaults.
+fn fields_of(b: &[u8], is_default: bool) -> Fields {
+    if is_default {
+        return Fields::Default;
+    }
+    if b.len() == 4 {
+        return Fields::Connect {
+            version: byte_at(b, 0),
+            flags: byte_at(b, 1),
+            max_packet_length: u16_at(b, 2),
+        };
+    }
+    let flags = byte_at(b, 0);
+    Fields::SetPath {
+        backup: flags & 0x01 != 0,
+        no_create: flags & 0x02 != 0,
+    }
+}
+
+fn parameters_of(b: &[u8], is_none: bool) -> ConnectParameters {
+    if is_none {
+        return ConnectParameters::Missing;
+    }
+    ConnectParameters::Parameters {
+        version: byte_at(b, 0),
+        flags: byte_at(b, 1),
+        max_packet_length: u16_at(b, 2),
+    }
+}
+
+fn sum(a: usize, b: usize) -> usize {
+    if a < 1000000 {
+        if b < 1000000 {
+            return a + b;
+        }
+    }
+    0
+}
+
+// The number names an opcode only where it is its own value.
+fn request(byte: u8, is_final: bool, fields: Fields, headers: &[u8]) {
+    let FirstByte::Known {
+        opcode: op,
+        is_final: _,
+    } = opcode::from_byte(byte)
+    else {
+        put(b"unknown");
+        return;
+    };
+    if opcode::value(op) != byte {
+        put(b"unknown");
+        return;
+    }
+    if !header::is_readable(headers, 0) {
+        put(b"unreadable");
+        return;
+    }
+    let mut store = [0u8; 150000];
+    let done = packets::write_request(&mut store, op, is_final, fields, headers);
+    put_done(
+        done,
+        &store,
+        b"error PacketTooLarge ",
+        sum(packets::prefix_len(op), headers.len()),
+    );
+}
+
+fn reply(byte: u8, connect: ConnectParameters, size: usize, headers: &[u8]) {
+    let code = byte & 0x7F;
+    if !response::is_code(code) {
+        put(b"unknown");
+        return;
+    }
+    if !header::is_readable(headers, 0) {
+        put(b"unreadable");
+        return;
+    }
+    let mut store = [0u8; 150000];
+    let done = packets::write_response(&mut store, code, connect, headers);
+    put_done(
+        done,
+        &store,
+        b"error PacketTooLarge ",
+        sum(size, headers.len()),
+    );
+}
+
+// ---- digests
+
+fn put_found(v: &[u8], f: Found) {
+    match f {
+        Found::At { start, end } => {
+            let p = piece_at(v.len(), 0, start, end);
+            let from = p.start;
+            let to = p.end;
+            put_hex(&v[from..to]);
+        }
+        Found::Missing => put(b"none"),
+    }
+}
+
+// A realm, whose first byte is its charset.
+fn put_realm(v: &[u8], f: Found) {
+    match f {
+        Found::At { start, end } => {
+            put_byte(byte_at(v, start));
+            put(b":");
+            let p = piece_at(v.len(), 0, start, end);
+            let from = p.start;
+            let to = p.end;
+            if from < to {
+                put_hex(&v[from + 1..to]);
+            }
+        }
+        Found::Missing => put(b"none"),
+    }
+}
+
+fn put_named_nonce(n: Named) {
+    match n {
+        Named::Nonce(o) => put_octets(o),
+        Named::Missing => put(b"none"),
+    }
+}
+
+fn challenge(v: &[u8]) {
+    let DigestChallenge::Challenge {
+        nonce,
+        user_id_required,
+        read_only,
+        realm,
+    } = auth::read_challenge(v)
+    else {
+        put(b"unreadable");
+        return;
+    };
+    put(b"nonce=");
+    put_octets(nonce);
+    put(b" user_id_required=");
+    put_flag(user_id_required);
+    put(b" read_only=");
+    put_flag(read_only);
+    put(b" realm=");
+    put_realm(v, realm);
+}
+
+fn response_list(v: &[u8]) {
+    let DigestResponse::Response {
+        digest,
+        user,
+        nonce,
+    } = auth::read_response(v)
+    else {
+        put(b"unreadable");
+        return;
+    };
+    put(b"digest=");
+    put_octets(digest);
+    put(b" user=");
+    put_found(v, user);
+    put(b" nonce=");
+    put_named_nonce(nonce);
+}
+
+fn verify(challenge: &[u8], response: &[u8], password: &[u8]) {
+    let DigestChallenge::Challenge {
+        nonce,
+        user_id_required: _,
+        read_only: _,
+        realm: _,
+    } = auth::read_challenge(challenge)
+    else {
+        put(b"unreadable");
+        return;
+    };
+    let DigestResponse::Response {
+        digest,
+        user: _,
+        nonce: named,
+    } = auth::read_response(response)
+    else {
+        put(b"unreadable");
+        return;
+    };
+    if auth::verify(nonce, digest, named, password) {
+        put(b"true");
+    } else {
+        put(b"false");
+    }
+}
+
+fn respond(challenge: &[u8], has_user: bool, user: &[u8], password: &[u8]) {
+    let DigestChallenge::Challenge {
+        nonce,
+        user_id_required: _,
+        read_only: _,
+        realm: _,
+    } = auth::read_challenge(challenge)
+    else {
+        put(b"unreadable");
+        return;
+    };
+    let mut store = [0u8; 4096];
+    let done = auth::respond(&mut store, 0, nonce, has_user, user, password);
+    put_done(done, &store, b"error ValueTooLarge ", user.len());
+}
+
+// The realm's charset stands before its value.
+fn write_challenge(
+    nonce: &[u8],
+    user_id_required: bool,
+    read_only: bool,
+    has_realm: bool,
+    realm: &[u8],
+) {
+    if nonce.len() != 16 {
+        put(b"bad nonce");
+        return;
+    }
+    let mut store = [0u8; 4096];
+    let n = md5::octets16_at(nonce, 0);
+    let from = after(realm, 0);
+    let charset = byte_at(realm, 0);
+    let done = auth::write_challenge(
+        &mut store,
+        0,
+        n,
+        user_id_required,
+        read_only,
+        has_realm,
+        charset,
+        &realm[from..],
+    );
+    put_done(done, &store, b"error ValueTooLarge ", realm.len());
+}
+
+fn digest(nonce: &[u8], password: &[u8]) {
+    if nonce.len() != 16 {
+        put(b"bad nonce");
+        return;
+    }
+    put_octets(md5::request_digest(md5::octets16_at(nonce, 0), password));
+}
+
+// ---- lines
+
+fn prefix(is_none: bool) -> usize {
+    if is_none { 3 } else { 7 }
+}
+
+// A question on a byte or a list.
+fn answer_one(q: Question, a: &[u8]) {
+    match q {
+        Question::First => first(byte_at(a, 0)),
+        Question::Code => code(byte_at(a, 0)),
+        Question::Length => packet_length(a),
+        Question::Tags => tags(a),
+        Question::Headers => headers(a),
+        Question::Packet => parsed(a),
+        Question::Challenge => challenge(a),
+        Question::ResponseList => response_list(a),
+        _ => put(b"bad question"),
+    }
+}
+
+// Words 2 to 4 as they stand, and words 1 to 4 as bytes.
+fn answer(q: Question, w2: &[u8], w3: &[u8], w4: &[u8], a: &[u8], b: &[u8], c: &[u8], d: &[u8]) {
+    match q {
+        Question::Verify => verify(a, b, c),
+        Question::Respond => respond(a, !same(w2, b"nouser"), b, c),
+        Question::WriteChallenge => write_challenge(
+            a,
+            same(w2, b"1"),
+            same(w3, b"1"),
+            !same(w4, b"none"),
+            d,
+        ),
+        Question::Digest => digest(a, b),
+        Question::Request => request(
+            byte_at(a, 0),
+            same(w2, b"final"),
+            fields_of(c, same(w3, b"default")),
+            d,
+        ),
+        Question::Response => reply(
+            byte_at(a, 0),
+            parameters_of(c, same(w3, b"none")),
+            prefix(same(w3, b"none")),
+            d,
+        ),
+        _ => answer_one(q, a),
+    }
+}
+
+fn words(s: &[u8], a: &mut [u8], b: &mut [u8], c: &mut [u8], d: &mut [u8]) {
+    let e0 = find(s, 0, b' ');
+    let q = question_of(&s[0..e0]);
+    let s1 = after(s, e0);
+    let e1 = find(s, s1, b' ');
+    let s2 = after(s, e1);
+    let e2 = find(s, s2, b' ');
+    let s3 = after(s, e2);
+    let e3 = find(s, s3, b' ');
+    let s4 = after(s, e3);
+    let e4 = find(s, s4, b' ');
+    let na = unhex(&s[s1..e1], a);
+    let nb = unhex(&s[s2..e2], b);
+    let nc = unhex(&s[s3..e3], c);
+    let nd = unhex(&s[s4..e4], d);
+    answer(
+        q,
+        &s[s2..e2],
+        &s[s3..e3],
+        &s[s4..e4],
+        &a[0..na],
+        &b[0..nb],
+        &c[0..nc],
+        &d[0..nd],
+    );
+    put(b"\n");
+}
+
+fn line_short(s: &[u8]) {
+    let mut a = [0u8; 1024];
+    let mut b = [0u8; 1024];
+    let mut c = [0u8; 1024];
+    let mut d = [0u8; 1024];
+    words(s, &mut a, &mut b, &mut c, &mut d);
+}
+
+fn line_long(s: &[u8]) {
+    let mut a = [0u8; 140000];
+    let mut b = [0u8; 140000];
+    let mut c = [0u8; 140000];
+    let mut d = [0u8; 140000];
+    words(s, &mut a, &mut b, &mut c, &mut d);
+}
+
+fn line(s: &[u8]) {
+    let group = find(s, 0, b'*');
+    if s.len() < 2000 {
+        if group == s.len() {
+            line_short(s);
+            return;
+        }
+    }
+    line_long(s);
+}
+
+// Answers the whole lines, and gives where the rest starts.
+fn lines_of(s: &[u8]) -> usize
+    ensures { λ r. ⌜ r ≤ length (now (s .entry)) ⌝ }
+{
+    let mut at = 0;
+    while at < s.len() {
+        let end = find(s, at, b'\n');
+        if s.len() <= end {
+            return at;
+        }
+        line(&s[at..end]);
+        at = end + 1;
+    }
+    at
+}
+
+// Reads on behind what stands in the store, answers, and gives how much is left; the store's length where there is no more.
+fn turn(s: &mut [u8], have: usize) -> usize
+    requires { ⌜ have ≤ length (now s) ⌝ }
+    ensures { λ r. ⌜ r ≤ length (now (s .exit)) ⌝ }
+{
+    let n = read(&mut s[have..]);
+    if n == 0 {
+        return s.len();
+    }
+    let end = have + n;
+    let from = lines_of(&s[0..end]);
+    keep(s, from, end)
+}
+
+// A proved loop has to end, and nothing says that the input does. So the turns are counted down, from a number that no run uses up.
+fn turns(s: &mut [u8]) {
+    let mut left = u64::MAX;
+    let mut have = 0;
+    while left > 0 {
+        have = turn(s, have);
+        if have == s.len() {
+            return;
+        }
+        left -= 1;
+    }
+}
+
+fn main() {
+    let mut input = [0u8; 300000];
+    turns(&mut input);
+}

@@ -1,0 +1,161 @@
+-- `engine::calls::bytes_offered` meets its contract: the guard and each end of the frame are the model's (proofs/Arrivals.antt).
+-- Assumes nothing.
+use borrow.Author.Needs.{needs}
+use native.Mathlib.Omega.{arith}
+use mathlib.Core.Path.{_≡_, ap}
+use Rattle.incoming.specs.declared.frame.Frame.{Frame}
+use Rattle.model.specs.Step.{Stores, Stepped, stores, stepped}
+use Rattle.model.specs.Calls.{withPacket, framedAs, bytesOfferedStep}
+use Rattle.server.specs.declared.CallResult.{CallResult}
+use Rattle.server.specs.declared.CallKind.the-variants as kind
+use Rattle.engine.proofs.Guards.{Goes, going}
+use Rattle.engine.proofs.Carried.{refused-call}
+use Rattle.engine.proofs.Arrivals.{framed-call, taken-after, short-took}
+use Rattle.engine.proofs.calls.bytes_offered.Statement.{statement}
+use Rattle.engine.proofs.calls.bytes_offered.Tie as tie
+
+abbrev start : tie.After-guard → tie.Start
+start k = k .before .before .before .before .before .before
+
+-- the stores that are lent
+abbrev lent : tie.After-guard → Stores
+lent k = let a = start k .args in stores (a .packet .now) (a .headers .now) (a .body .now) (a .reply .now)
+
+-- the guard says that the call may proceed
+abbrev passed : tie.After-enum-told → tie.After-guard
+passed z = z .before .before
+
+goes : (z : tie.After-enum-told) → Goes kind.FromPeer (start (passed z) .args .e) (lent (passed z))
+goes z = going kind.FromPeer _ _ _ (passed z .guard .ensures) (z .enum-told .given .1)
+
+-- the stores once bytes were read
+abbrev read : tie.After-read-packet → Stores
+read r = withPacket (lent (passed (r .before .before))) (r .read-packet .last .1 .1 .0)
+
+-- what follows where the frame stands is the model's step
+ending : (r : tie.After-read-packet) (x : Frame) (d : Stepped) → let a = start (passed (r .before .before)) .args in
+    r .read-packet .result .frame ≡ x → d ≡ framedAs x (a .e) (r .read-packet .result .begun) (r .read-packet .result .taken) (read r)
+    → d ≡ bytesOfferedStep (a .e) (a .input .now) (lent (passed (r .before .before)))
+ending r x d k w = framed-call _ _ _ (r .read-packet .result) _ x d (goes (r .before .before)) (r .read-packet .ensures .1) k w
+
+guard-requires : tie.Need-guard-requires
+guard-requires c κs = search needs
+
+enum-known-refusal : tie.Need-enum-known-refusal
+enum-known-refusal c = search needs
+
+refuse-requires : tie.Need-refuse-requires
+refuse-requires c κs = search needs
+
+returns : tie.Need-returns
+unfolding bytesOfferedStep
+returns c =
+    let k = c .before .before .before .before in
+    refused-call kind.FromPeer (start k .args .e) (lent k) _ _ _ _ (c .refuse .ensures) (k .guard .ensures) (c .before .before .refusal .given .1)
+
+enum-told : tie.Need-enum-told
+enum-told c = search needs
+
+read-packet-requires : tie.Need-read-packet-requires
+read-packet-requires c κs = let g = goes (c .before) in (g .bounds .begun, g .room .packet)
+
+enum-told-2 : tie.Need-enum-told-2
+enum-told-2 c = search needs
+
+more-requires : tie.Need-more-requires
+more-requires c κs = search needs
+
+enum-told-3 : tie.Need-enum-told-3
+enum-told-3 c = search needs
+
+ends-requires : tie.Need-ends-requires
+ends-requires c κs = search needs
+
+took-requires : tie.Need-took-requires
+took-requires c κs = search needs
+
+with-taken-requires : tie.Need-with-taken-requires
+with-taken-requires c κs = search needs
+
+enum-told-4 : tie.Need-enum-told-4
+enum-told-4 c = search needs
+
+packet-done-requires : tie.Need-packet-done-requires
+packet-done-requires c κs =
+    let t = c .before .before .before .before in
+    let p = t .before .before .before in
+    let r = p .before in
+    let g = goes (r .before .before) in
+    let w = r .read-packet .ensures .0 (t .enum-told4 .given .1) in
+    (omega (arith, w .0), omega (arith, w .1, g .room .packet, p .packet .given), g .bounds .count, g .bounds .remote, g .bounds .operation, g .room .headers, g .room .body, g .room .reply)
+
+with-taken-requires-2 : tie.Need-with-taken-requires-2
+with-taken-requires-2 c κs = search needs
+
+same-length : tie.Need-same-length
+same-length c = search needs
+
+returns-2 : tie.Need-returns-2
+returns-2 c =
+    let r = c .before .before .before .before .before in
+    ending r _ _ (c .before .enum-told2 .given .1) (ap (λ (x : CallResult). stepped x (read r)) (c .more .ensures))
+
+same-length-2 : tie.Need-same-length-2
+same-length-2 c = search needs
+
+returns-3 : tie.Need-returns-3
+returns-3 c =
+    let t = c .before .before .before in
+    let r = t .before .before .before .before in
+    let e = start (passed (r .before .before)) .args .e in
+    ending r _ _ (t .enum-told3 .given .1)
+    (taken-after _ _ _ (read r) _ (c .with-taken .ensures) (short-took e _ _ (read r) (c .before .took .ensures) (c .before .before .ends .ensures)))
+
+same-length-3 : tie.Need-same-length-3
+same-length-3 c =
+    let d = c .before .before .before .before .before .before .before in
+    omega (arith, d .before .before .before .before .before .before .before .before .packet .given)
+
+same-length-4 : tie.Need-same-length-4
+same-length-4 c = search needs
+
+same-length-5 : tie.Need-same-length-5
+same-length-5 c = search needs
+
+same-length-6 : tie.Need-same-length-6
+same-length-6 c = search needs
+
+returns-4 : tie.Need-returns-4
+returns-4 c =
+    let d = c .before .before .before .before .before .before .before in
+    let t = d .before .before .before .before .before in
+    ending (t .before .before .before .before) _ _ (t .enum-told4 .given .1) (taken-after _ _ _ _ _ (c .with-taken2 .ensures) (d .packet-done .ensures))
+
+pub bytes-offered-spec : {M : Type 1} → statement M
+bytes-offered-spec =
+    tie.close
+    (tie.spec
+    guard-requires
+    enum-known-refusal
+    refuse-requires
+    returns
+    enum-told
+    read-packet-requires
+    enum-told-2
+    more-requires
+    enum-told-3
+    ends-requires
+    took-requires
+    with-taken-requires
+    enum-told-4
+    packet-done-requires
+    with-taken-requires-2
+    same-length
+    returns-2
+    same-length-2
+    returns-3
+    same-length-3
+    same-length-4
+    same-length-5
+    same-length-6
+    returns-4)

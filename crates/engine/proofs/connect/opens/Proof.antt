@@ -1,0 +1,26 @@
+-- `engine::connect::opens` meets its contract: each part is what the definition asks for. Assumes nothing.
+use Rattle.engine.specs.Connect.{answerFor}
+use borrow.Author.Needs.{needs}
+use Rattle.engine.proofs.connect.opens.Statement.{statement}
+use Rattle.engine.proofs.connect.opens.Tie as tie
+
+srm-after-requires : tie.Need-srm-after-requires
+srm-after-requires c κs = search needs
+
+first-id-requires : tie.Need-first-id-requires
+first-id-requires c κs = search needs
+
+has-target-requires : tie.Need-has-target-requires
+has-target-requires c κs = search needs
+
+opened-for-requires : tie.Need-opened-for-requires
+opened-for-requires c κs = search needs
+
+returns : tie.Need-returns
+unfolding answerFor
+returns c = simp (c .opened-for .ensures, c .before .has-target .ensures, c .before .before .first-id .ensures, c .before .before .before .srm-after .ensures)
+
+pub opens-spec : {M : Type 1} → statement M
+opens-spec =
+    tie.close
+    (tie.spec srm-after-requires first-id-requires has-target-requires opened-for-requires returns)

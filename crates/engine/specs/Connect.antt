@@ -1,0 +1,156 @@
+-- Connect from its packet to its reply, and Disconnect, by the stores that they touch: the design level between model/specs/Connect and the code.
+use Prim.Native.Nat.{ℕ, _+_, _^_, _≤_, _<_}
+use mathlib.Core.List.{List, []}
+use mathlib.Core.Bool.{Bool, _||_}
+use mathlib.Core.Option.{Option, none, some}
+use lib.ListN.{length, take}
+use Rattle.base.specs.Pick.{pick}
+use Rattle.packet.specs.Codes.{isSuccess}
+use Rattle.packet.specs.Header.{Header, first, firstPlace, allBytes}
+use Rattle.packet.specs.Packet.{requestOf, connectLimit}
+use Rattle.packet.specs.declared.auth.DigestChallenge.{DigestChallenge}
+use Rattle.packet.specs.declared.auth.DigestChallenge.the-variants as challenge
+use Rattle.journal.specs.Calls.{Credentials}
+use Rattle.incoming.specs.Survey.{surveyOf}
+use Rattle.connection.specs.Reply.{fieldsOf, front}
+use Rattle.connection.specs.Peer.{idIn, isGiven, answerBy, disconnectedPeer, verifiedPeer, limited}
+use Rattle.connection.specs.ConnectReply.{connectHeaders}
+use Rattle.connection.specs.Pieces.{headersFrom, answeredIn, idGiven}
+use Rattle.connection.specs.declared.peer.Peer.{Peer}
+use Rattle.connection.specs.declared.peer.Answer.{Answer}
+use Rattle.connection.specs.declared.peer.ConnectionId.{ConnectionId}
+use Rattle.journal.specs.Journal.{headersOf as headersIn, responseIn}
+use Rattle.model.specs.Step.{Stores, Stepped, stepped, stores}
+use Rattle.model.specs.Connect.{srmAsked}
+use Rattle.model.specs.Request.{realmIn, userIn}
+use Rattle.model.specs.Guard.{longUser, sameAwait}
+use Rattle.engine.specs.Step.{asksPlan, Written, written, tookBy, repliesBy}
+use Rattle.engine.specs.Guard.{refusedWith}
+use Rattle.server.specs.declared.Operation.{Operation}
+use Rattle.server.specs.declared.Operation.the-variants.{Nothing, Putting, Getting, Sending, Gathering as GatheringOp, Connecting, Draining}
+use Rattle.server.specs.declared.Await.the-variants as await
+use Rattle.server.specs.declared.Refusal.the-variants as refusal
+use Rattle.server.specs.declared.Engine.{Engine}
+use Rattle.server.specs.declared.HostRequest.the-variants as request
+use Rattle.server.specs.declared.CallResult.{CallResult}
+use Rattle.connection.specs.declared.reply.Sent.the-variants as sent
+use Rattle.engine.specs.declared.step.Plan.{Plan}
+use Rattle.packet.specs.Auth.{Response}
+use Rattle.packet.specs.declared.tlv.Found.{Found}
+use Rattle.packet.specs.declared.tlv.Found.the-variants as place
+use Rattle.connection.specs.declared.peer.Challenge.{Challenge}
+use Rattle.connection.specs.declared.peer.Challenge.the-variants.{Stored, Absent}
+use Rattle.engine.specs.declared.connect.Answered.{Answered}
+use Rattle.engine.specs.declared.connect.Answered.the-variants.{Missing, User}
+use Rattle.engine.specs.declared.dispatch.Route.the-variants.{Connect}
+
+-- by whether the client's response can be read
+abbrev pub answeredAs : Option Response → Found → Answered
+answeredAs none u = Missing
+answeredAs (some r) u = User u
+
+-- the client's response, by where its user id stands in the packet
+abbrev pub answeredBy : List ℕ → Answered
+answeredBy q = answeredAs (responseIn (first 0x4E (headersIn (requestOf q)))) (userIn q (firstPlace 0x4E q 7))
+
+-- a place that stays below the largest number, moved on
+abbrev pub Below : ℕ → Found → Type 0
+Below n place.Missing = Unit {0}
+Below n (place.At a b) = (a ≤ b) × (n + b < 2 ^ 64)
+
+-- the password is asked where a challenge is stored and a response can be read; else a new challenge is made
+abbrev pub verifiesPlan : Engine → Peer → Challenge → Answered → Plan
+verifiesPlan e p Absent a = asksPlan e p Nothing await.Nonce request.Nonce
+verifiesPlan e p (Stored n) Missing = asksPlan e p Nothing await.Nonce request.Nonce
+verifiesPlan e p (Stored n) (User u) = asksPlan e p Nothing await.Password (request.Password u)
+
+-- once the peer's limit is set: the password where one is required, else the host is asked
+unfoldable pub limitedPlan : Engine → Peer → Answered → Plan
+limitedPlan e p a =
+    pick (e .settings .authentication) (verifiesPlan e p (p .challenge) a)
+    (asksPlan e p Nothing await.Connect (request.Connect (e .length)))
+
+-- a Connect packet
+unfoldable pub connectPlan : Engine → List ℕ → Plan
+connectPlan e q = limitedPlan e (limited (e .peer) (connectLimit q)) (answeredBy q)
+
+-- the password's check: right, the host is asked; else a new challenge is made
+unfoldable pub passwordPlan : Engine → Bool → Plan
+passwordPlan e right =
+    pick right (asksPlan e (verifiedPeer (e .peer)) Nothing await.Connect (request.Connect (e .length)))
+    (asksPlan e (e .peer) Nothing await.Nonce request.Nonce)
+
+-- what a call gives, and the header and reply stores afterwards
+pub record Answering : Type 0 where
+  pub took : CallResult
+  pub headers : List ℕ
+  pub reply : List ℕ
+
+abbrev pub answering : CallResult → List ℕ → List ℕ → Answering
+answering r h y = record { took = r; headers = h; reply = y }
+
+-- the header store stays
+abbrev pub leaving : List ℕ → Written → Answering
+leaving h w = answering (w .took) h (w .reply)
+
+-- the packet and body store stay
+abbrev pub among : Answering → Stores → Stepped
+among a s = stepped (a .took) (stores (s .packet) (a .headers) (s .body) (a .reply))
+
+-- the headers of a packet; none where it cannot be read
+abbrev pub headersOf : List ℕ → List Header
+headersOf q = headersIn (requestOf q)
+
+-- SRM is asked for by a packet and supported
+abbrev pub srmAskedBy : Engine → List ℕ → Bool
+srmAskedBy e q = srmAsked e (surveyOf (some (headersOf q)))
+
+-- a reply with Connect's fields
+abbrev pub connectReplies : Engine → Peer → ℕ → List ℕ → List ℕ → Written
+connectReplies e p code hs y = repliesBy e p code (fieldsOf (e .settings .«max_packet_length»)) hs y
+
+-- the headers of the reply to a Connect that the host accepted
+unfoldable pub acceptedHeaders : Engine → ConnectionId → List ℕ → List ℕ → Option Credentials → List ℕ
+acceptedHeaders e f q hs c =
+    allBytes (connectHeaders (idGiven f) (headersOf q) (headersFrom hs 0) c (srmAskedBy e q))
+
+-- what the answer opens
+unfoldable pub answerFor : Engine → List ℕ → List ℕ → Answer
+answerFor e hs q =
+    answerBy (e .peer) (e .peer .«srm_enabled» || srmAskedBy e q) (idIn (first 0xCB (headersFrom hs 0)))
+    (isGiven (first 0x46 (headersOf q)))
+
+-- credentials are asked for where the peer sent challenges that can all be read; the host's headers wait in the header store
+abbrev pub challengedBy : DigestChallenge → Engine → Peer → ℕ → ConnectionId → List ℕ → List ℕ → List ℕ → List ℕ → Answering
+challengedBy challenge.Unreadable e p code f hs q h y = leaving h (connectReplies e p code (acceptedHeaders e f q hs none) y)
+challengedBy (challenge.Challenge n u r x) e p code f hs q h y =
+    answering
+    (tookBy (asksPlan e p (Connecting code f (length hs)) await.Credentials (request.Credentials n u r (realmIn q (firstPlace 0x4D q 7)))))
+    (front hs h)
+    y
+
+-- a 65th id gets 0x53
+abbrev pub openedBy : Answer → Engine → ℕ → List ℕ → List ℕ → List ℕ → List ℕ → Answering
+openedBy a e code hs q h y =
+    pick (a .opening .full) (leaving h (connectReplies e (e .peer) 0x53 [] y))
+    (challengedBy (answeredIn (headersOf q)) e (a .opening .peer) code (a .front) hs q h y)
+
+-- the answer to a Connect: any but success is sent as it is
+unfoldable pub acceptedBy : Engine → ℕ → List ℕ → List ℕ → List ℕ → List ℕ → Answering
+acceptedBy e code hs q h y =
+    pick (isSuccess code) (openedBy (answerFor e hs q) e code hs q h y) (leaving h (connectReplies e (e .peer) code hs y))
+
+-- the peer when a reply is made: Disconnect closes ids before it
+unfoldable pub repliedPeer : Engine → List ℕ → Peer
+repliedPeer e q = pick (sameAwait (e .awaits) await.Disconnect) (disconnectedPeer (e .peer) (first 0xCB (headersOf q))) (e .peer)
+
+-- credentials for the Connect that waits, whose headers stand in front of the header store; a long user id is 8, no such Connect 9
+abbrev pub credentialsBy : Operation → Engine → Option Credentials → List ℕ → List ℕ → List ℕ → Written
+credentialsBy (Connecting code f n) e c q h y =
+    pick (longUser c) (written (refusedWith refusal.BadAnswer e) y) (connectReplies e (e .peer) code (acceptedHeaders e f q (take n h) c) y)
+credentialsBy Nothing e c q h y = written (refusedWith refusal.WrongMoment e) y
+credentialsBy (Putting g srm) e c q h y = written (refusedWith refusal.WrongMoment e) y
+credentialsBy (Getting g srm confirm wait) e c q h y = written (refusedWith refusal.WrongMoment e) y
+credentialsBy (Sending o k srm wait) e c q h y = written (refusedWith refusal.WrongMoment e) y
+credentialsBy (GatheringOp o g) e c q h y = written (refusedWith refusal.WrongMoment e) y
+credentialsBy (Draining code) e c q h y = written (refusedWith refusal.WrongMoment e) y

@@ -1,0 +1,181 @@
+-- Which way a packet goes, decided without the stores, and what acting on it does: the design level between model/specs/Dispatch and the code.
+use Prim.Native.Nat.{ℕ}
+use mathlib.Core.List.{List}
+use mathlib.Core.Bool.{Bool, false, _&&_, not}
+use mathlib.Core.Option.{Option, none, some}
+use lib.ListN.{getD}
+use Rattle.base.specs.Pick.{pick}
+use Rattle.packet.specs.FirstByte.{firstByte, sameOpcode}
+use Rattle.packet.specs.Codes.{sentCode}
+use Rattle.packet.specs.Header.{first}
+use Rattle.packet.specs.Packet.{Request as Packet, requestOf, backup, noCreate}
+use Rattle.packet.specs.declared.opcode.Opcode.{Opcode}
+use Rattle.packet.specs.declared.opcode.Opcode.the-variants as op
+use Rattle.incoming.specs.Survey.{surveyOf}
+use Rattle.incoming.specs.declared.gather.Gathered.{Gathered}
+use Rattle.outgoing.specs.declared.object.Outgoing.{Outgoing}
+use Rattle.journal.specs.Journal.{headersOf as headersIn}
+use Rattle.model.specs.Step.{Stores, Done, engineWith}
+use Rattle.model.specs.Operation.{nothingGathered, gathers}
+use Rattle.model.specs.Object.{sendsNext}
+use Rattle.model.specs.Dispatch.{Rejection, admits, rejects, rejection, drains, confirms, unknownByte, busy}
+use Rattle.engine.specs.Step.{planned, wantsPlan, asksPlan, endsPlan, codePlan}
+use Rattle.server.specs.declared.Operation.{Operation}
+use Rattle.server.specs.declared.Operation.the-variants.{Nothing, Putting, Getting, Sending, Gathering as GatheringOp, Connecting, Draining}
+use Rattle.server.specs.declared.Await.{Await}
+use Rattle.server.specs.declared.Await.the-variants as await
+use Rattle.server.specs.declared.End.the-variants as end
+use Rattle.server.specs.declared.Engine.{Engine}
+use Rattle.server.specs.declared.HostRequest.{HostRequest}
+use Rattle.server.specs.declared.HostRequest.the-variants as request
+use Rattle.engine.specs.declared.step.Plan.{Plan}
+use Rattle.engine.specs.declared.dispatch.Heading.{Heading}
+use Rattle.engine.specs.declared.operation.GatherKind.the-variants as kind
+use Rattle.engine.specs.declared.dispatch.Simple.{Simple}
+use Rattle.engine.specs.declared.dispatch.Simple.the-variants as brief
+use Rattle.engine.specs.declared.dispatch.Route.{Route}
+use Rattle.engine.specs.declared.dispatch.Route.the-variants.{Plain, Connect, Gather, Send}
+use Rattle.engine.specs.declared.dispatch.Admission.{Admission}
+use Rattle.engine.specs.declared.dispatch.Admission.the-variants.{Admits, Rejects}
+use Rattle.engine.specs.Operation.{keepOf, actsGathered}
+use Rattle.engine.specs.Connect.{connectPlan}
+use Rattle.server.specs.declared.Outcome.the-variants as outcome
+use Rattle.server.specs.declared.CallResult.{CallResult}
+use Rattle.engine.specs.declared.object.Turn.the-variants.{Send, End}
+
+abbrev pub headingOf : Packet → Heading
+headingOf r =
+    record {
+      survey = surveyOf (some (r .headers));
+      opcode = r .opcode;
+      backup = backup (r .bytes);
+      «no_create» = noCreate (r .bytes);
+      «is_final» = r .final;
+    }
+
+-- the host is asked
+abbrev pub askRoute : Await → HostRequest → Route
+askRoute a r = Plain (brief.Ask a r)
+
+-- a reply of a code
+abbrev pub codeRoute : ℕ → Route
+codeRoute code = Plain (brief.Code await.Taken (sentCode code))
+
+-- a password is required and not given, but for Disconnect
+abbrev pub unauthorizedFor : Engine → Opcode → Bool
+unauthorizedFor e o = e .settings .authentication && (not (e .peer .authenticated) && not (sameOpcode o op.Disconnect))
+
+abbrev pub admissionOf : Rejection → Admission
+admissionOf admits = Admits
+admissionOf (rejects code) = Rejects code
+
+-- under SRM a Put or Get that is turned away is read to its end before the reply
+abbrev pub drainedBy : Engine → Heading → Bool
+drainedBy e h = e .peer .«srm_enabled» && (drains (h .opcode) && not (h .«is_final»))
+
+-- turned away
+abbrev pub rejectedRoute : Engine → Heading → ℕ → Route
+rejectedRoute e h code = pick (drainedBy e h) (Plain (brief.Drain code)) (codeRoute code)
+
+-- a packet of a Put, of a Get's request, of a Get's object, of an operation of headers alone
+abbrev pub putRoute : Heading → Gathered → Bool → Bool → Route
+putRoute h g srm confirm = Gather kind.Put g (h .«is_final») (h .survey .additional) srm confirm
+
+abbrev pub getRoute : Heading → Gathered → Bool → Bool → Route
+getRoute h g srm confirm = Gather kind.Get g (h .«is_final») (h .survey .wait) srm confirm
+
+abbrev pub sendRoute : Heading → Outgoing → Bool → Route
+sendRoute h o srm = Send o srm (h .survey .wait)
+
+abbrev pub headersRoute : Heading → Opcode → Gathered → Route
+headersRoute h o g = Gather (kind.Headers o) g (h .«is_final») false false false
+
+-- a packet that is admitted, where nothing is open
+abbrev pub dispatchRoute : Opcode → Engine → Heading → Route
+dispatchRoute op.Connect e h = Connect
+dispatchRoute op.Abort e h = askRoute await.Acknowledgement (request.Abort (e .length))
+dispatchRoute op.Disconnect e h = askRoute await.Disconnect (request.Disconnect (e .length))
+dispatchRoute op.SetPath e h = askRoute await.Reply (request.SetPath (e .length) (h .backup) (h .«no_create»))
+dispatchRoute op.Put e h = putRoute h nothingGathered (e .peer .«srm_enabled») (confirms e (h .survey))
+dispatchRoute op.Get e h = getRoute h nothingGathered (e .peer .«srm_enabled») (confirms e (h .survey))
+dispatchRoute op.Action e h = headersRoute h op.Action nothingGathered
+dispatchRoute op.Session e h = headersRoute h op.Session nothingGathered
+dispatchRoute (op.UserDefined x) e h = headersRoute h (op.UserDefined x) nothingGathered
+
+-- admitted or turned away
+abbrev pub admittedRoute : Admission → Engine → Heading → Route
+admittedRoute Admits e h = dispatchRoute (h .opcode) e h
+admittedRoute (Rejects code) e h = rejectedRoute e h code
+
+-- nothing is open; Connect is not turned away
+unfoldable pub openRoute : Engine → Heading → Route
+openRoute e h =
+    pick (sameOpcode (h .opcode) op.Connect) Connect (admittedRoute (admissionOf (rejection e (h .opcode) (h .survey))) e h)
+
+-- another opcode inside an operation: 0x40, and the engine ends once that reply is taken
+abbrev pub interruptsRoute : Route
+interruptsRoute = Plain (brief.Code await.Last (sentCode 0x40))
+
+-- of an operation that is open
+abbrev pub continuedRoute : Heading → Opcode → Route → Route
+continuedRoute h o r = pick (sameOpcode (h .opcode) o) r interruptsRoute
+
+-- an operation that is turned away is read to its final packet
+abbrev pub drainingRoute : Heading → ℕ → Route
+drainingRoute h code = pick (h .«is_final») (codeRoute code) (Plain (brief.Drain code))
+
+-- by what is open
+abbrev pub insideRoute : Operation → Engine → Heading → Route
+insideRoute Nothing e h = openRoute e h
+insideRoute (Putting g srm) e h = continuedRoute h op.Put (putRoute h g srm false)
+insideRoute (Getting g srm confirm wait) e h = continuedRoute h op.Get (getRoute h g srm confirm)
+insideRoute (Sending o c srm wait) e h = continuedRoute h op.Get (sendRoute h o srm)
+insideRoute (GatheringOp o g) e h = continuedRoute h o (headersRoute h o g)
+insideRoute (Connecting c f n) e h = interruptsRoute
+insideRoute (Draining code) e h = drainingRoute h code
+
+-- Abort goes before all else
+unfoldable pub headingRoute : Engine → Heading → Route
+headingRoute e h =
+    pick (sameOpcode (h .opcode) op.Abort) (askRoute await.Acknowledgement (request.Abort (e .length)))
+    (insideRoute (e .operation) e h)
+
+-- an unreadable packet, by whether its first byte is unknown
+abbrev pub unreadableRoute : Operation → Bool → Route
+unreadableRoute o unknown = pick (busy o) (Plain (brief.End end.Unreadable)) (codeRoute (pick unknown 0x51 0x40))
+
+-- readable or not
+abbrev pub routeAs : Option Packet → Engine → List ℕ → Route
+routeAs none e q = unreadableRoute (e .operation) (unknownByte (firstByte (getD q 0 0)))
+routeAs (some r) e q = headingRoute e (headingOf r)
+
+-- a whole packet
+unfoldable pub packetRoute : Engine → List ℕ → Route
+packetRoute e q = routeAs (requestOf q) e q
+
+unfoldable pub simplePlan : Engine → Simple → Plan
+simplePlan e (brief.Ask a r) = asksPlan e (e .peer) Nothing a r
+simplePlan e (brief.Code a b) = codePlan e (e .peer) a b
+simplePlan e (brief.Drain code) = wantsPlan e (e .peer) (Draining code)
+simplePlan e (brief.End n) = endsPlan e (e .peer) n
+
+-- with the packet
+abbrev pub acts : Route → Engine → List ℕ → Stores → Done
+acts (Plain b) e q s = planned (simplePlan e b) s
+acts Connect e q s = planned (connectPlan e q) s
+acts (Gather k g final asked srm confirm) e q s =
+    actsGathered e k final asked srm confirm (gathers e (keepOf k) (headersIn (requestOf q)) g s) s
+acts (Send o srm wait) e q s = sendsNext e o srm wait s
+
+-- so many bytes were taken
+abbrev pub withTaken : CallResult → ℕ → CallResult
+withTaken r t = record { engine = r .engine; taken = t; outcome = r .outcome }
+
+-- more bytes of the packet are wanted
+abbrev pub moreTook : Engine → ℕ → ℕ → CallResult
+moreTook e b t =
+    record {
+      engine = engineWith (e .settings) (e .peer) (e .operation) (e .awaits) b (e .length);
+      taken = t;
+      outcome = outcome.WantsBytes;
+    }

@@ -1,0 +1,81 @@
+-- A Put, a Get's request and the operations of headers alone, decided without the stores: the design level between model/specs/Operation and the code.
+use Prim.Native.Nat.{ℕ}
+use mathlib.Core.Bool.{Bool, true, false, not}
+use Rattle.base.specs.Pick.{pick}
+use Rattle.packet.specs.declared.opcode.Opcode.{Opcode}
+use Rattle.incoming.specs.declared.gather.Gathered.{Gathered}
+use Rattle.model.specs.Step.{Stores, Done, withGathered}
+use Rattle.model.specs.Operation.{headersRequest, putBody}
+use Rattle.server.specs.declared.Operation.the-variants.{Nothing, Putting, Getting, Gathering as GatheringOp}
+use Rattle.server.specs.declared.Await.the-variants as await
+use Rattle.server.specs.declared.End.the-variants as end
+use Rattle.server.specs.declared.Engine.{Engine}
+use Rattle.server.specs.declared.HostRequest.the-variants as request
+use Rattle.engine.specs.declared.step.Plan.{Plan}
+use Rattle.engine.specs.Step.{planned, wantsPlan, asksPlan, endsPlan, codePlan, continuePlan}
+use Rattle.packet.specs.Header.{first}
+use Rattle.packet.specs.Packet.{prefixOf}
+use Rattle.incoming.specs.Gather.{Gathering}
+use Rattle.incoming.specs.declared.gather.Keep.{Keep}
+use Rattle.incoming.specs.declared.gather.Keep.the-variants as keep
+use Rattle.engine.specs.declared.operation.GatherKind.{GatherKind}
+use Rattle.engine.specs.declared.operation.GatherKind.the-variants as kind
+
+-- a Put packet that is not final: first under SRM, then without
+abbrev pub putContinuePlan : Engine → Gathered → Bool → Bool → Bool → Plan
+putContinuePlan e g true confirm additional =
+    pick additional (continuePlan e (Putting g true) false) (wantsPlan e (e .peer) (Putting g true))
+putContinuePlan e g false confirm additional =
+    pick (g .over) (codePlan e (e .peer) await.Taken 0xCD) (continuePlan e (Putting g confirm) confirm)
+
+-- a final Put packet
+abbrev pub putFinalPlan : Engine → Gathered → Plan
+putFinalPlan e g =
+    pick (g .over) (codePlan e (e .peer) await.Taken 0xCD)
+    (asksPlan e (e .peer) Nothing await.Reply (request.Put (g .kept) (putBody g)))
+
+-- a Put packet: kept headers that are too long come before 0x4D
+unfoldable pub putPlan : Engine → Gathered → Bool → Bool → Bool → Bool → Plan
+putPlan e g final additional srm confirm =
+    pick (g .full) (endsPlan e (e .peer) end.HeadersTooLarge) (pick final (putFinalPlan e g) (putContinuePlan e g srm confirm additional))
+
+-- a Get packet that is not final: first under SRM, then without
+abbrev pub getContinuePlan : Engine → Gathered → Bool → Bool → Bool → Plan
+getContinuePlan e g true confirm wait = wantsPlan e (e .peer) (Getting g true confirm wait)
+getContinuePlan e g false confirm wait = continuePlan e (Getting g confirm false wait) confirm
+
+-- a Get packet of the request
+unfoldable pub getPlan : Engine → Gathered → Bool → Bool → Bool → Bool → Plan
+getPlan e g final wait srm confirm =
+    pick (g .full) (endsPlan e (e .peer) end.HeadersTooLarge)
+    (pick final (asksPlan e (e .peer) (Getting g srm confirm wait) await.Get (request.Get (g .kept)))
+    (getContinuePlan e g srm confirm wait))
+
+-- a packet of Action, Session or a user-defined operation
+unfoldable pub headersPlan : Engine → Opcode → Gathered → Bool → Plan
+headersPlan e o g final =
+    pick (g .full) (endsPlan e (e .peer) end.HeadersTooLarge)
+    (pick final (asksPlan e (e .peer) Nothing await.Reply (headersRequest o (g .kept)))
+    (continuePlan e (GatheringOp o g) false))
+
+-- which headers are kept
+abbrev pub keepOf : GatherKind → Keep
+keepOf kind.Put = keep.Put
+keepOf kind.Get = keep.Get
+keepOf (kind.Headers o) = keep.All
+
+-- where the headers start
+abbrev pub fromOf : GatherKind → ℕ
+fromOf kind.Put = 3
+fromOf kind.Get = 3
+fromOf (kind.Headers o) = prefixOf o
+
+-- a packet that is gathered
+unfoldable pub kindPlan : Engine → GatherKind → Gathered → Bool → Bool → Bool → Bool → Plan
+kindPlan e kind.Put g final asked srm confirm = putPlan e g final asked srm confirm
+kindPlan e kind.Get g final asked srm confirm = getPlan e g final asked srm confirm
+kindPlan e (kind.Headers o) g final asked srm confirm = headersPlan e o g final
+
+-- with the stores that gathering left
+abbrev pub actsGathered : Engine → GatherKind → Bool → Bool → Bool → Bool → Gathering → Stores → Done
+actsGathered e k final asked srm confirm g s = planned (kindPlan e k (g .got) final asked srm confirm) (withGathered s g)

@@ -1,0 +1,100 @@
+-- What a call leads to, decided without the stores, and carried out: the design level between model/specs/Step and the code.
+use Prim.Native.Nat.{ℕ}
+use mathlib.Core.List.{List, [], _∷_}
+use mathlib.Core.Bool.{Bool, false, true}
+use Rattle.connection.specs.Reply.{Sending as Replying, sendBytes, sentInto, front}
+use Rattle.connection.specs.declared.peer.Peer.{Peer}
+use Rattle.connection.specs.declared.reply.Sent.{Sent}
+use Rattle.connection.specs.declared.reply.Sent.the-variants as sent
+use Rattle.model.specs.Step.{Stores, Stepped, stepped, withReply, engineWith, Done, done}
+use Rattle.server.specs.declared.Operation.{Operation}
+use Rattle.server.specs.declared.Operation.the-variants.{Nothing}
+use Rattle.server.specs.declared.Await.the-variants as await
+use Rattle.server.specs.declared.End.the-variants as end
+use Rattle.server.specs.declared.Engine.{Engine}
+use Rattle.server.specs.declared.Outcome.the-variants as outcome
+use Rattle.server.specs.declared.CallResult.{CallResult}
+use Rattle.engine.specs.declared.step.Plan.{Plan}
+use Rattle.engine.specs.declared.step.ShortReply.the-variants.{Silent, Byte, Grant}
+use Rattle.packet.specs.Packet.{packetBytes}
+use Rattle.server.specs.declared.Await.{Await}
+use Rattle.server.specs.declared.End.{End}
+use Rattle.server.specs.declared.HostRequest.{HostRequest}
+use Rattle.server.specs.declared.Outcome.{Outcome}
+use Rattle.engine.specs.declared.step.ShortReply.{ShortReply}
+
+-- the bytes of a small reply
+abbrev pub smallBytes : ShortReply → List ℕ
+smallBytes Silent = []
+smallBytes (Byte b) = packetBytes b [] []
+smallBytes Grant = packetBytes 0x90 [] (0x97 ∷ 0x01 ∷ [])
+
+-- a plan carried out
+abbrev pub planned : Plan → Stores → Done
+planned p s = done (p .engine) (p .outcome) (withReply s (front (smallBytes (p .small)) (s .reply)))
+
+abbrev pub plan : Engine → Outcome → ShortReply → Plan
+plan e o m = record { engine = e; outcome = o; small = m }
+
+-- bytes are wanted
+unfoldable pub wantsPlan : Engine → Peer → Operation → Plan
+wantsPlan e p o = plan (engineWith (e .settings) p o await.Bytes 0 (e .length)) outcome.WantsBytes Silent
+
+-- the host is asked
+unfoldable pub asksPlan : Engine → Peer → Operation → Await → HostRequest → Plan
+asksPlan e p o a r = plan (engineWith (e .settings) p o a 0 (e .length)) (outcome.Request r) Silent
+
+-- the engine ends with a number
+unfoldable pub endsPlan : Engine → Peer → End → Plan
+endsPlan e p x = plan (engineWith (e .settings) p Nothing await.Nothing 0 (e .length)) (outcome.End x) Silent
+
+-- a reply of a first byte alone
+unfoldable pub codePlan : Engine → Peer → Await → ℕ → Plan
+codePlan e p a b = plan (engineWith (e .settings) p Nothing a 0 (e .length)) (outcome.Reply 3) (Byte b)
+
+abbrev pub continueLength : Bool → ℕ
+continueLength true = 5
+continueLength false = 3
+
+abbrev pub continueSmall : Bool → ShortReply
+continueSmall true = Grant
+continueSmall false = Byte 0x90
+
+-- Continue, with SingleResponseMode where it is granted
+unfoldable pub continuePlan : Engine → Operation → Bool → Plan
+continuePlan e o grant =
+    plan (engineWith (e .settings) (e .peer) o await.Taken 0 (e .length)) (outcome.Reply (continueLength grant)) (continueSmall grant)
+
+-- what a call gives, and the reply store afterwards
+pub record Written : Type 0 where
+  pub took : CallResult
+  pub reply : List ℕ
+
+abbrev pub written : CallResult → List ℕ → Written
+written r y = record { took = r; reply = y }
+
+-- the other stores stay
+abbrev pub within : Written → Stores → Stepped
+within w s = stepped (w .took) (withReply s (w .reply))
+
+-- what a call gives by its plan
+abbrev pub tookBy : Plan → CallResult
+tookBy p = record { engine = p .engine; taken = 0; outcome = p .outcome }
+
+-- the plan carried out: its small reply is at the front of the reply store
+abbrev pub carried : Plan → List ℕ → Written
+carried p y = written (tookBy p) (front (smallBytes (p .small)) y)
+
+-- a reply that was sent, or is too large
+unfoldable pub sentPlan : Engine → Peer → Sent → Plan
+sentPlan e p sent.TooLarge = endsPlan e p end.ReplyTooLarge
+sentPlan e p (sent.Reply n) =
+    plan (engineWith (e .settings) p Nothing await.Taken 0 (e .length)) (outcome.Reply n) Silent
+
+-- the same, by what sending gave
+abbrev pub sentBy : Engine → Peer → Replying → Written
+sentBy e p z = written (tookBy (sentPlan e p (z .answer))) (z .reply)
+
+-- a reply with headers, after some fields
+unfoldable pub repliesBy : Engine → Peer → ℕ → List ℕ → List ℕ → List ℕ → Written
+repliesBy e p code fields hs y = sentBy e p (sentInto (sendBytes (p .«remote_max_packet_length») code fields hs) y)

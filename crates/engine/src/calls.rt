@@ -1,0 +1,437 @@
+// The twelve calls of a host, and nothing else. Each asks the guard first and then equals its definition in model/specs/Calls.
+ghost use mathlib.Core.Path.{_≡_};
+ghost use Rattle.model.specs.Step.{stepped, stores};
+ghost use Rattle.model.specs.Calls.{streamEndedStep, startStep, bytesOfferedStep, replyTakenStep, abortAcknowledgedStep, bodyFailedStep, bodyGivenStep, objectGivenStep, nonceGivenStep, passwordGivenStep, replyGivenStep, credentialsGivenStep};
+ghost use Rattle.packet.specs.AuthWrite.{given};
+ghost use Rattle.connection.specs.Pieces.{credentialsOf};
+use crate::connect::connect_answer;
+use crate::connect::connect_with_credentials;
+use crate::connect::handle_disconnect;
+use crate::connect::password_plan;
+use crate::connect::send_challenge;
+use crate::dispatch::more;
+use crate::dispatch::packet_done;
+use crate::dispatch::with_taken;
+use crate::guard::Guarded;
+use crate::guard::guard;
+use crate::guard::guard_start;
+use crate::guard::is_bad_headers;
+use crate::guard::is_bad_reply;
+use crate::guard::refuse;
+use crate::guard::same_await;
+use crate::object::either;
+use crate::object::object_of;
+use crate::object::packet_plan;
+use crate::object::sends_next;
+use crate::object::turn_plan;
+use crate::request::is_right;
+use crate::step::carry_out;
+use crate::step::code;
+use crate::step::ends;
+use crate::step::fresh;
+use crate::step::sends;
+use crate::step::sent_plan;
+use crate::step::stream_end;
+use crate::step::took;
+use base::copy_into;
+use connection::peer::challenged;
+use digest::md5::Octets16;
+use incoming::frame::Frame;
+use incoming::frame::read_packet;
+use packet::response::INTERNAL_SERVER_ERROR_BYTE;
+use packet::response::SUCCESS_BYTE;
+use server::Await;
+use server::CallKind;
+use server::CallResult;
+use server::End;
+use server::Engine;
+use server::Operation;
+use server::Outcome;
+use server::Refusal;
+use server::Settings;
+
+// Starts an engine with `settings`. The start is refused with `StoreTooShort`, or with `BadAnswer` if the realm is longer than 254 bytes;
+// the state that comes back has then ended.
+pub fn start(
+    settings: Settings,
+    packet: &mut [u8],
+    headers: &mut [u8],
+    body: &mut [u8],
+    reply: &mut [u8],
+) -> CallResult
+    ensures { λ r. ⌜ stepped r (stores (now (packet .exit)) (now (headers .exit)) (now (body .exit)) (now (reply .exit)))
+        ≡ startStep settings (stores (now (packet .entry)) (now (headers .entry)) (now (body .entry)) (now (reply .entry))) ⌝ }
+{
+    if let Guarded::Refuse(refusal) = guard_start(
+        settings.max_object_size,
+        settings.realm_length,
+        packet.len(),
+        headers.len(),
+        body.len(),
+        reply.len(),
+    ) {
+        return refuse(fresh(settings, Await::Nothing), refusal);
+    }
+    CallResult {
+        engine: fresh(settings, Await::Bytes),
+        taken: 0,
+        outcome: Outcome::WantsBytes,
+    }
+}
+
+// Offers the engine bytes from the client. The engine takes them up to the end of a packet and never past it; the host offers the rest
+// again after the packet is answered (docs/PROTOCOL.md#frames).
+pub fn bytes_offered(
+    e: Engine,
+    input: &[u8],
+    packet: &mut [u8],
+    headers: &mut [u8],
+    body: &mut [u8],
+    reply: &mut [u8],
+) -> CallResult
+    ensures { λ r. ⌜ stepped r (stores (now (packet .exit)) (now (headers .exit)) (now (body .exit)) (now (reply .exit)))
+        ≡ bytesOfferedStep e (now (input .entry)) (stores (now (packet .entry)) (now (headers .entry)) (now (body .entry))
+        (now (reply .entry))) ⌝ }
+{
+    if let Guarded::Refuse(refusal) = guard(
+        e,
+        CallKind::FromPeer,
+        packet.len(),
+        headers.len(),
+        body.len(),
+        reply.len(),
+    ) {
+        return refuse(e, refusal);
+    }
+    let f = read_packet(e.begun, input, packet);
+    let frame = f.frame;
+    match frame {
+        Frame::More => more(e, f.begun, f.taken),
+        Frame::Short => with_taken(took(ends(e, e.peer, End::LengthTooSmall)), f.taken),
+        Frame::Whole => with_taken(
+            packet_done(e, f.begun, &packet[..], headers, body, reply),
+            f.taken,
+        ),
+    }
+}
+
+// Tells the engine that the client's stream has ended: the engine ends with `Disconnected` between packets, with `Truncated` inside one.
+pub fn stream_ended(
+    e: Engine,
+    packet: &mut [u8],
+    headers: &mut [u8],
+    body: &mut [u8],
+    reply: &mut [u8],
+) -> CallResult
+    ensures { λ r. ⌜ stepped r (stores (now (packet .exit)) (now (headers .exit)) (now (body .exit)) (now (reply .exit)))
+        ≡ streamEndedStep e (stores (now (packet .entry)) (now (headers .entry)) (now (body .entry)) (now (reply .entry))) ⌝ }
+{
+    if let Guarded::Refuse(refusal) = guard(
+        e,
+        CallKind::FromPeer,
+        packet.len(),
+        headers.len(),
+        body.len(),
+        reply.len(),
+    ) {
+        return refuse(e, refusal);
+    }
+    took(ends(e, e.peer, stream_end(e.begun)))
+}
+
+// Tells the engine that the host has sent the reply. Under Single Response Mode (SRM) the next packet of an object may follow at once, else
+// the engine wants bytes.
+pub fn reply_taken(
+    e: Engine,
+    packet: &mut [u8],
+    headers: &mut [u8],
+    body: &mut [u8],
+    reply: &mut [u8],
+) -> CallResult
+    ensures { λ r. ⌜ stepped r (stores (now (packet .exit)) (now (headers .exit)) (now (body .exit)) (now (reply .exit)))
+        ≡ replyTakenStep e (stores (now (packet .entry)) (now (headers .entry)) (now (body .entry)) (now (reply .entry))) ⌝ }
+{
+    if let Guarded::Refuse(refusal) = guard(
+        e,
+        CallKind::ReplyTaken,
+        packet.len(),
+        headers.len(),
+        body.len(),
+        reply.len(),
+    ) {
+        return refuse(e, refusal);
+    }
+    let plan = turn_plan(e, &headers[..], reply);
+    carry_out(plan, reply)
+}
+
+// Gives the host's reply to a request, a code and header bytes in canonical form. A Get may be answered so, or by `object_given`.
+pub fn reply_given(
+    e: Engine,
+    code: u8,
+    header_bytes: &[u8],
+    packet: &mut [u8],
+    headers: &mut [u8],
+    body: &mut [u8],
+    reply: &mut [u8],
+) -> CallResult
+    ensures { λ r. ⌜ stepped r (stores (now (packet .exit)) (now (headers .exit)) (now (body .exit)) (now (reply .exit)))
+        ≡ replyGivenStep e code (now («header_bytes» .entry)) (stores (now (packet .entry)) (now (headers .entry)) (now (body .entry))
+        (now (reply .entry))) ⌝ }
+{
+    if let Guarded::Refuse(refusal) = guard(
+        e,
+        CallKind::ReplyGiven,
+        packet.len(),
+        headers.len(),
+        body.len(),
+        reply.len(),
+    ) {
+        return refuse(e, refusal);
+    }
+    if is_bad_reply(code, header_bytes) {
+        return refuse(e, Refusal::BadAnswer);
+    }
+    let length = e.length;
+    let awaits = e.awaits;
+    if same_await(awaits, Await::Connect) {
+        return connect_answer(e, code, header_bytes, &packet[..length], headers, reply);
+    }
+    let peer = handle_disconnect(e, &packet[..length]);
+    sends(e, peer, code, header_bytes, reply)
+}
+
+// Gives an object for a Get: its header bytes, in canonical form, and whether it has a body. The engine asks for the body's bytes when it
+// needs them.
+pub fn object_given(
+    e: Engine,
+    header_bytes: &[u8],
+    has_body: bool,
+    packet: &mut [u8],
+    headers: &mut [u8],
+    body: &mut [u8],
+    reply: &mut [u8],
+) -> CallResult
+    ensures { λ r. ⌜ stepped r (stores (now (packet .exit)) (now (headers .exit)) (now (body .exit)) (now (reply .exit)))
+        ≡ objectGivenStep e (now («header_bytes» .entry)) «has_body»
+        (stores (now (packet .entry)) (now (headers .entry)) (now (body .entry)) (now (reply .entry))) ⌝ }
+{
+    if let Guarded::Refuse(refusal) = guard(
+        e,
+        CallKind::ObjectGiven,
+        packet.len(),
+        headers.len(),
+        body.len(),
+        reply.len(),
+    ) {
+        return refuse(e, refusal);
+    }
+    let operation = e.operation;
+    let Operation::Getting {
+        gathered: _,
+        srm,
+        confirm_srm,
+        wait,
+    } = operation
+    else {
+        return refuse(e, Refusal::WrongMoment);
+    };
+    if is_bad_headers(header_bytes) {
+        return refuse(e, Refusal::BadAnswer);
+    }
+    copy_into(headers, 0, header_bytes);
+    let o = object_of(header_bytes.len(), confirm_srm, has_body);
+    sends_next(e, o, either(srm, confirm_srm), wait, headers, reply)
+}
+
+// Gives bytes of the object's body: at most as many as the engine asked for, and none at the body's end. More are refused with
+// `WrongMoment`.
+pub fn body_given(
+    e: Engine,
+    d: &[u8],
+    packet: &mut [u8],
+    headers: &mut [u8],
+    body: &mut [u8],
+    reply: &mut [u8],
+) -> CallResult
+    ensures { λ r. ⌜ stepped r (stores (now (packet .exit)) (now (headers .exit)) (now (body .exit)) (now (reply .exit)))
+        ≡ bodyGivenStep e (now (d .entry)) (stores (now (packet .entry)) (now (headers .entry)) (now (body .entry)) (now (reply .entry))) ⌝ }
+{
+    if let Guarded::Refuse(refusal) = guard(
+        e,
+        CallKind::FromBody,
+        packet.len(),
+        headers.len(),
+        body.len(),
+        reply.len(),
+    ) {
+        return refuse(e, refusal);
+    }
+    let operation = e.operation;
+    let Operation::Sending {
+        outgoing,
+        chunk,
+        srm,
+        wait,
+    } = operation
+    else {
+        return refuse(e, Refusal::WrongMoment);
+    };
+    if chunk.room < d.len() {
+        return refuse(e, Refusal::WrongMoment);
+    }
+    let k = outgoing::object::body_given(outgoing, chunk, d, reply);
+    carry_out(packet_plan(e, srm, wait, k), reply)
+}
+
+// Tells the engine that the object's body cannot be read on. The engine replies with 0x50 and ends the Get, even after earlier packets.
+pub fn body_failed(
+    e: Engine,
+    packet: &mut [u8],
+    headers: &mut [u8],
+    body: &mut [u8],
+    reply: &mut [u8],
+) -> CallResult
+    ensures { λ r. ⌜ stepped r (stores (now (packet .exit)) (now (headers .exit)) (now (body .exit)) (now (reply .exit)))
+        ≡ bodyFailedStep e (stores (now (packet .entry)) (now (headers .entry)) (now (body .entry)) (now (reply .entry))) ⌝ }
+{
+    if let Guarded::Refuse(refusal) = guard(
+        e,
+        CallKind::FromBody,
+        packet.len(),
+        headers.len(),
+        body.len(),
+        reply.len(),
+    ) {
+        return refuse(e, refusal);
+    }
+    carry_out(
+        code(e, e.peer, Await::Taken, INTERNAL_SERVER_ERROR_BYTE),
+        reply,
+    )
+}
+
+// Tells the engine that the host has heard of an Abort. The host gives no code: the reply to an Abort is always 0xA0.
+pub fn abort_acknowledged(
+    e: Engine,
+    packet: &mut [u8],
+    headers: &mut [u8],
+    body: &mut [u8],
+    reply: &mut [u8],
+) -> CallResult
+    ensures { λ r. ⌜ stepped r (stores (now (packet .exit)) (now (headers .exit)) (now (body .exit)) (now (reply .exit)))
+        ≡ abortAcknowledgedStep e (stores (now (packet .entry)) (now (headers .entry)) (now (body .entry)) (now (reply .entry))) ⌝ }
+{
+    if let Guarded::Refuse(refusal) = guard(
+        e,
+        CallKind::AbortAcknowledged,
+        packet.len(),
+        headers.len(),
+        body.len(),
+        reply.len(),
+    ) {
+        return refuse(e, refusal);
+    }
+    carry_out(code(e, e.peer, Await::Taken, SUCCESS_BYTE), reply)
+}
+
+// Gives the password of the user that the client named, or none if the host knows no such user. A wrong or missing password makes the
+// engine ask for a nonce, to challenge the client again.
+pub fn password_given(
+    e: Engine,
+    has_password: bool,
+    password: &[u8],
+    packet: &mut [u8],
+    headers: &mut [u8],
+    body: &mut [u8],
+    reply: &mut [u8],
+) -> CallResult
+    ensures { λ r. ⌜ stepped r (stores (now (packet .exit)) (now (headers .exit)) (now (body .exit)) (now (reply .exit)))
+        ≡ passwordGivenStep e (given «has_password» (now (password .entry)))
+        (stores (now (packet .entry)) (now (headers .entry)) (now (body .entry)) (now (reply .entry))) ⌝ }
+{
+    if let Guarded::Refuse(refusal) = guard(
+        e,
+        CallKind::PasswordGiven,
+        packet.len(),
+        headers.len(),
+        body.len(),
+        reply.len(),
+    ) {
+        return refuse(e, refusal);
+    }
+    let length = e.length;
+    let peer = e.peer;
+    let stored = peer.challenge;
+    let right = is_right(stored, &packet[..length], has_password, password);
+    took(password_plan(e, right))
+}
+
+// Gives a fresh nonce for a challenge, and the realm's bytes, of which the settings' `realm_length` count. The engine replies with 0x41 and
+// the challenge.
+pub fn nonce_given(
+    e: Engine,
+    n: Octets16,
+    realm: [u8; 254],
+    packet: &mut [u8],
+    headers: &mut [u8],
+    body: &mut [u8],
+    reply: &mut [u8],
+) -> CallResult
+    ensures { λ r. ⌜ stepped r (stores (now (packet .exit)) (now (headers .exit)) (now (body .exit)) (now (reply .exit)))
+        ≡ nonceGivenStep e n realm (stores (now (packet .entry)) (now (headers .entry)) (now (body .entry)) (now (reply .entry))) ⌝ }
+{
+    if let Guarded::Refuse(refusal) = guard(
+        e,
+        CallKind::NonceGiven,
+        packet.len(),
+        headers.len(),
+        body.len(),
+        reply.len(),
+    ) {
+        return refuse(e, refusal);
+    }
+    let peer = challenged(e.peer, n);
+    let sent = send_challenge(e.settings, realm, peer.remote_max_packet_length, n, reply);
+    took(sent_plan(e, peer, sent))
+}
+
+// Gives credentials for the client's challenge, or none. The reply to the Connect, which has waited for them, is made now. A user id of
+// over 255 bytes is refused with `BadAnswer`.
+pub fn credentials_given(
+    e: Engine,
+    has_credentials: bool,
+    has_user: bool,
+    user: &[u8],
+    password: &[u8],
+    packet: &mut [u8],
+    headers: &mut [u8],
+    body: &mut [u8],
+    reply: &mut [u8],
+) -> CallResult
+    ensures { λ r. ⌜ stepped r (stores (now (packet .exit)) (now (headers .exit)) (now (body .exit)) (now (reply .exit)))
+        ≡ credentialsGivenStep e (credentialsOf «has_credentials» (given «has_user» (now (user .entry))) (now (password .entry)))
+        (stores (now (packet .entry)) (now (headers .entry)) (now (body .entry)) (now (reply .entry))) ⌝ }
+{
+    if let Guarded::Refuse(refusal) = guard(
+        e,
+        CallKind::CredentialsGiven,
+        packet.len(),
+        headers.len(),
+        body.len(),
+        reply.len(),
+    ) {
+        return refuse(e, refusal);
+    }
+    let length = e.length;
+    connect_with_credentials(
+        e,
+        has_credentials,
+        has_user,
+        user,
+        password,
+        &packet[..length],
+        &headers[..],
+        reply,
+    )
+}

@@ -1,0 +1,473 @@
+// Connect, from its packet to its reply (the source's `handle_connect` and `verify_client`): the password, a nonce for a new challenge, the
+// host's answer, credentials for the client's own challenge. Disconnect (`handle_disconnect`) closes ids before its reply.
+ghost use mathlib.Core.Path.{_≡_};
+ghost use mathlib.Core.Bool.{false, _||_, true, _&&_};
+ghost use mathlib.Core.Option.{none, some};
+ghost use Prim.Native.Nat.{_≤_};
+ghost use lib.ListN.{length};
+ghost use Rattle.packet.specs.Header.{firstPlace, readHeaders, bytesOf};
+ghost use Rattle.packet.specs.AuthWrite.{given, overlong};
+ghost use Rattle.connection.specs.Pieces.{answeredIn, credentialsOf};
+ghost use Rattle.model.specs.Request.{realmIn, placedAt};
+ghost use Rattle.engine.specs.Step.{written};
+ghost use Rattle.engine.specs.Connect.{answering, headersOf, srmAskedBy, connectReplies, acceptedHeaders, answerFor, challengedBy, acceptedBy, Below, answeredBy, verifiesPlan, limitedPlan, connectPlan, passwordPlan, repliedPeer, credentialsBy};
+ghost use Rattle.packet.specs.Packet.{requestOf};
+ghost use Rattle.journal.specs.Journal.{headersOf as headersIn};
+ghost use Rattle.digest.specs.Md5.{octets16};
+ghost use Rattle.connection.specs.Reply.{fieldsOf, sendBytes, sending, sentInto};
+ghost use Rattle.connection.specs.ConnectReply.{challengeHeader};
+ghost use Rattle.model.specs.Step.{limitOf};
+ghost use Rattle.model.specs.Connect.{optionsOf, realmOf};
+ghost use Rattle.model.specs.Guard.{soundOperation};
+use crate::guard::refuse;
+use crate::guard::same_await;
+use crate::request::first_id;
+use crate::request::has_target;
+use crate::request::is_enabling;
+use crate::request::last_from;
+use crate::step::Plan;
+use crate::step::asks;
+use crate::step::sends_connect;
+use crate::step::sent_plan;
+use crate::step::took;
+use crate::step::wide16;
+use base::copy_into;
+use connection::challenge;
+use connection::challenge::answered_challenge;
+use connection::connect_reply::challenge_reply;
+use connection::connect_reply::connect_reply;
+use connection::peer::Answer;
+use connection::peer::Challenge;
+use connection::peer::ConnectionId;
+use connection::peer::Peer;
+use connection::peer::disconnected;
+use connection::peer::limited;
+use connection::peer::opened_for;
+use connection::peer::verified;
+use connection::reply::Sent;
+use digest::md5::Octets16;
+use packet::auth::DigestChallenge;
+use packet::auth::DigestResponse;
+use packet::auth::is_long;
+use packet::auth::read_response;
+use packet::auth::realm;
+use packet::header::first_header;
+use packet::header_id::AUTHENTICATE_CHALLENGE;
+use packet::header_id::AUTHENTICATE_RESPONSE;
+use packet::packet::connect_limit;
+use packet::response::SERVICE_UNAVAILABLE;
+use packet::response::is_success;
+use packet::tlv::Found;
+use server::Await;
+use server::CallResult;
+use server::Engine;
+use server::HostRequest;
+use server::Operation;
+use server::Refusal;
+use server::Settings;
+
+// Whether `packet` asks for Single Response Mode (SRM) and the settings support it.
+fn srm_asked(e: Engine, packet: &[u8]) -> bool
+    ensures { λ r. ⌜ r ≡ srmAskedBy e (now (packet .entry)) ⌝ }
+{
+    if !e.settings.srm_supported {
+        return false;
+    }
+    is_enabling(packet)
+}
+
+// Whether SRM is on after the Connect in `packet`. SRM that is on already stays on.
+fn srm_after(e: Engine, packet: &[u8]) -> bool
+    ensures { λ r. ⌜ r ≡ e .peer .«srm_enabled» || srmAskedBy e (now (packet .entry)) ⌝ }
+{
+    if e.peer.srm_enabled {
+        return true;
+    }
+    srm_asked(e, packet)
+}
+
+// Opens the ConnectionID that the host's answer names first. If it names none and the Connect has a Target, the engine looks for a new id
+// and puts it in front of the answer (docs/PROTOCOL.md#connection-ids).
+fn opens(e: Engine, header_bytes: &[u8], packet: &[u8]) -> Answer
+    requires { ⌜ e .peer .count ≤ 64 ⌝ }
+    ensures { λ r. ⌜ r ≡ answerFor e (now («header_bytes» .entry)) (now (packet .entry)) ⌝ }
+{
+    opened_for(
+        e.peer,
+        srm_after(e, packet),
+        first_id(header_bytes, 0),
+        has_target(packet),
+    )
+}
+
+// Finds the realm of the client's challenge in its Connect packet, so that the host can choose credentials by it.
+fn challenge_realm(packet: &[u8]) -> Found
+    ensures { λ r. ⌜ r ≡ realmIn (now (packet .entry)) (firstPlace 0x4D (now (packet .entry)) 7) ⌝ }
+{
+    let Found::At { start, end } = first_header(packet, 7, AUTHENTICATE_CHALLENGE) else {
+        return Found::Missing;
+    };
+    placed(start, realm(&packet[start..end]))
+}
+
+// Sends the reply to a Connect that the host has accepted: `front` in front, then Who if the packet has a Target, the host's headers, the
+// answer to the client's challenge, and SRM.
+pub(crate) fn connect_sends(
+    e: Engine,
+    peer: Peer,
+    code: u8,
+    front: ConnectionId,
+    packet: &[u8],
+    header_bytes: &[u8],
+    has_credentials: bool,
+    has_user: bool,
+    user: &[u8],
+    password: &[u8],
+    reply: &mut [u8],
+) -> CallResult
+    requires { ⌜ (65535 ≤ length (now reply)) × (length (now packet) ≤ 65535) × (length (now «header_bytes») ≤ 65535)
+        × (overlong (given «has_user» (now user)) ≡ false) ⌝ }
+    ensures { λ r. ⌜ written r (now (reply .exit))
+        ≡ connectReplies e peer code (acceptedHeaders e front (now (packet .entry)) (now («header_bytes» .entry))
+        (credentialsOf «has_credentials» (given «has_user» (now (user .entry))) (now (password .entry)))) (now (reply .entry)) ⌝ }
+{
+    let sent = connect_reply(
+        reply,
+        wide16(peer.remote_max_packet_length),
+        code,
+        e.settings.max_packet_length,
+        front,
+        packet,
+        last_from(packet),
+        header_bytes,
+        has_credentials,
+        has_user,
+        user,
+        password,
+        srm_asked(e, packet),
+    );
+    took(sent_plan(e, peer, sent))
+}
+
+// Sends the reply to a Connect without credentials. `connect_sends` does not read the bytes that are passed in their place.
+fn unchallenged(
+    e: Engine,
+    peer: Peer,
+    code: u8,
+    front: ConnectionId,
+    header_bytes: &[u8],
+    packet: &[u8],
+    reply: &mut [u8],
+) -> CallResult
+    requires { ⌜ (65535 ≤ length (now reply)) × (length (now packet) ≤ 65535) × (length (now «header_bytes») ≤ 65535) ⌝ }
+    ensures { λ r. ⌜ written r (now (reply .exit))
+        ≡ connectReplies e peer code (acceptedHeaders e front (now (packet .entry)) (now («header_bytes» .entry)) none)
+        (now (reply .entry)) ⌝ }
+{
+    connect_sends(
+        e,
+        peer,
+        code,
+        front,
+        packet,
+        header_bytes,
+        false,
+        false,
+        packet,
+        packet,
+        reply,
+    )
+}
+
+// Goes on after an id is open or not needed. If the client sent a challenge, the engine keeps the host's headers in the header store and
+// asks for credentials; otherwise it replies.
+fn accepted(
+    e: Engine,
+    peer: Peer,
+    code: u8,
+    front: ConnectionId,
+    header_bytes: &[u8],
+    packet: &[u8],
+    headers: &mut [u8],
+    reply: &mut [u8],
+) -> CallResult
+    requires { ⌜ (65535 ≤ length (now reply)) × (65535 ≤ length (now headers)) × (length (now packet) ≤ 65535)
+        × (length (now «header_bytes») ≤ 65535) ⌝ }
+    ensures { λ r. ⌜ answering r (now (headers .exit)) (now (reply .exit))
+        ≡ challengedBy (answeredIn (headersOf (now (packet .entry)))) e peer code front (now («header_bytes» .entry))
+        (now (packet .entry)) (now (headers .entry)) (now (reply .entry)) ⌝ }
+{
+    let DigestChallenge::Challenge {
+        nonce,
+        user_id_required,
+        read_only,
+        realm: _,
+    } = answered_challenge(packet, last_from(packet))
+    else {
+        return unchallenged(e, peer, code, front, header_bytes, packet, reply);
+    };
+    copy_into(headers, 0, header_bytes);
+    let operation = Operation::Connecting {
+        code,
+        front,
+        length: header_bytes.len(),
+    };
+    let request = HostRequest::Credentials {
+        nonce,
+        user_id_required,
+        read_only,
+        realm: challenge_realm(packet),
+    };
+    took(asks(e, peer, operation, Await::Credentials, request))
+}
+
+// Takes the host's answer to a Connect. Any answer but success is sent as it is. A 65th id gets 0x53, and neither the ids nor SRM change.
+pub(crate) fn connect_answer(
+    e: Engine,
+    code: u8,
+    header_bytes: &[u8],
+    packet: &[u8],
+    headers: &mut [u8],
+    reply: &mut [u8],
+) -> CallResult
+    requires { ⌜ (e .peer .count ≤ 64) × (65535 ≤ length (now reply)) × (65535 ≤ length (now headers)) × (length (now packet) ≤ 65535)
+        × (length (now «header_bytes») ≤ 65535) ⌝ }
+    ensures { λ r. ⌜ answering r (now (headers .exit)) (now (reply .exit))
+        ≡ acceptedBy e code (now («header_bytes» .entry)) (now (packet .entry)) (now (headers .entry)) (now (reply .entry)) ⌝ }
+{
+    if !is_success(code) {
+        return sends_connect(e, e.peer, code, header_bytes, reply);
+    }
+    let answer = opens(e, header_bytes, packet);
+    let opening = answer.opening;
+    if opening.full {
+        return sends_connect(e, e.peer, SERVICE_UNAVAILABLE, &header_bytes[..0], reply);
+    }
+    let front = answer.front;
+    accepted(
+        e,
+        opening.peer,
+        code,
+        front,
+        header_bytes,
+        packet,
+        headers,
+        reply,
+    )
+}
+
+// The client's response to the server's challenge: missing or unreadable, or readable, with the place of its user id in the packet.
+pub(crate) enum Answered {
+    Missing,
+    User(Found),
+}
+
+// Turns a place in the part of the packet that begins at `at` into a place in the packet.
+pub(crate) fn placed(at: usize, found: Found) -> Found
+    requires { ⌜ Below at found ⌝ }
+    ensures { λ r. ⌜ r ≡ placedAt at found ⌝ }
+{
+    match found {
+        Found::At { start, end } => Found::At {
+            start: at + start,
+            end: at + end,
+        },
+        Found::Missing => Found::Missing,
+    }
+}
+
+// Finds the client's first AuthenticateResponse in the packet.
+fn client_response(p: &[u8]) -> Answered
+    requires { ⌜ readHeaders (now p) 7 ≡ some (headersIn (requestOf (now p))) ⌝ }
+    ensures { λ r. ⌜ r ≡ answeredBy (now (p .entry)) ⌝ }
+{
+    let Found::At { start, end } = first_header(p, 7, AUTHENTICATE_RESPONSE) else {
+        return Answered::Missing;
+    };
+    let DigestResponse::Response {
+        digest: _,
+        user,
+        nonce: _,
+    } = read_response(&p[start..end])
+    else {
+        return Answered::Missing;
+    };
+    Answered::User(placed(start, user))
+}
+
+// If the client has answered a stored challenge, asks the host for the password. Otherwise asks it for a nonce, to challenge the client
+// (again).
+fn verifies(e: Engine, peer: Peer, challenge: Challenge, a: Answered) -> Plan
+    ensures { λ r. ⌜ r ≡ verifiesPlan e peer challenge a ⌝ }
+{
+    let Challenge::Stored(_) = challenge else {
+        return asks(
+            e,
+            peer,
+            Operation::Nothing,
+            Await::Nonce,
+            HostRequest::Nonce,
+        );
+    };
+    match a {
+        Answered::Missing => asks(
+            e,
+            peer,
+            Operation::Nothing,
+            Await::Nonce,
+            HostRequest::Nonce,
+        ),
+        Answered::User(user_id) => asks(
+            e,
+            peer,
+            Operation::Nothing,
+            Await::Password,
+            HostRequest::Password { user_id },
+        ),
+    }
+}
+
+// Goes on after the client's packet limit is set: checks the client if the settings ask for a password, else asks the host whether it
+// accepts the Connect.
+fn limited_plan(e: Engine, peer: Peer, a: Answered) -> Plan
+    ensures { λ r. ⌜ r ≡ limitedPlan e peer a ⌝ }
+{
+    if e.settings.authentication {
+        let challenge = peer.challenge;
+        return verifies(e, peer, challenge, a);
+    }
+    asks(
+        e,
+        peer,
+        Operation::Nothing,
+        Await::Connect,
+        HostRequest::Connect { length: e.length },
+    )
+}
+
+// Handles a Connect packet: sets the client's packet limit before the password is looked at, as the source does.
+pub(crate) fn handle_connect(e: Engine, p: &[u8]) -> Plan
+    requires { ⌜ readHeaders (now p) 7 ≡ some (headersIn (requestOf (now p))) ⌝ }
+    ensures { λ r. ⌜ r ≡ connectPlan e (now (p .entry)) ⌝ }
+{
+    let limit = connect_limit(p) as u16;
+    limited_plan(e, limited(e.peer, limit), client_response(p))
+}
+
+// If the password was right, asks the host whether it accepts the Connect. Otherwise asks it for a nonce, to challenge the client again.
+pub(crate) fn password_plan(e: Engine, right: bool) -> Plan
+    ensures { λ r. ⌜ r ≡ passwordPlan e right ⌝ }
+{
+    if right {
+        return asks(
+            e,
+            verified(e.peer),
+            Operation::Nothing,
+            Await::Connect,
+            HostRequest::Connect { length: e.length },
+        );
+    }
+    asks(
+        e,
+        e.peer,
+        Operation::Nothing,
+        Await::Nonce,
+        HostRequest::Nonce,
+    )
+}
+
+// Sends 0x41 with a challenge as the settings describe it: options, realm, and the nonce.
+pub(crate) fn send_challenge(
+    settings: Settings,
+    realm: [u8; 254],
+    remote: u16,
+    nonce: Octets16,
+    reply: &mut [u8],
+) -> Sent
+    requires { ⌜ (settings .«realm_length» ≤ 254) × (65535 ≤ length (now reply)) ⌝ }
+    ensures { λ r. ⌜ sending r (now (reply .exit))
+        ≡ sentInto (sendBytes remote 0x41 (fieldsOf (settings .«max_packet_length»))
+        (bytesOf (challengeHeader (octets16 nonce) (optionsOf settings) (realmOf settings realm)))) (now (reply .entry)) ⌝ }
+{
+    let n = settings.realm_length;
+    challenge_reply(
+        reply,
+        wide16(remote),
+        settings.max_packet_length,
+        nonce,
+        settings.user_id_required,
+        settings.read_only,
+        settings.has_realm,
+        settings.charset,
+        &realm[..n],
+    )
+}
+
+// Whether both flags are set: a user id counts only if there are credentials.
+fn both(a: bool, b: bool) -> bool
+    ensures { λ r. ⌜ r ≡ a && b ⌝ }
+{
+    if !a {
+        return false;
+    }
+    b
+}
+
+// Replies to the Connect that has waited, with credentials or without. A user id of over 255 bytes is refused with `BadAnswer`, since its
+// length field has one byte.
+pub(crate) fn connect_with_credentials(
+    e: Engine,
+    has_credentials: bool,
+    has_user: bool,
+    user: &[u8],
+    password: &[u8],
+    packet: &[u8],
+    headers: &[u8],
+    reply: &mut [u8],
+) -> CallResult
+    requires { ⌜ (soundOperation (limitOf e) (e .operation) ≡ true) × (length (now packet) ≤ 65535) × (65535 ≤ length (now headers))
+        × (65535 ≤ length (now reply)) ⌝ }
+    ensures { λ r. ⌜ written r (now (reply .exit))
+        ≡ credentialsBy (e .operation) e (credentialsOf «has_credentials» (given «has_user» (now (user .entry)))
+        (now (password .entry))) (now (packet .entry)) (now (headers .entry)) (now (reply .entry)) ⌝ }
+{
+    let operation = e.operation;
+    let Operation::Connecting {
+        code,
+        front,
+        length: kept,
+    } = operation
+    else {
+        return refuse(e, Refusal::WrongMoment);
+    };
+    let named = both(has_credentials, has_user);
+    if is_long(named, user.len()) {
+        return refuse(e, Refusal::BadAnswer);
+    }
+    connect_sends(
+        e,
+        e.peer,
+        code,
+        front,
+        packet,
+        &headers[..kept],
+        has_credentials,
+        named,
+        user,
+        password,
+        reply,
+    )
+}
+
+// Closes the id that a Disconnect names before its reply is made. If no id is named or left, the peer's fields are cleared
+// (docs/PROTOCOL.md#disconnect).
+pub(crate) fn handle_disconnect(e: Engine, packet: &[u8]) -> Peer
+    requires { ⌜ e .peer .count ≤ 64 ⌝ }
+    ensures { λ r. ⌜ r ≡ repliedPeer e (now (packet .entry)) ⌝ }
+{
+    let awaits = e.awaits;
+    if !same_await(awaits, Await::Disconnect) {
+        return e.peer;
+    }
+    disconnected(e.peer, first_id(packet, last_from(packet)))
+}

@@ -1,0 +1,580 @@
+// Which way a packet goes (the source's `handle_next`, `dispatch`, `rejection`, `reject` and `next_request`): by its opcode if nothing is
+// open, else by what is open. A packet may also be turned away, drained or unreadable.
+ghost use mathlib.Core.Path.{_≡_};
+ghost use Prim.Native.Nat.{_≤_, ℕ};
+ghost use Rattle.model.specs.Dispatch.{rejection as rejectionOf, drains as drainsOf, confirms as confirmsOf, busy as busyWith, unknownByte, lengthOf, packetDone};
+ghost use Rattle.engine.specs.Dispatch.{admissionOf, unauthorizedFor, codeRoute, askRoute, drainedBy, rejectedRoute, putRoute, getRoute, sendRoute, headersRoute, dispatchRoute, openRoute, interruptsRoute, continuedRoute, drainingRoute, insideRoute, headingRoute, unreadableRoute, simplePlan, packetRoute, acts, withTaken, moreTook};
+ghost use mathlib.Core.Bool.{true};
+ghost use mathlib.Core.List.{List};
+ghost use lib.ListN.{length};
+ghost use Rattle.packet.specs.FirstByte.{firstByte};
+ghost use Rattle.model.specs.Step.{stepped, stores, limitOf, after};
+ghost use Rattle.model.specs.Guard.{soundOperation};
+ghost use Rattle.engine.specs.Step.{planned};
+use crate::connect::handle_connect;
+use crate::object::object_plan;
+use crate::operation::GatherKind;
+use crate::operation::gather_packet;
+use crate::operation::nothing_gathered;
+use crate::step::Plan;
+use crate::step::asks;
+use crate::step::carry_out;
+use crate::step::code;
+use crate::step::ends;
+use crate::step::engine_with;
+use crate::step::wants;
+use connection::peer::is_open;
+use incoming::gather::Gathered;
+use incoming::survey::Survey;
+use incoming::survey::survey_headers;
+use outgoing::object::Outgoing;
+use packet::opcode::FirstByte;
+use packet::opcode::Opcode;
+use packet::opcode::from_byte;
+use packet::opcode::same;
+use packet::packet::Parsed;
+use packet::packet::parse_packet;
+use packet::packet::set_path_flags;
+use packet::response;
+use server::Await;
+use server::CallResult;
+use server::End;
+use server::Engine;
+use server::HostRequest;
+use server::Operation;
+use server::Outcome;
+
+// The parts of a readable packet that decide its way.
+pub(crate) struct Heading {
+    pub survey: Survey,
+    pub opcode: Opcode,
+    // SetPath's flags, if the packet is a SetPath.
+    pub backup: bool,
+    pub no_create: bool,
+    pub is_final: bool,
+}
+
+// A step that needs no more of the packet than its heading.
+pub(crate) enum Simple {
+    // The engine asks the host, and no operation stays open.
+    Ask { awaits: Await, request: HostRequest },
+    // The engine replies with a first byte and no headers, and no operation stays open.
+    Code { awaits: Await, byte: u8 },
+    // The engine reads on to the final packet of an operation that it has turned away, then replies with `code`.
+    Drain { code: u8 },
+    End(End),
+}
+
+// The way of a packet.
+pub(crate) enum Route {
+    Plain(Simple),
+    Connect,
+    // The packet's headers are gathered. `asked` is the client's wish: an additional Continue for a Put, a wait for a Get.
+    Gather {
+        kind: GatherKind,
+        begun: Gathered,
+        is_final: bool,
+        asked: bool,
+        srm: bool,
+        confirm: bool,
+    },
+    // The engine sends the next packet of an object.
+    Send {
+        outgoing: Outgoing,
+        srm: bool,
+        wait: bool,
+    },
+}
+
+// Whether the engine admits a packet that opens an operation, or the code with which it turns the packet away.
+pub(crate) enum Admission {
+    Admits,
+    Rejects(u8),
+}
+
+// Whether a password is required and not given. A Disconnect may not be refused (OBEX section 3.4.2).
+fn is_unauthorized(e: Engine, opcode: Opcode) -> bool
+    ensures { λ r. ⌜ r ≡ unauthorizedFor e opcode ⌝ }
+{
+    if e.settings.authentication {
+        if e.peer.authenticated {
+            return false;
+        }
+        return !same(opcode, Opcode::Disconnect);
+    }
+    false
+}
+
+// Returns the code that refuses a packet before it reaches the host, if any: 0x41 for a missing password comes before 0x53 for a
+// ConnectionID that is not open.
+fn rejection(e: Engine, h: Heading) -> Admission
+    requires { ⌜ e .peer .count ≤ 64 ⌝ }
+    ensures { λ r. ⌜ r ≡ admissionOf (rejectionOf e (h .opcode) (h .survey)) ⌝ }
+{
+    let opcode = h.opcode;
+    if is_unauthorized(e, opcode) {
+        return Admission::Rejects(response::UNAUTHORIZED);
+    }
+    if h.survey.has_id {
+        let ids = e.peer.connections;
+        if is_open(&ids, e.peer.count, h.survey.id) {
+            return Admission::Admits;
+        }
+        return Admission::Rejects(response::SERVICE_UNAVAILABLE);
+    }
+    Admission::Admits
+}
+
+// Whether an operation of this opcode is drained if it is turned away under SRM: a Put or a Get.
+fn has_drain(opcode: Opcode) -> bool
+    ensures { λ r. ⌜ r ≡ drainsOf opcode ⌝ }
+{
+    if same(opcode, Opcode::Put) {
+        return true;
+    }
+    same(opcode, Opcode::Get)
+}
+
+// The way of a packet that gets `code` and opens nothing.
+fn reply_code(code: u8) -> Route
+    ensures { λ r. ⌜ r ≡ codeRoute code ⌝ }
+{
+    Route::Plain(Simple::Code {
+        awaits: Await::Taken,
+        byte: response::to_byte(code),
+    })
+}
+
+// Whether the engine reads the rest of an operation that it turns away before it replies. With Single Response Mode (SRM) enabled the
+// client keeps sending the request without waiting, so its remaining packets are consumed first.
+fn is_drained(e: Engine, h: Heading) -> bool
+    ensures { λ r. ⌜ r ≡ drainedBy e h ⌝ }
+{
+    let opcode = h.opcode;
+    if e.peer.srm_enabled {
+        if has_drain(opcode) {
+            return !h.is_final;
+        }
+        return false;
+    }
+    false
+}
+
+// Refuses an operation with `code`, after a drain or at once.
+fn reject(e: Engine, h: Heading, code: u8) -> Route
+    ensures { λ r. ⌜ r ≡ rejectedRoute e h code ⌝ }
+{
+    if is_drained(e, h) {
+        return Route::Plain(Simple::Drain { code });
+    }
+    reply_code(code)
+}
+
+// Whether the engine grants SRM for this operation: the client asks for it, the settings support it, and it is not on for the session.
+fn must_confirm_srm(e: Engine, v: Survey) -> bool
+    ensures { λ r. ⌜ r ≡ confirmsOf e v ⌝ }
+{
+    if e.peer.srm_enabled {
+        return false;
+    }
+    if e.settings.srm_supported {
+        return v.enable;
+    }
+    false
+}
+
+// The way of a packet of a Put.
+fn put_route(h: Heading, begun: Gathered, srm: bool, confirm: bool) -> Route
+    ensures { λ r. ⌜ r ≡ putRoute h begun srm confirm ⌝ }
+{
+    Route::Gather {
+        kind: GatherKind::Put,
+        begun,
+        is_final: h.is_final,
+        asked: h.survey.additional,
+        srm,
+        confirm,
+    }
+}
+
+// The way of a packet of a Get's request.
+fn get_route(h: Heading, begun: Gathered, srm: bool, confirm: bool) -> Route
+    ensures { λ r. ⌜ r ≡ getRoute h begun srm confirm ⌝ }
+{
+    Route::Gather {
+        kind: GatherKind::Get,
+        begun,
+        is_final: h.is_final,
+        asked: h.survey.wait,
+        srm,
+        confirm,
+    }
+}
+
+// The way of a packet that asks for the next part of an object.
+fn send_route(h: Heading, outgoing: Outgoing, srm: bool) -> Route
+    ensures { λ r. ⌜ r ≡ sendRoute h outgoing srm ⌝ }
+{
+    Route::Send {
+        outgoing,
+        srm,
+        wait: h.survey.wait,
+    }
+}
+
+// The way of a packet of an operation of headers alone.
+fn headers_route(h: Heading, opcode: Opcode, begun: Gathered) -> Route
+    ensures { λ r. ⌜ r ≡ headersRoute h opcode begun ⌝ }
+{
+    Route::Gather {
+        kind: GatherKind::Headers(opcode),
+        begun,
+        is_final: h.is_final,
+        asked: false,
+        srm: false,
+        confirm: false,
+    }
+}
+
+// The way of a packet about which the engine asks the host.
+fn ask(awaits: Await, request: HostRequest) -> Route
+    ensures { λ r. ⌜ r ≡ askRoute awaits request ⌝ }
+{
+    Route::Plain(Simple::Ask { awaits, request })
+}
+
+// Dispatches an admitted packet by its opcode.
+fn dispatch(e: Engine, h: Heading) -> Route
+    ensures { λ r. ⌜ r ≡ dispatchRoute (h .opcode) e h ⌝ }
+{
+    let length = e.length;
+    let opcode = h.opcode;
+    match opcode {
+        Opcode::Connect => Route::Connect,
+        Opcode::Abort => ask(Await::Acknowledgement, HostRequest::Abort { length }),
+        Opcode::Disconnect => ask(Await::Disconnect, HostRequest::Disconnect { length }),
+        Opcode::SetPath => ask(
+            Await::Reply,
+            HostRequest::SetPath {
+                length,
+                backup: h.backup,
+                no_create: h.no_create,
+            },
+        ),
+        Opcode::Put => put_route(
+            h,
+            nothing_gathered(),
+            e.peer.srm_enabled,
+            must_confirm_srm(e, h.survey),
+        ),
+        Opcode::Get => get_route(
+            h,
+            nothing_gathered(),
+            e.peer.srm_enabled,
+            must_confirm_srm(e, h.survey),
+        ),
+        Opcode::Action => headers_route(h, Opcode::Action, nothing_gathered()),
+        Opcode::Session => headers_route(h, Opcode::Session, nothing_gathered()),
+        Opcode::UserDefined(value) => headers_route(
+            h,
+            Opcode::UserDefined(value),
+            nothing_gathered(),
+        ),
+    }
+}
+
+// The way of a packet while nothing is open. A Connect is never turned away.
+fn open_route(e: Engine, h: Heading) -> Route
+    requires { ⌜ e .peer .count ≤ 64 ⌝ }
+    ensures { λ r. ⌜ r ≡ openRoute e h ⌝ }
+{
+    let opcode = h.opcode;
+    if same(opcode, Opcode::Connect) {
+        return Route::Connect;
+    }
+    match rejection(e, h) {
+        Admission::Admits => dispatch(e, h),
+        Admission::Rejects(code) => reject(e, h, code),
+    }
+}
+
+// The next packet of an open operation goes its way if it has the operation's opcode, `open`. Another opcode interrupts.
+fn next_request(h: Heading, open: Opcode, route: Route) -> Route
+    ensures { λ r. ⌜ r ≡ continuedRoute h «open» route ⌝ }
+{
+    let opcode = h.opcode;
+    if same(opcode, open) {
+        return route;
+    }
+    interrupts()
+}
+
+// The way of a packet that interrupts an operation: 0x40, and the engine ends with `OtherOperation` once the reply is taken.
+fn interrupts() -> Route
+    ensures { λ r. ⌜ r ≡ interruptsRoute ⌝ }
+{
+    Route::Plain(Simple::Code {
+        awaits: Await::Last,
+        byte: response::to_byte(response::BAD_REQUEST),
+    })
+}
+
+// The way of a packet of an operation that is drained: the reply follows the final packet.
+fn draining(h: Heading, code: u8) -> Route
+    ensures { λ r. ⌜ r ≡ drainingRoute h code ⌝ }
+{
+    if h.is_final {
+        return reply_code(code);
+    }
+    Route::Plain(Simple::Drain { code })
+}
+
+// The way of a packet by what is open.
+fn inside(e: Engine, h: Heading) -> Route
+    requires { ⌜ e .peer .count ≤ 64 ⌝ }
+    ensures { λ r. ⌜ r ≡ insideRoute (e .operation) e h ⌝ }
+{
+    let operation = e.operation;
+    match operation {
+        Operation::Nothing => open_route(e, h),
+        Operation::Putting { gathered, srm } => next_request(
+            h,
+            Opcode::Put,
+            put_route(h, gathered, srm, false),
+        ),
+        Operation::Getting {
+            gathered,
+            srm,
+            confirm_srm,
+            wait: _,
+        } => next_request(h, Opcode::Get, get_route(h, gathered, srm, confirm_srm)),
+        Operation::Sending {
+            outgoing,
+            chunk: _,
+            srm,
+            wait: _,
+        } => next_request(h, Opcode::Get, send_route(h, outgoing, srm)),
+        Operation::Gathering { opcode, gathered } => next_request(
+            h,
+            opcode,
+            headers_route(h, opcode, gathered),
+        ),
+        Operation::Connecting {
+            code: _,
+            front: _,
+            length: _,
+        } => interrupts(),
+        Operation::Draining { code } => draining(h, code),
+    }
+}
+
+// The way of a readable packet. An Abort goes before all else: it is answered in every state.
+pub(crate) fn heading_route(e: Engine, h: Heading) -> Route
+    requires { ⌜ e .peer .count ≤ 64 ⌝ }
+    ensures { λ r. ⌜ r ≡ headingRoute e h ⌝ }
+{
+    let opcode = h.opcode;
+    if same(opcode, Opcode::Abort) {
+        return ask(
+            Await::Acknowledgement,
+            HostRequest::Abort { length: e.length },
+        );
+    }
+    inside(e, h)
+}
+
+// Whether an operation is open.
+fn is_busy(operation: Operation) -> bool
+    ensures { λ r. ⌜ r ≡ busyWith operation ⌝ }
+{
+    match operation {
+        Operation::Nothing => false,
+        Operation::Putting {
+            gathered: _,
+            srm: _,
+        } => true,
+        Operation::Getting {
+            gathered: _,
+            srm: _,
+            confirm_srm: _,
+            wait: _,
+        } => true,
+        Operation::Sending {
+            outgoing: _,
+            chunk: _,
+            srm: _,
+            wait: _,
+        } => true,
+        Operation::Gathering {
+            opcode: _,
+            gathered: _,
+        } => true,
+        Operation::Connecting {
+            code: _,
+            front: _,
+            length: _,
+        } => true,
+        Operation::Draining { code: _ } => true,
+    }
+}
+
+// The way of a packet that cannot be read. Inside an operation the engine ends with `Unreadable`; otherwise it replies with 0x51 if the
+// first byte names no opcode, else with 0x40.
+pub(crate) fn unreadable(e: Engine, unknown: bool) -> Route
+    ensures { λ r. ⌜ r ≡ unreadableRoute (e .operation) unknown ⌝ }
+{
+    let operation = e.operation;
+    if is_busy(operation) {
+        return Route::Plain(Simple::End(End::Unreadable));
+    }
+    if unknown {
+        return reply_code(response::NOT_IMPLEMENTED);
+    }
+    reply_code(response::BAD_REQUEST)
+}
+
+// Whether the first byte names no opcode.
+fn is_unknown(byte: u8) -> bool
+    ensures { λ r. ⌜ r ≡ unknownByte (firstByte byte) ⌝ }
+{
+    match from_byte(byte) {
+        FirstByte::Known {
+            opcode: _,
+            is_final: _,
+        } => false,
+        FirstByte::Unknown => true,
+    }
+}
+
+// Reads a whole packet and returns its way.
+pub(crate) fn route_packet(e: Engine, p: &[u8]) -> Route
+    requires { ⌜ (1 ≤ length (now p)) × (e .peer .count ≤ 64) ⌝ }
+    ensures { λ r. ⌜ r ≡ packetRoute e (now (p .entry)) ⌝ }
+{
+    let Parsed::Request {
+        opcode,
+        is_final,
+        headers,
+        length: _,
+    } = parse_packet(p)
+    else {
+        return unreadable(e, is_unknown(p[0]));
+    };
+    let flags = set_path_flags(p);
+    heading_route(
+        e,
+        Heading {
+            survey: survey_headers(p, headers),
+            opcode,
+            backup: flags.backup,
+            no_create: flags.no_create,
+            is_final,
+        },
+    )
+}
+
+// Carries out a step that needs no more of the packet than its heading.
+pub(crate) fn simple_plan(e: Engine, brief: Simple) -> Plan
+    ensures { λ r. ⌜ r ≡ simplePlan e brief ⌝ }
+{
+    match brief {
+        Simple::Ask { awaits, request } => asks(e, e.peer, Operation::Nothing, awaits, request),
+        Simple::Code { awaits, byte } => code(e, e.peer, awaits, byte),
+        Simple::Drain { code } => wants(e, e.peer, Operation::Draining { code }),
+        Simple::End(end) => ends(e, e.peer, end),
+    }
+}
+
+// Acts on a packet and returns the plan that is still to be carried out.
+fn act(e: Engine, p: &[u8], headers: &mut [u8], body: &mut [u8], reply: &mut [u8]) -> Plan
+    requires { ⌜ (1 ≤ length (now p)) × (e .peer .count ≤ 64) × (255 ≤ e .peer .«remote_max_packet_length»)
+        × (soundOperation (limitOf e) (e .operation) ≡ true) × (65535 ≤ length (now headers)) × (limitOf e ≤ length (now body))
+        × (65535 ≤ length (now reply)) ⌝ }
+    ensures { λ r. ⌜ ((q : List ℕ) → planned r (stores q (now (headers .exit)) (now (body .exit)) (now (reply .exit)))
+        ≡ acts (packetRoute e (now (p .entry))) e (now (p .entry))
+        (stores q (now (headers .entry)) (now (body .entry)) (now (reply .entry)))) ⌝ }
+{
+    match route_packet(e, p) {
+        Route::Plain(brief) => simple_plan(e, brief),
+        Route::Connect => handle_connect(e, p),
+        Route::Gather {
+            kind,
+            begun,
+            is_final,
+            asked,
+            srm,
+            confirm,
+        } => gather_packet(
+            e,
+            p,
+            kind,
+            begun,
+            is_final,
+            asked,
+            srm,
+            confirm,
+            headers,
+            body,
+        ),
+        Route::Send {
+            outgoing,
+            srm,
+            wait,
+        } => object_plan(e, outgoing, srm, wait, &headers[..], reply),
+    }
+}
+
+// The state after a whole packet of `n` bytes has arrived: later answers read it again from the packet store.
+fn whole(e: Engine, n: usize) -> Engine
+    ensures { λ r. ⌜ r ≡ lengthOf e n ⌝ }
+{
+    let operation = e.operation;
+    let awaits = e.awaits;
+    engine_with(e.settings, e.peer, operation, awaits, 0, n)
+}
+
+// Handles a whole packet of `n` bytes at the front of the packet store.
+pub(crate) fn packet_done(
+    e: Engine,
+    n: usize,
+    packet: &[u8],
+    headers: &mut [u8],
+    body: &mut [u8],
+    reply: &mut [u8],
+) -> CallResult
+    requires { ⌜ (1 ≤ n) × (n ≤ length (now packet)) × (e .peer .count ≤ 64) × (255 ≤ e .peer .«remote_max_packet_length»)
+        × (soundOperation (limitOf e) (e .operation) ≡ true) × (65535 ≤ length (now headers)) × (limitOf e ≤ length (now body))
+        × (65535 ≤ length (now reply)) ⌝ }
+    ensures { λ r. ⌜ stepped r (stores (now (packet .entry)) (now (headers .exit)) (now (body .exit)) (now (reply .exit)))
+        ≡ after 0 (packetDone e n (stores (now (packet .entry)) (now (headers .entry)) (now (body .entry)) (now (reply .entry)))) ⌝ }
+{
+    let at = whole(e, n);
+    let plan = act(at, &packet[..n], headers, body, reply);
+    carry_out(plan, reply)
+}
+
+// The result with the count of bytes that were taken.
+pub(crate) fn with_taken(r: CallResult, taken: usize) -> CallResult
+    ensures { λ w. ⌜ w ≡ withTaken r taken ⌝ }
+{
+    let engine = r.engine;
+    let outcome = r.outcome;
+    CallResult {
+        engine,
+        taken,
+        outcome,
+    }
+}
+
+// The result if the packet is not whole yet: `begun` bytes of it stand in the packet store.
+pub(crate) fn more(e: Engine, begun: usize, taken: usize) -> CallResult
+    ensures { λ r. ⌜ r ≡ moreTook e begun taken ⌝ }
+{
+    let operation = e.operation;
+    let awaits = e.awaits;
+    CallResult {
+        engine: engine_with(e.settings, e.peer, operation, awaits, begun, e.length),
+        taken,
+        outcome: Outcome::WantsBytes,
+    }
+}

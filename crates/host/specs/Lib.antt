@@ -1,0 +1,3 @@
+-- What the programs over the engine know of their input and of their host.
+pub mod Answers
+pub mod Rest

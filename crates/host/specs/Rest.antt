@@ -1,0 +1,18 @@
+-- The part of an input store that is left, and the number at which a session is over.
+use Prim.Native.Nat.{ℕ, _≤_}
+use Rattle.server.specs.Numbers.{endNumber, refusalNumber}
+use Rattle.server.specs.declared.Outcome.{Outcome}
+use Rattle.server.specs.declared.Outcome.the-variants as outcome
+use Rattle.host.specs.declared.feed.Rest.{Rest}
+
+-- what is left lies in a store of some length
+abbrev pub Within : Rest → ℕ → Type 0
+Within r n = (r .at ≤ r .end) × (r .end ≤ n)
+
+-- 0 while the session goes on
+abbrev pub endedBy : Outcome → ℕ
+endedBy outcome.WantsBytes = 0
+endedBy (outcome.Reply n) = 0
+endedBy (outcome.Request r) = 0
+endedBy (outcome.End x) = endNumber x
+endedBy (outcome.Refused r) = refusalNumber r

@@ -1,0 +1,148 @@
+-- The model: what each call does, as a total function of the state, the lent stores and the arguments. The engine's contracts say that the code equals it.
+use Prim.Native.Nat.{ℕ}
+use mathlib.Core.List.{List}
+use mathlib.Core.Bool.{Bool, _||_}
+use mathlib.Core.Option.{Option, none}
+use lib.ListN.{length, take}
+use lib.Dec.{ltb, eqb}
+use Rattle.base.specs.Pick.{pick}
+use Rattle.digest.specs.declared.md5.Octets16.{Octets16}
+use Rattle.packet.specs.HeaderIds as header-id
+use Rattle.packet.specs.ResponseCodes as response
+use Rattle.packet.specs.Header.{readHeaders, first}
+use Rattle.journal.specs.Calls.{Credentials}
+use Rattle.journal.specs.Journal.{listOf}
+use Rattle.incoming.specs.Frame.{Frames, framed}
+use Rattle.incoming.specs.declared.frame.Frame.{Frame}
+use Rattle.incoming.specs.declared.frame.Frame.the-variants.{More, Whole, Short}
+use Rattle.outgoing.specs.Object.{bodyGiven}
+use Rattle.connection.specs.Reply.{front}
+use Rattle.connection.specs.Peer.{freshPeer, disconnectedPeer}
+use Rattle.server.specs.declared.Settings.{Settings}
+use Rattle.server.specs.declared.Operation.{Operation}
+use Rattle.server.specs.declared.Operation.the-variants.{Nothing, Putting, Getting, Sending, Gathering as GatheringOp, Connecting, Draining}
+use Rattle.server.specs.declared.Await.the-variants as await
+use Rattle.server.specs.declared.CallKind.the-variants as kind
+use Rattle.server.specs.declared.End.the-variants as end
+use Rattle.server.specs.declared.Refusal.the-variants as refusal
+use Rattle.server.specs.declared.Engine.{Engine}
+use Rattle.server.specs.declared.Body.the-variants as body
+use Rattle.server.specs.declared.HostRequest.the-variants as request
+use Rattle.server.specs.declared.Outcome.the-variants as outcome
+use Rattle.model.specs.Step.{Stores, stores, withHeaders, engineWith, Done, ends, repliesCode, sent, sends, Stepped, stepped, after}
+use Rattle.model.specs.Request.{lastHeaders}
+use Rattle.model.specs.Object.{sendsPacket, sendsNext, goesOn, objectOf}
+use Rattle.model.specs.Connect.{connectSends, connectAnswer, passwordAnswer, nonceAnswer}
+use Rattle.model.specs.Dispatch.{inside, packetDone}
+use Rattle.model.specs.Guard.{refuse, short, sameAwait, guarded, badHeaders, badReply, checked, longUser}
+
+-- What follows by where the frame stands, with `b` bytes of a packet in the packet store and `t` taken.
+abbrev pub framedAs : Frame → Engine → ℕ → ℕ → Stores → Stepped
+framedAs More e b t s =
+    stepped (record { engine = engineWith (e .settings) (e .peer) (e .operation) (e .awaits) b (e .length); taken = t; outcome = outcome.WantsBytes }) s
+framedAs Short e b t s = after t (ends e (e .peer) end.LengthTooSmall s)
+framedAs Whole e b t s = after t (packetDone e b s)
+
+abbrev pub withPacket : Stores → List ℕ → Stores
+withPacket s p = stores p (s .headers) (s .body) (s .reply)
+
+-- What follows the bytes that were read into the packet store.
+abbrev pub offers : Engine → Frames → Stores → Stepped
+offers e f s = framedAs (f .result .frame) e (f .result .begun) (f .result .taken) (withPacket s (f .packet))
+
+-- Bytes from the client.
+unfoldable pub bytesOfferedStep : Engine → List ℕ → Stores → Stepped
+bytesOfferedStep e i s = guarded kind.FromPeer e s (offers e (framed (s .packet) (e .begun) 0 i) s)
+
+-- The end of the client's stream, between packets or inside one.
+unfoldable pub streamEndedStep : Engine → Stores → Stepped
+streamEndedStep e s = guarded kind.FromPeer e s (after 0 (ends e (e .peer) (pick (eqb (e .begun) 0) end.Disconnected end.Truncated) s))
+
+-- The host has sent the reply. After the reply to an interrupting packet the engine ends.
+unfoldable pub replyTakenStep : Engine → Stores → Stepped
+replyTakenStep e s =
+    guarded kind.ReplyTaken e s (after 0 (pick (sameAwait (e .awaits) await.Taken) (goesOn (e .operation) e s) (ends e (e .peer) end.OtherOperation s)))
+
+-- The host's reply by what it answers: a Disconnect closes ids before its reply is made; to a Get or any other request the reply is sent as
+-- it is.
+unfoldable pub replyAnswer : Engine → ℕ → List ℕ → Stores → Done
+replyAnswer e code hs s =
+    pick (sameAwait (e .awaits) await.Connect) (connectAnswer e code hs s)
+    (pick (sameAwait (e .awaits) await.Disconnect) (sends e (disconnectedPeer (e .peer) (first header-id.connectionId (lastHeaders e s))) code hs s)
+    (sends e (e .peer) code hs s))
+
+-- The host's reply.
+unfoldable pub replyGivenStep : Engine → ℕ → List ℕ → Stores → Stepped
+replyGivenStep e code hs s = guarded kind.ReplyGiven e s (checked (badReply code hs) e s (replyAnswer e code hs s))
+
+-- The host's object, for the Get that is open.
+abbrev pub objectFor : Operation → Engine → List ℕ → Bool → Stores → Stepped
+objectFor (Getting g srm confirm wait) e hs has s =
+    checked (badHeaders hs) e s (sendsNext e (objectOf (length hs) confirm has) (srm || confirm) wait (withHeaders s (front hs (s .headers))))
+objectFor Nothing e hs has s = refuse refusal.WrongMoment e s
+objectFor (Putting g srm) e hs has s = refuse refusal.WrongMoment e s
+objectFor (Sending o c srm wait) e hs has s = refuse refusal.WrongMoment e s
+objectFor (GatheringOp o g) e hs has s = refuse refusal.WrongMoment e s
+objectFor (Connecting code f n) e hs has s = refuse refusal.WrongMoment e s
+objectFor (Draining code) e hs has s = refuse refusal.WrongMoment e s
+
+-- The host's object.
+unfoldable pub objectGivenStep : Engine → List ℕ → Bool → Stores → Stepped
+objectGivenStep e hs has s = guarded kind.ObjectGiven e s (objectFor (e .operation) e hs has s)
+
+-- Bytes of the object's body. More than were asked for are refused.
+abbrev pub bodyFor : Operation → Engine → List ℕ → Stores → Stepped
+bodyFor (Sending o c srm wait) e d s =
+    pick (ltb (c .room) (length d)) (refuse refusal.WrongMoment e s) (after 0 (sendsPacket e srm wait (bodyGiven o c d (s .reply)) s))
+bodyFor Nothing e d s = refuse refusal.WrongMoment e s
+bodyFor (Putting g srm) e d s = refuse refusal.WrongMoment e s
+bodyFor (Getting g srm confirm wait) e d s = refuse refusal.WrongMoment e s
+bodyFor (GatheringOp o g) e d s = refuse refusal.WrongMoment e s
+bodyFor (Connecting code f n) e d s = refuse refusal.WrongMoment e s
+bodyFor (Draining code) e d s = refuse refusal.WrongMoment e s
+
+-- Bytes of the object's body.
+unfoldable pub bodyGivenStep : Engine → List ℕ → Stores → Stepped
+bodyGivenStep e d s = guarded kind.FromBody e s (bodyFor (e .operation) e d s)
+
+-- The object's body cannot be read on: the reply is 0x50.
+unfoldable pub bodyFailedStep : Engine → Stores → Stepped
+bodyFailedStep e s = guarded kind.FromBody e s (after 0 (repliesCode e (e .peer) Nothing response.internalServerError s))
+
+-- The host has heard of an Abort. The reply is success, whatever the host would say.
+unfoldable pub abortAcknowledgedStep : Engine → Stores → Stepped
+abortAcknowledgedStep e s = guarded kind.AbortAcknowledged e s (after 0 (repliesCode e (e .peer) Nothing response.success s))
+
+-- The password that the host gives, or none.
+unfoldable pub passwordGivenStep : Engine → Option (List ℕ) → Stores → Stepped
+passwordGivenStep e p s = guarded kind.PasswordGiven e s (after 0 (passwordAnswer e p s))
+
+-- The nonce that the host gives, and the realm's bytes.
+unfoldable pub nonceGivenStep : Engine → Octets16 → List ℕ → Stores → Stepped
+nonceGivenStep e n l s = guarded kind.NonceGiven e s (after 0 (nonceAnswer e n l s))
+
+-- Credentials for the Connect that waits for them.
+abbrev pub credentialsWith : Operation → Engine → Option Credentials → Stores → Stepped
+credentialsWith (Connecting code f n) e c s =
+    checked (longUser c) e s (connectSends e (e .peer) code f (listOf (readHeaders (take n (s .headers)) 0)) c s)
+credentialsWith Nothing e c s = refuse refusal.WrongMoment e s
+credentialsWith (Putting g srm) e c s = refuse refusal.WrongMoment e s
+credentialsWith (Getting g srm confirm wait) e c s = refuse refusal.WrongMoment e s
+credentialsWith (Sending o k srm wait) e c s = refuse refusal.WrongMoment e s
+credentialsWith (GatheringOp o g) e c s = refuse refusal.WrongMoment e s
+credentialsWith (Draining code) e c s = refuse refusal.WrongMoment e s
+
+-- The credentials that the host gives, or none.
+unfoldable pub credentialsGivenStep : Engine → Option Credentials → Stores → Stepped
+credentialsGivenStep e c s = guarded kind.CredentialsGiven e s (credentialsWith (e .operation) e c s)
+
+-- A fresh engine.
+unfoldable pub started : Settings → Engine
+started st = engineWith st freshPeer Nothing await.Bytes 0 0
+
+-- The start. It is refused if a lent store is short, then if the realm is over 254 bytes after its charset; the state has then ended.
+unfoldable pub startStep : Settings → Stores → Stepped
+startStep st s =
+    pick (short (st .«max_object_size») s) (refuse refusal.StoreTooShort (engineWith st freshPeer Nothing await.Nothing 0 0) s)
+    (pick (ltb 254 (st .«realm_length»)) (refuse refusal.BadAnswer (engineWith st freshPeer Nothing await.Nothing 0 0) s)
+    (stepped (record { engine = started st; taken = 0; outcome = outcome.WantsBytes }) s))

@@ -1,0 +1,126 @@
+-- Connect, from its packet to its reply (the source's handle_connect and verify_client).
+use Prim.Native.Nat.{ℕ, _+_, _*_}
+use mathlib.Core.List.{List, [], _∷_}
+use mathlib.Core.Bool.{Bool, true, false, _&&_, _||_}
+use mathlib.Core.Option.{Option, none, some}
+use lib.ListN.{length, take}
+use Rattle.base.specs.Pick.{pick}
+use Rattle.digest.specs.Md5.{octets16, numbers16}
+use Rattle.digest.specs.declared.md5.Octets16.{Octets16}
+use Rattle.packet.specs.HeaderIds as header-id
+use Rattle.packet.specs.ResponseCodes as response
+use Rattle.packet.specs.Codes.{isSuccess}
+use Rattle.packet.specs.Header.{Header, readHeaders, first, firstPlace, bytesOf, allBytes}
+use Rattle.packet.specs.Packet.{connectLimit}
+use Rattle.packet.specs.Auth.{Challenge as PeerChallenge, Response, verified, userIdRequired, readOnly}
+use Rattle.journal.specs.Calls.{Credentials}
+use Rattle.journal.specs.Journal.{listOf}
+use Rattle.incoming.specs.Survey.{surveyOf}
+use Rattle.incoming.specs.declared.survey.Survey.{Survey}
+use Rattle.connection.specs.Reply.{front}
+use Rattle.connection.specs.Peer.{limited, verifiedPeer, challengedPeer, searched, openedFor}
+use Rattle.connection.specs.ConnectReply.{answeredChallenge, connectHeaders, challengeHeader}
+use Rattle.connection.specs.Pieces.{idGiven}
+use Rattle.connection.specs.declared.peer.Challenge.{Challenge}
+use Rattle.connection.specs.declared.peer.Challenge.the-variants.{Stored, Absent}
+use Rattle.connection.specs.declared.peer.Peer.{Peer}
+use Rattle.connection.specs.declared.peer.ConnectionId.{ConnectionId}
+use Rattle.connection.specs.declared.peer.ConnectionId.the-variants as front-id
+use Rattle.server.specs.declared.Settings.{Settings}
+use Rattle.server.specs.declared.Operation.the-variants.{Nothing, Connecting}
+use Rattle.server.specs.declared.Await.the-variants as await
+use Rattle.server.specs.declared.Engine.{Engine}
+use Rattle.server.specs.declared.HostRequest.{HostRequest}
+use Rattle.server.specs.declared.HostRequest.the-variants as request
+use Rattle.model.specs.Step.{Stores, withHeaders, Done, asks, sent, sendsConnect, after}
+use Rattle.model.specs.Request.{lastPacket, lastHeaders, clientResponse, userPlace, realmIn}
+
+-- If a challenge is stored and the client's response can be read, the host is asked for the password; otherwise for a nonce, to challenge
+-- the client.
+abbrev pub verifies : Engine → Peer → Challenge → Option Response → Stores → Done
+verifies e p Absent r s = asks e p Nothing await.Nonce request.Nonce s
+verifies e p (Stored n) none s = asks e p Nothing await.Nonce request.Nonce s
+verifies e p (Stored n) (some r) s = asks e p Nothing await.Password (request.Password (userPlace e s)) s
+
+-- A Connect packet. The client's packet limit is set before the password is looked at (docs/PROTOCOL.md#connect).
+unfoldable pub connectPacket : Engine → Stores → Done
+connectPacket e s =
+    let p = limited (e .peer) (connectLimit (lastPacket e s)) in
+    pick (e .settings .authentication) (verifies e p (p .challenge) (clientResponse e s) s)
+    (asks e p Nothing await.Connect (request.Connect (e .length)) s)
+
+-- Whether the client asks for Single Response Mode (SRM) and the settings support it.
+abbrev pub srmAsked : Engine → Survey → Bool
+srmAsked e v = e .settings .«srm_supported» && v .enable
+
+-- The reply to a Connect that the host has accepted.
+unfoldable pub connectSends : Engine → Peer → ℕ → ConnectionId → List Header → Option Credentials → Stores → Done
+connectSends e p code f answer c s =
+    sendsConnect e p code
+    (allBytes (connectHeaders (idGiven f) (lastHeaders e s) answer c (srmAsked e (surveyOf (some (lastHeaders e s))))))
+    s
+
+-- The ConnectionID that the engine puts in front of the host's headers: a new one for a Target, if the host gave none.
+abbrev pub frontFor : Peer → Option (List ℕ) → Option (List ℕ) → ConnectionId
+frontFor p (some v) target = front-id.Missing
+frontFor p none none = front-id.Missing
+frontFor p none (some t) = front-id.Id (searched p)
+
+-- What the host is told of the client's challenge.
+abbrev pub credentialsFor : List ℕ → PeerChallenge → HostRequest
+credentialsFor q c =
+    request.Credentials (numbers16 (c .nonce)) (userIdRequired (c .options)) (readOnly (c .options)) (realmIn q (firstPlace header-id.authenticateChallenge q 7))
+
+-- If the client sent challenges that can all be read, the host is asked for credentials, and its headers wait in the header store;
+-- otherwise the reply is made.
+abbrev pub connectChallenged : Engine → Peer → ℕ → ConnectionId → List ℕ → Option PeerChallenge → Stores → Done
+connectChallenged e p code f hs none s = connectSends e p code f (listOf (readHeaders hs 0)) none s
+connectChallenged e p code f hs (some c) s =
+    asks e p (Connecting code f (length hs)) await.Credentials (credentialsFor (lastPacket e s) c) (withHeaders s (front hs (s .headers)))
+
+-- A 65th id gets 0x53 with Connect's fields, and the peer stays as it was.
+abbrev pub connectOpened : Engine → Option Peer → ℕ → ConnectionId → List ℕ → Stores → Done
+connectOpened e none code f hs s = sendsConnect e (e .peer) response.serviceUnavailable [] s
+connectOpened e (some p) code f hs s = connectChallenged e p code f hs (answeredChallenge (lastHeaders e s)) s
+
+-- The host's answer to a Connect: any but success is sent as it is.
+unfoldable pub connectAnswer : Engine → ℕ → List ℕ → Stores → Done
+connectAnswer e code hs s =
+    let answer = first header-id.connectionId (listOf (readHeaders hs 0)) in
+    let target = first header-id.target (lastHeaders e s) in
+    let srm = e .peer .«srm_enabled» || srmAsked e (surveyOf (some (lastHeaders e s))) in
+    pick (isSuccess code) (connectOpened e (openedFor (e .peer) srm answer target) code (frontFor (e .peer) answer target) hs s)
+    (sendsConnect e (e .peer) code hs s)
+
+-- Whether the client is verified: a challenge is stored, the response can be read, and its digest is that of the password (the source's
+-- verify_client).
+abbrev pub checks : Challenge → Option Response → Option (List ℕ) → Bool
+checks Absent r p = false
+checks (Stored n) none p = false
+checks (Stored n) (some r) none = false
+checks (Stored n) (some r) (some p) = verified (octets16 n) r p
+
+-- The host's answer to the request for a password. If the client is verified, the host is asked about the Connect; otherwise for a nonce,
+-- to challenge the client again.
+unfoldable pub passwordAnswer : Engine → Option (List ℕ) → Stores → Done
+passwordAnswer e p s =
+    pick (checks (e .peer .challenge) (clientResponse e s) p)
+    (asks e (verifiedPeer (e .peer)) Nothing await.Connect (request.Connect (e .length)) s)
+    (asks e (e .peer) Nothing await.Nonce request.Nonce s)
+
+-- The options of the server's challenges: bit 0 says that a user id is required, bit 1 that access is read only.
+abbrev pub bit : Bool → ℕ
+bit false = 0
+bit true = 1
+
+abbrev pub optionsOf : Settings → ℕ
+optionsOf st = bit (st .«user_id_required») + 2 * bit (st .«read_only»)
+
+-- The realm of the server's challenges, if there is one: its charset and its bytes.
+abbrev pub realmOf : Settings → List ℕ → Option (List ℕ)
+realmOf st l = pick (st .«has_realm») (some (st .charset ∷ take (st .«realm_length») l)) none
+
+-- The reply with a new challenge: 0x41 with Connect's fields.
+unfoldable pub nonceAnswer : Engine → Octets16 → List ℕ → Stores → Done
+nonceAnswer e n l s =
+    sendsConnect e (challengedPeer (e .peer) n) response.unauthorized (bytesOf (challengeHeader (octets16 n) (optionsOf (e .settings)) (realmOf (e .settings) l))) s

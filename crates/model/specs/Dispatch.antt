@@ -1,0 +1,128 @@
+-- Which way a packet goes (the source's handle_next, dispatch, reject and next_request).
+use Prim.Native.Nat.{ℕ}
+use mathlib.Core.List.{List, []}
+use mathlib.Core.Bool.{Bool, true, false, _&&_, _||_, not}
+use mathlib.Core.Option.{Option, none, some}
+use lib.ListN.{length, getD, take}
+use Rattle.base.specs.Pick.{pick}
+use Rattle.packet.specs.ResponseCodes as response
+use Rattle.packet.specs.FirstByte.{firstByte, sameOpcode}
+use Rattle.packet.specs.Codes.{sentCode}
+use Rattle.packet.specs.Header.{first}
+use Rattle.packet.specs.Packet.{Request as Packet, requestOf, backup, noCreate, packetBytes}
+use Rattle.packet.specs.declared.opcode.Opcode.{Opcode}
+use Rattle.packet.specs.declared.opcode.Opcode.the-variants as op
+use Rattle.packet.specs.declared.opcode.FirstByte.{FirstByte}
+use Rattle.packet.specs.declared.opcode.FirstByte.the-variants.{Known, Unknown}
+use Rattle.journal.specs.Ids.{member}
+use Rattle.incoming.specs.Survey.{surveyOf}
+use Rattle.incoming.specs.declared.survey.Survey.{Survey}
+use Rattle.outgoing.specs.declared.object.Next.the-variants as next
+use Rattle.connection.specs.Peer.{idsOf}
+use Rattle.server.specs.declared.Operation.{Operation}
+use Rattle.server.specs.declared.Operation.the-variants.{Nothing, Putting, Getting, Sending, Gathering as GatheringOp, Connecting, Draining}
+use Rattle.server.specs.declared.Await.the-variants as await
+use Rattle.server.specs.declared.End.the-variants as end
+use Rattle.server.specs.declared.Engine.{Engine}
+use Rattle.server.specs.declared.HostRequest.the-variants as request
+use Rattle.model.specs.Step.{Stores, engineWith, Done, wants, asks, ends, replies, repliesCode}
+use Rattle.model.specs.Operation.{nothingGathered, putPacket, getPacket, headersPacket}
+use Rattle.model.specs.Object.{sendsNext}
+use Rattle.model.specs.Connect.{connectPacket, srmAsked}
+
+pub data Rejection : Type 0 where
+  admits : Rejection
+  rejects : ℕ → Rejection
+
+-- The code that refuses a packet before it reaches the host: 0x41 if a password is required and not given, but for a Disconnect, which may
+-- not be refused; then 0x53 if the first ConnectionID is not open (docs/PROTOCOL.md#admission).
+unfoldable pub rejection : Engine → Opcode → Survey → Rejection
+rejection e o v =
+    pick (e .settings .authentication && (not (e .peer .authenticated) && not (sameOpcode o op.Disconnect))) (rejects response.unauthorized)
+    (pick (v .«has_id» && not (member (v .id) (idsOf (e .peer)))) (rejects response.serviceUnavailable) admits)
+
+-- The operations that are drained if they are turned away under Single Response Mode (SRM).
+abbrev pub drains : Opcode → Bool
+drains o = sameOpcode o op.Put || sameOpcode o op.Get
+
+-- A packet that is turned away. Under SRM the client keeps sending without waiting, so the engine reads the rest of a Put or Get before it
+-- replies (docs/PROTOCOL.md#drain).
+abbrev pub rejected : Engine → Packet → ℕ → Stores → Done
+rejected e r code s =
+    pick (e .peer .«srm_enabled» && (drains (r .opcode) && not (r .final))) (wants e (e .peer) (Draining code) s)
+    (repliesCode e (e .peer) Nothing code s)
+
+-- Whether SRM is granted for this operation with its first Continue.
+abbrev pub confirms : Engine → Survey → Bool
+confirms e v = not (e .peer .«srm_enabled») && srmAsked e v
+
+-- An admitted packet, by its opcode.
+abbrev pub dispatches : Opcode → Engine → Packet → Survey → Stores → Done
+dispatches op.Connect e r v s = connectPacket e s
+dispatches op.Abort e r v s = asks e (e .peer) Nothing await.Acknowledgement (request.Abort (e .length)) s
+dispatches op.Disconnect e r v s = asks e (e .peer) Nothing await.Disconnect (request.Disconnect (e .length)) s
+dispatches op.SetPath e r v s =
+    asks e (e .peer) Nothing await.Reply (request.SetPath (e .length) (backup (r .bytes)) (noCreate (r .bytes))) s
+dispatches op.Put e r v s = putPacket e r v (e .peer .«srm_enabled») (confirms e v) nothingGathered s
+dispatches op.Get e r v s = getPacket e r v (e .peer .«srm_enabled») (confirms e v) nothingGathered s
+dispatches op.Action e r v s = headersPacket e r op.Action nothingGathered s
+dispatches op.Session e r v s = headersPacket e r op.Session nothingGathered s
+dispatches (op.UserDefined x) e r v s = headersPacket e r (op.UserDefined x) nothingGathered s
+
+abbrev pub admittedAs : Rejection → Engine → Packet → Survey → Stores → Done
+admittedAs admits e r v s = dispatches (r .opcode) e r v s
+admittedAs (rejects code) e r v s = rejected e r code s
+
+-- A packet while nothing is open. A Connect is never turned away.
+unfoldable pub dispatch : Engine → Packet → Survey → Stores → Done
+dispatch e r v s =
+    pick (sameOpcode (r .opcode) op.Connect) (connectPacket e s) (admittedAs (rejection e (r .opcode) v) e r v s)
+
+-- A packet of another opcode inside an operation gets 0x40; the engine ends once that reply is taken (docs/PROTOCOL.md#other-operation).
+abbrev pub interrupts : Engine → Stores → Done
+interrupts e s = replies e (e .peer) Nothing await.Last (packetBytes (sentCode response.badRequest) [] []) s
+
+-- A packet by what is open.
+abbrev pub inside : Operation → Engine → Packet → Survey → Stores → Done
+inside Nothing e r v s = dispatch e r v s
+inside (Putting g srm) e r v s = pick (sameOpcode (r .opcode) op.Put) (putPacket e r v srm false g s) (interrupts e s)
+inside (Getting g srm confirm wait) e r v s =
+    pick (sameOpcode (r .opcode) op.Get) (getPacket e r v srm confirm g s) (interrupts e s)
+inside (Sending o c srm wait) e r v s = pick (sameOpcode (r .opcode) op.Get) (sendsNext e o srm (v .wait) s) (interrupts e s)
+inside (GatheringOp o g) e r v s = pick (sameOpcode (r .opcode) o) (headersPacket e r o g s) (interrupts e s)
+inside (Connecting c f n) e r v s = interrupts e s
+inside (Draining code) e r v s = pick (r .final) (repliesCode e (e .peer) Nothing code s) (wants e (e .peer) (Draining code) s)
+
+-- Whether a first byte names no opcode.
+abbrev pub unknownByte : FirstByte → Bool
+unknownByte Unknown = true
+unknownByte (Known o f) = false
+
+-- Whether an operation is open.
+abbrev pub busy : Operation → Bool
+busy Nothing = false
+busy (Putting g srm) = true
+busy (Getting g srm confirm wait) = true
+busy (Sending o c srm wait) = true
+busy (GatheringOp o g) = true
+busy (Connecting c f n) = true
+busy (Draining code) = true
+
+abbrev pub unreadable : Engine → List ℕ → Stores → Done
+unreadable e q s =
+    pick (busy (e .operation)) (ends e (e .peer) end.Unreadable s)
+    (repliesCode e (e .peer) Nothing (pick (unknownByte (firstByte (getD q 0 0))) response.notImplemented response.badRequest) s)
+
+-- A packet that can be read or not. An Abort goes before all else.
+abbrev pub readAs : Option Packet → Engine → List ℕ → Stores → Done
+readAs none e q s = unreadable e q s
+readAs (some r) e q s =
+    pick (sameOpcode (r .opcode) op.Abort) (asks e (e .peer) Nothing await.Acknowledgement (request.Abort (e .length)) s)
+    (inside (e .operation) e r (surveyOf (some (r .headers))) s)
+
+-- The state after a whole packet of `n` bytes has arrived.
+abbrev pub lengthOf : Engine → ℕ → Engine
+lengthOf e n = engineWith (e .settings) (e .peer) (e .operation) (e .awaits) 0 n
+
+unfoldable pub packetDone : Engine → ℕ → Stores → Done
+packetDone e n s = readAs (requestOf (take n (s .packet))) (lengthOf e n) (take n (s .packet)) s

@@ -1,0 +1,119 @@
+-- Which calls are refused: a store that is too short, a wrong moment, an answer that no host may give.
+use Prim.Native.Nat.{ℕ, _+_}
+use mathlib.Core.List.{List}
+use mathlib.Core.Bool.{Bool, true, false, _&&_, _||_, not}
+use mathlib.Core.Option.{Option, none, some}
+use lib.ListN.{length}
+use lib.Dec.{ltb, leb, eqb}
+use Rattle.base.specs.Pick.{pick}
+use Rattle.packet.specs.Codes.{isCode}
+use Rattle.packet.specs.Canonical.{canonical}
+use Rattle.journal.specs.Calls.{Credentials}
+use Rattle.incoming.specs.declared.gather.Gathered.{Gathered}
+use Rattle.outgoing.specs.declared.object.Outgoing.{Outgoing}
+use Rattle.outgoing.specs.declared.object.Chunk.{Chunk}
+use Rattle.server.specs.declared.Operation.{Operation}
+use Rattle.server.specs.declared.Operation.the-variants.{Nothing, Putting, Getting, Sending, Gathering as GatheringOp, Connecting, Draining}
+use Rattle.server.specs.declared.Await.{Await}
+use Rattle.server.specs.declared.Await.the-variants as await
+use Rattle.server.specs.declared.CallKind.{CallKind}
+use Rattle.server.specs.declared.CallKind.the-variants as kind
+use Rattle.server.specs.declared.End.the-variants as end
+use Rattle.server.specs.declared.Refusal.{Refusal}
+use Rattle.server.specs.declared.Refusal.the-variants as refusal
+use Rattle.server.specs.declared.Engine.{Engine}
+use Rattle.server.specs.declared.Body.{Body}
+use Rattle.server.specs.declared.Body.the-variants as body
+use Rattle.server.specs.declared.Outcome.the-variants as outcome
+use Rattle.model.specs.Step.{Stores, Done, sent, limitOf, Stepped, stepped, after}
+
+-- Whether a lent store is too short.
+unfoldable pub short : ℕ → Stores → Bool
+short limit s =
+    ltb (length (s .packet)) 65535 || (ltb (length (s .headers)) 65535 || (ltb (length (s .reply)) 65535 || ltb (length (s .body)) limit))
+
+-- Whether the counts of a state are ones that a call can leave. Any other state is refused as after the end, so that a call is defined for
+-- every state.
+abbrev pub soundGathered : ℕ → Gathered → Bool
+soundGathered limit g = leb (g .kept) 65535 && leb (g .body) limit
+
+abbrev pub soundOutgoing : Outgoing → Chunk → Bool
+soundOutgoing o c =
+    leb (o .total) 65535 && (leb (o .sent) (o .total) && (leb (c .at + c .got) 65532 && leb (c .at + c .got + c .room) 65533))
+
+abbrev pub soundOperation : ℕ → Operation → Bool
+soundOperation limit Nothing = true
+soundOperation limit (Putting g srm) = soundGathered limit g
+soundOperation limit (Getting g srm confirm wait) = soundGathered limit g
+soundOperation limit (Sending o c srm wait) = soundOutgoing o c
+soundOperation limit (GatheringOp o g) = soundGathered limit g
+soundOperation limit (Connecting code f n) = leb n 65535
+soundOperation limit (Draining code) = true
+
+-- Whether the whole state is one that a call can leave, by its counts.
+unfoldable pub sound : Engine → Bool
+sound e =
+    ltb (e .begun) 65535 && (leb (e .length) 65535 && (leb (e .peer .count) 64 && (leb 255 (e .peer .«remote_max_packet_length»)
+    && (leb (e .settings .«realm_length») 254 && soundOperation (limitOf e) (e .operation)))))
+
+-- A number for each thing awaited, by which two of them are told apart.
+abbrev pub awaitNumber : Await → ℕ
+awaitNumber await.Bytes = 0
+awaitNumber await.Taken = 1
+awaitNumber await.Last = 2
+awaitNumber await.Connect = 3
+awaitNumber await.Disconnect = 4
+awaitNumber await.Get = 5
+awaitNumber await.Reply = 6
+awaitNumber await.Acknowledgement = 7
+awaitNumber await.Password = 8
+awaitNumber await.Nonce = 9
+awaitNumber await.Credentials = 10
+awaitNumber await.Body = 11
+awaitNumber await.Nothing = 12
+
+abbrev pub sameAwait : Await → Await → Bool
+sameAwait a b = eqb (awaitNumber a) (awaitNumber b)
+
+-- The moments at which a call may come. A Get may be answered by a reply or by an object.
+abbrev pub fits : CallKind → Await → Bool
+fits kind.FromPeer a = sameAwait a await.Bytes
+fits kind.ReplyTaken a = sameAwait a await.Taken || sameAwait a await.Last
+fits kind.ReplyGiven a = sameAwait a await.Connect || (sameAwait a await.Disconnect || (sameAwait a await.Get || sameAwait a await.Reply))
+fits kind.ObjectGiven a = sameAwait a await.Get
+fits kind.AbortAcknowledged a = sameAwait a await.Acknowledgement
+fits kind.PasswordGiven a = sameAwait a await.Password
+fits kind.NonceGiven a = sameAwait a await.Nonce
+fits kind.CredentialsGiven a = sameAwait a await.Credentials
+fits kind.FromBody a = sameAwait a await.Body
+
+-- A call that is refused changes nothing.
+abbrev pub refuse : Refusal → Engine → Stores → Stepped
+refuse r e s = stepped (record { engine = e; taken = 0; outcome = outcome.Refused r }) s
+
+-- A call goes on if every store is long enough, the state is sound and the call is awaited. A short store comes before a wrong moment
+-- (docs/PROTOCOL.md#refusals).
+abbrev pub guarded : CallKind → Engine → Stores → Stepped → Stepped
+guarded k e s go =
+    pick (short (limitOf e) s) (refuse refusal.StoreTooShort e s)
+    (pick (sound e && fits k (e .awaits)) go (refuse refusal.WrongMoment e s))
+
+-- Whether header bytes are none that a host may give: over 65,535, or not what the writer gives for what the reader reads.
+unfoldable pub badHeaders : List ℕ → Bool
+badHeaders hs = ltb 65535 (length hs) || not (canonical hs)
+
+unfoldable pub badReply : ℕ → List ℕ → Bool
+badReply code hs = not (isCode code) || badHeaders hs
+
+-- An answer that no host may give is refused.
+abbrev pub checked : Bool → Engine → Stores → Done → Stepped
+checked bad e s d = pick bad (refuse refusal.BadAnswer e s) (after 0 d)
+
+-- Whether a user id is over 255 bytes, the most that its length field can say.
+abbrev pub longId : Option (List ℕ) → Bool
+longId none = false
+longId (some u) = ltb 255 (length u)
+
+abbrev pub longUser : Option Credentials → Bool
+longUser none = false
+longUser (some c) = longId (c .user)

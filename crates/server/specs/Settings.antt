@@ -1,0 +1,19 @@
+-- The source's settings (its `ServerConfig` and the engine's defaults).
+use Prim.Native.Nat.{ℕ}
+use mathlib.Core.Bool.{false}
+use Rattle.server.specs.declared.Settings.{Settings}
+
+-- the source's settings, but for the Put limit, which the host chooses
+abbrev pub defaultSettings : ℕ → Settings
+defaultSettings limit =
+    record {
+      «realm_length» = 0;
+      «max_object_size» = limit;
+      «max_packet_length» = 65535;
+      charset = 0;
+      «has_realm» = false;
+      «srm_supported» = false;
+      authentication = false;
+      «user_id_required» = false;
+      «read_only» = false;
+    }

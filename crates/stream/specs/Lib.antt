@@ -1,3 +1,0 @@
--- What the programs over the engine know of their input and of their host.
-pub mod Host
-pub mod Rest
