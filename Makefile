@@ -20,6 +20,8 @@ run:
 	@target/bin/bench <crates/bench/sessions/record.in
 
 # The gate: every crate proved from nothing, every must-fail edit refused, every program run and compared. Its last line is 'N passed, 0 failed'.
+# Three crates at a time, since rt waits for all of them before it starts the next: on two cores a long check then leaves neither idle.
+test: export RT_JOBS ?= 3
 test:
 	@tools/progress ci
 
