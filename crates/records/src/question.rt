@@ -1,0 +1,83 @@
+// The words of a question: which one is asked, and whether a word has the form of a number or of bytes.
+use check::same;
+use lines::word::number;
+ghost use Prim.Native.Nat.{_<_};
+
+pub enum Question {
+    Store,
+    Restore,
+    Unknown,
+}
+
+// A decimal number of at most ten digits, or a word that is none.
+pub enum Number {
+    Known(usize),
+    Malformed,
+}
+
+// The question that a word names.
+pub(crate) fn question_of(word: &[u8]) -> Question {
+    if same(word, b"store") {
+        return Question::Store;
+    }
+    if same(word, b"restore") {
+        return Question::Restore;
+    }
+    Question::Unknown
+}
+
+// The value of a digit, in lower case as in the answers; 16 for any other sign.
+fn digit(c: u8) -> u8 {
+    if c < b'0' {
+        return 16;
+    }
+    if c <= b'9' {
+        return c - b'0';
+    }
+    if c < b'a' {
+        return 16;
+    }
+    if c <= b'f' { c - b'a' + 10 } else { 16 }
+}
+
+// Whether each sign of `word` is a digit below `base`.
+fn is_of_base(word: &[u8], base: u8) -> bool {
+    let mut i = 0;
+    while i < word.len() {
+        if base <= digit(word[i]) {
+            return false;
+        }
+        i += 1;
+    }
+    true
+}
+
+// The number that `word` names. A word of more than ten digits is malformed: every number that is asked about is shorter.
+pub(crate) fn number_of(word: &[u8]) -> Number {
+    if word.len() == 0 {
+        return Number::Malformed;
+    }
+    if 10 < word.len() {
+        return Number::Malformed;
+    }
+    if !is_of_base(word, 10) {
+        return Number::Malformed;
+    }
+    Number::Known(number(word))
+}
+
+// Whether `word` is bytes in hexadecimal, with a multiple of `unit` digits. A dash stands for no bytes.
+pub(crate) fn is_bytes(word: &[u8], unit: usize) -> bool
+    requires { ⌜ 0 < unit ⌝ }
+{
+    if same(word, b"-") {
+        return true;
+    }
+    if word.len() == 0 {
+        return false;
+    }
+    if word.len() % unit != 0 {
+        return false;
+    }
+    is_of_base(word, 16)
+}
