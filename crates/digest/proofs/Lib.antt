@@ -1,4 +1,5 @@
--- What several proofs cite.
+-- What several proofs cite, and laws that stand for themselves.
+pub mod SumOrder
 pub mod Octets
 pub mod Padded
 pub mod Blocks
