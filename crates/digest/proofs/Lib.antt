@@ -1,5 +1,6 @@
 -- What several proofs cite, and laws that stand for themselves.
 pub mod SumOrder
+pub mod Choice
 pub mod Octets
 pub mod Padded
 pub mod Blocks

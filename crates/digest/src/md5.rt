@@ -75,11 +75,13 @@ fn step(p: &[u8], s: Regs, t: Regs, r: usize, i: usize, w: usize, k: u32, n: u32
     }
 }
 
-// Round 0.
+// Round 0. The function is RFC 1321's F: where a bit of `b` is set the bit of `c`, elsewhere that of `d`. The body takes it in three
+// operations, where the RFC has four, because the code is faster so: `c ^ d` does not wait for `b`, the newest register. proofs/Choice shows
+// that both are equal.
 fn mix0(b: u32, c: u32, d: u32) -> u32
     ensures { λ r. ⌜ r ≡ mixOf 0 b c d ⌝ }
 {
-    (b & c) | (!b & d)
+    d ^ (b & (c ^ d))
 }
 
 fn step0(p: &[u8], s: Regs, t: Regs, i: usize, w: usize, k: u32, n: u32) -> Regs
