@@ -61,6 +61,15 @@ stepOf s i x =
       d = s .c;
     }
 
+-- 3.4: the sum of a step, wrapped after each addition, of the register a, the function's value f, the word x and the constant t: `rfcSum` in
+-- the order in which RFC 1321 writes it, `handSum` in that in which the hardware group adds by hand. proofs/SumOrder says that both are the
+-- sum of `stepOf`.
+abbrev pub rfcSum : ℕ → ℕ → ℕ → ℕ → ℕ
+rfcSum a f x t = add32 (add32 (add32 a f) x) t
+
+abbrev pub handSum : ℕ → ℕ → ℕ → ℕ → ℕ
+handSum a f x t = add32 (add32 (add32 t x) f) a
+
 -- 2: word k of a block: four bytes, the low-order one first
 unfoldable pub word : List ℕ → ℕ → ℕ
 word p k = getD p (4 * k) 0 + 256 * getD p (4 * k + 1) 0 + 65536 * getD p (4 * k + 2) 0 + 16777216 * getD p (4 * k + 3) 0

@@ -28,14 +28,15 @@ fn rotate_left(x: u32, n: u32) -> u32
     (x << n) | (x >> (32 - n))
 }
 
-// Four words, added one after the other.
+// The sum of a step, wrapping, in the order in which the hardware group checks it by hand: the constant `k` and the message word `w` first,
+// then the function's value `f`, then the register `a`. RFC 1321 adds a, f, w and k in this order, and the contract keeps its sum.
+// proofs/SumOrder shows that the two orders give one number for any four words.
 fn sum4(a: u32, f: u32, k: u32, w: u32) -> u32
     ensures { λ r. ⌜ r ≡ (a + f + w + k) % 2 ^ 32 ⌝ }
 {
-    std::num::wrapping_add_u32(
-        std::num::wrapping_add_u32(std::num::wrapping_add_u32(a, f), k),
-        w,
-    )
+    let constant_and_word = std::num::wrapping_add_u32(k, w);
+    let with_value = std::num::wrapping_add_u32(constant_and_word, f);
+    std::num::wrapping_add_u32(with_value, a)
 }
 
 // Word k of a block, the low-order byte first.
@@ -50,6 +51,17 @@ fn word_at(p: &[u8], k: usize) -> u32
 }
 
 // Step i, of round r, after i steps from s: the word that it takes, its constant, its shift and its mix are the caller's.
+//
+// A worked step, so that a reader can follow `sum4` by hand: the first step of a message that begins with the bytes 61 62 63 00. All
+// numbers are hexadecimal, and proofs/SumOrder has them as theorems.
+//
+//     the registers   a = 67452301, b = efcdab89, c = 98badcfe, d = 10325476
+//     `k`             d76aa478
+//     + the word      00636261, the sum is d7ce06d9
+//     + `f`           98badcfe, the sum is 7088e3d7
+//     + `t.a`         67452301, the sum is d7ce06d8
+//     rotated by 7    e7036c6b
+//     + `t.b`         efcdab89, the sum is d6d117f4, which is the new b
 fn step(p: &[u8], s: Regs, t: Regs, r: usize, i: usize, w: usize, k: u32, n: u32, f: u32) -> Regs
     requires { ⌜ Turn (now p) s t r i w k n × (f ≡ mixOf r (t .b) (t .c) (t .d)) ⌝ }
     ensures { λ v. ⌜ v ≡ steps (now (p .entry)) (i + 1) s ⌝ }
@@ -64,11 +76,13 @@ fn step(p: &[u8], s: Regs, t: Regs, r: usize, i: usize, w: usize, k: u32, n: u32
     }
 }
 
-// Round 0.
+// Round 0. The function is RFC 1321's F: where a bit of `b` is set the bit of `c`, elsewhere that of `d`. The body takes it in three
+// operations, where the RFC has four, because the code is faster so: `c ^ d` does not wait for `b`, the newest register. proofs/Choice shows
+// that both are equal.
 fn mix0(b: u32, c: u32, d: u32) -> u32
     ensures { λ r. ⌜ r ≡ mixOf 0 b c d ⌝ }
 {
-    (b & c) | (!b & d)
+    d ^ (b & (c ^ d))
 }
 
 fn step0(p: &[u8], s: Regs, t: Regs, i: usize, w: usize, k: u32, n: u32) -> Regs
