@@ -13,7 +13,7 @@ use Rattle.packet.specs.declared.auth.DigestChallenge.the-variants as challenge
 use Rattle.journal.specs.Calls.{Credentials}
 use Rattle.incoming.specs.Survey.{surveyOf}
 use Rattle.connection.specs.Reply.{fieldsOf, front}
-use Rattle.connection.specs.Peer.{idIn, isGiven, answerBy, disconnectedPeer, verifiedPeer, limited}
+use Rattle.connection.specs.Peer.{Linked, linked, idIn, isGiven, Answers, answerBy, disconnectedPeer, verifiedPeer, limited}
 use Rattle.connection.specs.ConnectReply.{connectHeaders}
 use Rattle.connection.specs.Pieces.{headersFrom, answeredIn, idGiven}
 use Rattle.connection.specs.declared.peer.Peer.{Peer}
@@ -89,6 +89,14 @@ pub record Answering : Type 0 where
 abbrev pub answering : CallResult → List ℕ → List ℕ → Answering
 answering r h y = record { took = r; headers = h; reply = y }
 
+-- the same with the table store afterwards
+pub record Accepting : Type 0 where
+  pub answer : Answering
+  pub tables : List ℕ
+
+abbrev pub accepting : Answering → List ℕ → Accepting
+accepting a t = record { answer = a; tables = t }
+
 -- the header store stays
 abbrev pub leaving : List ℕ → Written → Answering
 leaving h w = answering (w .took) h (w .reply)
@@ -114,10 +122,10 @@ unfoldable pub acceptedHeaders : Engine → ConnectionId → List ℕ → List �
 acceptedHeaders e f q hs c =
     allBytes (connectHeaders (idGiven f) (headersOf q) (headersFrom hs 0) c (srmAskedBy e q))
 
--- what the answer opens
-unfoldable pub answerFor : Engine → List ℕ → List ℕ → Answer
-answerFor e hs q =
-    answerBy (e .peer) (e .peer .«srm_enabled» || srmAskedBy e q) (idIn (first 0xCB (headersFrom hs 0)))
+-- what the answer opens, in the table store `t`
+unfoldable pub answerFor : Engine → List ℕ → List ℕ → List ℕ → Answers
+answerFor e t hs q =
+    answerBy (e .peer) t (e .peer .«srm_enabled» || srmAskedBy e q) (idIn (first 0xCB (headersFrom hs 0)))
     (isGiven (first 0x46 (headersOf q)))
 
 -- credentials are asked for where the peer sent challenges that can all be read; the host's headers wait in the header store
@@ -135,14 +143,17 @@ openedBy a e code hs q h y =
     pick (a .opening .full) (leaving h (connectReplies e (e .peer) 0x53 [] y))
     (challengedBy (answeredIn (headersOf q)) e (a .opening .peer) code (a .front) hs q h y)
 
--- the answer to a Connect: any but success is sent as it is
-unfoldable pub acceptedBy : Engine → ℕ → List ℕ → List ℕ → List ℕ → List ℕ → Answering
-acceptedBy e code hs q h y =
-    pick (isSuccess code) (openedBy (answerFor e hs q) e code hs q h y) (leaving h (connectReplies e (e .peer) code hs y))
+abbrev pub openedIn : Answers → Engine → ℕ → List ℕ → List ℕ → List ℕ → List ℕ → Accepting
+openedIn a e code hs q h y = accepting (openedBy (a .answer) e code hs q h y) (a .tables)
 
--- the peer when a reply is made: Disconnect closes ids before it
-unfoldable pub repliedPeer : Engine → List ℕ → Peer
-repliedPeer e q = pick (sameAwait (e .awaits) await.Disconnect) (disconnectedPeer (e .peer) (first 0xCB (headersOf q))) (e .peer)
+-- the answer to a Connect: any but success is sent as it is
+unfoldable pub acceptedBy : Engine → List ℕ → ℕ → List ℕ → List ℕ → List ℕ → List ℕ → Accepting
+acceptedBy e t code hs q h y =
+    pick (isSuccess code) (openedIn (answerFor e t hs q) e code hs q h y) (accepting (leaving h (connectReplies e (e .peer) code hs y)) t)
+
+-- the peer and the table store when a reply is made: Disconnect closes ids before it
+unfoldable pub repliedLink : Engine → List ℕ → List ℕ → Linked
+repliedLink e q t = pick (sameAwait (e .awaits) await.Disconnect) (disconnectedPeer (e .peer) t (first 0xCB (headersOf q))) (linked (e .peer) t)
 
 -- credentials for the Connect that waits, whose headers stand in front of the header store; a long user id is 8, no such Connect 9
 abbrev pub credentialsBy : Operation → Engine → Option Credentials → List ℕ → List ℕ → List ℕ → Written

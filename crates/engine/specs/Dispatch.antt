@@ -18,7 +18,7 @@ use Rattle.journal.specs.Journal.{headersOf as headersIn}
 use Rattle.model.specs.Step.{Stores, Done, engineWith}
 use Rattle.model.specs.Operation.{nothingGathered, gathers}
 use Rattle.model.specs.Object.{sendsNext}
-use Rattle.model.specs.Dispatch.{Rejection, admits, rejects, rejection, drains, confirms, unknownByte, busy}
+use Rattle.model.specs.Dispatch.{Rejection, admits, rejects, rejection, knownIn, drains, confirms, unknownByte, busy}
 use Rattle.engine.specs.Step.{planned, wantsPlan, asksPlan, endsPlan, codePlan}
 use Rattle.server.specs.declared.Operation.{Operation}
 use Rattle.server.specs.declared.Operation.the-variants.{Nothing, Putting, Getting, Sending, Gathering as GatheringOp, Connecting, Draining}
@@ -43,14 +43,15 @@ use Rattle.server.specs.declared.Outcome.the-variants as outcome
 use Rattle.server.specs.declared.CallResult.{CallResult}
 use Rattle.engine.specs.declared.object.Turn.the-variants.{Send, End}
 
-abbrev pub headingOf : Packet → Heading
-headingOf r =
+abbrev pub headingOf : Packet → Bool → Heading
+headingOf r known =
     record {
       survey = surveyOf (some (r .headers));
       opcode = r .opcode;
       backup = backup (r .bytes);
       «no_create» = noCreate (r .bytes);
       «is_final» = r .final;
+      known = known;
     }
 
 -- the host is asked
@@ -110,7 +111,7 @@ admittedRoute (Rejects code) e h = rejectedRoute e h code
 -- nothing is open; Connect is not turned away
 unfoldable pub openRoute : Engine → Heading → Route
 openRoute e h =
-    pick (sameOpcode (h .opcode) op.Connect) Connect (admittedRoute (admissionOf (rejection e (h .opcode) (h .survey))) e h)
+    pick (sameOpcode (h .opcode) op.Connect) Connect (admittedRoute (admissionOf (rejection e (h .opcode) (h .survey) (h .known))) e h)
 
 -- another opcode inside an operation: 0x40, and the engine ends once that reply is taken
 abbrev pub interruptsRoute : Route
@@ -145,13 +146,13 @@ abbrev pub unreadableRoute : Operation → Bool → Route
 unreadableRoute o unknown = pick (busy o) (Plain (brief.End end.Unreadable)) (codeRoute (pick unknown 0x51 0x40))
 
 -- readable or not
-abbrev pub routeAs : Option Packet → Engine → List ℕ → Route
-routeAs none e q = unreadableRoute (e .operation) (unknownByte (firstByte (getD q 0 0)))
-routeAs (some r) e q = headingRoute e (headingOf r)
+abbrev pub routeAs : Option Packet → Engine → List ℕ → List ℕ → Route
+routeAs none e q t = unreadableRoute (e .operation) (unknownByte (firstByte (getD q 0 0)))
+routeAs (some r) e q t = headingRoute e (headingOf r (knownIn e t (surveyOf (some (r .headers)))))
 
--- a whole packet
-unfoldable pub packetRoute : Engine → List ℕ → Route
-packetRoute e q = routeAs (requestOf q) e q
+-- a whole packet, with the open ids in the table store `t`
+unfoldable pub packetRoute : Engine → List ℕ → List ℕ → Route
+packetRoute e q t = routeAs (requestOf q) e q t
 
 unfoldable pub simplePlan : Engine → Simple → Plan
 simplePlan e (brief.Ask a r) = asksPlan e (e .peer) Nothing a r

@@ -4,6 +4,7 @@ use Prim.Native.Nat.{ℕ}
 use mathlib.Core.Bool.{Bool, _&&_, _||_}
 use lib.Dec.{ltb}
 use Rattle.base.specs.Pick.{pick}
+use Rattle.packet.specs.Limits.{maxConnections}
 use Rattle.model.specs.Step.{limitOf}
 use Rattle.model.specs.Guard.{sound, fits}
 use Rattle.server.specs.declared.CallKind.{CallKind}
@@ -25,11 +26,17 @@ guardedBy k e p h b y =
     pick (shortBy (limitOf e) p h b y) (Refuse refusal.StoreTooShort)
     (pick (sound e && fits k (e .awaits)) Proceed (Refuse refusal.WrongMoment))
 
+-- the same of a call that is lent the table store too, of length `t`
+unfoldable pub guardedLent : CallKind → Engine → ℕ → ℕ → ℕ → ℕ → ℕ → Guarded
+guardedLent k e t p h b y =
+    pick (ltb t maxConnections || shortBy (limitOf e) p h b y) (Refuse refusal.StoreTooShort)
+    (pick (sound e && fits k (e .awaits)) Proceed (Refuse refusal.WrongMoment))
+
 -- what a refused call gives
 abbrev pub refusedWith : Refusal → Engine → CallResult
 refusedWith r e = record { engine = e; taken = 0; outcome = outcome.Refused r }
 
--- what the guard says of a start: a short store comes before a realm of over 254 bytes after its charset
-unfoldable pub guardedStart : ℕ → ℕ → ℕ → ℕ → ℕ → ℕ → Guarded
-guardedStart limit realm p h b y =
-    pick (shortBy limit p h b y) (Refuse refusal.StoreTooShort) (pick (ltb 254 realm) (Refuse refusal.BadAnswer) Proceed)
+-- what the guard says of a start: a short store comes before a realm that is too long
+unfoldable pub guardedStart : ℕ → Bool → ℕ → ℕ → ℕ → ℕ → ℕ → Guarded
+guardedStart limit long t p h b y =
+    pick (ltb t maxConnections || shortBy limit p h b y) (Refuse refusal.StoreTooShort) (pick long (Refuse refusal.BadAnswer) Proceed)

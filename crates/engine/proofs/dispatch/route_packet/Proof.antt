@@ -25,8 +25,10 @@ unreadable-requires : tie.Need-unreadable-requires
 unreadable-requires c κs = search needs
 
 returns : tie.Need-returns
-returns c = let k = c .before .before .before in
-    simp (c .unreadable .ensures, c .before .is-unknown .ensures) (sym (unreadable-way _ _ (sym (k .before .before .parse-packet .ensures) ∙ k .enum-told .given .1)))
+returns c =
+    let k = c .before .before .before in
+    simp (c .unreadable .ensures, c .before .is-unknown .ensures)
+    (sym (unreadable-way _ _ _ (sym (k .before .before .parse-packet .ensures) ∙ k .enum-told .given .1)))
 
 set-path-flags-requires : tie.Need-set-path-flags-requires
 set-path-flags-requires c κs = search needs
@@ -34,13 +36,18 @@ set-path-flags-requires c κs = search needs
 survey-headers-requires : tie.Need-survey-headers-requires
 survey-headers-requires c κs = search needs
 
+is-known-requires : tie.Need-is-known-requires
+is-known-requires c κs = search needs
+
 heading-route-requires : tie.Need-heading-route-requires
 heading-route-requires c κs = search needs
 
 returns-2 : tie.Need-returns-2
-returns-2 c = let k = c .before .before .before .before in
-    simp (c .heading-route .ensures, c .before .survey-headers .ensures, c .before .before .set-path-flags .ensures)
-    (sym (heading-way _ _ _ _ _ _ (sym (k .before .before .parse-packet .ensures) ∙ k .opcode .given .1)))
+returns-2 c =
+    let v = c .before .before in
+    let k = v .before .before .before in
+    simp (c .heading-route .ensures, c .before .is-known .ensures, v .survey-headers .ensures, v .before .set-path-flags .ensures)
+    (sym (heading-way _ _ _ _ _ _ _ (sym (k .before .before .parse-packet .ensures) ∙ k .opcode .given .1)))
 
 pub route-packet-spec : {M : Type 1} → statement M
 route-packet-spec =
@@ -55,5 +62,6 @@ route-packet-spec =
     returns
     set-path-flags-requires
     survey-headers-requires
+    is-known-requires
     heading-route-requires
     returns-2)
