@@ -156,6 +156,7 @@ fn answer(
     e: Engine,
     request: HostRequest,
     chunk: &[u8],
+    tables: &mut [u64],
     packet: &mut [u8],
     headers: &mut [u8],
     body: &mut [u8],
@@ -179,7 +180,7 @@ fn answer(
             body,
             reply,
         ),
-        _ => calls::reply_given(e, 0x20, &chunk[0..0], packet, headers, body, reply),
+        _ => calls::reply_given(e, 0x20, &chunk[0..0], tables, packet, headers, body, reply),
     }
 }
 
@@ -189,19 +190,20 @@ fn call(
     outcome: Outcome,
     piece: &[u8],
     chunk: &[u8],
+    tables: &mut [u64],
     packet: &mut [u8],
     headers: &mut [u8],
     body: &mut [u8],
     reply: &mut [u8],
 ) -> CallResult {
     match outcome {
-        Outcome::Request(request) => answer(e, request, chunk, packet, headers, body, reply),
+        Outcome::Request(request) => answer(e, request, chunk, tables, packet, headers, body, reply),
         Outcome::Reply { length: _ } => calls::reply_taken(e, packet, headers, body, reply),
         _ => {
             if piece.len() == 0 {
                 return calls::stream_ended(e, packet, headers, body, reply);
             }
-            calls::bytes_offered(e, piece, packet, headers, body, reply)
+            calls::bytes_offered(e, piece, &tables[..], packet, headers, body, reply)
         }
     }
 }
@@ -213,6 +215,7 @@ fn next(
     p: Progress,
     zeros: &[u8],
     input: &[u8],
+    tables: &mut [u64],
     packet: &mut [u8],
     headers: &mut [u8],
     body: &mut [u8],
@@ -226,6 +229,7 @@ fn next(
         outcome,
         &input[from..to],
         &zeros[0..given],
+        tables,
         packet,
         headers,
         body,
@@ -257,13 +261,22 @@ fn play(
     longest: usize,
     zeros: &[u8],
     input: &mut [u8],
+    tables: &mut [u64],
     packet: &mut [u8],
     headers: &mut [u8],
     body: &mut [u8],
     reply: &mut [u8],
 ) -> Progress {
     let mut q = begin(p);
-    let mut took = calls::start(default_settings(LIMIT), packet, headers, body, reply);
+    let mut took = calls::start(
+        default_settings(LIMIT),
+        &zeros[0..0],
+        &tables[..],
+        packet,
+        headers,
+        body,
+        reply,
+    );
     let mut left = CALLS;
     while left > 0 {
         let outcome = took.outcome;
@@ -277,6 +290,7 @@ fn play(
             q,
             zeros,
             input,
+            tables,
             packet,
             headers,
             body,
@@ -317,6 +331,7 @@ fn repeat(
     longest: usize,
     zeros: &[u8],
     input: &mut [u8],
+    tables: &mut [u64],
     packet: &mut [u8],
     headers: &mut [u8],
     body: &mut [u8],
@@ -341,6 +356,7 @@ fn repeat(
             longest,
             zeros,
             input,
+            tables,
             packet,
             headers,
             body,
@@ -355,6 +371,7 @@ fn run(
     stream: &mut [u8],
     zeros: &[u8],
     input: &mut [u8],
+    tables: &mut [u64],
     packet: &mut [u8],
     headers: &mut [u8],
     body: &mut [u8],
@@ -367,6 +384,7 @@ fn run(
         argument(2),
         zeros,
         input,
+        tables,
         packet,
         headers,
         body,
@@ -378,6 +396,7 @@ fn main() {
     let mut stream = [0u8; 1048576];
     let zeros = [0u8; 65536];
     let mut input = [0u8; 65536];
+    let mut tables = [0u64; 320];
     let mut packet = [0u8; 65535];
     let mut headers = [0u8; 65535];
     let mut body = [0u8; 65536];
@@ -386,6 +405,7 @@ fn main() {
         &mut stream,
         &zeros,
         &mut input,
+        &mut tables,
         &mut packet,
         &mut headers,
         &mut body,
