@@ -17,6 +17,16 @@ use server::Outcome;
 use server::default_settings;
 use std::num::wrapping_add_usize;
 
+// The stores are arrays of known lengths, so that the proof need not be told that no call changes them. The table store is longer than the
+// engine asks.
+const READ: usize = 65536;
+
+const TABLES: usize = 320;
+
+const PACKET: usize = 65535;
+
+const BODY: usize = 65536;
+
 // The longest body of a Put, and the object's length.
 const LIMIT: u32 = 65536;
 
@@ -138,7 +148,7 @@ fn noted(
     outcome: Outcome,
     stream: &[u8],
     longest: usize,
-    input: &mut [u8],
+    input: &mut [u8; READ],
     body: &[u8],
     reply: &[u8],
 ) -> Progress {
@@ -156,11 +166,11 @@ fn answer(
     e: Engine,
     request: HostRequest,
     chunk: &[u8],
-    tables: &mut [u64],
-    packet: &mut [u8],
-    headers: &mut [u8],
-    body: &mut [u8],
-    reply: &mut [u8],
+    tables: &mut [u64; TABLES],
+    packet: &mut [u8; PACKET],
+    headers: &mut [u8; PACKET],
+    body: &mut [u8; BODY],
+    reply: &mut [u8; PACKET],
 ) -> CallResult {
     match request {
         HostRequest::Get { kept: _ } => calls::object_given(
@@ -190,14 +200,23 @@ fn call(
     outcome: Outcome,
     piece: &[u8],
     chunk: &[u8],
-    tables: &mut [u64],
-    packet: &mut [u8],
-    headers: &mut [u8],
-    body: &mut [u8],
-    reply: &mut [u8],
+    tables: &mut [u64; TABLES],
+    packet: &mut [u8; PACKET],
+    headers: &mut [u8; PACKET],
+    body: &mut [u8; BODY],
+    reply: &mut [u8; PACKET],
 ) -> CallResult {
     match outcome {
-        Outcome::Request(request) => answer(e, request, chunk, tables, packet, headers, body, reply),
+        Outcome::Request(request) => answer(
+            e,
+            request,
+            chunk,
+            tables,
+            packet,
+            headers,
+            body,
+            reply,
+        ),
         Outcome::Reply { length: _ } => calls::reply_taken(e, packet, headers, body, reply),
         _ => {
             if piece.len() == 0 {
@@ -215,11 +234,11 @@ fn next(
     p: Progress,
     zeros: &[u8],
     input: &[u8],
-    tables: &mut [u64],
-    packet: &mut [u8],
-    headers: &mut [u8],
-    body: &mut [u8],
-    reply: &mut [u8],
+    tables: &mut [u64; TABLES],
+    packet: &mut [u8; PACKET],
+    headers: &mut [u8; PACKET],
+    body: &mut [u8; BODY],
+    reply: &mut [u8; PACKET],
 ) -> CallResult {
     let to = least(p.to, input.len());
     let from = least(p.from, to);
@@ -260,12 +279,12 @@ fn play(
     stream: &[u8],
     longest: usize,
     zeros: &[u8],
-    input: &mut [u8],
-    tables: &mut [u64],
-    packet: &mut [u8],
-    headers: &mut [u8],
-    body: &mut [u8],
-    reply: &mut [u8],
+    input: &mut [u8; READ],
+    tables: &mut [u64; TABLES],
+    packet: &mut [u8; PACKET],
+    headers: &mut [u8; PACKET],
+    body: &mut [u8; BODY],
+    reply: &mut [u8; PACKET],
 ) -> Progress {
     let mut q = begin(p);
     let mut took = calls::start(
@@ -330,12 +349,12 @@ fn repeat(
     count: usize,
     longest: usize,
     zeros: &[u8],
-    input: &mut [u8],
-    tables: &mut [u64],
-    packet: &mut [u8],
-    headers: &mut [u8],
-    body: &mut [u8],
-    reply: &mut [u8],
+    input: &mut [u8; READ],
+    tables: &mut [u64; TABLES],
+    packet: &mut [u8; PACKET],
+    headers: &mut [u8; PACKET],
+    body: &mut [u8; BODY],
+    reply: &mut [u8; PACKET],
 ) -> Progress {
     let mut p = Progress {
         at: 0,
@@ -370,12 +389,12 @@ fn repeat(
 fn run(
     stream: &mut [u8],
     zeros: &[u8],
-    input: &mut [u8],
-    tables: &mut [u64],
-    packet: &mut [u8],
-    headers: &mut [u8],
-    body: &mut [u8],
-    reply: &mut [u8],
+    input: &mut [u8; READ],
+    tables: &mut [u64; TABLES],
+    packet: &mut [u8; PACKET],
+    headers: &mut [u8; PACKET],
+    body: &mut [u8; BODY],
+    reply: &mut [u8; PACKET],
 ) {
     let n = io::read_full(STDIN_FILENO, stream);
     print(repeat(
@@ -395,12 +414,12 @@ fn run(
 fn main() {
     let mut stream = [0u8; 1048576];
     let zeros = [0u8; 65536];
-    let mut input = [0u8; 65536];
-    let mut tables = [0u64; 320];
-    let mut packet = [0u8; 65535];
-    let mut headers = [0u8; 65535];
-    let mut body = [0u8; 65536];
-    let mut reply = [0u8; 65535];
+    let mut input = [0u8; READ];
+    let mut tables = [0u64; TABLES];
+    let mut packet = [0u8; PACKET];
+    let mut headers = [0u8; PACKET];
+    let mut body = [0u8; BODY];
+    let mut reply = [0u8; PACKET];
     run(
         &mut stream,
         &zeros,
