@@ -1,6 +1,6 @@
 -- The way of a packet by what reading it gives, and a gathered packet as a plan. Assumes nothing.
 use mathlib.Core.Path.{_≡_, refl, sym, ap, _∙_, subst}
-use mathlib.Core.Bool.{Bool, true}
+use mathlib.Core.Bool.{Bool, true, false, true≢false, false≢true}
 use mathlib.Core.List.{List}
 use mathlib.Core.Option.{Option, none, some}
 use Prim.Native.Nat.{ℕ}
@@ -8,10 +8,12 @@ use native.Mathlib.Omega.{arith}
 use lib.ListN.{length, getD, take}
 use Rattle.packet.specs.FirstByte.{firstByte}
 use Rattle.packet.specs.Header.{Header, readHeaders}
-use Rattle.packet.specs.Packet.{Request as Packet, requestOf, prefixOf, backup, noCreate}
-use Rattle.packet.specs.PacketRead.{parsedAs, parsePacket}
+use Rattle.packet.specs.Packet.{Request as Packet, requestWith, requestOf, backup, noCreate}
+use Rattle.packet.specs.PacketRead.{packetHead}
+use Rattle.packet.proofs.PacketLaws.{requestHead, request-head}
 use Rattle.packet.specs.declared.opcode.Opcode.{Opcode}
-use Rattle.packet.specs.declared.packet.Parsed.the-variants as parsed
+use Rattle.packet.specs.declared.packet.Head.{Head}
+use Rattle.packet.specs.declared.packet.Head.the-variants as head
 use Rattle.incoming.specs.Frame.{Frames, frames, framed}
 use Rattle.incoming.specs.Survey.{surveyOf}
 use Rattle.incoming.specs.declared.frame.Frame.{Frame}
@@ -36,35 +38,46 @@ use Rattle.engine.specs.declared.step.Plan.{Plan}
 use Rattle.engine.specs.declared.operation.GatherKind.{GatherKind}
 use Rattle.engine.specs.declared.dispatch.Route.{Route}
 use Rattle.engine.proofs.Guards.{GoesLent}
-use Rattle.engine.proofs.Ready.{parts, Ready, ready}
+use Rattle.engine.proofs.Ready.{Ready, ready}
 use Rattle.engine.proofs.Routes.{packet-acts}
 
-pub unreadable-way : (e : Engine) (q t : List ℕ) → parsePacket q ≡ parsed.Unreadable
+-- a packet that is no request goes the way of the unreadable
+no-request : (e : Engine) (q t : List ℕ) → requestOf q ≡ none
     → packetRoute e q t ≡ unreadableRoute (e .operation) (unknownByte (firstByte (getD q 0 0)))
-unfolding parsePacket packetRoute
-unreadable-way e q t h = go (requestOf q) h
-  where
-    go : (x : Option Packet) → parsedAs x (length q) ≡ parsed.Unreadable
-        → routeAs x e q t ≡ unreadableRoute (e .operation) (unknownByte (firstByte (getD q 0 0)))
-    go none w = refl
-    go (some r) w = absurd (let z : _≡_ {A = ℕ} 0 1 = cc in omega arith)
+unfolding packetRoute
+no-request e q t h = ap (λ (x : Option Packet). routeAs x e q t) h
 
-pub heading-way : (e : Engine) (q t : List ℕ) (o : Opcode) (final : Bool) (from n : ℕ) → parsePacket q ≡ parsed.Request o final from n
-    → packetRoute e q t
-    ≡ headingRoute e (record { survey = surveyOf (readHeaders q from); opcode = o; backup = backup q; «no_create» = noCreate q; «is_final» = final; known = knownIn e t (surveyOf (readHeaders q from)) })
-unfolding parsePacket packetRoute
-heading-way e q t o final from n h = go (requestOf q) refl h
-  where
-    go : (x : Option Packet) → requestOf q ≡ x → parsedAs x (length q) ≡ parsed.Request o final from n
-        → routeAs x e q t
-        ≡ headingRoute e (record { survey = surveyOf (readHeaders q from); opcode = o; backup = backup q; «no_create» = noCreate q; «is_final» = final; known = knownIn e t (surveyOf (readHeaders q from)) })
-    go none k w = absurd (let z : _≡_ {A = ℕ} 0 1 = cc in omega arith)
-    go (some r) k w =
-        let a : r .opcode ≡ o = cc in
-        let b : r .final ≡ final = cc in
-        let d : prefixOf (r .opcode) ≡ from = cc in
-        let y = parts q r k in
-        rw (← a, ← b, ← d, y .headers, y .bytes)
+pub headless-way : (e : Engine) (q t : List ℕ) → packetHead q ≡ head.Unreadable
+    → packetRoute e q t ≡ unreadableRoute (e .operation) (unknownByte (firstByte (getD q 0 0)))
+headless-way e q t h = no-request e q t (request-head q ∙ ap (λ (x : Head). requestHead x q) h)
+
+-- by what stands before the headers, and whether they can be read
+module _ (e : Engine) (q t : List ℕ) (o : Opcode) (final : Bool) (from : ℕ) (known : packetHead q ≡ head.Known o final from) where
+  request-is : requestOf q ≡ requestWith o final q (readHeaders q from)
+  request-is = request-head q ∙ ap (λ (x : Head). requestHead x q) known
+
+  abbrev Heading-way : Type 0
+  Heading-way =
+      packetRoute e q t
+      ≡ headingRoute e (record { survey = surveyOf (readHeaders q from); opcode = o; backup = backup q; «no_create» = noCreate q; «is_final» = final; known = knownIn e t (surveyOf (readHeaders q from)) })
+
+  pub unreadable-way : surveyOf (readHeaders q from) .readable ≡ false
+      → packetRoute e q t ≡ unreadableRoute (e .operation) (unknownByte (firstByte (getD q 0 0)))
+  unfolding surveyOf
+  unreadable-way h = go (readHeaders q from) refl h
+    where
+      go : (hs : Option (List Header)) → readHeaders q from ≡ hs → surveyOf hs .readable ≡ false
+          → packetRoute e q t ≡ unreadableRoute (e .operation) (unknownByte (firstByte (getD q 0 0)))
+      go none k w = no-request e q t (request-is ∙ ap (requestWith o final q) k)
+      go (some hs) k w = absurd (true≢false w)
+
+  pub heading-way : surveyOf (readHeaders q from) .readable ≡ true → Heading-way
+  unfolding surveyOf packetRoute
+  heading-way h = go (readHeaders q from) refl h
+    where
+      go : (hs : Option (List Header)) → readHeaders q from ≡ hs → surveyOf hs .readable ≡ true → Heading-way
+      go none k w = absurd (false≢true w)
+      go (some hs) k w = ap (λ (x : Option Packet). routeAs x e q t) (request-is ∙ ap (requestWith o final q) k) ∙ rw k refl
 
 -- what `gather` gives, in the words of the model
 pub gathered-way : (e : Engine) (k : GatherKind) (q : List ℕ) (hs : List Header) (g : Gathered) (s : Stores) (from limit : ℕ) (keep : Keep) (x : Gathering)

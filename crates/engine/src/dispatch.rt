@@ -32,8 +32,8 @@ use packet::opcode::FirstByte;
 use packet::opcode::Opcode;
 use packet::opcode::from_byte;
 use packet::opcode::same;
-use packet::packet::Parsed;
-use packet::packet::parse_packet;
+use packet::packet::Head;
+use packet::packet::packet_head;
 use packet::packet::set_path_flags;
 use packet::response;
 use server::Await;
@@ -454,22 +454,24 @@ fn is_known(e: Engine, v: Survey, tables: &[u64]) -> bool
     false
 }
 
-// Reads a whole packet and returns its way.
+// Reads a whole packet, in one pass over its headers, and returns its way.
 pub(crate) fn route_packet(e: Engine, p: &[u8], tables: &[u64]) -> Route
     requires { ⌜ (1 ≤ length (now p)) × (e .peer .count ≤ 64) × (64 ≤ length (now tables)) ⌝ }
     ensures { λ r. ⌜ r ≡ packetRoute e (now (p .entry)) (now (tables .entry)) ⌝ }
 {
-    let Parsed::Request {
+    let Head::Known {
         opcode,
         is_final,
         headers,
-        length: _,
-    } = parse_packet(p)
+    } = packet_head(p)
     else {
         return unreadable(e, is_unknown(p[0]));
     };
-    let flags = set_path_flags(p);
     let survey = survey_headers(p, headers);
+    if !survey.readable {
+        return unreadable(e, is_unknown(p[0]));
+    }
+    let flags = set_path_flags(p);
     let known = is_known(e, survey, tables);
     heading_route(
         e,
