@@ -20,22 +20,24 @@ fn put(
     e: Engine,
     kept: usize,
     content: Body,
-    packet: &mut [u8],
-    headers: &mut [u8],
-    body: &mut [u8],
-    reply: &mut [u8],
+    tables: &mut [u64; 320],
+    packet: &mut [u8; 65535],
+    headers: &mut [u8; 65535],
+    body: &mut [u8; 1048576],
+    reply: &mut [u8; 65535],
 ) -> CallResult {
     let code = file::put_body(front(headers, kept), content, body);
-    calls::reply_given(e, code, b"", packet, headers, body, reply)
+    calls::reply_given(e, code, b"", tables, packet, headers, body, reply)
 }
 
 fn get(
     e: Engine,
     kept: usize,
-    packet: &mut [u8],
-    headers: &mut [u8],
-    body: &mut [u8],
-    reply: &mut [u8],
+    tables: &mut [u64; 320],
+    packet: &mut [u8; 65535],
+    headers: &mut [u8; 65535],
+    body: &mut [u8; 1048576],
+    reply: &mut [u8; 65535],
 ) -> Answered {
     match file::get(front(headers, kept)) {
         Opened::File(fd) => {
@@ -43,7 +45,7 @@ fn get(
             Answered { took, file: fd }
         }
         Opened::Code(code) => {
-            let took = calls::reply_given(e, code, b"", packet, headers, body, reply);
+            let took = calls::reply_given(e, code, b"", tables, packet, headers, body, reply);
             Answered { took, file: -1 }
         }
     }
@@ -70,10 +72,10 @@ fn read(
     e: Engine,
     fd: i32,
     room: usize,
-    packet: &mut [u8],
-    headers: &mut [u8],
-    body: &mut [u8],
-    reply: &mut [u8],
+    packet: &mut [u8; 65535],
+    headers: &mut [u8; 65535],
+    body: &mut [u8; 1048576],
+    reply: &mut [u8; 65535],
 ) -> Answered {
     let mut store = [0u8; 65536];
     let got = read_some(fd, room, &mut store);
@@ -96,10 +98,11 @@ fn read(
 fn plain(
     e: Engine,
     request: HostRequest,
-    packet: &mut [u8],
-    headers: &mut [u8],
-    body: &mut [u8],
-    reply: &mut [u8],
+    tables: &mut [u64; 320],
+    packet: &mut [u8; 65535],
+    headers: &mut [u8; 65535],
+    body: &mut [u8; 1048576],
+    reply: &mut [u8; 65535],
 ) -> CallResult {
     log::request(request);
     match request {
@@ -107,8 +110,8 @@ fn plain(
             length: _,
             backup: _,
             no_create: _,
-        } => calls::reply_given(e, SUCCESS, b"", packet, headers, body, reply),
-        _ => host::answers::answer(e, request, packet, headers, body, reply),
+        } => calls::reply_given(e, SUCCESS, b"", tables, packet, headers, body, reply),
+        _ => host::answers::answer(e, request, tables, packet, headers, body, reply),
     }
 }
 
@@ -116,23 +119,24 @@ pub(crate) fn answer(
     e: Engine,
     request: HostRequest,
     file: i32,
-    packet: &mut [u8],
-    headers: &mut [u8],
-    body: &mut [u8],
-    reply: &mut [u8],
+    tables: &mut [u64; 320],
+    packet: &mut [u8; 65535],
+    headers: &mut [u8; 65535],
+    body: &mut [u8; 1048576],
+    reply: &mut [u8; 65535],
 ) -> Answered {
     match request {
         HostRequest::Put {
             kept,
             body: content,
         } => {
-            let took = put(e, kept, content, packet, headers, body, reply);
+            let took = put(e, kept, content, tables, packet, headers, body, reply);
             Answered { took, file }
         }
-        HostRequest::Get { kept } => get(e, kept, packet, headers, body, reply),
+        HostRequest::Get { kept } => get(e, kept, tables, packet, headers, body, reply),
         HostRequest::Read { room } => read(e, file, room, packet, headers, body, reply),
         _ => {
-            let took = plain(e, request, packet, headers, body, reply);
+            let took = plain(e, request, tables, packet, headers, body, reply);
             Answered {
                 took,
                 file: file::closed(file),

@@ -42,11 +42,12 @@ fn after_answer(a: Answered, rest: host::feed::Rest) -> Serving {
 // One call: the one that the last call's outcome asks for.
 fn turn(
     s: Serving,
-    input: &mut [u8],
-    packet: &mut [u8],
-    headers: &mut [u8],
-    body: &mut [u8],
-    reply: &mut [u8],
+    input: &mut [u8; 65536],
+    tables: &mut [u64; 320],
+    packet: &mut [u8; 65535],
+    headers: &mut [u8; 65535],
+    body: &mut [u8; 1048576],
+    reply: &mut [u8; 65535],
 ) -> Serving {
     let file = s.file;
     let before = s.step;
@@ -56,7 +57,7 @@ fn turn(
     let outcome = last.outcome;
     match outcome {
         Outcome::WantsBytes => {
-            let step = host::feed::feed(e, rest, input, packet, headers, body, reply);
+            let step = host::feed::feed(e, rest, input, tables, packet, headers, body, reply);
             Serving { step, file }
         }
         Outcome::Reply { length } => {
@@ -68,7 +69,7 @@ fn turn(
             }
         }
         Outcome::Request(request) => after_answer(
-            answer(e, request, file, packet, headers, body, reply),
+            answer(e, request, file, tables, packet, headers, body, reply),
             rest,
         ),
         Outcome::End(_) => s,
@@ -78,13 +79,14 @@ fn turn(
 
 // A proved loop has to end, and nothing says that the input does. So the turns are counted down, from a number that no run uses up.
 fn serve(
-    input: &mut [u8],
-    packet: &mut [u8],
-    headers: &mut [u8],
-    body: &mut [u8],
-    reply: &mut [u8],
+    input: &mut [u8; 65536],
+    tables: &mut [u64; 320],
+    packet: &mut [u8; 65535],
+    headers: &mut [u8; 65535],
+    body: &mut [u8; 1048576],
+    reply: &mut [u8; 65535],
 ) {
-    let took = calls::start(settings(), packet, headers, body, reply);
+    let took = calls::start(settings(), b"", tables, packet, headers, body, reply);
     let rest = host::feed::Rest { at: 0, end: 0 };
     let mut s = Serving {
         step: host::feed::Step { took, rest },
@@ -100,16 +102,24 @@ fn serve(
             log::end(number);
             return;
         }
-        s = turn(s, input, packet, headers, body, reply);
+        s = turn(s, input, tables, packet, headers, body, reply);
         left -= 1;
     }
 }
 
 fn main() {
     let mut input = [0u8; 65536];
+    let mut tables = [0u64; 320];
     let mut packet = [0u8; 65535];
     let mut headers = [0u8; 65535];
     let mut body = [0u8; 1048576];
     let mut reply = [0u8; 65535];
-    serve(&mut input, &mut packet, &mut headers, &mut body, &mut reply);
+    serve(
+        &mut input,
+        &mut tables,
+        &mut packet,
+        &mut headers,
+        &mut body,
+        &mut reply,
+    );
 }
