@@ -26,7 +26,8 @@ test:
 	@tools/progress ci
 
 # The repository agrees with itself: the trace names what there is, every edit applies to its file, every public function has a contract, the
-# stored sessions are as they are made, and as far as bench and oracle are built as these do them.
+# documented table of first bytes is the code's, the stored sessions are as they are made, and as far as bench and oracle are built as these
+# do them.
 check:
 	@tools/check-all
 

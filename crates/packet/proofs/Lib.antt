@@ -1,6 +1,7 @@
 -- The lemmas that proofs of this crate and of the crates above cite, and the laws of headers, packets, tag lists and codes.
 pub mod TopBit
 pub mod OpcodeLaws
+pub mod FirstBytes
 pub mod CodeLaws
 pub mod TagLaws
 pub mod TagWrites

@@ -1,6 +1,7 @@
 -- The first byte of a request (IrOBEX 1.5, section 3.4; docs/PROTOCOL.md#first-byte): its opcode and the Final bit.
 use mathlib.Core.Bool.{Bool, true, false, _&&_, _||_}
-use Prim.Native.Nat.{ℕ, _+_, _%_}
+use mathlib.Core.List.{List, [], _∷_, map}
+use Prim.Native.Nat.{ℕ, zero, suc, _+_, _%_}
 use lib.Dec.{eqb, leb}
 use Rattle.base.specs.Pick.{pick}
 use Rattle.packet.specs.declared.opcode.Opcode.{Opcode}
@@ -37,6 +38,25 @@ named x final =
 -- opcode by its low five bits.
 unfoldable pub firstByte : ℕ → FirstByte
 firstByte b = pick (eqb (b % 128) (valueOf Abort)) (Known Abort (leb 0x80 b)) (named (b % 32) (leb 0x80 b))
+
+-- The number that stands for what a first byte says: the opcode's, with the Final bit if the packet is final; 0x40, which is the number of
+-- no opcode, if the byte is unknown.
+abbrev pub entryOf : FirstByte → ℕ
+entryOf (Known o final) = pick final (valueOf o + 0x80) (valueOf o)
+entryOf Unknown = 0x40
+
+-- What such a number says: the top bit is the Final bit, and the other seven are the number of the opcode.
+unfoldable pub entrySays : ℕ → FirstByte
+entrySays n = pick (eqb (n % 128) (valueOf Abort)) (Known Abort (leb 0x80 n)) (named (n % 128) (leb 0x80 n))
+
+-- The `n` numbers from `b` on.
+unfoldable pub numbersFrom : ℕ → ℕ → List ℕ
+numbersFrom b zero = []
+numbersFrom b (suc n) = b ∷ numbersFrom (suc b) n
+
+-- The table of first bytes: the numbers for what each byte from 0x00 to 0xFF says.
+unfoldable pub firstByteTable : List ℕ
+firstByteTable = map (λ b. entryOf (firstByte b)) (numbersFrom 0x00 256)
 
 -- The opcode is always sent with the Final bit.
 abbrev pub alwaysFinal : Opcode → Bool

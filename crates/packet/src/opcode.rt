@@ -1,7 +1,7 @@
 // The first byte of a request (IrOBEX 1.5, section 3.4; docs/PROTOCOL.md#first-byte): its opcode, and in the top bit the Final bit, which
 // marks the last packet of a request.
 ghost use mathlib.Core.Path.{_≡_};
-ghost use Rattle.packet.specs.FirstByte.{named, firstByte, valueOf, alwaysFinal, byteOf, kindOf, sameOpcode};
+ghost use Rattle.packet.specs.FirstByte.{named, firstByte, firstByteTable, entrySays, valueOf, alwaysFinal, byteOf, kindOf, sameOpcode};
 
 // The operation that a request belongs to.
 pub enum Opcode {
@@ -56,7 +56,35 @@ pub const LAST_USER_DEFINED: u8 = 0x1F;
 // Abort ends the current operation.
 pub const ABORT: u8 = 0x7F;
 
-// Names the opcode that a value of five bits says.
+// The table in which a first byte is looked up: its row is the first hexadecimal digit, its column the second. An entry is the number of the
+// opcode, with the Final bit if the packet is final. 0x40, which is the number of no opcode, stands at the bytes that are unknown.
+// Reserved bits 5 and 6 are ignored, as the standard requires, so the rows repeat; Abort alone sets them, in the last column of two rows.
+//                                  _0  _1  _2  _3  _4  _5  _6  _7  _8  _9  _A  _B  _C  _D  _E  _F
+const FIRST_BYTES: [u8; 256] = *b"\x00\x01\x02\x03\x40\x05\x06\x07\x40\x40\x40\x40\x40\x40\x40\x40\
+                                  \x10\x11\x12\x13\x14\x15\x16\x17\x18\x19\x1A\x1B\x1C\x1D\x1E\x1F\
+                                  \x00\x01\x02\x03\x40\x05\x06\x07\x40\x40\x40\x40\x40\x40\x40\x40\
+                                  \x10\x11\x12\x13\x14\x15\x16\x17\x18\x19\x1A\x1B\x1C\x1D\x1E\x1F\
+                                  \x00\x01\x02\x03\x40\x05\x06\x07\x40\x40\x40\x40\x40\x40\x40\x40\
+                                  \x10\x11\x12\x13\x14\x15\x16\x17\x18\x19\x1A\x1B\x1C\x1D\x1E\x1F\
+                                  \x00\x01\x02\x03\x40\x05\x06\x07\x40\x40\x40\x40\x40\x40\x40\x40\
+                                  \x10\x11\x12\x13\x14\x15\x16\x17\x18\x19\x1A\x1B\x1C\x1D\x1E\x7F\
+                                  \x80\x81\x82\x83\x40\x85\x86\x87\x40\x40\x40\x40\x40\x40\x40\x40\
+                                  \x90\x91\x92\x93\x94\x95\x96\x97\x98\x99\x9A\x9B\x9C\x9D\x9E\x9F\
+                                  \x80\x81\x82\x83\x40\x85\x86\x87\x40\x40\x40\x40\x40\x40\x40\x40\
+                                  \x90\x91\x92\x93\x94\x95\x96\x97\x98\x99\x9A\x9B\x9C\x9D\x9E\x9F\
+                                  \x80\x81\x82\x83\x40\x85\x86\x87\x40\x40\x40\x40\x40\x40\x40\x40\
+                                  \x90\x91\x92\x93\x94\x95\x96\x97\x98\x99\x9A\x9B\x9C\x9D\x9E\x9F\
+                                  \x80\x81\x82\x83\x40\x85\x86\x87\x40\x40\x40\x40\x40\x40\x40\x40\
+                                  \x90\x91\x92\x93\x94\x95\x96\x97\x98\x99\x9A\x9B\x9C\x9D\x9E\xFF";
+
+// Returns the table of first bytes: each of its 256 entries is what the definition of the first byte gives for its byte.
+fn table() -> [u8; 256]
+    ensures { λ r. ⌜ r ≡ firstByteTable ⌝ }
+{
+    FIRST_BYTES
+}
+
+// Names the opcode whose number is `value`.
 fn try_from(value: u8, is_final: bool) -> FirstByte
     ensures { λ r. ⌜ r ≡ named value «is_final» ⌝ }
 {
@@ -76,19 +104,27 @@ fn try_from(value: u8, is_final: bool) -> FirstByte
     FirstByte::Known { opcode, is_final }
 }
 
-// Decodes the first byte of a request. Reserved bits 5 and 6 are ignored, as the standard requires, except for Abort, which sets them: so
-// Abort is tested first.
-pub fn from_byte(byte: u8) -> FirstByte
-    ensures { λ r. ⌜ r ≡ firstByte byte ⌝ }
+// Reads an entry of the table: the Final bit, and the opcode whose number the other bits are.
+fn from_entry(entry: u8) -> FirstByte
+    ensures { λ r. ⌜ r ≡ entrySays entry ⌝ }
 {
-    let is_final = byte & FINAL_BIT != 0;
-    if byte & 0x7F == ABORT {
+    let is_final = FINAL_BIT <= entry;
+    let value = entry % FINAL_BIT;
+    if value == ABORT {
         return FirstByte::Known {
             opcode: Opcode::Abort,
             is_final,
         };
     }
-    try_from(byte & 0x1F, is_final)
+    try_from(value, is_final)
+}
+
+// Decodes the first byte of a request, by looking it up.
+pub fn from_byte(byte: u8) -> FirstByte
+    ensures { λ r. ⌜ r ≡ firstByte byte ⌝ }
+{
+    let entries = table();
+    from_entry(entries[byte as usize])
 }
 
 // Returns the number of the opcode `op`, without the Final bit.
