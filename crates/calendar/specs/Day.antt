@@ -7,6 +7,7 @@ use lib.ListN.{getD}
 use lib.Dec.{eqb, leb, ltb}
 use Rattle.base.specs.Pick.{pick}
 use Rattle.calendar.specs.declared.date.Date.{Date}
+use Rattle.calendar.specs.declared.date.Rolling.{Rolling}
 
 abbrev pub date : ℕ → ℕ → ℕ → Date
 date y m d = record { year = y; month = m; day = d }
@@ -79,13 +80,9 @@ rolledNumber d = pick (isDate d) (pick (isLast d) 18 0) 17
 unfoldable pub rolledDate : Date → Date
 rolledDate d = pick (eqb (rolledNumber d) 0) (nextDay d) d
 
--- What rolling a lent date gives: the number of its answer, and the date afterwards.
-pub record Rolling : Type 0 where
-  pub number : ℕ
-  pub date-after : Date
-
+-- What rolling a date gives: the number of its answer, and the date afterwards.
 abbrev pub rolling : ℕ → Date → Rolling
-rolling n d = record { number = n; date-after = d }
+rolling n d = record { number = n; date = d }
 
 unfoldable pub rolledBy : Date → Rolling
 rolledBy d = rolling (rolledNumber d) (rolledDate d)

@@ -12,6 +12,12 @@ pub struct Date {
     pub day: u8,
 }
 
+// What rolling a date forward gives: the number of its answer, and the date afterwards.
+pub struct Rolling {
+    pub number: u8,
+    pub date: Date,
+}
+
 // The numbers that `roll` answers (docs/DECISIONS.md, part B).
 pub const ROLLED: u8 = 0;
 
@@ -213,4 +219,20 @@ pub fn roll(date: &mut Date) -> u8
     let before = *date;
     *date = rolled(before);
     rolled_number(before)
+}
+
+// Returns a number and a date together.
+fn rolling_of(number: u8, date: Date) -> Rolling
+    ensures { λ r. ⌜ r ≡ rolling number date ⌝ }
+{
+    Rolling { number, date }
+}
+
+// Rolls a copy of `date` forward: for a caller that has no date to lend.
+pub fn roll_copy(date: Date) -> Rolling
+    ensures { λ r. ⌜ r ≡ rolledBy date ⌝ }
+{
+    let mut lent = date;
+    let number = roll(&mut lent);
+    rolling_of(number, lent)
 }
