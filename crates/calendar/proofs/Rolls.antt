@@ -28,14 +28,14 @@ unfolding isLast
 is-last d y m n = rw (eq-eqb (d .year) 9999 y, eq-eqb (d .month) 12 m, eq-eqb (d .day) 31 n)
 
 module _ (d : Date) (x : Existing (d .year) (d .month) (d .day)) where
-  abbrev n : ℕ
-  n = daysIn (d .year) (d .month)
+  abbrev size : ℕ
+  size = daysIn (d .year) (d .month)
 
-  day-on : d .day < n → Later d (date (d .year) (d .month) (d .day + 1))
+  day-on : d .day < size → Later d (date (d .year) (d .month) (d .day + 1))
   unfolding dayNumber
   day-on h = record { there = exists-day (d .year) (d .month) (d .day + 1) (x .year) (omega arith) (omega arith); counted = omega arith }
 
-  month-on : n ≤ d .day → d .month < 12 → Later d (date (d .year) (d .month + 1) 1)
+  month-on : size ≤ d .day → d .month < 12 → Later d (date (d .year) (d .month + 1) 1)
   unfolding dayNumber
   month-on h l =
       let some = month-size (d .year) (d .month + 1) (omega arith) (omega arith) in
@@ -44,7 +44,7 @@ module _ (d : Date) (x : Existing (d .year) (d .month) (d .day)) where
         counted = omega (arith, month-after (d .year) (d .month));
       }
 
-  module _ (h : n ≤ d .day) (l : 12 ≤ d .month) where
+  module _ (h : size ≤ d .day) (l : 12 ≤ d .month) where
     is-december : d .month ≡ 12
     is-december = omega arith
 
@@ -59,34 +59,32 @@ module _ (d : Date) (x : Existing (d .year) (d .month) (d .day)) where
         let months = ap (daysBeforeMonth (d .year)) is-december in
         let whole = twelve-months (d .year) in
         let last = month-after (d .year) 12 in
-        let size = december (d .year) in
+        let december-size = december (d .year) in
         let next = january (d .year + 1) in
         let first = first-month (d .year + 1) in
         record { there = exists-day (d .year + 1) 1 1 (omega arith) (omega arith) (omega arith); counted = omega (arith, year-after (d .year)) }
 
 next-later : (d : Date) → isDate d ≡ true → isLast d ≡ false → Later d (nextDay d)
 unfolding nextDay
-next-later d p q = go (ltb (d .day) (daysIn (d .year) (d .month))) (ltb (d .month) 12) refl refl
+next-later d p q = go (ltb (d .day) (daysIn (d .year) (d .month))) (ltb (d .month) 12) (ltb (d .year) 9999) refl refl refl
   where
     x : Existing (d .year) (d .month) (d .day)
     x = existing d p
 
-    go : (a b : Bool) → ltb (d .day) (daysIn (d .year) (d .month)) ≡ a → ltb (d .month) 12 ≡ b
-        → Later d (pick a (date (d .year) (d .month) (d .day + 1)) (pick b (date (d .year) (d .month + 1) 1) (date (d .year + 1) 1 1)))
-    go true b e f = day-on d x (ltb-true (d .day) (daysIn (d .year) (d .month)) e)
-    go false true e f = month-on d x (ltb-false (d .day) (daysIn (d .year) (d .month)) e) (ltb-true (d .month) 12 f)
-    go false false e f =
+    go : (a b c : Bool) → ltb (d .day) (daysIn (d .year) (d .month)) ≡ a → ltb (d .month) 12 ≡ b → ltb (d .year) 9999 ≡ c → Later d (nextDay d)
+    go true b c e f g = rw e (day-on d x (ltb-true (d .day) (daysIn (d .year) (d .month)) e))
+    go false true c e f g = rw (e, f) (month-on d x (ltb-false (d .day) (daysIn (d .year) (d .month)) e) (ltb-true (d .month) 12 f))
+    go false false true e f g =
         let h = ltb-false (d .day) (daysIn (d .year) (d .month)) e in
         let l = ltb-false (d .month) 12 f in
-        last (ltb (d .year) 9999) refl h l
-      where
-        last : (c : Bool) → ltb (d .year) 9999 ≡ c → daysIn (d .year) (d .month) ≤ d .day → 12 ≤ d .month → Later d (date (d .year + 1) 1 1)
-        last true g h l = year-on d x h l (ltb-true (d .year) 9999 g)
-        last false g h l =
-            let y = ltb-false (d .year) 9999 g in
-            let e = is-last d (omega (arith, x .year)) (is-december d x h l) (thirty-first d x h l) in
-            let z : _≡_ {A = ℕ} 0 1 = cc in
-            absurd (omega arith)
+        rw (e, f) (year-on d x h l (ltb-true (d .year) 9999 g))
+    go false false false e f g =
+        let h = ltb-false (d .day) (daysIn (d .year) (d .month)) e in
+        let l = ltb-false (d .month) 12 f in
+        let y = ltb-false (d .year) 9999 g in
+        let last = is-last d (omega (arith, x .year)) (is-december d x h l) (thirty-first d x h l) in
+        let z : _≡_ {A = ℕ} 0 1 = cc in
+        absurd (omega arith)
 
 pub counts : Counts
 unfolding rolledDate

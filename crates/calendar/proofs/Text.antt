@@ -105,7 +105,7 @@ year-back : (x : ℕ) → x < 10000
 year-back x h = omega arith
 
 -- the numbers of an instant have as many digits as their places in a text
-pub record Short (i : Instant) : Type 0 where
+pub record InPlaces (i : Instant) : Type 0 where
   pub year : i .date .year < 10000
   pub month : i .date .month < 100
   pub day : i .date .day < 100
@@ -113,7 +113,7 @@ pub record Short (i : Instant) : Type 0 where
   pub minute : i .minute < 100
   pub second : i .second < 100
 
-pub read-back : (i : Instant) → Short i → readInstant (textOf i) ≡ i
+pub read-back : (i : Instant) → InPlaces i → readInstant (textOf i) ≡ i
 unfolding textOf decimal readInstant numberAt
 read-back i s =
     rw (

@@ -2,16 +2,17 @@
 -- and a moment one instant. Assumes nothing.
 use mathlib.Core.Path.{_≡_, refl, sym, ap, _∙_}
 use mathlib.Core.List.{List}
-use mathlib.Core.Bool.{Bool, true, false, _&&_, _||_}
+use mathlib.Core.Bool.{Bool, true, false, _&&_, not}
 use Prim.Native.Nat.{ℕ, _+_, _-_, _*_, _/_, _%_, _^_, _≤_, _<_}
 use native.Mathlib.Omega.{arith}
-use lib.Dec.{ltb, leb}
+use lib.Dec.{ltb}
 use lib.ListN.{length}
 use lib.Seq.{paste, take-length}
-use borrow.Author.Tests.{ltb-true, ltb-false, leb-false, lt-ltb, le-ltb, lt-leb}
+use borrow.Author.Tests.{ltb-true, ltb-false, lt-ltb, le-ltb}
 use Rattle.base.specs.Pick.{pick}
 use Rattle.calendar.specs.Day.{date, leap, daysIn, isDate, daysBeforeYear, daysBeforeMonth, dayNumber, dateFrom}
-use Rattle.calendar.specs.Time.{instant, isInstant, moment, epoch, textOf, allDigits, isForm, numberAt, readInstant, legacyAt, legacyOf, instantOf, timeOf, writing, writeTime}
+use Rattle.calendar.specs.Time.{instant, isInstant, moment, epoch, textOf, allDigits, isForm, numberAt, readInstant}
+use Rattle.calendar.specs.Time.{legacyFor, legacyAt, legacyOf, instantOf, timeOf, writing, writeTime}
 use Rattle.calendar.specs.Claims.{ComesBack, OneText, lastText, LastTime}
 use Rattle.calendar.specs.declared.date.Date.{Date}
 use Rattle.calendar.specs.declared.time.Instant.{Instant}
@@ -21,7 +22,7 @@ use Rattle.calendar.specs.declared.time.Wrote.the-variants.{Written}
 use Rattle.calendar.proofs.Months.{both, month-most, existing}
 use Rattle.calendar.proofs.Count.{one-day, closed-form}
 use Rattle.calendar.proofs.Place.{Reached, reach}
-use Rattle.calendar.proofs.Text.{Short, text-size, form, read-back, text-form, text-back}
+use Rattle.calendar.proofs.Text.{InPlaces, text-size, form, read-back, text-form, text-back}
 
 -- ---- what it takes that an instant exists
 
@@ -51,8 +52,8 @@ is-there : (i : Instant) → There i → isInstant i ≡ true
 unfolding isInstant
 is-there i x = rw (x .date, lt-ltb (i .hour) 24 (x .hour), lt-ltb (i .minute) 60 (x .minute), lt-ltb (i .second) 60 (x .second))
 
-short : (i : Instant) → There i → Short i
-short i x =
+in-places : (i : Instant) → There i → InPlaces i
+in-places i x =
     let d = existing (i .date) (x .date) in
     let n = month-most (i .date .year) (i .date .month) in
     record {
@@ -123,17 +124,17 @@ written n m t t′ h made e =
 -- ---- the claims
 
 seconds-of : (i : Instant) (n : ℕ) → isInstant i ≡ true → moment i ≡ epoch + n → n < 2 ^ 32 → legacyAt i ≡ Seconds n
-unfolding legacyAt
+unfolding legacyFor
 seconds-of i n t m h =
     let exact : (epoch + n) - epoch ≡ n = omega arith in
-    rw (t, m, le-ltb (epoch + n) epoch (omega arith), lt-leb (epoch + 2 ^ 32) (epoch + n) (omega arith), exact)
+    rw (t, m, le-ltb (epoch + n) epoch (omega arith), lt-ltb (epoch + n) (epoch + 2 ^ 32) (omega arith), exact)
 
 pub comes-back : ComesBack
 unfolding legacyOf timeOf
 comes-back n h =
     let i = instantOf n in
     let x = of-there n h in
-    rw (text-form i, read-back i (short i x)) (seconds-of i n (is-there i x) (of-moment n h) h)
+    rw (text-form i, read-back i (in-places i x)) (seconds-of i n (is-there i x) (of-moment n h) h)
 
 -- what a text that converts says
 record Converts (t : List ℕ) (n : ℕ) : Type 0 where
@@ -143,14 +144,14 @@ record Converts (t : List ℕ) (n : ℕ) : Type 0 where
   small : n < 2 ^ 32
 
 converts : (t : List ℕ) (n : ℕ) → legacyOf t ≡ Seconds n → Converts t n
-unfolding legacyOf legacyAt
-converts t n = go (isForm t) (isInstant i) (ltb (moment i) epoch) (leb (epoch + 2 ^ 32) (moment i)) refl refl refl refl
+unfolding legacyOf legacyFor
+converts t n = go (isForm t) (isInstant i) (ltb (moment i) epoch) (ltb (moment i) (epoch + 2 ^ 32)) refl refl refl refl
   where
     i : Instant
     i = readInstant t
 
-    go : (f g a b : Bool) → isForm t ≡ f → isInstant i ≡ g → ltb (moment i) epoch ≡ a → leb (epoch + 2 ^ 32) (moment i) ≡ b
-        → pick f (pick g (pick (a || b) Outside (Seconds (moment i - epoch))) Nonexistent) Malformed ≡ Seconds n → Converts t n
+    go : (f g a b : Bool) → isForm t ≡ f → isInstant i ≡ g → ltb (moment i) epoch ≡ a → ltb (moment i) (epoch + 2 ^ 32) ≡ b
+        → pick f (pick g (pick (not a && b) (Seconds (moment i - epoch)) Outside) Nonexistent) Malformed ≡ Seconds n → Converts t n
     go false g a b p q r s e =
         let z : _≡_ {A = ℕ} 0 1 = cc in
         absurd (omega arith)
@@ -160,13 +161,13 @@ converts t n = go (isForm t) (isInstant i) (ltb (moment i) epoch) (leb (epoch + 
     go true true true b p q r s e =
         let z : _≡_ {A = ℕ} 0 1 = cc in
         absurd (omega arith)
-    go true true false true p q r s e =
+    go true true false false p q r s e =
         let z : _≡_ {A = ℕ} 0 1 = cc in
         absurd (omega arith)
-    go true true false false p q r s e =
+    go true true false true p q r s e =
         let since : moment i - epoch ≡ n = cc in
         let low = ltb-false (moment i) epoch r in
-        let high = leb-false (epoch + 2 ^ 32) (moment i) s in
+        let high = ltb-true (moment i) (epoch + 2 ^ 32) s in
         record { formed = p; exists-then = q; counted = omega arith; small = omega arith }
 
 pub one-text : OneText

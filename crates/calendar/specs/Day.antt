@@ -9,6 +9,7 @@ use Rattle.base.specs.Pick.{pick}
 use Rattle.calendar.specs.declared.date.Date.{Date}
 use Rattle.calendar.specs.declared.date.Rolling.{Rolling}
 
+-- A date by its numbers. There may be no such day.
 abbrev pub date : ℕ → ℕ → ℕ → Date
 date y m d = record { year = y; month = m; day = d }
 
@@ -36,6 +37,7 @@ isLast d = eqb (d .year) 9999 && (eqb (d .month) 12 && eqb (d .day) 31)
 
 -- ---- the count of days
 
+-- The days of a year.
 abbrev pub yearDays : ℕ → ℕ
 yearDays y = pick (leap y) 366 365
 
@@ -67,6 +69,7 @@ dateFrom (suc f) y n = pick (ltb n (yearDays y)) (monthFrom 12 y 1 n) (dateFrom 
 
 -- ---- one day forward
 
+-- The day behind a day that exists: over the end of December the first of January of the next year.
 unfoldable pub nextDay : Date → Date
 nextDay d =
     pick (ltb (d .day) (daysIn (d .year) (d .month))) (date (d .year) (d .month) (d .day + 1))
@@ -80,9 +83,10 @@ rolledNumber d = pick (isDate d) (pick (isLast d) 18 0) 17
 unfoldable pub rolledDate : Date → Date
 rolledDate d = pick (eqb (rolledNumber d) 0) (nextDay d) d
 
--- What rolling a date gives: the number of its answer, and the date afterwards.
+-- The number of an answer, and the date afterwards.
 abbrev pub rolling : ℕ → Date → Rolling
 rolling n d = record { number = n; date = d }
 
+-- What rolling a date forward gives.
 unfoldable pub rolledBy : Date → Rolling
 rolledBy d = rolling (rolledNumber d) (rolledDate d)

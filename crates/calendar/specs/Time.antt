@@ -1,5 +1,5 @@
--- LegacyTime, the seconds since 1970-01-01 00:00:00 UTC in 32 bits, and Time, the text YYYYMMDDTHHMMSSZ (IrOBEX 1.5, section 2.2.5; request (f)):
--- each converted to the other.
+-- LegacyTime, the seconds since 1970-01-01 00:00:00 UTC in 32 bits, and Time, the text YYYYMMDDTHHMMSSZ (headers 0xC4 and 0x44,
+-- docs/PROTOCOL.md#headers; request (f)): each converted to the other.
 use Prim.Native.Nat.{ℕ, zero, suc, _+_, _-_, _*_, _/_, _%_, _^_, _≤_}
 use mathlib.Core.List.{List, [], _∷_, _++_}
 use mathlib.Core.Bool.{Bool, true, _&&_, _||_, not}
@@ -14,6 +14,7 @@ use Rattle.calendar.specs.declared.time.Legacy.the-variants.{Seconds, Ma
 use Rattle.calendar.specs.declared.time.Wrote.{Wrote}
 use Rattle.calendar.specs.declared.time.Wrote.the-variants.{Written, Short}
 
+-- A date and a time of day, by their numbers. There may be no such time.
 abbrev pub instant : Date → ℕ → ℕ → ℕ → Instant
 instant d h m s = record { date = d; hour = h; minute = m; second = s }
 
@@ -36,11 +37,13 @@ unfoldable pub decimal : ℕ → ℕ → List ℕ
 decimal zero x = []
 decimal (suc k) x = decimal k (x / 10) ++ ((0x30 + x % 10) ∷ [])
 
+-- The text of an instant: the mark T is 0x54, and the mark Z is 0x5A.
 unfoldable pub textOf : Instant → List ℕ
 textOf i =
     decimal 4 (i .date .year) ++ (decimal 2 (i .date .month) ++ (decimal 2 (i .date .day) ++ (0x54
     ∷ (decimal 2 (i .hour) ++ (decimal 2 (i .minute) ++ (decimal 2 (i .second) ++ (0x5A ∷ [])))))))
 
+-- A byte is a decimal digit, and each byte of a list is.
 abbrev pub isDigit : ℕ → Bool
 isDigit b = leb 0x30 b && leb b 0x39
 
@@ -76,14 +79,16 @@ readInstant t =
 
 -- ---- from text to seconds
 
--- 17 comes before 18.
-unfoldable pub legacyAt : Instant → Legacy
-legacyAt i =
-    pick (isInstant i)
-    (pick (ltb (moment i) epoch || leb (epoch + 2 ^ 32) (moment i)) Outside (Seconds (moment i - epoch)))
-    Nonexistent
+-- The LegacyTime of a moment, by whether there is such a time: 17 if there is none, then 18 if it lies outside the 32 bits.
+unfoldable pub legacyFor : Bool → ℕ → Legacy
+legacyFor exists m =
+    pick exists (pick (not (ltb m epoch) && ltb m (epoch + 2 ^ 32)) (Seconds (m - epoch)) Outside) Nonexistent
 
--- 16 comes before both.
+-- The LegacyTime of an instant.
+abbrev pub legacyAt : Instant → Legacy
+legacyAt i = legacyFor (isInstant i) (moment i)
+
+-- The LegacyTime of a text: 16, before both, if the text lacks the form.
 unfoldable pub legacyOf : List ℕ → Legacy
 legacyOf t = pick (isForm t) (legacyAt (readInstant t)) Malformed
 
@@ -96,10 +101,11 @@ legacyNumber Outside = 18
 
 -- ---- from seconds to text
 
--- The seconds of 32 bits are less than 137 years.
+-- The instant of a LegacyTime. The seconds of 32 bits are less than 137 years.
 unfoldable pub instantOf : ℕ → Instant
 instantOf n = instant (dateFrom 137 1970 (n / 86400)) (n % 86400 / 3600) (n % 3600 / 60) (n % 60)
 
+-- The Time of a LegacyTime.
 unfoldable pub timeOf : ℕ → List ℕ
 timeOf n = textOf (instantOf n)
 

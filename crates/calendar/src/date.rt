@@ -1,7 +1,6 @@
 // Dates of the Gregorian calendar in the years 0 to 9999, the count of their days, and a date rolled forward one day.
 ghost use mathlib.Core.Path.{_≡_};
-ghost use mathlib.Core.Bool.{true};
-ghost use Prim.Native.Nat.{_*_, _≤_, _<_};
+ghost use Prim.Native.Nat.{_-_, _*_, _≤_, _<_};
 ghost use Rattle.calendar.specs.Day.{leap, daysIn, yearDays, isDate, isLast, daysBeforeYear, daysBeforeMonth, dayNumber};
 ghost use Rattle.calendar.specs.Day.{nextDay, rolledDate, rolledNumber, rolling, rolledBy, monthFrom, dateFrom};
 
@@ -70,7 +69,7 @@ fn days_in_year(year: u16) -> u32
 }
 
 // Whether the day exists.
-pub fn is_date(date: Date) -> bool
+pub(crate) fn is_date(date: Date) -> bool
     ensures { λ r. ⌜ r ≡ isDate date ⌝ }
 {
     if LAST_YEAR < date.year {
@@ -98,7 +97,8 @@ fn is_last(date: Date) -> bool
 // Returns how many days lie before `year`, from year 0 on: a leap day more for each year before it that four divides, less those that a
 // hundred divides, and those again that four hundred divides.
 fn days_before_year(year: u16) -> u32
-    ensures { λ r. ⌜ r ≡ daysBeforeYear year ⌝ }
+    ensures value { λ r. ⌜ r ≡ daysBeforeYear year ⌝ }
+    ensures small { λ r. ⌜ r < 24000000 ⌝ }
 {
     let y = year as u32;
     365 * y + (y + 3) / 4 + (y + 399) / 400 - (y + 99) / 100
@@ -106,7 +106,8 @@ fn days_before_year(year: u16) -> u32
 
 // Returns how many days of `year` lie before `month`.
 fn days_before_month(year: u16, month: u8) -> u32
-    ensures { λ r. ⌜ r ≡ daysBeforeMonth year month ⌝ }
+    ensures value { λ r. ⌜ r ≡ daysBeforeMonth year month ⌝ }
+    ensures small { λ r. ⌜ r < 8000 ⌝ }
 {
     let mut days: u32 = 0;
     let mut m: u8 = 0;
@@ -117,14 +118,24 @@ fn days_before_month(year: u16, month: u8) -> u32
     days
 }
 
-// Returns the number of an existing day, where 0000-01-01 is day 0.
+// Returns how many days of a month lie before its day `day`. None lies before day 0, which no month has.
+fn days_before_day(day: u8) -> u8
+    ensures { λ r. ⌜ r ≡ day - 1 ⌝ }
+{
+    if day < 1 {
+        return 0;
+    }
+    day - 1
+}
+
+// Returns the number of a day, where 0000-01-01 is day 0. Of a day that does not exist the number says nothing.
 pub(crate) fn day_number(date: Date) -> u32
-    requires { ⌜ isDate date ≡ true ⌝ }
     ensures { λ r. ⌜ r ≡ dayNumber date ⌝ }
 {
     let year = days_before_year(date.year);
     let month = days_before_month(date.year, date.month);
-    year + month + (date.day - 1) as u32
+    let day = days_before_day(date.day);
+    year + month + day as u32
 }
 
 // Returns the date that lies `days` days after the first of January of `year`.
@@ -147,7 +158,7 @@ fn date_in_year(year: u16, days: u32) -> Date
     }
 }
 
-// Returns the date that lies `days` days after 1970-01-01.
+// Returns the date that lies `days` days after 1970-01-01. The seconds of 32 bits are less than 137 years of 365 days.
 pub(crate) fn date_after_epoch(days: u32) -> Date
     requires { ⌜ days < 137 * 365 ⌝ }
     ensures { λ r. ⌜ r ≡ dateFrom 137 1970 days ⌝ }

@@ -4,7 +4,7 @@ ghost use mathlib.Core.Bool.{true};
 ghost use Prim.Native.Nat.{_+_, _%_, _≤_};
 ghost use lib.ListN.{length};
 ghost use Rattle.calendar.specs.Time.{isInstant, moment, textOf, allDigits, isForm, numberAt, readInstant, instantOf};
-ghost use Rattle.calendar.specs.Time.{DigitsAt, legacyAt, legacyOf, writing, writeTime};
+ghost use Rattle.calendar.specs.Time.{DigitsAt, legacyFor, legacyOf, writing, writeTime};
 use crate::date::Date;
 use crate::date::date_after_epoch;
 use crate::date::day_number;
@@ -12,11 +12,11 @@ use crate::date::is_date;
 use base::copy_into;
 
 // A date and a time of day, by their numbers. There may be no such time.
-pub struct Instant {
-    pub date: Date,
-    pub hour: u8,
-    pub minute: u8,
-    pub second: u8,
+struct Instant {
+    date: Date,
+    hour: u8,
+    minute: u8,
+    second: u8,
 }
 
 // What a text converts to; `legacyNumber` gives the number of each.
@@ -188,30 +188,29 @@ fn is_instant(at: Instant) -> bool
     at.second < 60
 }
 
-// Returns how many seconds lie between the first second of year 0 and an existing time.
+// Returns how many seconds lie between the first second of year 0 and an instant. Of a time that does not exist the number says nothing.
 fn seconds_to(at: Instant) -> u64
-    requires { ⌜ isInstant at ≡ true ⌝ }
     ensures { λ r. ⌜ r ≡ moment at ⌝ }
 {
     let days = day_number(at.date) as u64;
     days * (DAY as u64) + (at.hour as u64) * 3600 + (at.minute as u64) * 60 + (at.second as u64)
 }
 
-// Returns the LegacyTime of an instant.
-fn legacy_of(at: Instant) -> Legacy
-    ensures { λ r. ⌜ r ≡ legacyAt at ⌝ }
+// Returns the LegacyTime of a time that lies `seconds` seconds behind the first second of year 0, if there is such a time: 17 comes before 18.
+fn judge(exists: bool, seconds: u64) -> Legacy
+    ensures { λ r. ⌜ r ≡ legacyFor exists seconds ⌝ }
 {
-    if !is_instant(at) {
+    if !exists {
         return Legacy::Nonexistent;
     }
-    let m = seconds_to(at);
-    if m < FIRST {
+    if seconds < FIRST {
         return Legacy::Outside;
     }
-    if END <= m {
-        return Legacy::Outside;
+    if seconds < END {
+        Legacy::Seconds((seconds - FIRST) as u32)
+    } else {
+        Legacy::Outside
     }
-    Legacy::Seconds((m - FIRST) as u32)
 }
 
 // Reads a text as a LegacyTime: 16 comes before 17, and 17 before 18.
@@ -221,5 +220,6 @@ pub fn read_time(text: &[u8]) -> Legacy
     if !is_form(text) {
         return Legacy::Malformed;
     }
-    legacy_of(instant_in(text))
+    let at = instant_in(text);
+    judge(is_instant(at), seconds_to(at))
 }

@@ -1,10 +1,6 @@
--- `calendar::date::day_number` meets its contract: a day that exists has a day before it in its month or is the first. Assumes nothing.
+-- `calendar::date::day_number` meets its contract: the days before the year, the month and the day. Assumes nothing.
 use Rattle.calendar.specs.Day.{dayNumber}
-use Rattle.calendar.proofs.Months.{existing}
-use Rattle.calendar.proofs.Count.{in-year, closed-form}
-use Rattle.calendar.proofs.Months.{year-size}
 use borrow.Author.Needs.{needs}
-use native.Mathlib.Omega.{arith}
 use Rattle.calendar.proofs.date.day_number.Statement.{statement}
 use Rattle.calendar.proofs.date.day_number.Tie as tie
 
@@ -14,30 +10,23 @@ days-before-year-requires c κs = search needs
 days-before-month-requires : tie.Need-days-before-month-requires
 days-before-month-requires c κs = search needs
 
-add-result : tie.Need-add-result
-add-result c =
-    let d = c .before .before .args .date in
-    let x = existing d (c .before .before .pre) in
-    omega (arith, closed-form (d .year), in-year (d .year) (d .month) (d .day) x, year-size (d .year))
+days-before-day-requires : tie.Need-days-before-day-requires
+days-before-day-requires c κs = search needs
 
-sub-result : tie.Need-sub-result
-sub-result c =
-    let d = c .before .before .before .args .date in
-    let x = existing d (c .before .before .before .pre) in
-    omega (arith, x .day-low)
+add-result : tie.Need-add-result
+add-result c = search needs
 
 cast-result : tie.Need-cast-result
 cast-result c = search needs
 
 add-result-2 : tie.Need-add-result-2
-add-result-2 c =
-    let d = c .before .before .before .args .date in
-    let x = existing d (c .before .before .before .pre) in
-    omega (arith, closed-form (d .year), in-year (d .year) (d .month) (d .day) x, year-size (d .year))
+add-result-2 c = search needs
 
 returns : tie.Need-returns
 unfolding dayNumber
-returns c = rw (c .before .before .days-before-year .ensures, c .before .days-before-month .ensures)
+returns c =
+    let a = c .before .before in
+    rw (a .days-before-year .ensures .0, c .before .days-before-month .ensures .0, c .days-before-day .ensures)
 
 pub day-number-spec : {M : Type 1} → statement M
 day-number-spec =
@@ -45,8 +34,8 @@ day-number-spec =
     (tie.spec
     days-before-year-requires
     days-before-month-requires
+    days-before-day-requires
     add-result
-    sub-result
     cast-result
     add-result-2
     returns)

@@ -45,7 +45,7 @@ returns : tie.Need-returns Inv-loop μ-loop
 returns c =
     let l = c .before .loop in
     let e : l .m ≡ c .before .before .args .month = omega arith in
-    rw (← e) (l .inv .1)
+    (rw (← e) (l .inv .1), omega arith)
 
 pub days-before-month-spec : {M : Type 1} → statement M
 days-before-month-spec =

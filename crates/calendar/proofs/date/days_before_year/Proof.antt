@@ -1,4 +1,5 @@
 -- `calendar::date::days_before_year` meets its contract: the closed form is the count, year by year. Assumes nothing.
+use native.Mathlib.Omega.{arith}
 use Rattle.calendar.proofs.Count.{closed-form}
 use borrow.Author.Needs.{needs}
 use Rattle.calendar.proofs.date.days_before_year.Statement.{statement}
@@ -26,7 +27,7 @@ sub-result : tie.Need-sub-result
 sub-result c = search needs
 
 returns : tie.Need-returns
-returns c = closed-form (c .args .year)
+returns c = (closed-form (c .args .year), omega arith)
 
 pub days-before-year-spec : {M : Type 1} → statement M
 days-before-year-spec =

@@ -20,14 +20,18 @@ add-t5 c = search needs
 
 returns-2 : tie.Need-returns-2
 unfolding nextDay
-returns-2 c = rw (← c .before .before .before .before .before .days-in .ensures, le-ltb _ _ (c .before .before .before .if1 .left), lt-ltb _ _ (c .before .if2 .taken))
+returns-2 c =
+    let a = c .before .before .before in
+    rw (← a .before .before .days-in .ensures, le-ltb _ _ (a .if1 .left), lt-ltb _ _ (c .before .if2 .taken))
 
 add-t6 : tie.Need-add-t6
 add-t6 c = search needs
 
 returns-3 : tie.Need-returns-3
 unfolding nextDay
-returns-3 c = rw (← c .before .before .before .before .before .days-in .ensures, le-ltb _ _ (c .before .before .before .if1 .left), le-ltb _ _ (c .before .if2 .left))
+returns-3 c =
+    let a = c .before .before .before in
+    rw (← a .before .before .days-in .ensures, le-ltb _ _ (a .if1 .left), le-ltb _ _ (c .before .if2 .left))
 
 pub next-date-spec : {M : Type 1} → statement M
 next-date-spec =

@@ -11,18 +11,28 @@ is-date-requires c κs = search needs
 
 returns : tie.Need-returns
 unfolding rolledNumber
-returns c = rw (sym (c .before .is-date .ensures) ∙ not-true (c .before .is-date .result) (c .if1 .taken))
+returns c =
+    let d = c .before .is-date in
+    rw (sym (d .ensures) ∙ not-true (d .result) (c .if1 .taken))
 
 is-last-requires : tie.Need-is-last-requires
 is-last-requires c κs = search needs
 
 returns-2 : tie.Need-returns-2
 unfolding rolledNumber
-returns-2 c = rw (sym (c .before .before .before .is-date .ensures) ∙ not-false (c .before .before .before .is-date .result) (c .before .before .if1 .left), sym (c .before .is-last .ensures) ∙ c .if2 .taken)
+returns-2 c =
+    let a = c .before .before in
+    let d = a .before .is-date in
+    let l = c .before .is-last in
+    rw (sym (d .ensures) ∙ not-false (d .result) (a .if1 .left), sym (l .ensures) ∙ c .if2 .taken)
 
 returns-3 : tie.Need-returns-3
 unfolding rolledNumber
-returns-3 c = rw (sym (c .before .before .before .is-date .ensures) ∙ not-false (c .before .before .before .is-date .result) (c .before .before .if1 .left), sym (c .before .is-last .ensures) ∙ c .if2 .left)
+returns-3 c =
+    let a = c .before .before in
+    let d = a .before .is-date in
+    let l = c .before .is-last in
+    rw (sym (d .ensures) ∙ not-false (d .result) (a .if1 .left), sym (l .ensures) ∙ c .if2 .left)
 
 pub rolled-number-spec : {M : Type 1} → statement M
 rolled-number-spec =

@@ -1,6 +1,5 @@
 -- `calendar::time::is_digits` meets its contract. The invariant: the bytes passed are digits. Assumes nothing.
 use mathlib.Core.Path.{_≡_, refl, sym, _∙_}
-use mathlib.Core.Bool.{true}
 use Prim.Native.Nat.{_-_, _≤_}
 use lib.ListN.{length, drop, getD}
 use borrow.Author.Tests.{le-leb, lt-leb}
@@ -25,18 +24,23 @@ shared-slice-read-if1 c = search needs
 
 returns : tie.Need-returns Inv-loop μ-loop
 returns c =
-    let l = c .before .before .before .loop in
-    let s = c .before .before .before .before .args .s .now in
-    rw (l .inv .1, digits-from s (l .i) (c .before .before .loop-test .taken), lt-leb 0x30 (getD s (l .i) 0) (c .if1 .taken))
+    let t = c .before .before in
+    let s = t .before .before .args .s .now in
+    let b = getD s (t .before .loop .i) 0 in
+    let here = digits-from s (t .before .loop .i) (t .loop-test .taken) in
+    sym (t .before .loop .inv .1 ∙ rw (lt-leb 0x30 b (c .if1 .taken)) at here)
 
 shared-slice-read-if2 : tie.Need-shared-slice-read-if2 Inv-loop μ-loop
 shared-slice-read-if2 c = search needs
 
 returns-2 : tie.Need-returns-2 Inv-loop μ-loop
 returns-2 c =
-    let l = c .before .before .before .before .before .loop in
-    let s = c .before .before .before .before .before .before .args .s .now in
-    rw (l .inv .1, digits-from s (l .i) (c .before .before .before .before .loop-test .taken), le-leb 0x30 (getD s (l .i) 0) (c .before .before .if1 .left), lt-leb (getD s (l .i) 0) 0x39 (c .if2 .taken))
+    let a = c .before .before in
+    let t = a .before .before in
+    let s = t .before .before .args .s .now in
+    let b = getD s (t .before .loop .i) 0 in
+    let here = digits-from s (t .before .loop .i) (t .loop-test .taken) in
+    sym (t .before .loop .inv .1 ∙ rw (le-leb 0x30 b (a .if1 .left), lt-leb b 0x39 (c .if2 .taken)) at here)
 
 add-i : tie.Need-add-i Inv-loop μ-loop
 add-i c = search needs
@@ -46,10 +50,12 @@ loop-less c = search needs
 
 loop-again : tie.Need-loop-again Inv-loop μ-loop
 loop-again c =
-    let l = c .before .before .before .before .before .loop in
-    let s = c .before .before .before .before .before .before .args .s .now in
-    let here = digits-from s (l .i) (c .before .before .before .before .loop-test .taken) in
-    (omega arith, l .inv .1 ∙ rw (le-leb 0x30 (getD s (l .i) 0) (c .before .before .if1 .left), le-leb (getD s (l .i) 0) 0x39 (c .if2 .left)) at here)
+    let a = c .before .before in
+    let t = a .before .before in
+    let s = t .before .before .args .s .now in
+    let b = getD s (t .before .loop .i) 0 in
+    let here = digits-from s (t .before .loop .i) (t .loop-test .taken) in
+    (omega arith, t .before .loop .inv .1 ∙ rw (le-leb 0x30 b (a .if1 .left), le-leb b 0x39 (c .if2 .left)) at here)
 
 returns-3 : tie.Need-returns-3 Inv-loop μ-loop
 returns-3 c =

@@ -1,12 +1,11 @@
 -- `calendar::time::seconds_to` meets its contract: the days of the count, and the seconds of the last of them. Assumes nothing.
 use Rattle.calendar.specs.Time.{moment}
-use Rattle.calendar.proofs.Times.{there}
 use borrow.Author.Needs.{needs}
 use Rattle.calendar.proofs.time.seconds_to.Statement.{statement}
 use Rattle.calendar.proofs.time.seconds_to.Tie as tie
 
 day-number-requires : tie.Need-day-number-requires
-day-number-requires c κs = there (c .args .at) (c .pre) .date
+day-number-requires c κs = search needs
 
 cast-days : tie.Need-cast-days
 cast-days c = search needs

@@ -64,14 +64,16 @@ digit-requires-14 c κs = search needs
 
 returns : tie.Need-returns
 returns c =
+    let a = c .before .before .before .before .before .before .before in
+    let s = a .before .before .before .before .before .before .before in
     rw (
-      c .before .before .before .before .before .before .before .before .before .before .before .before .before .digit .ensures,
-      c .before .before .before .before .before .before .before .before .before .before .before .before .digit2 .ensures,
-      c .before .before .before .before .before .before .before .before .before .before .before .digit3 .ensures,
-      c .before .before .before .before .before .before .before .before .before .before .digit4 .ensures,
-      c .before .before .before .before .before .before .before .before .before .digit5 .ensures,
-      c .before .before .before .before .before .before .before .before .digit6 .ensures,
-      c .before .before .before .before .before .before .before .digit7 .ensures,
+      a .before .before .before .before .before .before .digit .ensures,
+      a .before .before .before .before .before .digit2 .ensures,
+      a .before .before .before .before .digit3 .ensures,
+      a .before .before .before .digit4 .ensures,
+      a .before .before .digit5 .ensures,
+      a .before .digit6 .ensures,
+      a .digit7 .ensures,
       c .before .before .before .before .before .before .digit8 .ensures,
       c .before .before .before .before .before .digit9 .ensures,
       c .before .before .before .before .digit10 .ensures,
@@ -80,7 +82,7 @@ returns c =
       c .before .digit13 .ensures,
       c .digit14 .ensures,
     )
-    (sym (text-digits (c .before .before .before .before .before .before .before .before .before .before .before .before .before .before .before .before .before .before .before .args .at)))
+    (sym (text-digits (s .before .before .before .before .before .args .at)))
 
 pub text-of-spec : {M : Type 1} → statement M
 text-of-spec =
