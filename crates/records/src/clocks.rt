@@ -28,7 +28,7 @@ use lines::word::unhex;
 // The largest target that is asked about, in bytes: 1 MiB.
 const LARGEST: usize = 1048576;
 
-// The number of an answer of `write_time`.
+// Returns the number of an answer of `write_time`.
 fn wrote_number(answer: Wrote) -> usize
     ensures { λ r. ⌜ r ≡ wroteNumber answer ⌝ }
 {
@@ -38,7 +38,7 @@ fn wrote_number(answer: Wrote) -> usize
     }
 }
 
-// The number of an answer of `read_time`.
+// Returns the number of an answer of `read_time`.
 fn legacy_number(answer: Legacy) -> usize
     ensures { λ r. ⌜ r ≡ legacyNumber answer ⌝ }
 {
@@ -50,7 +50,7 @@ fn legacy_number(answer: Legacy) -> usize
     }
 }
 
-// The seconds of an answer of `read_time`, 0 if there are none.
+// Returns the seconds of an answer of `read_time`, or 0 if it has none.
 fn seconds_of(answer: Legacy) -> usize {
     match answer {
         Legacy::Seconds(n) => n as usize,
@@ -67,13 +67,13 @@ fn show_time(seconds: u32, room: usize, store: &mut [u8]) {
     number_and_target(wrote_number(answer), &store[0..size]);
 }
 
-// A question on a small target, in a store that is made quickly.
+// Answers a question on a small target, in a store that is made quickly.
 fn show_time_short(seconds: u32, room: usize) {
     let mut store = [0xEEu8; 512];
     show_time(seconds, room, &mut store);
 }
 
-// A question on any target.
+// Answers a question on any target.
 fn show_time_long(seconds: u32, room: usize) {
     let mut store = [0xEEu8; 1048576];
     show_time(seconds, room, &mut store);
@@ -106,7 +106,7 @@ pub(crate) fn time(s: &[u8]) {
     show_time_long(seconds as u32, room);
 }
 
-// A blank and a number, behind the first `n` bytes.
+// Puts a blank and a number behind the first `n` bytes of `out`, and returns where they end.
 fn put_next(out: &mut [u8], n: usize, number: usize) -> usize
     ensures { λ r. ⌜ r ≤ length (now (out .exit)) ⌝ }
 {
@@ -114,7 +114,7 @@ fn put_next(out: &mut [u8], n: usize, number: usize) -> usize
     put_number(out, a, number)
 }
 
-// The line of an answer: its number, and the seconds.
+// Puts the line of an answer into `out`: its number, and the seconds.
 fn put_seconds(out: &mut [u8], answer: Legacy) -> usize
     ensures { λ r. ⌜ r ≤ length (now (out .exit)) ⌝ }
 {
@@ -123,7 +123,7 @@ fn put_seconds(out: &mut [u8], answer: Legacy) -> usize
     put(out, b, b"\n")
 }
 
-// Converts the text of `digits`.
+// Converts the text of `digits`, whose bytes go into `octets`.
 fn convert(digits: &[u8], octets: &mut [u8]) -> Legacy {
     let n = unhex(digits, octets);
     read_time(&octets[0..n])
@@ -147,12 +147,13 @@ pub(crate) fn legacy(digits: &[u8]) {
     show_legacy(digits);
 }
 
-// The date that three words name, or none if a word is no number or a number is too large for its field.
+// What three words name: a date, or none if a word is no number or a number is too large for its field.
 enum Asked {
     Day(Date),
     Malformed,
 }
 
+// Returns the date that three words name.
 fn date_of(year: Number, month: Number, day: Number) -> Asked {
     let Number::Known(y) = year else {
         return Asked::Malformed;
@@ -179,7 +180,7 @@ fn date_of(year: Number, month: Number, day: Number) -> Asked {
     })
 }
 
-// The line of an answer: its number, and the date afterwards.
+// Puts the line of an answer into `out`: its number, and the date afterwards.
 fn put_date(out: &mut [u8], answer: Rolling) -> usize
     ensures { λ r. ⌜ r ≤ length (now (out .exit)) ⌝ }
 {
