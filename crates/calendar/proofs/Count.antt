@@ -9,7 +9,7 @@ use native.Mathlib.Omega.{arith}
 use lib.Dec.{eqb, ltb}
 use borrow.Author.Tests.{eqb-true, eqb-false, ltb-true, ltb-false}
 use Rattle.base.specs.Pick.{pick}
-use Rattle.calendar.specs.Day.{date, leap, daysIn, yearDays, isDate, daysBeforeYear, daysBeforeMonth, dayNumber}
+use Rattle.calendar.specs.Day.{date, leap, daysIn, yearDays, daysBeforeYear, daysBeforeMonth, dayNumber}
 use Rattle.calendar.specs.Claims.{OneDay}
 use Rattle.calendar.specs.declared.date.Date.{Date}
 use Rattle.calendar.proofs.Months.{twelve-months, Existing, existing}
@@ -35,7 +35,7 @@ pub year-after : (y : ℕ) → daysBeforeYear (y + 1) ≡ daysBeforeYear y + yea
 unfolding daysBeforeYear
 year-after y = rw (add-one y)
 
-pub months-before : (y m n : ℕ) → m < n → daysBeforeMonth y m + daysIn y m ≤ daysBeforeMonth y n
+months-before : (y m n : ℕ) → m < n → daysBeforeMonth y m + daysIn y m ≤ daysBeforeMonth y n
 unfolding daysBeforeMonth
 months-before y = grows (daysBeforeMonth y) (daysIn y) (λ k. refl)
 
@@ -46,7 +46,7 @@ years-before = grows daysBeforeYear yearDays (λ k. refl)
 -- ---- days apart
 
 -- a day is in its year
-pub in-year : (y m d : ℕ) → Existing y m d → daysBeforeMonth y m + (d - 1) < yearDays y
+in-year : (y m d : ℕ) → Existing y m d → daysBeforeMonth y m + (d - 1) < yearDays y
 in-year y m d x = omega (arith, twelve-months y, months-before y m 13 (omega arith))
 
 module _ (d e : Date) (x : Existing (d .year) (d .month) (d .day)) (z : Existing (e .year) (e .month) (e .day)) where
@@ -113,7 +113,7 @@ module _ (k : ℕ) (pos : 0 < k) (y : ℕ) where
       let next = add-mul q 1 k in
       between (q + 1) (omega (arith, div-add-mod' y k)) (omega (arith, div-add-mod' y k))
 
-  pub rounded-next : (b : Bool) → eqb (y % k) 0 ≡ b → (suc y + (k - 1)) / k ≡ (y + (k - 1)) / k + pick b 1 0
+  rounded-next : (b : Bool) → eqb (y % k) 0 ≡ b → (suc y + (k - 1)) / k ≡ (y + (k - 1)) / k + pick b 1 0
   rounded-next b e =
       let same : suc y + (k - 1) ≡ y + k = omega arith in
       ap (λ (n : ℕ). n / k) same ∙ add-div-right y pos ∙ go b (rounded b e)

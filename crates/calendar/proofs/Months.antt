@@ -44,7 +44,7 @@ module _ (y : ℕ) where
   unfolding daysIn
   no-month m h = rw (ne-eqb m 2 (λ e. omega arith)) (List·getD-eq-default common 0 h)
 
-  pub month-zero : daysIn y 0 ≡ 0
+  month-zero : daysIn y 0 ≡ 0
   unfolding daysIn
   month-zero = refl
 
@@ -75,7 +75,7 @@ module _ (y : ℕ) where
       go false e = omega (arith, no-month (suc m) (omega (arith, ltb-false m 12 e)))
 
   -- only a month that there is has days
-  pub has-days : (m : ℕ) → 1 ≤ daysIn y m → (1 ≤ m) × (m ≤ 12)
+  has-days : (m : ℕ) → 1 ≤ daysIn y m → (1 ≤ m) × (m ≤ 12)
   has-days zero h = absurd (omega (arith, month-zero))
   has-days (suc m) h = go (ltb m 12) refl
     where

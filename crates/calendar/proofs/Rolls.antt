@@ -1,12 +1,12 @@
 -- A date that is rolled forward becomes the next day of the count, over the end of a month and of a year. Assumes nothing.
-use mathlib.Core.Path.{_≡_, refl, subst, ap, _∙_}
-use mathlib.Core.Bool.{Bool, true, false, _&&_}
+use mathlib.Core.Path.{_≡_, refl, ap}
+use mathlib.Core.Bool.{Bool, true, false}
 use Prim.Native.Nat.{ℕ, _+_, _-_, _≤_, _<_}
 use native.Mathlib.Omega.{arith}
-use lib.Dec.{eqb, ltb}
+use lib.Dec.{ltb}
 use borrow.Author.Tests.{ltb-true, ltb-false, eq-eqb}
 use Rattle.base.specs.Pick.{pick}
-use Rattle.calendar.specs.Day.{date, daysIn, yearDays, isDate, isLast, daysBeforeYear, daysBeforeMonth, dayNumber, nextDay}
+use Rattle.calendar.specs.Day.{date, daysIn, isDate, isLast, daysBeforeMonth, dayNumber, nextDay}
 use Rattle.calendar.specs.Day.{rolledNumber, rolledDate, rolling, rolledBy}
 use Rattle.calendar.specs.Claims.{Later, Counts}
 use Rattle.calendar.specs.declared.date.Date.{Date}

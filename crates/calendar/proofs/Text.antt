@@ -1,7 +1,7 @@
 -- Texts of the form YYYYMMDDTHHMMSSZ: an instant is read back from its text, and a text of the form is the text of what it names. Assumes nothing.
-use mathlib.Core.Path.{_≡_, refl, sym, ap, _∙_}
-use mathlib.Core.List.{List, [], _∷_, _++_}
-use mathlib.Core.Bool.{Bool, true, false, _&&_}
+use mathlib.Core.Path.{_≡_, sym, ap, _∙_}
+use mathlib.Core.List.{List, [], _∷_}
+use mathlib.Core.Bool.{true, _&&_}
 use Prim.Native.Nat.{ℕ, zero, suc, _+_, _-_, _*_, _/_, _%_, _≤_, _<_}
 use native.Mathlib.Omega.{arith}
 use native.Mathlib.Numerals.{add-one}
@@ -10,8 +10,7 @@ use lib.Dec.{eqb, leb}
 use lib.ListN.{length, getD, take, drop, length-drop}
 use lib.Seq.{drop-cons, drop-length, length-take-le, getD-take, getD-drop}
 use borrow.Author.Tests.{eqb-true, leb-true, le-leb}
-use Rattle.calendar.specs.Day.{date}
-use Rattle.calendar.specs.Time.{instant, decimal, textOf, isDigit, allDigits, isForm, numberAt, Digit, DigitsAt, readInstant}
+use Rattle.calendar.specs.Time.{decimal, textOf, isDigit, allDigits, isForm, numberAt, Digit, DigitsAt, readInstant}
 use Rattle.calendar.specs.declared.time.Instant.{Instant}
 use Rattle.calendar.proofs.Months.{both}
 

@@ -16,7 +16,6 @@ use Rattle.calendar.specs.Time.{legacyFor, legacyAt, legacyOf, instantOf
 use Rattle.calendar.specs.Claims.{ComesBack, OneText, lastText, LastTime}
 use Rattle.calendar.specs.declared.date.Date.{Date}
 use Rattle.calendar.specs.declared.time.Instant.{Instant}
-use Rattle.calendar.specs.declared.time.Legacy.{Legacy}
 use Rattle.calendar.specs.declared.time.Legacy.the-variants.{Seconds, Malformed, Nonexistent, Outside}
 use Rattle.calendar.specs.declared.time.Wrote.the-variants.{Written}
 use Rattle.calendar.proofs.Months.{both, month-most, existing}
@@ -26,13 +25,13 @@ use Rattle.calendar.proofs.Text.{InPlaces, text-size, form, read-back, 
 
 -- ---- what it takes that an instant exists
 
-pub record There (i : Instant) : Type 0 where
-  pub date : isDate (i .date) ≡ true
-  pub hour : i .hour < 24
-  pub minute : i .minute < 60
-  pub second : i .second < 60
+record There (i : Instant) : Type 0 where
+  date : isDate (i .date) ≡ true
+  hour : i .hour < 24
+  minute : i .minute < 60
+  second : i .second < 60
 
-pub there : (i : Instant) → isInstant i ≡ true → There i
+there : (i : Instant) → isInstant i ≡ true → There i
 unfolding isInstant
 there i e =
     let h = ltb (i .hour) 24 in
@@ -98,7 +97,7 @@ module _ (n : ℕ) (h : n < 2 ^ 32) where
   day-reached : Reached (daysBeforeYear 1970 + n / 86400) (dateFrom 137 1970 (n / 86400))
   day-reached = reach 137 1970 (n / 86400) (omega arith) (omega arith)
 
-  pub of-there : There (instantOf n)
+  of-there : There (instantOf n)
   unfolding instantOf
   of-there = record { date = day-reached .there; hour = omega arith; minute = omega arith; second = omega arith }
 
@@ -106,7 +105,7 @@ module _ (n : ℕ) (h : n < 2 ^ 32) where
   day-clock : n % 86400 / 3600 * 3600 + n % 3600 / 60 * 60 + n % 60 ≡ n % 86400
   day-clock = omega arith
 
-  pub of-moment : moment (instantOf n) ≡ epoch + n
+  of-moment : moment (instantOf n) ≡ epoch + n
   unfolding instantOf moment
   of-moment =
       let d = day-reached .counted in

@@ -1,8 +1,7 @@
 // LegacyTime, which older boxes send, and Time, which newer ones send: each converted to the other.
 ghost use mathlib.Core.Path.{_≡_};
 ghost use mathlib.Core.Bool.{true};
-ghost use Prim.Native.Nat.{_+_, _%_, _≤_};
-ghost use lib.ListN.{length};
+ghost use Prim.Native.Nat.{_+_, _%_};
 ghost use Rattle.calendar.specs.Time.{isInstant, moment, textOf, allDigits, isForm, numberAt, readInstant, instantOf};
 ghost use Rattle.calendar.specs.Time.{DigitsAt, legacyFor, legacyOf, writing, writeTime};
 use crate::date::Date;
