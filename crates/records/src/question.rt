@@ -6,6 +6,9 @@ ghost use Prim.Native.Nat.{_<_};
 pub enum Question {
     Store,
     Restore,
+    Time,
+    Legacy,
+    Roll,
     Unknown,
 }
 
@@ -22,6 +25,15 @@ pub(crate) fn question_of(word: &[u8]) -> Question {
     }
     if same(word, b"restore") {
         return Question::Restore;
+    }
+    if same(word, b"time") {
+        return Question::Time;
+    }
+    if same(word, b"legacy") {
+        return Question::Legacy;
+    }
+    if same(word, b"roll") {
+        return Question::Roll;
     }
     Question::Unknown
 }
