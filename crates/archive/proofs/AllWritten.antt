@@ -1,15 +1,13 @@
 -- All blocks of a body. Assumes nothing.
-use mathlib.Core.Path.{_≡_, refl, sym, ap, ap₂, _∙_}
+use mathlib.Core.Path.{_≡_, refl, sym, ap, _∙_}
 use mathlib.Core.Bool.{Bool, true, false}
-use mathlib.Core.List.{List, [], _∷_, _++_}
+use mathlib.Core.List.{List, _++_}
 use Prim.Native.Nat.{ℕ, zero, suc, _+_, _-_, _*_, _/_, _≤_, _<_}
-use native.Mathlib.Numerals.{add-one}
 use native.Mathlib.Omega.{arith}
 use lib.Dec.{eqb}
 use lib.ListN.{length, take, drop, length-append, length-drop, length-take}
 use lib.Seq.{paste, take-all, take-at, drop-at, drop-drop, length-take-le}
 use borrow.Author.Tests.{eqb-true, eqb-false, lt-ltb, le-ltb}
-use Rattle.base.specs.Pick.{pick}
 use Rattle.archive.specs.Block.{longest, block}
 use Rattle.archive.specs.Writing.{blockCount, blocksFrom, blocksOf, front, writing, written}
 use Rattle.archive.specs.declared.block.Wrote.the-variants.{Written, Short, TooLong}
@@ -53,8 +51,12 @@ length-blocks zero k b h j = length-block true k b (omega arith)
 length-blocks (suc m) k b h j =
     let t = length-take-le 490 b (omega arith) in
     let d = length-drop 490 b in
-    omega (arith, length-append (block false k (take 490 b)) (blocksFrom m (k + 1) (drop 490 b)), length-block false k (take 490 b) (omega arith),
-    length-blocks m (k + 1) (drop 490 b) (omega arith) (omega arith))
+    omega (
+      arith,
+      length-append (block false k (take 490 b)) (blocksFrom m (k + 1) (drop 490 b)),
+      length-block false k (take 490 b) (omega arith),
+      length-blocks m (k + 1) (drop 490 b) (omega arith) (omega arith),
+    )
 
 pub length-all : (b : List ℕ) → length (blocksOf b) ≡ 512 * blockCount (length b)
 unfolding blocksOf

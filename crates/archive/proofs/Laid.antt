@@ -1,11 +1,11 @@
 -- Bytes laid into a target one part after the other. Assumes nothing.
 use mathlib.Core.Path.{_≡_, refl, sym, ap, ap₂, _∙_}
 use mathlib.Core.Bool.{Bool}
-use mathlib.Core.List.{List, [], _∷_, _++_, append-assoc}
-use Prim.Native.Nat.{ℕ, zero, suc, _+_, _-_, _*_, _≤_, _<_}
+use mathlib.Core.List.{List, _++_, append-assoc}
+use Prim.Native.Nat.{ℕ, zero, suc, _+_, _-_, _≤_}
 use native.Mathlib.Nat.{add-assoc}
 use native.Mathlib.Omega.{arith}
-use lib.ListN.{length, take, drop, replicate, length-append, length-replicate, length-drop, length-take}
+use lib.ListN.{length, take, drop, replicate, length-append, length-replicate}
 use lib.Seq.{paste, take-at, drop-at, take-length, take-all, drop-drop, take-add, length-take-le, take-paste, drop-paste}
 use Rattle.archive.specs.Block.{headOf, checked}
 use Rattle.archive.specs.Writing.{front}
@@ -22,15 +22,20 @@ parts-laid d p q at m n lp lq h =
     let l : length (p ++ q) ≡ m + n = omega (arith, length-append p q) in
     rw (a, b, take-all n q (omega arith), take-all (m + n) (p ++ q) (omega arith), append-assoc (take at d) p q)
 
--- a part laid behind the front q of a target makes the front longer
+-- a part laid behind what stands at the front of a target, whose rest is that of `d₀`
+pub front-more : (q d₀ d p : List ℕ) (at n : ℕ) → d ≡ q ++ drop at d₀ → length q ≡ at → length p ≡ n → at + n ≤ length d₀
+    → paste d at p n ≡ (q ++ p) ++ drop (at + n) d₀
+front-more q d₀ d p at n is size part room =
+    let a : take at d ≡ q = ap (take at) is ∙ take-at q (drop at d₀) at size in
+    let b : drop (at + n) d ≡ drop (at + n) d₀ =
+    sym (drop-drop n at d) ∙ ap (λ (r : List ℕ). drop n (drop at r)) is ∙ ap (drop n) (drop-at q (drop at d₀) at size) ∙ drop-drop n at d₀ in
+    rw (a, b, take-all n p (omega arith))
+
+-- the next part of a list whose front was laid so far
 pub front-longer : (all d₀ d p : List ℕ) (at n : ℕ) → d ≡ take at all ++ drop at d₀ → at ≤ length all → length p ≡ n → at + n ≤ length d₀
     → take n (drop at all) ≡ p → paste d at p n ≡ take (at + n) all ++ drop (at + n) d₀
 front-longer all d₀ d p at n is room size fits e =
-    let l : length (take at all) ≡ at = length-take-le at all room in
-    let a : take at d ≡ take at all = ap (take at) is ∙ take-at (take at all) (drop at d₀) at l in
-    let b : drop (at + n) d ≡ drop (at + n) d₀ =
-    sym (drop-drop n at d) ∙ ap (λ (r : List ℕ). drop n (drop at r)) is ∙ ap (drop n) (drop-at (take at all) (drop at d₀) at l) ∙ drop-drop n at d₀ in
-    rw (a, b, take-all n p (omega arith), take-add at n all, e)
+    rw (take-add at n all, e) (front-more (take at all) d₀ d p at n is (length-take-le at all room) size fits)
 
 -- all of it at the front
 pub front-whole : (all d₀ : List ℕ) (n : ℕ) → n ≡ length all → take n all ++ drop n d₀ ≡ front all d₀

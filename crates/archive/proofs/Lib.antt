@@ -5,3 +5,4 @@ pub mod OneBlock
 pub mod Laid
 pub mod AllWritten
 pub mod AllRead
+pub mod OneSequence

@@ -1,19 +1,19 @@
 -- One block: how long it is, what stands where in it, that a written block has no fault, and that a block without a fault is the one that is
 -- written for its payload. Assumes nothing.
 use mathlib.Core.Path.{_≡_, refl, sym, ap, ap₂, _∙_}
-use mathlib.Core.Bool.{Bool, true, false, _&&_, _||_, not}
+use mathlib.Core.Bool.{Bool, true, false, not}
 use mathlib.Core.List.{List, [], _∷_, _++_, append-assoc}
-use Prim.Native.Nat.{ℕ, zero, suc, _+_, _-_, _*_, _/_, _%_, _^_, _≤_, _<_}
+use Prim.Native.Nat.{ℕ, _+_, _-_, _*_, _/_, _%_, _^_, _≤_, _<_}
 use native.Mathlib.Omega.{arith}
-use lib.Dec.{ltb, leb, eqb}
-use lib.ListN.{length, getD, take, drop, replicate, length-append, length-replicate, length-take, length-drop, take-append-drop}
+use lib.Dec.{leb, eqb}
+use lib.ListN.{length, getD, take, drop, replicate, length-append, length-replicate, length-drop, take-append-drop}
 use lib.Seq.{take-at, drop-at, drop-drop, take-add, length-take-le}
 use borrow.Author.Tests.{eqb-true, leb-true, leb-false, eq-eqb, le-leb, lt-leb, not-true}
 use Rattle.base.specs.Pick.{pick}
 use Rattle.base.specs.Bytes.{be16, be32, bytes16, bytes32}
 use Rattle.digest.specs.Md5.{digestOf}
 use Rattle.digest.proofs.Octets.{length-digest}
-use Rattle.archive.specs.Block.{longest, lengthField, headOf, checked, block, same, isLastBlock, used, payloadOf, rightLength, allZero, rightForm, faultOf, rightCheck, rightPadding}
+use Rattle.archive.specs.Block.{longest, lengthField, headOf, checked, block, isLastBlock, used, payloadOf, rightLength, allZero, rightForm, faultOf, rightCheck, rightPadding}
 use Rattle.archive.specs.Claims.{Octets}
 use Rattle.archive.proofs.Compare.{both, same-refl, same-eq, zero-zeros, zeros-only}
 

@@ -3,3 +3,4 @@ pub mod Block
 pub mod Writing
 pub mod Reading
 pub mod Claims
+pub mod Vectors

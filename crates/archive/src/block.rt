@@ -37,8 +37,11 @@ pub enum Body {
 
 // The bytes of a block; of its head, its payload and what its check is of.
 const BLOCK: usize = 512;
+
 const HEAD: usize = 6;
+
 const PAYLOAD: usize = 490;
+
 const CHECKED: usize = 496;
 
 // The top bit of a length field, which marks the last block.
@@ -49,8 +52,11 @@ const LONGEST: usize = 4294967295;
 
 // The faults of a block, by their numbers.
 const SOUND: u8 = 0;
+
 const WRONG_CHECK: u8 = 11;
+
 const WRONG_NUMBER: u8 = 12;
+
 const WRONG_FORM: u8 = 13;
 
 // ---- writing

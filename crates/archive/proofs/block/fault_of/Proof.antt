@@ -4,16 +4,27 @@ use mathlib.Core.Bool.{true, false}
 use mathlib.Core.List.{List}
 use Prim.Native.Nat.{ℕ, _+_, _*_}
 use native.Mathlib.Omega.{arith}
+use lib.Dec.{eqb}
 use borrow.Author.Tests.{eq-eqb, ne-eqb, not-true, not-false}
 use borrow.Author.Needs.{needs}
 use Rattle.base.specs.Bytes.{be16, be32}
-use Rattle.archive.specs.Block.{rightCheck, rightForm, faultOf}
+use Rattle.archive.specs.Block.{rightCheck, faultOf}
 use Rattle.archive.proofs.block.fault_of.Statement.{statement}
 use Rattle.archive.proofs.block.fault_of.Tie as tie
 
 -- a 32-bit number by its halves
 halves : (b : List ℕ) (r s : ℕ) → r ≡ be16 b 2 → s ≡ be16 b 4 → r * 65536 + s ≡ be32 b 2
 halves b r s e f = omega arith
+
+-- behind the first two tests
+numbered : (c : tie.Else2)
+    → let a = c .before .before .before .before .before .before .args in (rightCheck (a .block .now) ≡ true) × (eqb (be32 (a .block .now) 2) (a .k) ≡ true)
+numbered c =
+    let x = c .before .before in
+    let p = x .before .before in
+    let a = p .before .before .args in
+    let n = halves (a .block .now) (x .be16-at .result) (c .before .be16-at2 .result) (x .be16-at .ensures .0) (c .before .be16-at2 .ensures .0) in
+    (sym (p .is-check-right .ensures) ∙ not-false (p .is-check-right .result) (x .before .if1 .left), eq-eqb _ (a .k) (rw n at (c .if2 .left)))
 
 is-check-right-requires : tie.Need-is-check-right-requires
 is-check-right-requires c κs = search needs
@@ -53,24 +64,14 @@ is-form-right-requires c κs = search needs
 returns-3 : tie.Need-returns-3
 unfolding faultOf
 returns-3 c =
-    let x = c .before .before .before .before in
-    let p = x .before .before in
-    let b = p .before .before .args .block .now in
-    let e : rightCheck b ≡ true = sym (p .is-check-right .ensures) ∙ not-false (p .is-check-right .result) (x .before .if1 .left) in
-    let n = halves b (x .be16-at .result) (c .before .before .before .be16-at2 .result) (x .be16-at .ensures .0) (c .before .before .before .be16-at2 .ensures .0) in
-    let f = sym (c .before .is-form-right .ensures) ∙ not-true (c .before .is-form-right .result) (c .if3 .taken) in
-    rw (e, eq-eqb _ (p .before .before .args .k) (rw n at (c .before .before .if2 .left)), f)
+    let n = numbered (c .before .before) in
+    rw (n .0, n .1, sym (c .before .is-form-right .ensures) ∙ not-true (c .before .is-form-right .result) (c .if3 .taken))
 
 returns-4 : tie.Need-returns-4
 unfolding faultOf
 returns-4 c =
-    let x = c .before .before .before .before in
-    let p = x .before .before in
-    let b = p .before .before .args .block .now in
-    let e : rightCheck b ≡ true = sym (p .is-check-right .ensures) ∙ not-false (p .is-check-right .result) (x .before .if1 .left) in
-    let n = halves b (x .be16-at .result) (c .before .before .before .be16-at2 .result) (x .be16-at .ensures .0) (c .before .before .before .be16-at2 .ensures .0) in
-    let f = sym (c .before .is-form-right .ensures) ∙ not-false (c .before .is-form-right .result) (c .if3 .left) in
-    rw (e, eq-eqb _ (p .before .before .args .k) (rw n at (c .before .before .if2 .left)), f)
+    let n = numbered (c .before .before) in
+    rw (n .0, n .1, sym (c .before .is-form-right .ensures) ∙ not-false (c .before .is-form-right .result) (c .if3 .left))
 
 pub fault-of-spec : {M : Type 1} → statement M
 fault-of-spec =

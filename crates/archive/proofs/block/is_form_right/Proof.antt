@@ -1,18 +1,28 @@
 -- `archive::block::is_form_right` meets its contract: its tests are those of `rightForm`, one after the other. A block with the right length
 -- uses at most 490 bytes, so that the padding lies in the block. Assumes nothing.
-use mathlib.Core.Path.{_≡_, sym, ap, _∙_}
-use mathlib.Core.Bool.{Bool, true, false}
-use mathlib.Core.List.{List}
-use Prim.Native.Nat.{ℕ, _+_, _-_, _≤_}
+use mathlib.Core.Path.{_≡_, sym, _∙_}
+use mathlib.Core.Bool.{true}
+use Prim.Native.Nat.{_≤_}
 use native.Mathlib.Omega.{arith}
-use lib.Dec.{leb}
-use lib.ListN.{take, drop}
-use borrow.Author.Tests.{not-true, not-false, leb-true, leb-false, le-leb, lt-leb}
+use borrow.Author.Tests.{not-true, not-false}
 use borrow.Author.Needs.{needs}
-use Rattle.archive.specs.Block.{longest, isLastBlock, used, rightLength, allZero, rightPadding, rightForm}
+use Rattle.archive.specs.Block.{isLastBlock, used, rightLength, rightForm}
 use Rattle.archive.proofs.OneBlock.{length-most, form-length, form-padding, form-total}
 use Rattle.archive.proofs.block.is_form_right.Statement.{statement}
 use Rattle.archive.proofs.block.is_form_right.Tie as tie
+
+-- behind the test of the length
+right : (c : tie.Else2)
+    → let a = c .before .before .before .before .before .before .args in rightLength (a .k) (isLastBlock (a .block .now)) (used (a .block .now)) ≡ true
+right c =
+    let x = c .before in
+    rw (x .before .is-last-block .ensures, x .before .before .used-in .ensures) at (sym (x .is-length-right .ensures) ∙ not-false (x .is-length-right .result) (c .if2 .left))
+
+-- so that the padding lies in the block
+used-most : (c : tie.Else2) → c .before .before .before .used-in .result ≤ 490
+used-most c =
+    let h = length-most _ _ _ (right c) in
+    omega arith
 
 returns : tie.Need-returns
 unfolding rightForm
@@ -39,14 +49,12 @@ add-is-zero c = search needs
 
 sub-is-zero : tie.Need-sub-is-zero
 sub-is-zero c =
-    let x = c .before in
-    let h = length-most _ _ _ (sym (x .is-length-right .ensures) ∙ not-false (x .is-length-right .result) (c .if2 .left)) in
+    let h = used-most c in
     omega arith
 
 part-is-zero-start : tie.Need-part-is-zero-start
 part-is-zero-start c =
-    let x = c .before in
-    let h = length-most _ _ _ (sym (x .is-length-right .ensures) ∙ not-false (x .is-length-right .result) (c .if2 .left)) in
+    let h = used-most c in
     omega arith
 
 part-is-zero-end : tie.Need-part-is-zero-end
@@ -57,24 +65,23 @@ is-zero-requires c κs = search needs
 
 returns-3 : tie.Need-returns-3
 returns-3 c =
-    let x = c .before .before .before .before in
+    let e = c .before .before .before in
+    let x = e .before in
     let a = x .before .before .before .before .before .args in
-    let n = x .before .before .used-in .ensures in
-    let e = rw (x .before .is-last-block .ensures, n) at (sym (x .is-length-right .ensures) ∙ not-false (x .is-length-right .result) (c .before .before .before .if2 .left)) in
-    let z = rw n at (sym (c .before .is-zero .ensures) ∙ not-true (c .before .is-zero .result) (c .if3 .taken)) in
-    rw (x .before .before .before .if1 .left) (form-padding (a .k) (a .before) (a .block .now) e z)
+    let z = rw (x .before .before .used-in .ensures) at (sym (c .before .is-zero .ensures) ∙ not-true (c .before .is-zero .result) (c .if3 .taken)) in
+    rw (x .before .before .before .if1 .left) (form-padding (a .k) (a .before) (a .block .now) (right e) z)
 
 sub-result : tie.Need-sub-result
 sub-result c = search needs
 
 returns-4 : tie.Need-returns-4
 returns-4 c =
-    let x = c .before .before .before .before in
+    let e = c .before .before .before in
+    let x = e .before in
     let a = x .before .before .before .before .before .args in
     let n = x .before .before .used-in .ensures in
-    let e = rw (x .before .is-last-block .ensures, n) at (sym (x .is-length-right .ensures) ∙ not-false (x .is-length-right .result) (c .before .before .before .if2 .left)) in
     let z = rw n at (sym (c .before .is-zero .ensures) ∙ not-false (c .before .is-zero .result) (c .if3 .left)) in
-    rw (x .before .before .before .if1 .left, n) (form-total (a .k) (a .before) (a .block .now) e (omega arith) z)
+    rw (x .before .before .before .if1 .left, n) (form-total (a .k) (a .before) (a .block .now) (right e) (omega arith) z)
 
 pub is-form-right-spec : {M : Type 1} → statement M
 is-form-right-spec =

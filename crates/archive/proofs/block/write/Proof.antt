@@ -1,6 +1,4 @@
 -- `archive::block::write` meets its contract: its tests are those of `written`, in their order. Assumes nothing.
-use mathlib.Core.Path.{_≡_, sym}
-use Prim.Native.Nat.{_*_}
 use native.Mathlib.Omega.{arith}
 use borrow.Author.Needs.{needs}
 use Rattle.archive.proofs.AllWritten.{written-short, written-long, written-done}

@@ -1,8 +1,6 @@
 -- `archive::block::write_block` meets its contract: what the check is of and the check are laid behind one another. Assumes nothing.
-use mathlib.Core.Path.{_≡_, refl, sym, ap, _∙_}
-use Prim.Native.Nat.{_+_, _*_, _≤_}
+use Prim.Native.Nat.{_*_}
 use native.Mathlib.Omega.{arith}
-use lib.ListN.{length}
 use borrow.Author.Needs.{needs}
 use Rattle.digest.proofs.Octets.{length-digest}
 use Rattle.digest.specs.Md5.{digestOf}

@@ -1,7 +1,7 @@
 -- `archive::block::write_blocks` meets its contract. The invariant: the first k blocks stand at the front of the target, the rest of the target
 -- is as it was, and the blocks that are left are those of the rest of the body. Assumes nothing.
 use mathlib.Core.Path.{_≡_, refl}
-use Prim.Native.Nat.{ℕ, suc, _+_, _-_, _*_, _≤_}
+use Prim.Native.Nat.{suc, _+_, _-_, _*_, _≤_}
 use native.Mathlib.Omega.{arith}
 use lib.ListN.{length, drop, length-drop, length-take}
 use lib.Seq.{take-all}
