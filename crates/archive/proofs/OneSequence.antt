@@ -1,5 +1,5 @@
--- The claims: what is written for a body reads as this body, whatever reads as a body is what is written for it, and the first faulty block
--- decides. Each goes by induction over the blocks, block by block as OneBlock has it. Assumes nothing.
+-- The claims: what is written for a body reads as this body, whatever reads as a body is what is written for it, a refusal changes nothing, and
+-- the first faulty block decides. Each goes by induction over the blocks, block by block as OneBlock has it. Assumes nothing.
 use mathlib.Core.Path.{_≡_, refl, sym, ap, ap₂, _∙_}
 use mathlib.Core.Bool.{Bool, true, false, _&&_, _||_}
 use mathlib.Core.List.{List, [], _++_, append-assoc, append-nil}
@@ -11,9 +11,10 @@ use lib.Seq.{take-at, drop-at, take-all, drop-drop, length-take-le, getD-take, g
 use borrow.Author.Tests.{eq-eqb, ne-eqb, eqb-true, eqb-false, le-ltb, ltb-true, ltb-false, le-leb}
 use Rattle.base.specs.Pick.{pick}
 use Rattle.archive.specs.Block.{longest, block, isLastBlock, used, payloadOf, rightLength, faultOf}
-use Rattle.archive.specs.Writing.{blockCount, blocksFrom, blocksOf, front}
+use Rattle.archive.specs.Writing.{blockCount, blocksFrom, blocksOf, front, wroteNumber, Writing, writing, written}
 use Rattle.archive.specs.Reading.{Judged, judged, judge, judgedAll, bodyOf, faultIn, bodyNumber, refusedFor, Reading, reading, readInto}
-use Rattle.archive.specs.Claims.{Octets, ReadsWritten, WritesRead, before, FirstDecides}
+use Rattle.archive.specs.Claims.{Octets, ReadsWritten, WritesRead, RefusedWriteLeaves, RefusedReadLeaves, before, FirstDecides}
+use Rattle.archive.specs.declared.block.Wrote.the-variants as Wrote
 use Rattle.archive.specs.declared.block.Body.the-variants.{Bytes, Short, Damaged, Misplaced, Malformed}
 use Rattle.archive.proofs.Compare.{both}
 use Rattle.archive.proofs.OneBlock.{length-block, last-block, payload-block, block-sound, Sound, sound, fault-numbers, most, length-payload, block-only}
@@ -331,6 +332,32 @@ writes-read x t n o e =
     let w = body-written x o (whole x (d .sound)) in
     let read : take n (readInto x t .target) ≡ b = ap (take n) (d .target) ∙ take-at b (drop (length b) t) n (d .size) in
     record { short = omega (arith, w .0, d .size); written = w .1 ∙ ap blocksOf (sym read) }
+
+-- ---- a refusal changes nothing
+
+pub refused-write-leaves : RefusedWriteLeaves
+unfolding written
+refused-write-leaves b t = go (ltb (length t) (512 * blockCount (length b))) (ltb longest (length b))
+  where
+    done : Writing
+    done = writing (Wrote.Written (512 * blockCount (length b))) (front (blocksOf b) t)
+
+    go : (a d : Bool) → let w = pick a (writing Wrote.Short t) (pick d (writing Wrote.TooLong t) done) in 0 < wroteNumber (w .answer) → w .target ≡ t
+    go true d h = refl
+    go false true h = refl
+    go false false h = absurd (omega arith)
+
+pub refused-read-leaves : RefusedReadLeaves
+unfolding readInto
+refused-read-leaves x t = go (ltb (length t) (490 * (length x / 512))) (eqb (faultIn x) 0)
+  where
+    done : Reading
+    done = reading (Bytes (length (bodyOf x))) (front (bodyOf x) t)
+
+    go : (a d : Bool) → let r = pick a (reading Short t) (pick d done (reading (refusedFor (faultIn x)) t)) in 0 < bodyNumber (r .answer) → r .target ≡ t
+    go true d h = refl
+    go false true h = absurd (omega arith)
+    go false false h = refl
 
 -- ---- the first faulty block decides
 

@@ -1,12 +1,12 @@
--- One sequence of blocks for each body, and back: what is written reads as the body, and nothing else reads as it. The first faulty block
--- decides.
+-- One sequence of blocks for each body, and back: what is written reads as the body, and nothing else reads as it. A refusal changes nothing,
+-- and the first faulty block decides which it is.
 use Prim.Native.Nat.{ℕ, _*_, _/_, _<_, _≤_}
 use mathlib.Core.Path.{_≡_}
 use mathlib.Core.Bool.{false}
 use mathlib.Core.List.{List, []}
 use lib.ListN.{length, getD, take, drop}
 use Rattle.archive.specs.Block.{longest, faultOf}
-use Rattle.archive.specs.Writing.{blockCount, blocksOf, front}
+use Rattle.archive.specs.Writing.{blockCount, blocksOf, front, wroteNumber, written}
 use Rattle.archive.specs.Reading.{judge, Judged, readInto, reading, bodyNumber}
 use Rattle.archive.specs.declared.block.Body.the-variants.{Bytes}
 
@@ -28,6 +28,13 @@ pub record OneSequence (x t : List ℕ) (n : ℕ) : Type 0 where
 -- Whatever reads as a body is what is written for this body.
 abbrev pub WritesRead : Type 0
 WritesRead = (x t : List ℕ) (n : ℕ) → Octets x → readInto x t .answer ≡ Bytes n → OneSequence x t n
+
+-- A refused call leaves the target as it was.
+abbrev pub RefusedWriteLeaves : Type 0
+RefusedWriteLeaves = (b t : List ℕ) → 0 < wroteNumber (written b t .answer) → written b t .target ≡ t
+
+abbrev pub RefusedReadLeaves : Type 0
+RefusedReadLeaves = (x t : List ℕ) → 0 < bodyNumber (readInto x t .answer) → readInto x t .target ≡ t
 
 -- The first `k` blocks of the input `x`, judged.
 abbrev pub before : List ℕ → ℕ → Judged

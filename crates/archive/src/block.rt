@@ -35,13 +35,16 @@ pub enum Body {
     Malformed,
 }
 
-// The bytes of a block; of its head, its payload and what its check is of.
+// The bytes of a block.
 const BLOCK: usize = 512;
 
+// The bytes of a head: the length field and the number.
 const HEAD: usize = 6;
 
+// The payload bytes of a block.
 const PAYLOAD: usize = 490;
 
+// The bytes that a check is of: the head and the payload.
 const CHECKED: usize = 496;
 
 // The top bit of a length field, which marks the last block.
@@ -50,13 +53,16 @@ const LAST: usize = 32768;
 // The longest body.
 const LONGEST: usize = 4294967295;
 
-// The faults of a block, by their numbers.
+// The number of a block without a fault.
 const SOUND: u8 = 0;
 
+// The number of a wrong check.
 const WRONG_CHECK: u8 = 11;
 
+// The number of a block number that is not the next.
 const WRONG_NUMBER: u8 = 12;
 
+// The number of a length, a padding or an end mark that breaks the rules.
 const WRONG_FORM: u8 = 13;
 
 // ---- writing
