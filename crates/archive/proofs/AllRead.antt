@@ -58,43 +58,43 @@ passed-none x =
     record { short = omega arith; most = omega arith; left = ap (λ (n : ℕ). judge n 0 false [] x) e }
 
 module _ (x : List ℕ) (k : ℕ) (ended : Bool) (b : List ℕ) (p : Passed x k ended b) (h : k < length x / 512) where
-  abbrev y : List ℕ
-  y = blockAt x k
+  abbrev this : List ℕ
+  this = blockAt x k
 
   here : judgedAll x ≡ judge (suc (length x / 512 - (k + 1))) k ended b (drop (512 * k) x)
   here =
       let e : length x / 512 - k ≡ suc (length x / 512 - (k + 1)) = omega arith in
       p .left ∙ ap (λ (n : ℕ). judge n k ended b (drop (512 * k) x)) e
 
-  pub passed-one : faultOf k ended (length b) y ≡ 0 → Passed x (k + 1) (isLastBlock y) (b ++ payloadOf y)
+  pub passed-one : faultOf k ended (length b) this ≡ 0 → Passed x (k + 1) (isLastBlock this) (b ++ payloadOf this)
   passed-one e =
-      let s = sound k ended (length b) y e in
+      let s = sound k ended (length b) this e in
       let l = length-block-at x k h in
-      let n = most k ended (length b) y l s in
-      let size = length-append b (payloadOf y) in
-      let part = length-payload k ended (length b) y l s in
+      let n = most k ended (length b) this l s in
+      let size = length-append b (payloadOf this) in
+      let part = length-payload k ended (length b) this l s in
       let j : 512 * k + 512 ≡ 512 * (k + 1) = omega arith in
       record {
         short = omega arith;
         most = omega arith;
         left = here ∙ step-sound (length x / 512 - (k + 1)) k ended b (drop (512 * k) x) e
-            ∙ ap (judge (length x / 512 - (k + 1)) (k + 1) (isLastBlock y) (b ++ payloadOf y)) (drop-drop 512 (512 * k) x ∙ ap (λ (i : ℕ). drop i x) j);
+            ∙ ap (judge (length x / 512 - (k + 1)) (k + 1) (isLastBlock this) (b ++ payloadOf this)) (drop-drop 512 (512 * k) x ∙ ap (λ (i : ℕ). drop i x) j);
       }
 
   -- a faulty block decides
-  pub passed-faulty : (faultOf k ended (length b) y ≡ 0 → ⊥) → faultIn x ≡ faultOf k ended (length b) y
+  pub passed-faulty : (faultOf k ended (length b) this ≡ 0 → ⊥) → faultIn x ≡ faultOf k ended (length b) this
   unfolding faultIn
   passed-faulty e =
-      rw (here, step-faulty (length x / 512 - (k + 1)) k ended b (drop (512 * k) x) e, ne-eqb (faultOf k ended (length b) y) 0 e)
+      rw (here, step-faulty (length x / 512 - (k + 1)) k ended b (drop (512 * k) x) e, ne-eqb (faultOf k ended (length b) this) 0 e)
 
   -- an input without a fault has no faulty block
-  pub passed-sound : faultIn x ≡ 0 → faultOf k ended (length b) y ≡ 0
-  passed-sound e = go (eqb (faultOf k ended (length b) y) 0) refl
+  pub passed-sound : faultIn x ≡ 0 → faultOf k ended (length b) this ≡ 0
+  passed-sound e = go (eqb (faultOf k ended (length b) this) 0) refl
     where
-      go : (t : Bool) → eqb (faultOf k ended (length b) y) 0 ≡ t → faultOf k ended (length b) y ≡ 0
-      go true q = eqb-true (faultOf k ended (length b) y) 0 q
+      go : (t : Bool) → eqb (faultOf k ended (length b) this) 0 ≡ t → faultOf k ended (length b) this ≡ 0
+      go true q = eqb-true (faultOf k ended (length b) this) 0 q
       go false q =
-          let n = eqb-false (faultOf k ended (length b) y) 0 q in
+          let n = eqb-false (faultOf k ended (length b) this) 0 q in
           absurd (n (sym (passed-faulty n) ∙ e))
 
 -- the block behind the first `k` has no fault either, and uses `r` bytes

@@ -155,29 +155,28 @@ module _ (k before : ℕ) (x : List ℕ) where
   unfolding rightForm
   form-length e = rw e
 
-  module _ (e : rightLength k (isLastBlock x) (used x) ≡ true) where
-    -- the padding as the code cuts it out
-    cut : take (496 - (6 + used x)) (drop (6 + used x) x) ≡ take (490 - used x) (drop (6 + used x) x)
+  -- with the number of used bytes that the code has, and the padding as the code cuts it out
+  module _ (e : rightLength k (isLastBlock x) (used x) ≡ true) (r : ℕ) (n : r ≡ used x) where
+    cut : take (496 - (6 + r)) (drop (6 + r) x) ≡ take (490 - used x) (drop (6 + used x) x)
     cut =
-        let h : 496 - (6 + used x) ≡ 490 - used x = omega arith in
-        ap (λ (n : ℕ). take n (drop (6 + used x) x)) h
+        let h : 496 - (6 + r) ≡ 490 - r = omega arith in
+        rw (h, n)
 
-    pub form-padding : allZero (take (496 - (6 + used x)) (drop (6 + used x) x)) ≡ false → false ≡ rightForm k false before x
+    pub form-padding : allZero (take (496 - (6 + r)) (drop (6 + r) x)) ≡ false → false ≡ rightForm k false before x
     unfolding rightForm
     form-padding z =
         let p : rightPadding x ≡ false = rw cut at z in
         rw (e, p)
 
-    pub form-total : before ≤ longest → allZero (take (496 - (6 + used x)) (drop (6 + used x) x)) ≡ true
-        → leb (used x) (longest - before) ≡ rightForm k false before x
+    pub form-total : before ≤ longest → allZero (take (496 - (6 + r)) (drop (6 + r) x)) ≡ true → leb r (longest - before) ≡ rightForm k false before x
     unfolding rightForm
     form-total h z =
         let p : rightPadding x ≡ true = rw cut at z in
         rw (e, p) (go (leb (before + used x) longest) refl)
       where
-        go : (t : Bool) → leb (before + used x) longest ≡ t → leb (used x) (longest - before) ≡ t
-        go true q = le-leb (used x) (longest - before) (omega (arith, leb-true (before + used x) longest q))
-        go false q = lt-leb (used x) (longest - before) (omega (arith, leb-false (before + used x) longest q))
+        go : (t : Bool) → leb (before + used x) longest ≡ t → leb r (longest - before) ≡ t
+        go true q = le-leb r (longest - before) (omega (arith, leb-true (before + used x) longest q))
+        go false q = lt-leb r (longest - before) (omega (arith, leb-false (before + used x) longest q))
 
 -- the bytes of the numbers in a head, from the bytes that they were read of
 field-back : (a b : ℕ) → a < 256 → b < 256 → bytes16 (lengthField (leb 32768 (a * 256 + b)) ((a * 256 + b) % 32768)) ≡ a ∷ b ∷ []

@@ -196,44 +196,44 @@ only-last k b₀ x o l z =
 -- a full block, and what is found behind it
 module _ (m k : ℕ) (b₀ x : List ℕ) (o : Octets x) (l : length x ≡ 512 * suc (suc m)) (z : Ends (judge (suc (suc m)) k false b₀ x))
     (rest : (b₁ : List ℕ) → Ends (judge (suc m) (k + 1) false b₁ (drop 512 x)) → Found m (k + 1) b₁ (drop 512 x)) where
-  abbrev y : List ℕ
-  y = take 512 x
+  abbrev opening : List ℕ
+  opening = take 512 x
 
-  abbrev p : List ℕ
-  p = payloadOf y
+  abbrev payload : List ℕ
+  payload = payloadOf opening
 
-  f : faultOf k false (length b₀) y ≡ 0
-  f = first-sound (suc m) k false b₀ x (z .none)
+  unbroken : faultOf k false (length b₀) opening ≡ 0
+  unbroken = first-sound (suc m) k false b₀ x (z .none)
 
-  joined : (b : List ℕ) → length p ≡ 490 → block false k p ++ blocksFrom m (k + 1) b ≡ blocksFrom (suc m) k (p ++ b)
-  joined b e = rw (more m k (p ++ b), take-at p b 490 e, drop-at p b 490 e)
+  joined : (b : List ℕ) → length payload ≡ 490 → block false k payload ++ blocksFrom m (k + 1) b ≡ blocksFrom (suc m) k (payload ++ b)
+  joined b e = rw (more m k (payload ++ b), take-at payload b 490 e, drop-at payload b 490 e)
 
   only-more : Found (suc m) k b₀ x
   unfolding Found
-  only-more = go (isLastBlock y) refl (step-sound (suc m) k false b₀ x f) (sound k false (length b₀) y f)
+  only-more = go (isLastBlock opening) refl (step-sound (suc m) k false b₀ x unbroken) (sound k false (length b₀) opening unbroken)
     where
-      go : (t : Bool) → isLastBlock y ≡ t → judge (suc (suc m)) k false b₀ x ≡ judge (suc m) (k + 1) (isLastBlock y) (b₀ ++ p) (drop 512 x)
-          → Sound k false (length b₀) y → Found (suc m) k b₀ x
+      go : (t : Bool) → isLastBlock opening ≡ t → judge (suc (suc m)) k false b₀ x ≡ judge (suc m) (k + 1) (isLastBlock opening) (b₀ ++ payload) (drop 512 x)
+          → Sound k false (length b₀) opening → Found (suc m) k b₀ x
       go true q st s =
           let st′ = rw q at st in
-          let g = first-sound m (k + 1) true (b₀ ++ p) (drop 512 x) (sym (ap (λ (v : Judged). v .fault) st′) ∙ z .none) in
-          let w = sound (k + 1) true (length (b₀ ++ p)) (take 512 (drop 512 x)) g .first in
+          let g = first-sound m (k + 1) true (b₀ ++ payload) (drop 512 x) (sym (ap (λ (v : Judged). v .fault) st′) ∙ z .none) in
+          let w = sound (k + 1) true (length (b₀ ++ payload)) (take 512 (drop 512 x)) g .first in
           let n : _≡_ {A = ℕ} 0 1 = cc in
           absurd (omega arith)
       go false q st s =
           let st′ = rw q at st in
-          let r = rest (b₀ ++ p) (record { none = sym (ap (λ (v : Judged). v .fault) st′) ∙ z .none; last = sym (ap (λ (v : Judged). v .ended) st′) ∙ z .last }) in
-          let ly : length y ≡ 512 = length-take-le 512 x (omega arith) in
-          let size : used y ≡ 490 = marked-full k (used y) (rw q at (s .size)) in
-          let lp : length p ≡ 490 = length-payload k false (length b₀) y ly s ∙ size in
-          let la = length-append b₀ p in
-          let lb = length-append p (r .0) in
+          let r = rest (b₀ ++ payload) (record { none = sym (ap (λ (v : Judged). v .fault) st′) ∙ z .none; last = sym (ap (λ (v : Judged). v .ended) st′) ∙ z .last }) in
+          let ly : length opening ≡ 512 = length-take-le 512 x (omega arith) in
+          let size : used opening ≡ 490 = marked-full k (used opening) (rw q at (s .size)) in
+          let lp : length payload ≡ 490 = length-payload k false (length b₀) opening ly s ∙ size in
+          let la = length-append b₀ payload in
+          let lb = length-append payload (r .0) in
           let u = r .2 .fills in (
-            p ++ r .0,
-            ap (λ (v : Judged). v .body) st′ ∙ r .1 ∙ append-assoc b₀ p (r .0),
+            payload ++ r .0,
+            ap (λ (v : Judged). v .body) st′ ∙ r .1 ∙ append-assoc b₀ payload (r .0),
             record {
               written = sym (take-append-drop 512 x)
-                  ∙ ap₂ (λ (v w : List ℕ). v ++ w) (block-only k false (length b₀) y ly s (octets-take 512 x o) ∙ ap (λ (v : Bool). block v k p) q) (r .2 .written)
+                  ∙ ap₂ (λ (v w : List ℕ). v ++ w) (block-only k false (length b₀) opening ly s (octets-take 512 x o) ∙ ap (λ (v : Bool). block v k payload) q) (r .2 .written)
                   ∙ joined (r .0) lp;
               fills = record { full = omega arith; last = omega arith; empty = λ e. absurd (omega (arith, u .empty (omega arith) .1)) };
               short = omega (arith, r .2 .short);

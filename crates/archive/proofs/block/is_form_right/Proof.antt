@@ -67,9 +67,11 @@ returns-3 : tie.Need-returns-3
 returns-3 c =
     let e = c .before .before .before in
     let x = e .before in
+    let u = x .before .before .used-in in
     let a = x .before .before .before .before .before .args in
-    let z = rw (x .before .before .used-in .ensures) at (sym (c .before .is-zero .ensures) ∙ not-true (c .before .is-zero .result) (c .if3 .taken)) in
-    rw (x .before .before .before .if1 .left) (form-padding (a .k) (a .before) (a .block .now) (right e) z)
+    rw (x .before .before .before .if1 .left)
+    (form-padding (a .k) (a .before) (a .block .now) (right e) (u .result) (u .ensures)
+    (sym (c .before .is-zero .ensures) ∙ not-true (c .before .is-zero .result) (c .if3 .taken)))
 
 sub-result : tie.Need-sub-result
 sub-result c = search needs
@@ -78,10 +80,11 @@ returns-4 : tie.Need-returns-4
 returns-4 c =
     let e = c .before .before .before in
     let x = e .before in
+    let u = x .before .before .used-in in
     let a = x .before .before .before .before .before .args in
-    let n = x .before .before .used-in .ensures in
-    let z = rw n at (sym (c .before .is-zero .ensures) ∙ not-false (c .before .is-zero .result) (c .if3 .left)) in
-    rw (x .before .before .before .if1 .left, n) (form-total (a .k) (a .before) (a .block .now) (right e) (omega arith) z)
+    rw (x .before .before .before .if1 .left)
+    (form-total (a .k) (a .before) (a .block .now) (right e) (u .result) (u .ensures) (omega arith)
+    (sym (c .before .is-zero .ensures) ∙ not-false (c .before .is-zero .result) (c .if3 .left)))
 
 pub is-form-right-spec : {M : Type 1} → statement M
 is-form-right-spec =
