@@ -5,8 +5,8 @@ ghost use Prim.Native.Nat.{_+_, _-_, _*_, _/_, _^_, _≤_, min};
 ghost use lib.ListN.{length};
 ghost use lib.Seq.{paste};
 ghost use Rattle.archive.specs.Block.{lengthField, headOf, checked, block, same, rightCheck, isLastBlock, used, rightLength, allZero, rightForm, faultOf, longest};
-ghost use Rattle.archive.specs.Writing.{blockCount, blocksOf, front, written, writing};
-ghost use Rattle.archive.specs.Reading.{faultIn, bodyOf, refusedFor, reading, readInto};
+ghost use Rattle.archive.specs.Writing.{blockCount, blocksOf, front, wroteNumber, written, writing};
+ghost use Rattle.archive.specs.Reading.{faultIn, bodyOf, bodyNumber, refusedFor, reading, readInto};
 use base::be16_at;
 use base::copy_into;
 use digest::md5::digest;
@@ -33,6 +33,30 @@ pub enum Body {
     Misplaced,
     // A length, a padding or an end mark breaks the rules.
     Malformed,
+}
+
+// Returns the number of an answer of `write`.
+pub fn wrote_number(answer: Wrote) -> usize
+    ensures { λ r. ⌜ r ≡ wroteNumber answer ⌝ }
+{
+    match answer {
+        Wrote::Written(_) => 0,
+        Wrote::Short => 10,
+        Wrote::TooLong => 13,
+    }
+}
+
+// Returns the number of an answer of `read`.
+pub fn body_number(answer: Body) -> usize
+    ensures { λ r. ⌜ r ≡ bodyNumber answer ⌝ }
+{
+    match answer {
+        Body::Bytes(_) => 0,
+        Body::Short => 10,
+        Body::Damaged => 11,
+        Body::Misplaced => 12,
+        Body::Malformed => 13,
+    }
 }
 
 // The bytes of a block.

@@ -1,16 +1,15 @@
 // The questions on blocks for the archive: `write ROOM BODY` and `read ROOM BLOCKS`, answered `NUMBER LENGTH TARGET`. ROOM is the target's
 // length in bytes. LENGTH is the result's, and 0 with a refusal. The target is filled with ee first and shown whole.
-ghost use mathlib.Core.Path.{_≡_};
-ghost use Rattle.archive.specs.Reading.{bodyNumber};
-ghost use Rattle.archive.specs.Writing.{wroteNumber};
 use crate::answer::bad_question;
 use crate::answer::number_length_and_target;
 use crate::question::Number;
 use crate::question::room_of;
 use archive::block::Body;
 use archive::block::Wrote;
+use archive::block::body_number;
 use archive::block::read;
 use archive::block::write;
+use archive::block::wrote_number;
 use lines::output::least;
 use lines::word::after;
 use lines::word::find;
@@ -25,54 +24,30 @@ struct Told {
     length: usize,
 }
 
-// What `write` told.
-fn told_writing(answer: Wrote) -> Told
-    ensures { λ r. ⌜ r .number ≡ wroteNumber answer ⌝ }
-{
-    match answer {
-        Wrote::Written(length) => Told { number: 0, length },
-        Wrote::Short => Told {
-            number: 10,
-            length: 0,
-        },
-        Wrote::TooLong => Told {
-            number: 13,
-            length: 0,
-        },
-    }
+// The length of what was written.
+fn written_length(answer: Wrote) -> usize {
+    if let Wrote::Written(n) = answer { n } else { 0 }
 }
 
-// What `read` told.
-fn told_reading(answer: Body) -> Told
-    ensures { λ r. ⌜ r .number ≡ bodyNumber answer ⌝ }
-{
-    match answer {
-        Body::Bytes(length) => Told { number: 0, length },
-        Body::Short => Told {
-            number: 10,
-            length: 0,
-        },
-        Body::Damaged => Told {
-            number: 11,
-            length: 0,
-        },
-        Body::Misplaced => Told {
-            number: 12,
-            length: 0,
-        },
-        Body::Malformed => Told {
-            number: 13,
-            length: 0,
-        },
-    }
+// The length of the body that was read.
+fn body_length(answer: Body) -> usize {
+    if let Body::Bytes(n) = answer { n } else { 0 }
 }
 
 // Writes `source` as blocks to `target`, or reads the body of its blocks.
 fn call(is_write: bool, source: &[u8], target: &mut [u8]) -> Told {
     if is_write {
-        return told_writing(write(source, target));
+        let answer = write(source, target);
+        return Told {
+            number: wrote_number(answer),
+            length: written_length(answer),
+        };
     }
-    told_reading(read(source, target))
+    let answer = read(source, target);
+    Told {
+        number: body_number(answer),
+        length: body_length(answer),
+    }
 }
 
 // Calls with the bytes of `digits` and the first `room` places of `store`, and shows what was told and these places.
