@@ -13,7 +13,7 @@ use Rattle.base.specs.Pick.{pick}
 use Rattle.archive.specs.Block.{longest, block, isLastBlock, used, payloadOf, rightLength, faultOf}
 use Rattle.archive.specs.Writing.{blockCount, blocksFrom, blocksOf, front, wroteNumber, Writing, writing, written}
 use Rattle.archive.specs.Reading.{Judged, judged, judge, judgedAll, bodyOf, faultIn, bodyNumber, refusedFor, Reading, reading, readInto}
-use Rattle.archive.specs.Claims.{Octets, ReadsWritten, WritesRead, RefusedWriteLeaves, RefusedReadLeaves, before, FirstDecides}
+use Rattle.archive.specs.Claims.{Octets, ReadsWritten, RoundTrip, WritesRead, RefusedWriteLeaves, RefusedReadLeaves, before, FirstDecides}
 use Rattle.archive.specs.declared.block.Wrote.the-variants as Wrote
 use Rattle.archive.specs.declared.block.Body.the-variants.{Bytes, Short, Damaged, Misplaced, Malformed}
 use Rattle.archive.proofs.Compare.{both}
@@ -130,6 +130,40 @@ reads-written b t h room =
     let l = length-all b in
     let f : faultIn (blocksOf b) ≡ 0 = rw (e, eq-eqb (length (blocksOf b) % 512) 0 (omega arith)) in
     sym (read-done (blocksOf b) t (omega arith) f) ∙ ap (λ (v : Judged). reading (Bytes (length (v .body))) (front (v .body) t)) e
+
+-- an answer of blocks tells of the body and of the target
+record Stored (b t : List ℕ) (n : ℕ) : Type 0 where
+  short : length b ≤ longest
+  size : length (blocksOf b) ≡ n
+  target : written b t .target ≡ front (blocksOf b) t
+
+stored : (b t : List ℕ) (n : ℕ) → written b t .answer ≡ Wrote.Written n → Stored b t n
+unfolding written
+stored b t n = go (ltb (length t) (512 * blockCount (length b))) (ltb longest (length b)) refl refl
+  where
+    answered : Bool → Bool → Writing
+    answered a d =
+        pick a (writing Wrote.Short t)
+        (pick d (writing Wrote.TooLong t) (writing (Wrote.Written (512 * blockCount (length b))) (front (blocksOf b) t)))
+
+    go : (a d : Bool) → ltb longest (length b) ≡ d → written b t ≡ answered a d → answered a d .answer ≡ Wrote.Written n → Stored b t n
+    go true d p r e =
+        let z : _≡_ {A = ℕ} 0 1 = cc in
+        absurd (omega arith)
+    go false true p r e =
+        let z : _≡_ {A = ℕ} 0 1 = cc in
+        absurd (omega arith)
+    go false false p r e =
+        let m : 512 * blockCount (length b) ≡ n = cc in
+        record { short = ltb-false longest (length b) p; size = length-all b ∙ m; target = ap (λ (v : Writing). v .target) r }
+
+pub round-trip : RoundTrip
+round-trip b t u n e room =
+    let s = stored b t n e in
+    let l = length-all b in
+    let x : take n (written b t .target) ≡ blocksOf b =
+    ap (take n) (s .target) ∙ take-at (blocksOf b) (drop (length (blocksOf b)) t) n (s .size) in
+    rw x (reads-written b u (s .short) (omega (arith, s .size)))
 
 -- ---- what reads as a body is what is written for it
 

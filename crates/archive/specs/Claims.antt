@@ -8,6 +8,7 @@ use lib.ListN.{length, getD, take, drop}
 use Rattle.archive.specs.Block.{longest, faultOf}
 use Rattle.archive.specs.Writing.{blockCount, blocksOf, front, wroteNumber, written}
 use Rattle.archive.specs.Reading.{judge, Judged, readInto, reading, bodyNumber}
+use Rattle.archive.specs.declared.block.Wrote.the-variants.{Written}
 use Rattle.archive.specs.declared.block.Body.the-variants.{Bytes}
 
 -- Each entry is a byte.
@@ -19,6 +20,12 @@ abbrev pub ReadsWritten : Type 0
 ReadsWritten =
     (b t : List ℕ) → length b ≤ longest → 490 * blockCount (length b) ≤ length t
     → readInto (blocksOf b) t ≡ reading (Bytes (length b)) (front b t)
+
+-- What a call of `write` gives for the body `b` in any target `t`, a call of `read` turns back into `b` in any target `u` with room.
+abbrev pub RoundTrip : Type 0
+RoundTrip =
+    (b t u : List ℕ) (n : ℕ) → written b t .answer ≡ Written n → 490 * (n / 512) ≤ length u
+    → readInto (take n (written b t .target)) u ≡ reading (Bytes (length b)) (front b u)
 
 -- The input `x` is what is written for the `n` bytes that were read to the front of the target `t`.
 pub record OneSequence (x t : List ℕ) (n : ℕ) : Type 0 where
