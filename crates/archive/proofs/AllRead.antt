@@ -1,5 +1,5 @@
--- All blocks of an input, judged one after the other: what a block without a fault adds, what a faulty one decides, and what is judged behind
--- the last. Assumes nothing.
+-- All blocks of an input, judged one after the other: what a block without a fault adds, what a faulty one decides, what is judged behind the
+-- last, and the tests of `read`. Assumes nothing.
 use mathlib.Core.Path.{_≡_, refl, sym, ap, _∙_}
 use mathlib.Core.Bool.{Bool, true, false}
 use mathlib.Core.List.{List, [], _++_}

@@ -1,4 +1,5 @@
--- All blocks of a body. Assumes nothing.
+-- All blocks of a body: how many there are, which one comes next, how they are laid into a target one after the other, and the tests of
+-- `write`. Assumes nothing.
 use mathlib.Core.Path.{_≡_, refl, sym, ap, _∙_}
 use mathlib.Core.Bool.{Bool, true, false}
 use mathlib.Core.List.{List, _++_}

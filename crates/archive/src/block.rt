@@ -1,5 +1,6 @@
 // A record's body as blocks of 512 bytes for the archive, each with its own check, and back (request (a); docs/ARCHIVE.md). A record without
-// body is not blocked: whoever has none does not call `write`, and an empty body, which is another thing, takes one block.
+// body is not blocked: whoever has none does not call `write`, and an empty body, which is another thing, takes one block. The check is MD5,
+// as the request names it: it finds damage, and does not show that nobody made it anew.
 ghost use mathlib.Core.Path.{_≡_};
 ghost use Prim.Native.Nat.{_+_, _-_, _*_, _/_, _^_, _≤_, min};
 ghost use lib.ListN.{length};
