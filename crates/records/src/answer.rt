@@ -31,3 +31,22 @@ pub(crate) fn number_and_target(number: usize, target: &[u8]) {
     let n = put_answer(&mut out, number, target);
     write(&out, n);
 }
+
+// The line of an answer: its number, a length, and the target's bytes.
+fn put_long_answer(out: &mut [u8], number: usize, size: usize, target: &[u8]) -> usize
+    ensures { λ r. ⌜ r ≤ length (now (out .exit)) ⌝ }
+{
+    let a = put_number(out, 0, number);
+    let b = put(out, a, b" ");
+    let c = put_number(out, b, size);
+    let d = put(out, c, b" ");
+    let e = put_hex(out, d, target, SHOWN);
+    put(out, e, b"\n")
+}
+
+// Answers with a number, a length and the target's bytes.
+pub(crate) fn number_length_and_target(number: usize, length: usize, target: &[u8]) {
+    let mut out = [0u8; 1100];
+    let n = put_long_answer(&mut out, number, length, target);
+    write(&out, n);
+}

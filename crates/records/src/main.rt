@@ -1,6 +1,8 @@
 // Answers questions about the parts of a record, one question a line and one answer a line. A line that is no question of these, or has not
 // its form, is answered `bad question`.
 mod answer;
+mod blocks;
+mod clocks;
 mod question;
 mod readings;
 
@@ -31,8 +33,13 @@ fn line(s: &[u8], is_cut: bool) {
         return;
     }
     match question_of(&s[0..gap]) {
+        Question::Write => blocks::answer(true, &s[rest..]),
+        Question::Read => blocks::answer(false, &s[rest..]),
         Question::Store => readings::answer(true, &s[rest..]),
         Question::Restore => readings::answer(false, &s[rest..]),
+        Question::Time => clocks::time(&s[rest..]),
+        Question::Legacy => clocks::legacy(&s[rest..]),
+        Question::Roll => clocks::roll(&s[rest..]),
         Question::Unknown => bad_question(),
     }
 }

@@ -4,8 +4,13 @@ use lines::word::number;
 ghost use Prim.Native.Nat.{_<_};
 
 pub enum Question {
+    Write,
+    Read,
     Store,
     Restore,
+    Time,
+    Legacy,
+    Roll,
     Unknown,
 }
 
@@ -17,11 +22,26 @@ pub enum Number {
 
 // The question that a word names.
 pub(crate) fn question_of(word: &[u8]) -> Question {
+    if same(word, b"write") {
+        return Question::Write;
+    }
+    if same(word, b"read") {
+        return Question::Read;
+    }
     if same(word, b"store") {
         return Question::Store;
     }
     if same(word, b"restore") {
         return Question::Restore;
+    }
+    if same(word, b"time") {
+        return Question::Time;
+    }
+    if same(word, b"legacy") {
+        return Question::Legacy;
+    }
+    if same(word, b"roll") {
+        return Question::Roll;
     }
     Question::Unknown
 }
@@ -80,4 +100,20 @@ pub(crate) fn is_bytes(word: &[u8], unit: usize) -> bool
         return false;
     }
     is_of_base(word, 16)
+}
+
+// The room that a question names: at most `largest`, with bytes in hexadecimal behind it, a multiple of `unit` digits.
+pub(crate) fn room_of(word: &[u8], digits: &[u8], unit: usize, largest: usize) -> Number
+    requires { ⌜ 0 < unit ⌝ }
+{
+    let Number::Known(room) = number_of(word) else {
+        return Number::Malformed;
+    };
+    if !is_bytes(digits, unit) {
+        return Number::Malformed;
+    }
+    if largest < room {
+        return Number::Malformed;
+    }
+    Number::Known(room)
 }

@@ -7,8 +7,7 @@ ghost use Rattle.samples.specs.Axes.{codedNumber};
 use crate::answer::bad_question;
 use crate::answer::number_and_target;
 use crate::question::Number;
-use crate::question::is_bytes;
-use crate::question::number_of;
+use crate::question::room_of;
 use base::be16_at;
 use lines::output::least;
 use lines::word::after;
@@ -115,18 +114,10 @@ pub(crate) fn answer(is_store: bool, s: &[u8]) {
     let gap = find(s, 0, b' ');
     let start = after(s, gap);
     let digits = &s[start..];
-    let Number::Known(room) = number_of(&s[0..gap]) else {
+    let Number::Known(room) = room_of(&s[0..gap], digits, 4, LARGEST) else {
         bad_question();
         return;
     };
-    if !is_bytes(digits, 4) {
-        bad_question();
-        return;
-    }
-    if LARGEST < room {
-        bad_question();
-        return;
-    }
     if room <= 256 {
         if digits.len() <= 1024 {
             show_short(is_store, digits, room);

@@ -1,0 +1,2 @@
+// Records for the archive (request (a)).
+pub mod block;
