@@ -1,4 +1,4 @@
--- `serve::serve` meets its contract: the turns are counted down. The stores are arrays, so that their lengths are known. Assumes nothing.
+-- `serve::serve` meets its contract: the turns are counted down. Assumes nothing.
 use borrow.Author.Needs.{needs}
 use Rattle.serve.proofs.serve.Statement.{statement}
 use Rattle.serve.proofs.serve.Tie as tie
@@ -17,6 +17,9 @@ slice-aggregate-start c = search needs
 
 start-requires : tie.Need-start-requires Inv-loop μ-loop
 start-requires c κs = search needs
+
+after-call-requires : tie.Need-after-call-requires Inv-loop μ-loop
+after-call-requires c κs = search needs
 
 loop-holds : tie.Need-loop-holds Inv-loop μ-loop
 loop-holds c = search needs
@@ -54,6 +57,7 @@ serve-spec =
     settings-requires
     slice-aggregate-start
     start-requires
+    after-call-requires
     loop-holds
     over-requires
     end-requires
