@@ -1,7 +1,6 @@
 // What the engine did, in the words of the original's `oracle engine`. A line is printed by a form: a text with signs `%` and a letter, in
 // whose place a value stands. Which form and which values is decided without a store, so that the output store is lent few times.
 ghost use Prim.Native.Nat.{_≤_};
-ghost use lib.ListN.{length};
 use crate::state::Lent;
 use connection::peer::Challenge;
 use connection::peer::Peer;
