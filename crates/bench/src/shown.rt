@@ -1,4 +1,4 @@
-// The lines that are printed.
+// The lines that the program prints.
 use host::names::put_name;
 use lines::output;
 use server::Body;

@@ -25,15 +25,16 @@ use Rattle.connection.proofs.Nonces.{AllOctets, all-octets, Sixteen, Go
 
 -- ---- ids
 
-pub opened-by : (p : Peer) (srm : Bool) (v t : Option (List ℕ)) → openedFor p srm v t ≡ openedBy p srm (idIn v) (isGiven t)
-opened-by p srm (some v) t = refl
-opened-by p srm none (some t) = refl
-opened-by p srm none none = refl
+pub opened-by : (p : Peer) (t : List ℕ) (srm : Bool) (v target : Option (List ℕ))
+    → openedFor p t srm v target ≡ openedBy p t srm (idIn v) (isGiven target)
+opened-by p t srm (some v) target = refl
+opened-by p t srm none (some target) = refl
+opened-by p t srm none none = refl
 
-pub disconnected-by : (p : Peer) (v : Option (List ℕ)) → disconnectedPeer p v ≡ disconnectedBy p (idIn v)
+pub disconnected-by : (p : Peer) (t : List ℕ) (v : Option (List ℕ)) → disconnectedPeer p t v ≡ disconnectedBy p t (idIn v)
 unfolding disconnectedPeer
-disconnected-by p none = refl
-disconnected-by p (some v) = refl
+disconnected-by p t none = refl
+disconnected-by p t (some v) = refl
 
 -- ---- a response that was read has a digest, and a nonce if any, of sixteen bytes
 

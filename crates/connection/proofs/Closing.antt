@@ -14,7 +14,7 @@ use Rattle.journal.specs.Ids.{without}
 use Rattle.connection.specs.declared.peer.Peer.{Peer}
 use Rattle.connection.specs.declared.peer.ConnectionId.{ConnectionId}
 use Rattle.connection.specs.declared.peer.ConnectionId.the-variants.{Id}
-use Rattle.connection.specs.Peer.{peerWith, idsOf, clearedPeer, leftPeer, disconnectedBy}
+use Rattle.connection.specs.Peer.{peerWith, idsOf, clearedPeer, leftPeer, linked, disconnectedBy}
 use Rattle.connection.specs.Reply.{front}
 use Rattle.connection.proofs.Front.{front-length, front-behind, front-set}
 
@@ -82,22 +82,23 @@ module _ (ids₀ : List ℕ) (x i : ℕ) (ids : List ℕ) (kept : ℕ) (h : i < 
 
 -- ---- what Disconnect leaves, by how many are left
 
-abbrev withIds : Peer → List ℕ → ℕ → Peer
-withIds p ids n =
-    peerWith ids n (p .«next_connection_id») (p .«remote_max_packet_length») (p .«srm_enabled») (p .authenticated) (p .challenge)
+abbrev withCount : Peer → ℕ → Peer
+withCount p n =
+    peerWith n (p .«next_connection_id») (p .«remote_max_packet_length») (p .«srm_enabled») (p .authenticated) (p .challenge)
 
-module _ (p : Peer) where
+module _ (p : Peer) (t : List ℕ) where
   left-none : (l : List ℕ) → length l ≡ 0 → clearedPeer p ≡ leftPeer p l
   left-none [] e = refl
   left-none (i ∷ l) e = absurd (omega arith)
 
-  left-some : (l : List ℕ) → (length l ≡ 0 → ⊥) → withIds p (front l (p .connections)) (length l) ≡ leftPeer p l
+  left-some : (l : List ℕ) → (length l ≡ 0 → ⊥) → withCount p (length l) ≡ leftPeer p l
   left-some [] ne = absurd (ne refl)
   left-some (i ∷ l) ne = refl
 
-  pub none-left : (g : ConnectionId) (i n : ℕ) → g ≡ Id i → n ≡ length (without i (idsOf p)) → n ≡ 0 → clearedPeer p ≡ disconnectedBy p g
-  none-left g i n e h z = rw e (left-none (without i (idsOf p)) (sym h ∙ z))
+  pub none-left : (g : ConnectionId) (i n : ℕ) (q : Peer) (u : List ℕ) → g ≡ Id i → n ≡ length (without i (idsOf p t))
+      → u ≡ front (without i (idsOf p t)) t → n ≡ 0 → q ≡ clearedPeer p → linked q u ≡ disconnectedBy p t g
+  none-left g i n q u e h s z c = rw (e, s, c, left-none (without i (idsOf p t)) (sym h ∙ z)) refl
 
-  pub some-left : (g : ConnectionId) (i n : ℕ) (ids : List ℕ) → g ≡ Id i → n ≡ length (without i (idsOf p))
-      → ids ≡ front (without i (idsOf p)) (p .connections) → (n ≡ 0 → ⊥) → withIds p ids n ≡ disconnectedBy p g
-  some-left g i n ids e h s ne = rw (e, h, s) (left-some (without i (idsOf p)) (λ z. ne (h ∙ z)))
+  pub some-left : (g : ConnectionId) (i n : ℕ) (u : List ℕ) → g ≡ Id i → n ≡ length (without i (idsOf p t))
+      → u ≡ front (without i (idsOf p t)) t → (n ≡ 0 → ⊥) → linked (withCount p n) u ≡ disconnectedBy p t g
+  some-left g i n u e h s ne = rw (e, h, s, left-some (without i (idsOf p t)) (λ z. ne (h ∙ z))) refl

@@ -7,7 +7,7 @@ ghost use lib.ListN.{length, take};
 ghost use Rattle.packet.specs.Limits.{maxConnections};
 ghost use Rattle.journal.specs.Ids.{member, taken, without, newId};
 ghost use Rattle.connection.specs.Peer.{atLeast255, limited as limitedPeer, authenticatedPeer, verifiedPeer, challengedPeer, srmPeer};
-ghost use Rattle.connection.specs.Peer.{addedPeer, opened as openedPeer, openingOf, answerBy, clearedPeer, disconnectedBy};
+ghost use Rattle.connection.specs.Peer.{addedPeer, opened as openedPeer, opens, openingOf, answers, answerBy, clearedPeer, linked, disconnectedBy};
 ghost use Rattle.connection.specs.Reply.{front};
 use digest::md5::Octets16;
 use packet::limits::MAX_CONNECTIONS;
@@ -22,10 +22,9 @@ pub enum Challenge {
     Absent,
 }
 
-// What Connect and Disconnect change.
+// What Connect and Disconnect change. The open ids are not here: they are the first `count` numbers of the table store, which the host lends
+// to the calls that look at them, so that a state of few bytes goes from call to call.
 pub struct Peer {
-    // The open ids are the first `count` of these.
-    pub connections: [u32; MAX_CONNECTIONS],
     pub count: usize,
     // The counter from which the search for a new id counts up.
     pub next_connection_id: u32,
@@ -66,13 +65,14 @@ pub struct Answer {
 // ---- the open ids
 
 // Tells whether `id` is one of the first `count` numbers.
-pub fn is_open(ids: &[u32], count: usize, id: u32) -> bool
+pub fn is_open(ids: &[u64], count: usize, id: u32) -> bool
     requires { ⌜ (count ≤ maxConnections) × (count ≤ length (now ids)) ⌝ }
     ensures { λ r. ⌜ r ≡ member id (take count (now (ids .entry))) ⌝ }
 {
+    let wanted = id as u64;
     let mut i = 0;
     while i < count {
-        if ids[i] == id {
+        if ids[i] == wanted {
             return true;
         }
         i += 1;
@@ -81,7 +81,7 @@ pub fn is_open(ids: &[u32], count: usize, id: u32) -> bool
 }
 
 // Tells whether the search passes `id` over: it is reserved or open.
-fn is_taken(ids: &[u32], count: usize, id: u32) -> bool
+fn is_taken(ids: &[u64], count: usize, id: u32) -> bool
     requires { ⌜ (count ≤ maxConnections) × (count ≤ length (now ids)) ⌝ }
     ensures { λ r. ⌜ r ≡ taken (take count (now (ids .entry))) id ⌝ }
 {
@@ -92,7 +92,7 @@ fn is_taken(ids: &[u32], count: usize, id: u32) -> bool
 }
 
 // Finds the first number that is not open, counting up from the counter, and leaves the counter one past it.
-pub fn allocate_connection_id(ids: &[u32], count: usize, counter: u32) -> NewId
+pub fn allocate_connection_id(ids: &[u64], count: usize, counter: u32) -> NewId
     requires { ⌜ (count ≤ maxConnections) × (count ≤ length (now ids)) ⌝ }
     ensures { λ r. ⌜ (r .id ≡ newId (take count (now (ids .entry))) counter) × (r .next ≡ (r .id + 1) % 2 ^ 32) ⌝ }
     ensures unused { λ r. ⌜ taken (take count (now (ids .entry))) (r .id) ≡ false ⌝ }
@@ -113,16 +113,17 @@ pub fn allocate_connection_id(ids: &[u32], count: usize, counter: u32) -> NewId
 }
 
 // Takes `id` out of the first `count` numbers, keeping the order of the others, and returns how many are left.
-fn close_id(ids: &mut [u32], count: usize, id: u32) -> usize
+fn close_id(ids: &mut [u64], count: usize, id: u32) -> usize
     requires { ⌜ (count ≤ maxConnections) × (count ≤ length (now ids)) ⌝ }
     ensures { λ r. ⌜ r ≡ length (without id (take count (now (ids .entry)))) ⌝ }
     ensures store { λ r. ⌜ now (ids .exit) ≡ front (without id (take count (now (ids .entry)))) (now (ids .entry)) ⌝ }
 {
+    let closed = id as u64;
     let mut kept = 0;
     let mut i = 0;
     while i < count {
         let x = ids[i];
-        if x != id {
+        if x != closed {
             ids[kept] = x;
             kept += 1;
         }
@@ -156,9 +157,7 @@ pub fn limited(peer: Peer, max_packet_length: u16) -> Peer
 fn with_authentication(peer: Peer, authenticated: bool, challenge: Challenge) -> Peer
     ensures { λ r. ⌜ r ≡ authenticatedPeer peer authenticated challenge ⌝ }
 {
-    let connections = peer.connections;
     Peer {
-        connections,
         count: peer.count,
         next_connection_id: peer.next_connection_id,
         remote_max_packet_length: peer.remote_max_packet_length,
@@ -192,48 +191,54 @@ fn with_srm(peer: Peer, srm: bool) -> Peer
 }
 
 // Returns the peer with one id more, the counter `next`, and SRM.
-fn with_id(peer: Peer, srm: bool, id: u32, next: u32) -> Peer
+fn with_id(peer: Peer, srm: bool, next: u32) -> Peer
     requires { ⌜ peer .count < maxConnections ⌝ }
-    ensures { λ r. ⌜ r ≡ addedPeer peer srm id next ⌝ }
+    ensures { λ r. ⌜ r ≡ addedPeer peer srm next ⌝ }
 {
-    let count = peer.count;
     let mut r = peer;
-    r.connections[count] = id;
-    r.count = count + 1;
+    r.count = peer.count + 1;
     r.next_connection_id = next;
     r.srm_enabled = srm;
     r
 }
 
-// Opens `id` if it is not open yet. A 65th is not opened.
-pub fn opened(peer: Peer, srm: bool, id: u32, next: u32) -> Opening
-    requires { ⌜ peer .count ≤ maxConnections ⌝ }
-    ensures { λ r. ⌜ r ≡ openingOf peer (openedPeer peer srm id next) ⌝ }
+// Opens `id` if it is not open yet, behind the ids of `tables` that are. A 65th is not opened.
+pub fn opened(peer: Peer, srm: bool, id: u32, next: u32, tables: &mut [u64]) -> Opening
+    requires { ⌜ (peer .count ≤ maxConnections) × (maxConnections ≤ length (now tables)) ⌝ }
+    ensures { λ r. ⌜ opens r (now (tables .exit))
+        ≡ openingOf peer (now (tables .entry)) (openedPeer peer (now (tables .entry)) srm id next) ⌝ }
 {
-    let ids = peer.connections;
-    if is_open(&ids, peer.count, id) {
+    let count = peer.count;
+    if is_open(&tables[..], count, id) {
         return Opening {
             full: false,
             peer: with_srm(peer, srm),
         };
     }
-    if peer.count >= MAX_CONNECTIONS {
+    if count >= MAX_CONNECTIONS {
         return Opening { full: true, peer };
     }
+    tables[count] = id as u64;
     Opening {
         full: false,
-        peer: with_id(peer, srm, id, next),
+        peer: with_id(peer, srm, next),
     }
 }
 
 // Opens the id of a Connect that succeeded: the one that the host's answer names, else, for a Target, a new one.
-pub fn opened_for(peer: Peer, srm: bool, given: ConnectionId, target: bool) -> Answer
-    requires { ⌜ peer .count ≤ maxConnections ⌝ }
-    ensures { λ r. ⌜ r ≡ answerBy peer srm given target ⌝ }
+pub fn opened_for(
+    peer: Peer,
+    srm: bool,
+    given: ConnectionId,
+    target: bool,
+    tables: &mut [u64],
+) -> Answer
+    requires { ⌜ (peer .count ≤ maxConnections) × (maxConnections ≤ length (now tables)) ⌝ }
+    ensures { λ r. ⌜ answers r (now (tables .exit)) ≡ answerBy peer (now (tables .entry)) srm given target ⌝ }
 {
     if let ConnectionId::Id(id) = given {
         return Answer {
-            opening: opened(peer, srm, id, peer.next_connection_id),
+            opening: opened(peer, srm, id, peer.next_connection_id, tables),
             front: ConnectionId::Missing,
         };
     }
@@ -246,10 +251,9 @@ pub fn opened_for(peer: Peer, srm: bool, given: ConnectionId, target: bool) -> A
             front: ConnectionId::Missing,
         };
     }
-    let ids = peer.connections;
-    let found = allocate_connection_id(&ids, peer.count, peer.next_connection_id);
+    let found = allocate_connection_id(&tables[..], peer.count, peer.next_connection_id);
     Answer {
-        opening: opened(peer, srm, found.id, found.next),
+        opening: opened(peer, srm, found.id, found.next, tables),
         front: ConnectionId::Id(found.id),
     }
 }
@@ -267,20 +271,18 @@ fn cleared(peer: Peer) -> Peer
 }
 
 // Closes the id that a Disconnect names. If it names none, or the last closes, all is cleared.
-pub fn disconnected(peer: Peer, named: ConnectionId) -> Peer
-    requires { ⌜ peer .count ≤ maxConnections ⌝ }
-    ensures { λ r. ⌜ r ≡ disconnectedBy peer named ⌝ }
+pub fn disconnected(peer: Peer, named: ConnectionId, tables: &mut [u64]) -> Peer
+    requires { ⌜ (peer .count ≤ maxConnections) × (maxConnections ≤ length (now tables)) ⌝ }
+    ensures { λ r. ⌜ linked r (now (tables .exit)) ≡ disconnectedBy peer (now (tables .entry)) named ⌝ }
 {
     let ConnectionId::Id(id) = named else {
         return cleared(peer);
     };
-    let mut ids = peer.connections;
-    let count = close_id(&mut ids, peer.count, id);
+    let count = close_id(tables, peer.count, id);
     if count == 0 {
         return cleared(peer);
     }
     let mut r = peer;
-    r.connections = ids;
     r.count = count;
     r
 }

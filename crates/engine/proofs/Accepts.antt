@@ -22,23 +22,22 @@ use Rattle.packet.specs.declared.auth.DigestChallenge.the-variants as challenge
 use Rattle.journal.specs.Calls.{Credentials}
 use Rattle.incoming.specs.Survey.{surveyOf}
 use Rattle.connection.specs.Reply.{Sending as Sent, fieldsOf, sendBytes, sentInto, front}
-use Rattle.connection.specs.Peer.{idIn, isGiven, openedFor, openedBy as peerOpened, openingOf, frontBy, answerBy, disconnectedPeer, disconnectedBy}
+use Rattle.connection.specs.Peer.{Linked, linked, idIn, isGiven, openedFor, openedBy as peerOpened, openingOf, frontBy, Answers, answerFrom, answerBy, disconnectedPeer, disconnectedBy}
 use Rattle.connection.specs.ConnectReply.{answeredChallenge, connectHeaders}
 use Rattle.connection.specs.Pieces.{headersFrom, realmOf, answeredIn, idGiven, credentialsOf}
 use Rattle.connection.specs.declared.peer.Peer.{Peer}
 use Rattle.connection.specs.declared.peer.ConnectionId.{ConnectionId}
-use Rattle.connection.specs.declared.peer.Answer.{Answer}
 use Rattle.connection.proofs.ByNumbers.{opened-by, disconnected-by}
 use Rattle.journal.specs.Journal.{listOf}
-use Rattle.model.specs.Step.{Stores, Stepped, stepped, Done, after, sends, sendsConnect}
+use Rattle.model.specs.Step.{Stores, Stepped, stepped, Called, called, Done, DoneTabled, doneTabled, after, sends, sendsConnect}
 use Rattle.model.specs.Guard.{badReply, longUser, checked, soundOperation, sameAwait}
-use Rattle.model.specs.Calls.{replyGivenStep, credentialsWith, credentialsGivenStep, replyAnswer}
+use Rattle.model.specs.Calls.{replyGivenStep, credentialsWith, credentialsGivenStep, sendsLinked, replyAnswer}
 use Rattle.model.specs.Request.{lastPacket, lastHeaders, realmIn}
 use Rattle.model.specs.Connect.{srmAsked, connectSends, frontFor, connectChallenged, connectOpened, connectAnswer}
 use Rattle.engine.specs.Step.{asksPlan, Written, written, within, tookBy, sentPlan, repliesBy}
 use Rattle.engine.specs.Guard.{refusedWith}
 use Rattle.engine.specs.Request.{lastFrom}
-use Rattle.engine.specs.Connect.{Answering, answering, among, leaving, headersOf, srmAskedBy, connectReplies, acceptedHeaders, answerFor, challengedBy, openedBy, acceptedBy, repliedPeer, credentialsBy}
+use Rattle.engine.specs.Connect.{Answering, answering, Accepting, accepting, among, leaving, headersOf, srmAskedBy, connectReplies, acceptedHeaders, answerFor, challengedBy, openedIn, acceptedBy, repliedLink, credentialsBy}
 use Rattle.server.specs.declared.Operation.{Operation}
 use Rattle.server.specs.declared.Operation.the-variants.{Nothing, Putting, Getting, Sending, Gathering as GatheringOp, Connecting, Draining}
 use Rattle.server.specs.declared.Await.the-variants as await
@@ -51,31 +50,40 @@ use Rattle.engine.specs.declared.step.Plan.{Plan}
 use Rattle.engine.proofs.Carried.{took-sent, sent-written}
 use Rattle.server.proofs.Operation.{the-type}
 use Rattle.model.proofs.FromHost.{reply-headers-fit}
-use Rattle.engine.proofs.Guards.{Goes}
+use Rattle.engine.proofs.Guards.{Goes, GoesLent}
 use Rattle.engine.proofs.LastPacket.{last-headers}
 
 -- ---- the id in front
 
-front-by : (p : Peer) (v t : Option (List ℕ)) → frontBy p (idIn v) (isGiven t) ≡ frontFor p v t
-front-by p (some v) t = refl
-front-by p none none = refl
-front-by p none (some t) = refl
+front-by : (p : Peer) (t : List ℕ) (v target : Option (List ℕ)) → frontBy p t (idIn v) (isGiven target) ≡ frontFor p t v target
+front-by p t (some v) target = refl
+front-by p t none none = refl
+front-by p t none (some target) = refl
+
+-- ---- what is left in the stores
+
+-- an answer with the table store, among the stores
+abbrev pub amongIn : Accepting → Stores → Called
+amongIn a s = called (among (a .answer) s) (a .tables)
+
+abbrev afterTabled : DoneTabled → Called
+afterTabled d = called (after 0 (d .done)) (d .tables)
 
 -- ---- what the functions of the code found
 
--- the peer when a reply is made
-module _ (e : Engine) (q : List ℕ) (m : Bool) (now : m ≡ sameAwait (e .awaits) await.Disconnect) where
-  pub replied-closing : m ≡ true → (n : ℕ) (i : ConnectionId) (p : Peer) → n ≡ lastFrom q → i ≡ idIn (first 0xCB (headersFrom q n))
-      → p ≡ disconnectedBy (e .peer) i → p ≡ repliedPeer e q
-  unfolding repliedPeer
-  replied-closing k n i p h c w =
+-- the peer and the table store when a reply is made
+module _ (e : Engine) (q t : List ℕ) (m : Bool) (now : m ≡ sameAwait (e .awaits) await.Disconnect) where
+  pub replied-closing : m ≡ true → (n : ℕ) (i : ConnectionId) (l : Linked) → n ≡ lastFrom q → i ≡ idIn (first 0xCB (headersFrom q n))
+      → l ≡ disconnectedBy (e .peer) t i → l ≡ repliedLink e q t
+  unfolding repliedLink
+  replied-closing k n i l h c w =
       w
-      ∙ ap (λ (i : ConnectionId). disconnectedBy (e .peer) i) (c ∙ ap (λ (n : ℕ). idIn (first 0xCB (headersFrom q n))) h ∙ ap (λ (hs : List Header). idIn (first 0xCB hs)) (last-headers q))
-      ∙ sym (disconnected-by (e .peer) (first 0xCB (headersOf q)))
+      ∙ ap (λ (i : ConnectionId). disconnectedBy (e .peer) t i) (c ∙ ap (λ (n : ℕ). idIn (first 0xCB (headersFrom q n))) h ∙ ap (λ (hs : List Header). idIn (first 0xCB hs)) (last-headers q))
+      ∙ sym (disconnected-by (e .peer) t (first 0xCB (headersOf q)))
       ∙ sym (simp (sym now ∙ k))
 
-  pub replied-other : m ≡ false → e .peer ≡ repliedPeer e q
-  unfolding repliedPeer
+  pub replied-other : m ≡ false → linked (e .peer) t ≡ repliedLink e q t
+  unfolding repliedLink
   replied-other k = sym (simp (sym now ∙ k))
 
 -- the challenge that is answered, or none
@@ -113,22 +121,25 @@ module _ (e : Engine) (p : Peer) (code : ℕ) (f : ConnectionId) (q hs y : List 
       ∙ ap (λ (d : DigestChallenge). challengedBy d e p code f hs q h y) k
 
 -- the ways of the answer
-module _ (e : Engine) (code : ℕ) (hs q h y : List ℕ) (b : Bool) (success : b ≡ isSuccess code) where
-  pub answer-declined : b ≡ false → (w : Written) → w ≡ connectReplies e (e .peer) code hs y → leaving h w ≡ acceptedBy e code hs q h y
+module _ (e : Engine) (t : List ℕ) (code : ℕ) (hs q h y : List ℕ) (b : Bool) (success : b ≡ isSuccess code) where
+  pub answer-declined : b ≡ false → (w : Written) → w ≡ connectReplies e (e .peer) code hs y → accepting (leaving h w) t ≡ acceptedBy e t code hs q h y
   unfolding acceptedBy
-  answer-declined k w i = ap (λ (w : Written). leaving h w) i ∙ sym (simp (sym success ∙ k))
+  answer-declined k w i = ap (λ (w : Written). accepting (leaving h w) t) i ∙ sym (simp (sym success ∙ k))
 
-  module _ (k : b ≡ true) (a : Answer) (opens : a ≡ answerFor e hs q) where
-    answer-by : (x : Answering) → x ≡ openedBy a e code hs q h y → x ≡ acceptedBy e code hs q h y
+  module _ (k : b ≡ true) (a : Answers) (opens : a ≡ answerFor e t hs q) where
+    answer-by : (x : Accepting) → x ≡ openedIn a e code hs q h y → x ≡ acceptedBy e t code hs q h y
     unfolding acceptedBy
-    answer-by x i = i ∙ ap (λ (a : Answer). openedBy a e code hs q h y) opens ∙ sym (simp (sym success ∙ k))
+    answer-by x i = i ∙ ap (λ (a : Answers). openedIn a e code hs q h y) opens ∙ sym (simp (sym success ∙ k))
 
-    pub answer-full : a .opening .full ≡ true → (w : Written) → w ≡ connectReplies e (e .peer) 0x53 [] y → leaving h w ≡ acceptedBy e code hs q h y
-    answer-full f w i = answer-by (leaving h w) (ap (λ (w : Written). leaving h w) i ∙ sym (simp f))
+    pub answer-full : a .answer .opening .full ≡ true → (w : Written) → w ≡ connectReplies e (e .peer) 0x53 [] y
+        → accepting (leaving h w) (a .tables) ≡ acceptedBy e t code hs q h y
+    answer-full f w i =
+        answer-by (accepting (leaving h w) (a .tables)) (ap (λ (x : Answering). accepting x (a .tables)) (ap (λ (w : Written). leaving h w) i ∙ sym (simp f)))
 
-    pub answer-accepted : a .opening .full ≡ false → (x : Answering) → x ≡ challengedBy (answeredIn (headersOf q)) e (a .opening .peer) code (a .front) hs q h y
-        → x ≡ acceptedBy e code hs q h y
-    answer-accepted f x i = answer-by x (i ∙ sym (simp f))
+    pub answer-accepted : a .answer .opening .full ≡ false → (x : Answering)
+        → x ≡ challengedBy (answeredIn (headersOf q)) e (a .answer .opening .peer) code (a .answer .front) hs q h y
+        → accepting x (a .tables) ≡ acceptedBy e t code hs q h y
+    answer-accepted f x i = answer-by (accepting x (a .tables)) (ap (λ (x : Answering). accepting x (a .tables)) (i ∙ sym (simp f)))
 
 module _ (e : Engine) (s : Stores) where
   -- ---- a reply
@@ -158,80 +169,87 @@ module _ (e : Engine) (s : Stores) where
     challenged-is p f none x = accepted-replies p code f hs none
     challenged-is p f (some c) x = refl
 
-    opened-is : (o : Option Peer) (f : ConnectionId)
-        → among (openedBy (record { opening = openingOf (e .peer) o; front = f }) e code hs (lastPacket e s) (s .headers) (s .reply)) s
-        ≡ after 0 (connectOpened e o code f hs s)
-    unfolding answeredIn lastHeaders
-    opened-is none f = replies-connect (e .peer) 0x53 []
-    opened-is (some p) f =
-        challenged-is p f (answeredChallenge (lastHeaders e s)) (realmOf (first 0x4D (lastHeaders e s)))
+    module _ (t : List ℕ) where
+      opened-is : (o : Option Linked) (f : ConnectionId)
+          → amongIn (openedIn (answerFrom (openingOf (e .peer) t o) f) e code hs (lastPacket e s) (s .headers) (s .reply)) s
+          ≡ afterTabled (connectOpened e t o code f hs s)
+      unfolding answeredIn lastHeaders
+      opened-is none f = ap (λ (m : Stepped). called m t) (replies-connect (e .peer) 0x53 [])
+      opened-is (some l) f =
+          ap (λ (m : Stepped). called m (l .tables))
+          (challenged-is (l .peer) f (answeredChallenge (lastHeaders e s)) (realmOf (first 0x4D (lastHeaders e s))))
 
-    answer-opened : (srm : Bool) (v t : Option (List ℕ))
-        → among (openedBy (answerBy (e .peer) srm (idIn v) (isGiven t)) e code hs (lastPacket e s) (s .headers) (s .reply)) s
-        ≡ after 0 (connectOpened e (openedFor (e .peer) srm v t) code (frontFor (e .peer) v t) hs s)
-    answer-opened srm v t =
-        opened-is (peerOpened (e .peer) srm (idIn v) (isGiven t)) (frontBy (e .peer) (idIn v) (isGiven t))
-        ∙ ap₂ (λ (o : Option Peer) (f : ConnectionId). after 0 (connectOpened e o code f hs s)) (sym (opened-by (e .peer) srm v t)) (front-by (e .peer) v t)
+      answer-opened : (srm : Bool) (v target : Option (List ℕ))
+          → amongIn (openedIn (answerBy (e .peer) t srm (idIn v) (isGiven target)) e code hs (lastPacket e s) (s .headers) (s .reply)) s
+          ≡ afterTabled (connectOpened e t (openedFor (e .peer) t srm v target) code (frontFor (e .peer) t v target) hs s)
+      answer-opened srm v target =
+          opened-is (peerOpened (e .peer) t srm (idIn v) (isGiven target)) (frontBy (e .peer) t (idIn v) (isGiven target))
+          ∙ ap₂ (λ (o : Option Linked) (f : ConnectionId). afterTabled (connectOpened e t o code f hs s)) (sym (opened-by (e .peer) t srm v target))
+          (front-by (e .peer) t v target)
 
-    pub answer-is : among (acceptedBy e code hs (lastPacket e s) (s .headers) (s .reply)) s ≡ after 0 (connectAnswer e code hs s)
-    unfolding acceptedBy connectAnswer answerFor lastHeaders
-    answer-is = go (isSuccess code)
-      where
-        srm : Bool
-        srm = e .peer .«srm_enabled» || srmAsked e (surveyOf (some (lastHeaders e s)))
+      pub answer-is : amongIn (acceptedBy e t code hs (lastPacket e s) (s .headers) (s .reply)) s ≡ afterTabled (connectAnswer e code hs s t)
+      unfolding acceptedBy connectAnswer answerFor lastHeaders
+      answer-is = go (isSuccess code)
+        where
+          srm : Bool
+          srm = e .peer .«srm_enabled» || srmAsked e (surveyOf (some (lastHeaders e s)))
 
-        named : Option (List ℕ)
-        named = first 0xCB (listOf (readHeaders hs 0))
+          named : Option (List ℕ)
+          named = first 0xCB (listOf (readHeaders hs 0))
 
-        target : Option (List ℕ)
-        target = first 0x46 (lastHeaders e s)
+          target : Option (List ℕ)
+          target = first 0x46 (lastHeaders e s)
 
-        go : (t : Bool)
-            → among (pick t (openedBy (answerFor e hs (lastPacket e s)) e code hs (lastPacket e s) (s .headers) (s .reply)) (leaving (s .headers) (connectReplies e (e .peer) code hs (s .reply)))) s
-            ≡ after 0 (pick t (connectOpened e (openedFor (e .peer) srm named target) code (frontFor (e .peer) named target) hs s) (sendsConnect e (e .peer) code hs s))
-        go true = answer-opened srm named target
-        go false = replies-connect (e .peer) code hs
+          go : (b : Bool)
+              → amongIn (pick b (openedIn (answerFor e t hs (lastPacket e s)) e code hs (lastPacket e s) (s .headers) (s .reply)) (accepting (leaving (s .headers) (connectReplies e (e .peer) code hs (s .reply))) t)) s
+              ≡ afterTabled (pick b (connectOpened e t (openedFor (e .peer) t srm named target) code (frontFor (e .peer) t named target) hs s) (doneTabled (sendsConnect e (e .peer) code hs s) t))
+          go true = answer-opened srm named target
+          go false = ap (λ (m : Stepped). called m t) (replies-connect (e .peer) code hs)
 
-    -- ---- a call for a reply
+      -- ---- a call for a reply
 
-    to-connect : sameAwait (e .awaits) await.Connect ≡ true → connectAnswer e code hs s ≡ replyAnswer e code hs s
-    unfolding replyAnswer
-    to-connect k = sym (simp k)
+      to-connect : sameAwait (e .awaits) await.Connect ≡ true → connectAnswer e code hs s t ≡ replyAnswer e code hs s t
+      unfolding replyAnswer
+      to-connect k = sym (simp k)
 
-    to-another : sameAwait (e .awaits) await.Connect ≡ false → sends e (repliedPeer e (lastPacket e s)) code hs s ≡ replyAnswer e code hs s
-    unfolding replyAnswer repliedPeer lastHeaders
-    to-another k = sym (simp k (go (sameAwait (e .awaits) await.Disconnect)))
-      where
-        go : (t : Bool)
-            → pick t (sends e (disconnectedPeer (e .peer) (first 0xCB (lastHeaders e s))) code hs s) (sends e (e .peer) code hs s)
-            ≡ sends e (pick t (disconnectedPeer (e .peer) (first 0xCB (lastHeaders e s))) (e .peer)) code hs s
-        go true = refl
-        go false = refl
+      to-another : sameAwait (e .awaits) await.Connect ≡ false → sendsLinked e (repliedLink e (lastPacket e s) t) code hs s ≡ replyAnswer e code hs s t
+      unfolding replyAnswer repliedLink lastHeaders
+      to-another k = sym (simp k (go (sameAwait (e .awaits) await.Disconnect)))
+        where
+          left : Linked
+          left = disconnectedPeer (e .peer) t (first 0xCB (lastHeaders e s))
 
-    module _ (g : Goes kind.ReplyGiven e s) (t : Bool) (bad : t ≡ badReply code hs) where
-      pub reply-bad : t ≡ true → (r : CallResult) → r ≡ refusedWith refusal.BadAnswer e → stepped r s ≡ replyGivenStep e code hs s
-      unfolding replyGivenStep
-      reply-bad k r h = ap (λ (r : CallResult). stepped r s) h ∙ sym (simp (sym bad ∙ k)) ∙ sym (g .whole _)
+          go : (b : Bool)
+              → pick b (sendsLinked e left code hs s) (sendsLinked e (linked (e .peer) t) code hs s)
+              ≡ sendsLinked e (pick b left (linked (e .peer) t)) code hs s
+          go true = refl
+          go false = refl
 
-      reply-by : t ≡ false → (x : Stepped) → x ≡ after 0 (replyAnswer e code hs s) → x ≡ replyGivenStep e code hs s
-      unfolding replyGivenStep
-      reply-by k x h = h ∙ sym (simp (sym bad ∙ k)) ∙ sym (g .whole _)
+      module _ (g : GoesLent kind.ReplyGiven e s t) (b : Bool) (bad : b ≡ badReply code hs) where
+        pub reply-bad : b ≡ true → (r : CallResult) → r ≡ refusedWith refusal.BadAnswer e → called (stepped r s) t ≡ replyGivenStep e code hs s t
+        unfolding replyGivenStep
+        reply-bad k r h = ap (λ (r : CallResult). called (stepped r s) t) h ∙ sym (simp (g .enough, g .fitted, sym bad ∙ k))
 
-      module _ (good : t ≡ false) (n : Bool) (now : n ≡ sameAwait (e .awaits) await.Connect) where
-        pub reply-connect : n ≡ true → (a : Answering) → a ≡ acceptedBy e code hs (take (e .length) (s .packet)) (s .headers) (s .reply)
-            → among a s ≡ replyGivenStep e code hs s
-        unfolding lastPacket
-        reply-connect k a h =
-            reply-by good (among a s) (ap (λ (a : Answering). among a s) h ∙ answer-is ∙ ap (λ (d : Done). after 0 d) (to-connect (sym now ∙ k)))
+        reply-by : b ≡ false → (x : Called) → x ≡ afterTabled (replyAnswer e code hs s t) → x ≡ replyGivenStep e code hs s t
+        unfolding replyGivenStep
+        reply-by k x h = h ∙ sym (simp (g .enough, g .fitted, sym bad ∙ k))
 
-        pub reply-another : n ≡ false → (p : Peer) (w : Written) → p ≡ repliedPeer e (take (e .length) (s .packet)) → w ≡ repliesBy e p code [] hs (s .reply)
-            → within w s ≡ replyGivenStep e code hs s
-        unfolding lastPacket
-        reply-another k p w i h =
-            reply-by good (within w s)
-            (ap (λ (w : Written). within w s) h ∙ replies-plain p code hs
-            ∙ ap (λ (p : Peer). after 0 (sends e p code hs s)) i
-            ∙ ap (λ (d : Done). after 0 d) (to-another (sym now ∙ k)))
+        module _ (good : b ≡ false) (n : Bool) (now : n ≡ sameAwait (e .awaits) await.Connect) where
+          pub reply-connect : n ≡ true → (a : Accepting) → a ≡ acceptedBy e t code hs (take (e .length) (s .packet)) (s .headers) (s .reply)
+              → amongIn a s ≡ replyGivenStep e code hs s t
+          unfolding lastPacket
+          reply-connect k a h =
+              reply-by good (amongIn a s)
+              (ap (λ (a : Accepting). amongIn a s) h ∙ answer-is ∙ ap (λ (d : DoneTabled). afterTabled d) (to-connect (sym now ∙ k)))
+
+          pub reply-another : n ≡ false → (l : Linked) (w : Written) → l ≡ repliedLink e (take (e .length) (s .packet)) t
+              → w ≡ repliesBy e (l .peer) code [] hs (s .reply) → called (within w s) (l .tables) ≡ replyGivenStep e code hs s t
+          unfolding lastPacket
+          reply-another k l w i h =
+              reply-by good (called (within w s) (l .tables))
+              (ap (λ (m : Stepped). called m (l .tables)) (ap (λ (w : Written). within w s) h ∙ replies-plain (l .peer) code hs)
+              ∙ ap (λ (l : Linked). afterTabled (sendsLinked e l code hs s)) i
+              ∙ ap (λ (d : DoneTabled). afterTabled d) (to-another (sym now ∙ k)))
 
 -- good header bytes are not too long
 pub good-reply : (code : ℕ) (hs : List ℕ) (t : Bool) → t ≡ badReply code hs → t ≡ false → length hs ≤ 65535

@@ -1,6 +1,6 @@
 -- The way of a packet by what reading it gives, and a gathered packet as a plan. Assumes nothing.
 use mathlib.Core.Path.{_≡_, refl, sym, ap, _∙_, subst}
-use mathlib.Core.Bool.{Bool, true}
+use mathlib.Core.Bool.{Bool, true, false, true≢false, false≢true}
 use mathlib.Core.List.{List}
 use mathlib.Core.Option.{Option, none, some}
 use Prim.Native.Nat.{ℕ}
@@ -8,10 +8,12 @@ use native.Mathlib.Omega.{arith}
 use lib.ListN.{length, getD, take}
 use Rattle.packet.specs.FirstByte.{firstByte}
 use Rattle.packet.specs.Header.{Header, readHeaders}
-use Rattle.packet.specs.Packet.{Request as Packet, requestOf, prefixOf, backup, noCreate}
-use Rattle.packet.specs.PacketRead.{parsedAs, parsePacket}
+use Rattle.packet.specs.Packet.{Request as Packet, requestWith, requestOf, backup, noCreate}
+use Rattle.packet.specs.PacketRead.{packetHead}
+use Rattle.packet.proofs.PacketLaws.{requestHead, request-head}
 use Rattle.packet.specs.declared.opcode.Opcode.{Opcode}
-use Rattle.packet.specs.declared.packet.Parsed.the-variants as parsed
+use Rattle.packet.specs.declared.packet.Head.{Head}
+use Rattle.packet.specs.declared.packet.Head.the-variants as head
 use Rattle.incoming.specs.Frame.{Frames, frames, framed}
 use Rattle.incoming.specs.Survey.{surveyOf}
 use Rattle.incoming.specs.declared.frame.Frame.{Frame}
@@ -21,7 +23,7 @@ use Rattle.incoming.specs.declared.gather.Gathered.{Gathered}
 use Rattle.incoming.specs.declared.gather.Keep.{Keep}
 use Rattle.journal.specs.Journal.{headersOf as headersIn}
 use Rattle.model.specs.Step.{Stores, stores, Done, Stepped, stepped, ends, after, limitOf}
-use Rattle.model.specs.Dispatch.{lengthOf, packetDone, unknownByte}
+use Rattle.model.specs.Dispatch.{knownIn, lengthOf, packetDone, unknownByte}
 use Rattle.model.specs.Calls.{framedAs, withPacket, offers, bytesOfferedStep}
 use Rattle.model.specs.Operation.{gathers}
 use Rattle.model.specs.Guard.{soundOperation}
@@ -35,36 +37,47 @@ use Rattle.server.specs.declared.CallResult.{CallResult}
 use Rattle.engine.specs.declared.step.Plan.{Plan}
 use Rattle.engine.specs.declared.operation.GatherKind.{GatherKind}
 use Rattle.engine.specs.declared.dispatch.Route.{Route}
-use Rattle.engine.proofs.Guards.{Goes}
-use Rattle.engine.proofs.Ready.{parts, Ready, ready}
+use Rattle.engine.proofs.Guards.{GoesLent}
+use Rattle.engine.proofs.Ready.{Ready, ready}
 use Rattle.engine.proofs.Routes.{packet-acts}
 
-pub unreadable-way : (e : Engine) (q : List ℕ) → parsePacket q ≡ parsed.Unreadable
-    → packetRoute e q ≡ unreadableRoute (e .operation) (unknownByte (firstByte (getD q 0 0)))
-unfolding parsePacket packetRoute
-unreadable-way e q h = go (requestOf q) h
-  where
-    go : (x : Option Packet) → parsedAs x (length q) ≡ parsed.Unreadable
-        → routeAs x e q ≡ unreadableRoute (e .operation) (unknownByte (firstByte (getD q 0 0)))
-    go none w = refl
-    go (some r) w = absurd (let z : _≡_ {A = ℕ} 0 1 = cc in omega arith)
+-- a packet that is no request goes the way of the unreadable
+no-request : (e : Engine) (q t : List ℕ) → requestOf q ≡ none
+    → packetRoute e q t ≡ unreadableRoute (e .operation) (unknownByte (firstByte (getD q 0 0)))
+unfolding packetRoute
+no-request e q t h = ap (λ (x : Option Packet). routeAs x e q t) h
 
-pub heading-way : (e : Engine) (q : List ℕ) (o : Opcode) (final : Bool) (from n : ℕ) → parsePacket q ≡ parsed.Request o final from n
-    → packetRoute e q
-    ≡ headingRoute e (record { survey = surveyOf (readHeaders q from); opcode = o; backup = backup q; «no_create» = noCreate q; «is_final» = final })
-unfolding parsePacket packetRoute
-heading-way e q o final from n h = go (requestOf q) refl h
-  where
-    go : (x : Option Packet) → requestOf q ≡ x → parsedAs x (length q) ≡ parsed.Request o final from n
-        → routeAs x e q
-        ≡ headingRoute e (record { survey = surveyOf (readHeaders q from); opcode = o; backup = backup q; «no_create» = noCreate q; «is_final» = final })
-    go none k w = absurd (let z : _≡_ {A = ℕ} 0 1 = cc in omega arith)
-    go (some r) k w =
-        let a : r .opcode ≡ o = cc in
-        let b : r .final ≡ final = cc in
-        let d : prefixOf (r .opcode) ≡ from = cc in
-        let y = parts q r k in
-        rw (← a, ← b, ← d, y .headers, y .bytes)
+pub headless-way : (e : Engine) (q t : List ℕ) → packetHead q ≡ head.Unreadable
+    → packetRoute e q t ≡ unreadableRoute (e .operation) (unknownByte (firstByte (getD q 0 0)))
+headless-way e q t h = no-request e q t (request-head q ∙ ap (λ (x : Head). requestHead x q) h)
+
+-- by what stands before the headers, and whether they can be read
+module _ (e : Engine) (q t : List ℕ) (o : Opcode) (final : Bool) (from : ℕ) (known : packetHead q ≡ head.Known o final from) where
+  request-is : requestOf q ≡ requestWith o final q (readHeaders q from)
+  request-is = request-head q ∙ ap (λ (x : Head). requestHead x q) known
+
+  abbrev Heading-way : Type 0
+  Heading-way =
+      packetRoute e q t
+      ≡ headingRoute e (record { survey = surveyOf (readHeaders q from); opcode = o; backup = backup q; «no_create» = noCreate q; «is_final» = final; known = knownIn e t (surveyOf (readHeaders q from)) })
+
+  pub unreadable-way : surveyOf (readHeaders q from) .readable ≡ false
+      → packetRoute e q t ≡ unreadableRoute (e .operation) (unknownByte (firstByte (getD q 0 0)))
+  unfolding surveyOf
+  unreadable-way h = go (readHeaders q from) refl h
+    where
+      go : (hs : Option (List Header)) → readHeaders q from ≡ hs → surveyOf hs .readable ≡ false
+          → packetRoute e q t ≡ unreadableRoute (e .operation) (unknownByte (firstByte (getD q 0 0)))
+      go none k w = no-request e q t (request-is ∙ ap (requestWith o final q) k)
+      go (some hs) k w = absurd (true≢false w)
+
+  pub heading-way : surveyOf (readHeaders q from) .readable ≡ true → Heading-way
+  unfolding surveyOf packetRoute
+  heading-way h = go (readHeaders q from) refl h
+    where
+      go : (hs : Option (List Header)) → readHeaders q from ≡ hs → surveyOf hs .readable ≡ true → Heading-way
+      go none k w = absurd (false≢true w)
+      go (some hs) k w = ap (λ (x : Option Packet). routeAs x e q t) (request-is ∙ ap (requestWith o final q) k) ∙ rw k refl
 
 -- what `gather` gives, in the words of the model
 pub gathered-way : (e : Engine) (k : GatherKind) (q : List ℕ) (hs : List Header) (g : Gathered) (s : Stores) (from limit : ℕ) (keep : Keep) (x : Gathering)
@@ -78,31 +91,33 @@ pub gathered-planned : (e : Engine) (k : GatherKind) (final asked srm confirm : 
 gathered-planned e k final asked srm confirm got h b s x p w z = rw (← w, z)
 
 -- by the way that the code was told
-pub by-route : (e : Engine) (q : List ℕ) (s : Stores) (x : Route) (d : Done) → packetRoute e q ≡ x → d ≡ acts x e q s → d ≡ acts (packetRoute e q) e q s
-by-route e q s x d h k = k ∙ ap (λ (y : Route). acts y e q s) (sym h)
+pub by-route : (e : Engine) (q t : List ℕ) (s : Stores) (x : Route) (d : Done) → packetRoute e q t ≡ x → d ≡ acts x e q s
+    → d ≡ acts (packetRoute e q t) e q s
+by-route e q t s x d h k = k ∙ ap (λ (y : Route). acts y e q s) (sym h)
 
-pub ready-at : (e : Engine) (q : List ℕ) (x : Route) → packetRoute e q ≡ x → soundOperation (limitOf e) (e .operation) ≡ true
+pub ready-at : (e : Engine) (q t : List ℕ) (x : Route) → packetRoute e q t ≡ x → soundOperation (limitOf e) (e .operation) ≡ true
     → Ready x e q (headersIn (requestOf q))
-ready-at e q x h s = subst (λ (y : Route). Ready y e q (headersIn (requestOf q))) h (ready e q s)
+ready-at e q t x h s = subst (λ (y : Route). Ready y e q (headersIn (requestOf q))) h (ready e q t s)
 
 -- a whole packet, once its plan is carried out
-pub done-call : (e : Engine) (n : ℕ) (s : Stores) (at : Engine) (p : Plan) (h b y : List ℕ) (w : Written) → at ≡ lengthOf e n
-    → planned p (stores (s .packet) h b y) ≡ acts (packetRoute at (take n (s .packet))) at (take n (s .packet)) s → w ≡ carried p y
-    → stepped (w .took) (stores (s .packet) h b (w .reply)) ≡ after 0 (packetDone e n s)
-done-call e n s at p h b y w l k c =
+pub done-call : (e : Engine) (n : ℕ) (s : Stores) (t : List ℕ) (at : Engine) (p : Plan) (h b y : List ℕ) (w : Written) → at ≡ lengthOf e n
+    → planned p (stores (s .packet) h b y) ≡ acts (packetRoute at (take n (s .packet)) t) at (take n (s .packet)) s → w ≡ carried p y
+    → stepped (w .took) (stores (s .packet) h b (w .reply)) ≡ after 0 (packetDone e n s t)
+done-call e n s t at p h b y w l k c =
     ap (λ (x : Written). stepped (x .took) (stores (s .packet) h b (x .reply))) c
     ∙ ap (λ (d : Done). after 0 d)
-    (k ∙ ap (λ (x : Engine). acts (packetRoute x (take n (s .packet))) x (take n (s .packet)) s) l ∙ packet-acts e n s)
+    (k ∙ ap (λ (x : Engine). acts (packetRoute x (take n (s .packet)) t) x (take n (s .packet)) s) l ∙ packet-acts e n s t)
 
 -- ---- bytes
 
 -- a call that goes on, by where the frame stands
-pub framed-call : (e : Engine) (i : List ℕ) (s : Stores) (f : Framed) (q : List ℕ) (x : Frame) (d : Stepped) → Goes kind.FromPeer e s
-    → frames f q ≡ framed (s .packet) (e .begun) 0 i → f .frame ≡ x → d ≡ framedAs x e (f .begun) (f .taken) (withPacket s q) → d ≡ bytesOfferedStep e i s
+pub framed-call : (e : Engine) (i : List ℕ) (s : Stores) (t : List ℕ) (f : Framed) (q : List ℕ) (x : Frame) (d : Stepped) → GoesLent kind.FromPeer e s t
+    → frames f q ≡ framed (s .packet) (e .begun) 0 i → f .frame ≡ x → d ≡ framedAs x e (f .begun) (f .taken) (withPacket s q) t
+    → d ≡ bytesOfferedStep e i s t
 unfolding bytesOfferedStep
-framed-call e i s f q x d g h k w =
-    w ∙ ap (λ (y : Frame). framedAs y e (f .begun) (f .taken) (withPacket s q)) (sym k) ∙ ap (λ (y : Frames). offers e y s) h
-    ∙ sym (g .whole (offers e (framed (s .packet) (e .begun) 0 i) s))
+framed-call e i s t f q x d g h k w =
+    w ∙ ap (λ (y : Frame). framedAs y e (f .begun) (f .taken) (withPacket s q) t) (sym k) ∙ ap (λ (y : Frames). offers e y s t) h
+    ∙ sym (simp (g .enough, g .fitted))
 
 -- so many bytes were taken
 pub taken-after : (r w : CallResult) (t : ℕ) (s : Stores) (d : Done) → w ≡ withTaken r t → stepped r s ≡ after 0 d → stepped w s ≡ after t d

@@ -19,7 +19,7 @@ use Rattle.engine.proofs.Guards.{Goes, guardedIn, turned}
 use Rattle.engine.proofs.Plans.{Carries}
 use Rattle.engine.specs.Guard.{refusedWith}
 use Rattle.model.specs.Step.{Stepped, stepped, after, Stores, Done, withReply, capacityOf, sent}
-use Rattle.model.specs.Guard.{guarded}
+use Rattle.model.specs.Guard.{guarded, checked}
 use Rattle.model.specs.Object.{sendsMade, sendsPacket}
 use Rattle.engine.specs.declared.step.ShortReply.{ShortReply}
 use Rattle.engine.specs.declared.step.ShortReply.the-variants.{Silent}
@@ -75,6 +75,10 @@ silent-call kind e s d p q r g h k m is =
     ∙ ap (λ (x : ShortReply). stepped (tookBy q) (withReply s (front (smallBytes x) (s .reply)))) (sym m)
     ∙ ap (λ (x : Done). after 0 x) (is .is)
     ∙ sym (g .whole (after 0 d))
+
+-- an answer that the host may give is taken
+pub checked-goes : (b : Bool) (e : Engine) (s : Stores) (d : Done) → b ≡ false → after 0 d ≡ checked b e s d
+checked-goes b e s d h = ap (λ (t : Bool). checked t e s d) (sym h)
 
 -- what was sent, and nothing more to write
 pub took-sent : (e : Engine) (p : Peer) (q : Option (List ℕ)) (z : Sent) (s : Stores) → z ≡ sentInto q (s .reply)

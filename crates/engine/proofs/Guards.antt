@@ -1,17 +1,18 @@
 -- What a call learns from the guard: where it refuses, the model refuses with the same number; where it lets the call go on, each store has
 -- room and the state's counts are in bounds. Assumes nothing.
 use mathlib.Core.Path.{_≡_, refl, sym, _∙_}
-use mathlib.Core.Bool.{Bool, true, false, _&&_}
+use mathlib.Core.Bool.{Bool, true, false, _&&_, _||_}
 use mathlib.Core.List.{List}
 use Prim.Native.Nat.{ℕ, _<_, _≤_}
 use native.Mathlib.Omega.{arith}
+use Rattle.base.specs.Pick.{pick}
 use lib.ListN.{length, take, length-take}
 use lib.Dec.{ltb, leb}
-use borrow.Author.Tests.{ltb-true, leb-true}
+use borrow.Author.Tests.{ltb-true, ltb-false, leb-true}
 use Rattle.model.specs.Step.{Stores, Stepped, limitOf}
-use Rattle.model.specs.Guard.{short, sound, fits, guarded, refuse, soundOperation}
-use Rattle.model.proofs.Fit.{and-left, and-right, Room, room}
-use Rattle.engine.specs.Guard.{shortBy, guardedBy}
+use Rattle.model.specs.Guard.{short, shortTables, sound, fits, guarded, refuse, soundOperation}
+use Rattle.model.proofs.Fit.{and-left, and-right, or-left, or-right, Room, room}
+use Rattle.engine.specs.Guard.{shortBy, guardedBy, guardedLent}
 use Rattle.server.specs.declared.CallKind.{CallKind}
 use Rattle.server.specs.declared.Refusal.{Refusal}
 use Rattle.server.specs.declared.Refusal.the-variants as refusal
@@ -25,7 +26,6 @@ pub record Bounds (e : Engine) : Type 0 where
   pub length : e .length ≤ 65535
   pub count : e .peer .count ≤ 64
   pub remote : 255 ≤ e .peer .«remote_max_packet_length»
-  pub realm : e .settings .«realm_length» ≤ 254
   pub operation : soundOperation (limitOf e) (e .operation) ≡ true
 
 pub bounds : (e : Engine) → sound e ≡ true → Bounds e
@@ -40,8 +40,7 @@ bounds e k =
       length = leb-true _ _ (and-left _ _ a);
       count = leb-true _ _ (and-left _ _ b);
       remote = leb-true _ _ (and-left _ _ c);
-      realm = leb-true _ _ (and-left _ _ d);
-      operation = and-right (leb (e .settings .«realm_length») 254) _ d;
+      operation = d;
     }
 
 -- bytes at the front of a store that is long
@@ -114,4 +113,59 @@ module _ (k : CallKind) (e : Engine) (s : Stores) where
             bounds = u;
             last = prefix-in _ _ (u .length) (z .packet);
             whole = λ go. simp (same-short (limitOf e) s false h, i);
+          }
+
+-- ---- the guard of a call that is lent the table store
+
+abbrev pub lackIn : ℕ → Stores → List ℕ → Bool
+lackIn limit s t = ltb (length t) 64 || shortIn limit s
+
+pub same-lack : (limit : ℕ) (s : Stores) (t : List ℕ) (b : Bool) → lackIn limit s t ≡ b → (shortTables t || short limit s) ≡ b
+unfolding short shortBy shortTables
+same-lack limit s t b h = h
+
+abbrev pub guardedLentIn : CallKind → Engine → Stores → List ℕ → Guarded
+guardedLentIn k e s t = guardedLent k e (length t) (length (s .packet)) (length (s .headers)) (length (s .body)) (length (s .reply))
+
+-- what such a call knows where it goes on
+pub record GoesLent (k : CallKind) (e : Engine) (s : Stores) (t : List ℕ) : Type 0 where
+  pub goes : Goes k e s
+  pub tables : 64 ≤ length t
+  pub enough : (shortTables t || short (limitOf e) s) ≡ false
+  pub fitted : (sound e && fits k (e .awaits)) ≡ true
+
+module _ (k : CallKind) (e : Engine) (s : Stores) (t : List ℕ) where
+  fitting-lent : Bool
+  fitting-lent = sound e && fits k (e .awaits)
+
+  -- where the guard refuses, the model does: `f` is what a refusal gives, `go` what goes on
+  pub turned-lent : {A : Type 0} (f : Refusal → A) (go : A) (x : Guarded) (r : Refusal) → x ≡ guardedLentIn k e s t → x ≡ Refuse r
+      → f r ≡ pick (shortTables t || short (limitOf e) s) (f refusal.StoreTooShort) (pick (sound e && fits k (e .awaits)) go (f refusal.WrongMoment))
+  unfolding guardedLent fitting-lent
+  turned-lent {A = A} f go x r p w = by (lackIn (limitOf e) s t) fitting-lent refl refl (sym p ∙ w)
+    where
+      by : (u v : Bool) → lackIn (limitOf e) s t ≡ u → fitting-lent ≡ v → guardedLentIn k e s t ≡ Refuse r
+          → f r ≡ pick (shortTables t || short (limitOf e) s) (f refusal.StoreTooShort) (pick (sound e && fits k (e .awaits)) go (f refusal.WrongMoment))
+      by true v h i q =
+          let z : Refuse refusal.StoreTooShort ≡ Refuse r = simp h at q in
+          simp (same-lack (limitOf e) s t true h, sym (told-refusal _ _ z))
+      by false true h i q = let z : Proceed ≡ Refuse r = simp (h, i) at q in absurd (no-refusal r z)
+      by false false h i q =
+          let z : Refuse refusal.WrongMoment ≡ Refuse r = simp (h, i) at q in
+          simp (same-lack (limitOf e) s t false h, i, sym (told-refusal _ _ z))
+
+  pub going-lent : (x : Guarded) → x ≡ guardedLentIn k e s t → x ≡ Proceed → GoesLent k e s t
+  unfolding guardedLent guardedBy fitting-lent
+  going-lent x p w = by (lackIn (limitOf e) s t) fitting-lent refl refl (sym p ∙ w)
+    where
+      by : (u v : Bool) → lackIn (limitOf e) s t ≡ u → fitting-lent ≡ v → guardedLentIn k e s t ≡ Proceed → GoesLent k e s t
+      by true v h i q = let z : Refuse refusal.StoreTooShort ≡ Proceed = simp h at q in absurd (no-refusal _ (sym z))
+      by false false h i q = let z : Refuse refusal.WrongMoment ≡ Proceed = simp (h, i) at q in absurd (no-refusal _ (sym z))
+      by false true h i q =
+          let long : shortIn (limitOf e) s ≡ false = or-right (ltb (length t) 64) _ h in
+          record {
+            goes = going k e s Proceed (sym (simp (long, i))) refl;
+            tables = ltb-false _ _ (or-left _ _ h);
+            enough = same-lack (limitOf e) s t false h;
+            fitted = i;
           }

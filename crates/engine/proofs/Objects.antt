@@ -1,7 +1,7 @@
 -- The start, and an object that is sent: how each way of the code is the model's. Assumes nothing.
 use mathlib.Core.Path.{_≡_, refl, sym, ap, _∙_}
 use mathlib.Core.List.{List, [], _∷_}
-use mathlib.Core.Bool.{Bool, true, false, _||_}
+use mathlib.Core.Bool.{Bool, true, false, _&&_, _||_}
 use Prim.Native.Nat.{ℕ, _<_, _≤_}
 use native.Mathlib.Omega.{arith}
 use denote.Enum.Declared.{tagOf}
@@ -18,7 +18,7 @@ use Rattle.outgoing.specs.Object.{Made, nextPacket, bodyGiven}
 use Rattle.outgoing.specs.declared.object.Outgoing.{Outgoing}
 use Rattle.outgoing.specs.declared.object.Chunk.{Chunk}
 use Rattle.model.specs.Step.{Stores, Done, stepped, withHeaders, after, capacityOf, engineWith}
-use Rattle.model.specs.Guard.{refuse, badHeaders, soundOperation}
+use Rattle.model.specs.Guard.{refuse, longRealm, badHeaders, soundOperation}
 use Rattle.model.specs.Calls.{bodyFor, objectFor, started, startStep}
 use Rattle.model.specs.Object.{sendsPacket, sendsNext, objectOf}
 use Rattle.engine.specs.Guard.{guardedStart, refusedWith}
@@ -39,7 +39,7 @@ use Rattle.server.specs.declared.Refusal.{Refusal}
 use Rattle.server.specs.declared.Refusal.the-variants as refusal
 use Rattle.engine.specs.declared.guard.Guarded.{Guarded}
 use Rattle.engine.specs.declared.guard.Guarded.the-variants.{Proceed, Refuse}
-use Rattle.engine.proofs.Guards.{shortIn, same-short, told-refusal, no-refusal}
+use Rattle.engine.proofs.Guards.{lackIn, same-lack, told-refusal, no-refusal}
 use Rattle.engine.proofs.Carried.{packet-carried}
 
 -- ---- a packet of an object
@@ -116,41 +116,39 @@ module _ (p : Operation) (g : Gathered) (srm confirm wait : Bool) (is : p ≡ Ge
 
 -- ---- the start
 
-module _ (st : Settings) (s : Stores) (x : Guarded) (e : Engine) where
+module _ (st : Settings) (l : List ℕ) (s : Stores) (t : List ℕ) (m : Bool) (long : m ≡ (st .«has_realm» && ltb 254 (length l))) (x : Guarded) (e : Engine) where
   abbrev limit : ℕ
   limit = st .«max_object_size»
 
-  abbrev realm : Bool
-  realm = ltb 254 (st .«realm_length»)
+  same-long : (b : Bool) → m ≡ b → longRealm st l ≡ b
+  unfolding longRealm
+  same-long b h = sym long ∙ h
 
   -- what the guard says of the start
-  abbrev pub Said : Type 0
-  Said = x ≡ guardedStart limit (st .«realm_length») (length (s .packet)) (length (s .headers)) (length (s .body)) (length (s .reply))
+  abbrev guardedAt : Guarded
+  guardedAt = guardedStart limit m (length t) (length (s .packet)) (length (s .headers)) (length (s .body)) (length (s .reply))
 
-  pub start-refused : Said → e ≡ engineWith st freshPeer Nothing await.Nothing 0 0 → (q : Refusal) → x ≡ Refuse q → (r : CallResult)
-      → r ≡ refusedWith q e → stepped r s ≡ startStep st s
+  pub start-refused : x ≡ guardedAt → e ≡ engineWith st freshPeer Nothing await.Nothing 0 0 → (q : Refusal) → x ≡ Refuse q → (r : CallResult)
+      → r ≡ refusedWith q e → stepped r s ≡ startStep st l s t
   unfolding startStep guardedStart
-  start-refused said k q w r h = go (shortIn limit s) realm refl refl (sym said ∙ w)
+  start-refused said k q w r h = go (lackIn limit s t) m refl refl (sym said ∙ w)
     where
-      go : (t u : Bool) → shortIn limit s ≡ t → realm ≡ u
-          → guardedStart limit (st .«realm_length») (length (s .packet)) (length (s .headers)) (length (s .body)) (length (s .reply)) ≡ Refuse q
-          → stepped r s ≡ startStep st s
-      go true u a b i =
+      go : (u v : Bool) → lackIn limit s t ≡ u → m ≡ v → guardedAt ≡ Refuse q → stepped r s ≡ startStep st l s t
+      go true v a b i =
           let z : Refuse refusal.StoreTooShort ≡ Refuse q = simp a at i in
-          simp (h, k, sym (told-refusal _ _ z), same-short limit s true a)
+          simp (h, k, sym (told-refusal _ _ z), same-lack limit s t true a)
       go false true a b i =
           let z : Refuse refusal.BadAnswer ≡ Refuse q = simp (a, b) at i in
-          simp (h, k, sym (told-refusal _ _ z), same-short limit s false a, b)
+          simp (h, k, sym (told-refusal _ _ z), same-lack limit s t false a, same-long true b)
       go false false a b i = let z : Proceed ≡ Refuse q = simp (a, b) at i in absurd (no-refusal q z)
 
-  pub start-goes : Said → e ≡ engineWith st freshPeer Nothing await.Bytes 0 0 → x ≡ Proceed
-      → stepped (record { engine = e; taken = 0; outcome = outcome.WantsBytes }) s ≡ startStep st s
+  pub start-goes : x ≡ guardedAt → e ≡ engineWith st freshPeer Nothing await.Bytes 0 0 → x ≡ Proceed
+      → stepped (record { engine = e; taken = 0; outcome = outcome.WantsBytes }) s ≡ startStep st l s t
   unfolding startStep guardedStart started
-  start-goes said k w = go (shortIn limit s) realm refl refl (sym said ∙ w)
+  start-goes said k w = go (lackIn limit s t) m refl refl (sym said ∙ w)
     where
-      go : (t u : Bool) → shortIn limit s ≡ t → realm ≡ u
-          → guardedStart limit (st .«realm_length») (length (s .packet)) (length (s .headers)) (length (s .body)) (length (s .reply)) ≡ Proceed
-          → stepped (record { engine = e; taken = 0; outcome = outcome.WantsBytes }) s ≡ startStep st s
-      go true u a b i = let z : Refuse refusal.StoreTooShort ≡ Proceed = simp a at i in absurd (no-refusal _ (sym z))
+      go : (u v : Bool) → lackIn limit s t ≡ u → m ≡ v → guardedAt ≡ Proceed
+          → stepped (record { engine = e; taken = 0; outcome = outcome.WantsBytes }) s ≡ startStep st l s t
+      go true v a b i = let z : Refuse refusal.StoreTooShort ≡ Proceed = simp a at i in absurd (no-refusal _ (sym z))
       go false true a b i = let z : Refuse refusal.BadAnswer ≡ Proceed = simp (a, b) at i in absurd (no-refusal _ (sym z))
-      go false false a b i = simp (k, same-short limit s false a, b)
+      go false false a b i = simp (k, same-lack limit s t false a, same-long false b)

@@ -25,7 +25,7 @@ use Rattle.model.specs.Step.{Stores, Done, engineWith, wants, asks, ends, repli
 use Rattle.model.specs.Request.{lastPacket, lastHeaders, clientResponse, userPlace}
 use Rattle.model.specs.Connect.{verifies, connectPacket}
 use Rattle.model.specs.Operation.{nothingGathered, gathers, putPacket, getPacket, headersPacket}
-use Rattle.model.specs.Dispatch.{Rejection, admits, rejects, rejection, drains, rejected, dispatches, admittedAs, dispatch, interrupts, inside, busy, readAs, lengthOf, packetDone}
+use Rattle.model.specs.Dispatch.{Rejection, admits, rejects, rejection, knownIn, drains, rejected, dispatches, admittedAs, dispatch, interrupts, inside, busy, readAs, lengthOf, packetDone}
 use Rattle.engine.specs.Dispatch.{headingOf, askRoute, codeRoute, admissionOf, rejectedRoute, putRoute, getRoute, headersRoute, dispatchRoute, admittedRoute, openRoute, interruptsRoute, insideRoute, headingRoute, routeAs, packetRoute, simplePlan, acts}
 use Rattle.engine.specs.Operation.{keepOf, kindPlan, actsGathered}
 use Rattle.engine.specs.Connect.{answeredAs, verifiesPlan, limitedPlan, connectPlan}
@@ -101,33 +101,33 @@ module _ (e : Engine) (s : Stores) where
 
 -- ---- a packet that can be read
 
-module _ (e : Engine) (r : Packet) (s : Stores) (known : requestOf (lastPacket e s) ≡ some r) where
+module _ (e : Engine) (r : Packet) (s : Stores) (open-id : Bool) (known : requestOf (lastPacket e s) ≡ some r) where
   -- the packet's headers are the request's
   known-acts : (k : GatherKind) (g : Gathered) (final asked srm confirm : Bool)
       → acts (Gather k g final asked srm confirm) e (lastPacket e s) s ≡ actsGathered e k final asked srm confirm (gathers e (keepOf k) (r .headers) g s) s
   known-acts k g final asked srm confirm =
       ap (λ (x : Option Packet). actsGathered e k final asked srm confirm (gathers e (keepOf k) (headersIn x) g s) s) known
 
-  put-acts : (g : Gathered) (srm confirm : Bool) → Acts (putRoute (headingOf r) g srm confirm) e (lastPacket e s) s (putPacket e r (surveyOf (some (r .headers))) srm confirm g s)
+  put-acts : (g : Gathered) (srm confirm : Bool) → Acts (putRoute (headingOf r open-id) g srm confirm) e (lastPacket e s) s (putPacket e r (surveyOf (some (r .headers))) srm confirm g s)
   unfolding putPacket kindPlan
   put-acts g srm confirm =
       record { is = known-acts kind.Put g _ _ srm confirm ∙ put-planned e r (surveyOf (some (r .headers))) srm confirm (gathers e keep.Put (r .headers) g s) s .is }
 
-  get-acts : (g : Gathered) (srm confirm : Bool) → Acts (getRoute (headingOf r) g srm confirm) e (lastPacket e s) s (getPacket e r (surveyOf (some (r .headers))) srm confirm g s)
+  get-acts : (g : Gathered) (srm confirm : Bool) → Acts (getRoute (headingOf r open-id) g srm confirm) e (lastPacket e s) s (getPacket e r (surveyOf (some (r .headers))) srm confirm g s)
   unfolding getPacket kindPlan
   get-acts g srm confirm =
       record { is = known-acts kind.Get g _ _ srm confirm ∙ get-planned e r (surveyOf (some (r .headers))) srm confirm (gathers e keep.Get (r .headers) g s) s .is }
 
-  headers-acts : (o : Opcode) (g : Gathered) → Acts (headersRoute (headingOf r) o g) e (lastPacket e s) s (headersPacket e r o g s)
+  headers-acts : (o : Opcode) (g : Gathered) → Acts (headersRoute (headingOf r open-id) o g) e (lastPacket e s) s (headersPacket e r o g s)
   unfolding headersPacket kindPlan
   headers-acts o g =
       record { is = known-acts (kind.Headers o) g (r .final) false false false ∙ headers-planned e r o (gathers e keep.All (r .headers) g s) s .is }
 
-  rejected-acts : (code : ℕ) → Acts (rejectedRoute e (headingOf r) code) e (lastPacket e s) s (rejected e r code s)
+  rejected-acts : (code : ℕ) → Acts (rejectedRoute e (headingOf r open-id) code) e (lastPacket e s) s (rejected e r code s)
   rejected-acts code =
       pick-acts (e .peer .«srm_enabled» && (drains (r .opcode) && not (r .final))) (drain-acts e (lastPacket e s) s code) (code-acts e (lastPacket e s) s code)
 
-  dispatches-acts : (o : Opcode) → Acts (dispatchRoute o e (headingOf r)) e (lastPacket e s) s (dispatches o e r (surveyOf (some (r .headers))) s)
+  dispatches-acts : (o : Opcode) → Acts (dispatchRoute o e (headingOf r open-id)) e (lastPacket e s) s (dispatches o e r (surveyOf (some (r .headers))) s)
   dispatches-acts op.Connect = connect-acts e s
   dispatches-acts op.Abort = ask-acts e (lastPacket e s) s await.Acknowledgement _
   dispatches-acts op.Disconnect = ask-acts e (lastPacket e s) s await.Disconnect _
@@ -138,15 +138,15 @@ module _ (e : Engine) (r : Packet) (s : Stores) (known : requestOf (lastPacket e
   dispatches-acts op.Session = headers-acts op.Session nothingGathered
   dispatches-acts (op.UserDefined x) = headers-acts (op.UserDefined x) nothingGathered
 
-  admitted-acts : (x : Rejection) → Acts (admittedRoute (admissionOf x) e (headingOf r)) e (lastPacket e s) s (admittedAs x e r (surveyOf (some (r .headers))) s)
+  admitted-acts : (x : Rejection) → Acts (admittedRoute (admissionOf x) e (headingOf r open-id)) e (lastPacket e s) s (admittedAs x e r (surveyOf (some (r .headers))) s)
   admitted-acts admits = dispatches-acts (r .opcode)
   admitted-acts (rejects code) = rejected-acts code
 
-  open-acts : Acts (openRoute e (headingOf r)) e (lastPacket e s) s (dispatch e r (surveyOf (some (r .headers))) s)
+  open-acts : Acts (openRoute e (headingOf r open-id)) e (lastPacket e s) s (dispatch e r (surveyOf (some (r .headers))) open-id s)
   unfolding openRoute dispatch
-  open-acts = pick-acts (sameOpcode (r .opcode) op.Connect) (connect-acts e s) (admitted-acts (rejection e (r .opcode) (surveyOf (some (r .headers)))))
+  open-acts = pick-acts (sameOpcode (r .opcode) op.Connect) (connect-acts e s) (admitted-acts (rejection e (r .opcode) (surveyOf (some (r .headers))) open-id))
 
-  inside-acts : (o : Operation) → Acts (insideRoute o e (headingOf r)) e (lastPacket e s) s (inside o e r (surveyOf (some (r .headers))) s)
+  inside-acts : (o : Operation) → Acts (insideRoute o e (headingOf r open-id)) e (lastPacket e s) s (inside o e r (surveyOf (some (r .headers))) open-id s)
   inside-acts Nothing = open-acts
   inside-acts (Putting g srm) = pick-acts (sameOpcode (r .opcode) op.Put) (put-acts g srm false) (interrupts-acts e (lastPacket e s) s)
   inside-acts (Getting g srm confirm wait) = pick-acts (sameOpcode (r .opcode) op.Get) (get-acts g srm confirm) (interrupts-acts e (lastPacket e s) s)
@@ -159,18 +159,22 @@ module _ (e : Engine) (r : Packet) (s : Stores) (known : requestOf (lastPacket e
   inside-acts (Connecting c f n) = interrupts-acts e (lastPacket e s) s
   inside-acts (Draining code) = pick-acts (r .final) (code-acts e (lastPacket e s) s code) (drain-acts e (lastPacket e s) s code)
 
-  heading-acts : Acts (headingRoute e (headingOf r)) e (lastPacket e s) s (readAs (some r) e (lastPacket e s) s)
-  unfolding headingRoute
-  heading-acts = pick-acts (sameOpcode (r .opcode) op.Abort) (ask-acts e (lastPacket e s) s await.Acknowledgement _) (inside-acts (e .operation))
-
 -- ---- any packet
 
-read-acts : (e : Engine) (s : Stores) (x : Option Packet) → requestOf (lastPacket e s) ≡ x
-    → Acts (routeAs x e (lastPacket e s)) e (lastPacket e s) s (readAs x e (lastPacket e s) s)
-read-acts e s none h = pick-acts (busy (e .operation)) (end-acts e (lastPacket e s) s end.Unreadable) (code-acts e (lastPacket e s) s _)
-read-acts e s (some r) h = heading-acts e r s h
+module _ (e : Engine) (s : Stores) (t : List ℕ) where
+  heading-acts : (r : Packet) → requestOf (lastPacket e s) ≡ some r
+      → Acts (routeAs (some r) e (lastPacket e s) t) e (lastPacket e s) s (readAs (some r) e (lastPacket e s) s t)
+  unfolding headingRoute
+  heading-acts r h =
+      pick-acts (sameOpcode (r .opcode) op.Abort) (ask-acts e (lastPacket e s) s await.Acknowledgement _)
+      (inside-acts e r s (knownIn e t (surveyOf (some (r .headers)))) h (e .operation))
 
-pub packet-acts : (e : Engine) (n : ℕ) (s : Stores)
-    → acts (packetRoute (lengthOf e n) (take n (s .packet))) (lengthOf e n) (take n (s .packet)) s ≡ packetDone e n s
+  read-acts : (x : Option Packet) → requestOf (lastPacket e s) ≡ x
+      → Acts (routeAs x e (lastPacket e s) t) e (lastPacket e s) s (readAs x e (lastPacket e s) s t)
+  read-acts none h = pick-acts (busy (e .operation)) (end-acts e (lastPacket e s) s end.Unreadable) (code-acts e (lastPacket e s) s _)
+  read-acts (some r) h = heading-acts r h
+
+pub packet-acts : (e : Engine) (n : ℕ) (s : Stores) (t : List ℕ)
+    → acts (packetRoute (lengthOf e n) (take n (s .packet)) t) (lengthOf e n) (take n (s .packet)) s ≡ packetDone e n s t
 unfolding packetRoute packetDone lastPacket engineWith
-packet-acts e n s = read-acts (lengthOf e n) s (requestOf (take n (s .packet))) refl .is
+packet-acts e n s t = read-acts (lengthOf e n) s t (requestOf (take n (s .packet))) refl .is

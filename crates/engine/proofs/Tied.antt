@@ -1,7 +1,10 @@
 -- What a caller learns from each call's contract is the model's step, so `contracts-uphold` speaks of the functions' own clauses. `Learnt`
 -- is the reading of an `ensures` clause that the check makes: a contract that stops saying what the records theorem needs breaks its line here.
--- Assumes nothing.
-use mathlib.Core.Path.{_≡_}
+-- A call that is not lent the table store says nothing of it: its line holds for every table store that the host keeps beside it, and so does
+-- that of a call without the realm. Assumes nothing.
+use mathlib.Core.Path.{_≡_, ap}
+use mathlib.Core.List.{List}
+use Prim.Native.Nat.{ℕ}
 use denote.Ref.{now}
 use contract.Lifetimes.{Lfts}
 use denote.Triple.Clauses.{AtExit}
@@ -10,7 +13,7 @@ use borrow.Fn.Kinds.{endedOf}
 use Rattle.packet.specs.AuthWrite.{given}
 use Rattle.connection.specs.Pieces.{credentialsOf}
 use Rattle.journal.specs.Calls.{bytesOffered, streamEnded, replyTaken, replyGiven, objectGiven, bodyGiven, bodyFailed, abortAcknowledged, passwordGiven, nonceGiven, credentialsGiven}
-use Rattle.model.specs.Step.{Stores, stores, stepped}
+use Rattle.model.specs.Step.{Stores, stores, Stepped, stepped, called}
 use Rattle.model.specs.Calls.{startStep}
 use Rattle.model.specs.Runs.{State}
 use Rattle.model.specs.Contracts.{Says}
@@ -52,102 +55,108 @@ use Rattle.engine.proofs.calls.credentials_given
 use Rattle.engine.proofs.calls.credentials_given.Kinds as credentials-given-kinds
 use Rattle.engine.proofs.calls.credentials_given.Reads as credentials-given-reads
 
-abbrev before : Engine → Stores → State
-before e s = record { engine = e; stores = s }
+-- the state before a call, with a table store and a realm
+abbrev before : List ℕ → List ℕ → Engine → Stores → State
+before t l e s = record { engine = e; stores = s; tables = t; realm = l }
 
-pub start-says : (κs : Lfts 4) (a : ArgsD start.signature κs) (r : ResD start.signature κs) (x : AtExit (endedOf 4 start-kinds.ps start-kinds.r) κs)
+pub start-says : (κs : Lfts 6) (a : ArgsD start.signature κs) (r : ResD start.signature κs) (x : AtExit (endedOf 6 start-kinds.ps start-kinds.r) κs)
     → start-reads.Learnt κs a r x
-    → let p = a .1 in
-    let q = x .1 in
+    → let p = a .1 .1 .1 in
+    let q = x .1 .1 .1 in
     stepped r (stores (now (q .0)) (now (q .1 .0)) (now (q .1 .1 .0)) (now (q .1 .1 .1 .0)))
-    ≡ startStep (a .0) (stores (now (p .0)) (now (p .1 .0)) (now (p .1 .1 .0)) (now (p .1 .1 .1 .0)))
+    ≡ startStep (a .0) (now (a .1 .0)) (stores (now (p .0)) (now (p .1 .0)) (now (p .1 .1 .0)) (now (p .1 .1 .1 .0))) (now (a .1 .1 .0))
 start-says κs a r x h = h
 
-pub bytes-says : (κs : Lfts 5) (a : ArgsD bytes_offered.signature κs) (r : ResD bytes_offered.signature κs) (x : AtExit (endedOf 5 bytes-offered-kinds.ps bytes-offered-kinds.r) κs)
+pub bytes-says : (l : List ℕ) (κs : Lfts 6) (a : ArgsD bytes_offered.signature κs) (r : ResD bytes_offered.signature κs)
+    (x : AtExit (endedOf 6 bytes-offered-kinds.ps bytes-offered-kinds.r) κs)
     → bytes-offered-reads.Learnt κs a r x
-    → let p = a .1 .1 in
-    let q = x .1 .1 in
-    Says (before (a .0) (stores (now (p .0)) (now (p .1 .0)) (now (p .1 .1 .0)) (now (p .1 .1 .1 .0)))) (bytesOffered (now (a .1 .0))) r
-    (stores (now (q .0)) (now (q .1 .0)) (now (q .1 .1 .0)) (now (q .1 .1 .1 .0)))
-bytes-says κs a r x h = h
+    → let t = now (a .1 .1 .0) in
+    let p = a .1 .1 .1 in
+    let q = x .1 .1 .1 in
+    Says (before t l (a .0) (stores (now (p .0)) (now (p .1 .0)) (now (p .1 .1 .0)) (now (p .1 .1 .1 .0)))) (bytesOffered (now (a .1 .0))) r
+    (stores (now (q .0)) (now (q .1 .0)) (now (q .1 .1 .0)) (now (q .1 .1 .1 .0))) t
+bytes-says l κs a r x h = ap (λ (m : Stepped). called m (now (a .1 .1 .0))) h
 
-pub stream-ended-says : (κs : Lfts 4) (a : ArgsD stream_ended.signature κs) (r : ResD stream_ended.signature κs) (x : AtExit (endedOf 4 stream-ended-kinds.ps stream-ended-kinds.r) κs)
+pub stream-ended-says : (t l : List ℕ) (κs : Lfts 4) (a : ArgsD stream_ended.signature κs) (r : ResD stream_ended.signature κs) (x : AtExit (endedOf 4 stream-ended-kinds.ps stream-ended-kinds.r) κs)
     → stream-ended-reads.Learnt κs a r x
     → let p = a .1 in
     let q = x .1 in
-    Says (before (a .0) (stores (now (p .0)) (now (p .1 .0)) (now (p .1 .1 .0)) (now (p .1 .1 .1 .0)))) streamEnded r
-    (stores (now (q .0)) (now (q .1 .0)) (now (q .1 .1 .0)) (now (q .1 .1 .1 .0)))
-stream-ended-says κs a r x h = h
+    Says (before t l (a .0) (stores (now (p .0)) (now (p .1 .0)) (now (p .1 .1 .0)) (now (p .1 .1 .1 .0)))) streamEnded r
+    (stores (now (q .0)) (now (q .1 .0)) (now (q .1 .1 .0)) (now (q .1 .1 .1 .0))) t
+stream-ended-says t l κs a r x h = ap (λ (m : Stepped). called m t) h
 
-pub reply-taken-says : (κs : Lfts 4) (a : ArgsD reply_taken.signature κs) (r : ResD reply_taken.signature κs) (x : AtExit (endedOf 4 reply-taken-kinds.ps reply-taken-kinds.r) κs)
+pub reply-taken-says : (t l : List ℕ) (κs : Lfts 4) (a : ArgsD reply_taken.signature κs) (r : ResD reply_taken.signature κs) (x : AtExit (endedOf 4 reply-taken-kinds.ps reply-taken-kinds.r) κs)
     → reply-taken-reads.Learnt κs a r x
     → let p = a .1 in
     let q = x .1 in
-    Says (before (a .0) (stores (now (p .0)) (now (p .1 .0)) (now (p .1 .1 .0)) (now (p .1 .1 .1 .0)))) replyTaken r
-    (stores (now (q .0)) (now (q .1 .0)) (now (q .1 .1 .0)) (now (q .1 .1 .1 .0)))
-reply-taken-says κs a r x h = h
+    Says (before t l (a .0) (stores (now (p .0)) (now (p .1 .0)) (now (p .1 .1 .0)) (now (p .1 .1 .1 .0)))) replyTaken r
+    (stores (now (q .0)) (now (q .1 .0)) (now (q .1 .1 .0)) (now (q .1 .1 .1 .0))) t
+reply-taken-says t l κs a r x h = ap (λ (m : Stepped). called m t) h
 
-pub object-says : (κs : Lfts 5) (a : ArgsD object_given.signature κs) (r : ResD object_given.signature κs) (x : AtExit (endedOf 5 object-given-kinds.ps object-given-kinds.r) κs)
+pub object-says : (t l : List ℕ) (κs : Lfts 5) (a : ArgsD object_given.signature κs) (r : ResD object_given.signature κs) (x : AtExit (endedOf 5 object-given-kinds.ps object-given-kinds.r) κs)
     → object-given-reads.Learnt κs a r x
     → let p = a .1 .1 .1 in
     let q = x .1 .1 .1 in
-    Says (before (a .0) (stores (now (p .0)) (now (p .1 .0)) (now (p .1 .1 .0)) (now (p .1 .1 .1 .0)))) (objectGiven (now (a .1 .0)) (a .1 .1 .0)) r
-    (stores (now (q .0)) (now (q .1 .0)) (now (q .1 .1 .0)) (now (q .1 .1 .1 .0)))
-object-says κs a r x h = h
+    Says (before t l (a .0) (stores (now (p .0)) (now (p .1 .0)) (now (p .1 .1 .0)) (now (p .1 .1 .1 .0)))) (objectGiven (now (a .1 .0)) (a .1 .1 .0)) r
+    (stores (now (q .0)) (now (q .1 .0)) (now (q .1 .1 .0)) (now (q .1 .1 .1 .0))) t
+object-says t l κs a r x h = ap (λ (m : Stepped). called m t) h
 
-pub body-says : (κs : Lfts 5) (a : ArgsD body_given.signature κs) (r : ResD body_given.signature κs) (x : AtExit (endedOf 5 body-given-kinds.ps body-given-kinds.r) κs)
+pub body-says : (t l : List ℕ) (κs : Lfts 5) (a : ArgsD body_given.signature κs) (r : ResD body_given.signature κs) (x : AtExit (endedOf 5 body-given-kinds.ps body-given-kinds.r) κs)
     → body-given-reads.Learnt κs a r x
     → let p = a .1 .1 in
     let q = x .1 .1 in
-    Says (before (a .0) (stores (now (p .0)) (now (p .1 .0)) (now (p .1 .1 .0)) (now (p .1 .1 .1 .0)))) (bodyGiven (now (a .1 .0))) r
-    (stores (now (q .0)) (now (q .1 .0)) (now (q .1 .1 .0)) (now (q .1 .1 .1 .0)))
-body-says κs a r x h = h
+    Says (before t l (a .0) (stores (now (p .0)) (now (p .1 .0)) (now (p .1 .1 .0)) (now (p .1 .1 .1 .0)))) (bodyGiven (now (a .1 .0))) r
+    (stores (now (q .0)) (now (q .1 .0)) (now (q .1 .1 .0)) (now (q .1 .1 .1 .0))) t
+body-says t l κs a r x h = ap (λ (m : Stepped). called m t) h
 
-pub body-failed-says : (κs : Lfts 4) (a : ArgsD body_failed.signature κs) (r : ResD body_failed.signature κs) (x : AtExit (endedOf 4 body-failed-kinds.ps body-failed-kinds.r) κs)
+pub body-failed-says : (t l : List ℕ) (κs : Lfts 4) (a : ArgsD body_failed.signature κs) (r : ResD body_failed.signature κs) (x : AtExit (endedOf 4 body-failed-kinds.ps body-failed-kinds.r) κs)
     → body-failed-reads.Learnt κs a r x
     → let p = a .1 in
     let q = x .1 in
-    Says (before (a .0) (stores (now (p .0)) (now (p .1 .0)) (now (p .1 .1 .0)) (now (p .1 .1 .1 .0)))) bodyFailed r
-    (stores (now (q .0)) (now (q .1 .0)) (now (q .1 .1 .0)) (now (q .1 .1 .1 .0)))
-body-failed-says κs a r x h = h
+    Says (before t l (a .0) (stores (now (p .0)) (now (p .1 .0)) (now (p .1 .1 .0)) (now (p .1 .1 .1 .0)))) bodyFailed r
+    (stores (now (q .0)) (now (q .1 .0)) (now (q .1 .1 .0)) (now (q .1 .1 .1 .0))) t
+body-failed-says t l κs a r x h = ap (λ (m : Stepped). called m t) h
 
-pub acknowledge-says : (κs : Lfts 4) (a : ArgsD abort_acknowledged.signature κs) (r : ResD abort_acknowledged.signature κs) (x : AtExit (endedOf 4 abort-acknowledged-kinds.ps abort-acknowledged-kinds.r) κs)
+pub acknowledge-says : (t l : List ℕ) (κs : Lfts 4) (a : ArgsD abort_acknowledged.signature κs) (r : ResD abort_acknowledged.signature κs) (x : AtExit (endedOf 4 abort-acknowledged-kinds.ps abort-acknowledged-kinds.r) κs)
     → abort-acknowledged-reads.Learnt κs a r x
     → let p = a .1 in
     let q = x .1 in
-    Says (before (a .0) (stores (now (p .0)) (now (p .1 .0)) (now (p .1 .1 .0)) (now (p .1 .1 .1 .0)))) abortAcknowledged r
-    (stores (now (q .0)) (now (q .1 .0)) (now (q .1 .1 .0)) (now (q .1 .1 .1 .0)))
-acknowledge-says κs a r x h = h
+    Says (before t l (a .0) (stores (now (p .0)) (now (p .1 .0)) (now (p .1 .1 .0)) (now (p .1 .1 .1 .0)))) abortAcknowledged r
+    (stores (now (q .0)) (now (q .1 .0)) (now (q .1 .1 .0)) (now (q .1 .1 .1 .0))) t
+acknowledge-says t l κs a r x h = ap (λ (m : Stepped). called m t) h
 
-pub password-says : (κs : Lfts 5) (a : ArgsD password_given.signature κs) (r : ResD password_given.signature κs) (x : AtExit (endedOf 5 password-given-kinds.ps password-given-kinds.r) κs)
+pub password-says : (t l : List ℕ) (κs : Lfts 5) (a : ArgsD password_given.signature κs) (r : ResD password_given.signature κs) (x : AtExit (endedOf 5 password-given-kinds.ps password-given-kinds.r) κs)
     → password-given-reads.Learnt κs a r x
     → let p = a .1 .1 .1 in
     let q = x .1 .1 .1 in
-    Says (before (a .0) (stores (now (p .0)) (now (p .1 .0)) (now (p .1 .1 .0)) (now (p .1 .1 .1 .0)))) (passwordGiven (given (a .1 .0) (now (a .1 .1 .0)))) r
-    (stores (now (q .0)) (now (q .1 .0)) (now (q .1 .1 .0)) (now (q .1 .1 .1 .0)))
-password-says κs a r x h = h
+    Says (before t l (a .0) (stores (now (p .0)) (now (p .1 .0)) (now (p .1 .1 .0)) (now (p .1 .1 .1 .0)))) (passwordGiven (given (a .1 .0) (now (a .1 .1 .0)))) r
+    (stores (now (q .0)) (now (q .1 .0)) (now (q .1 .1 .0)) (now (q .1 .1 .1 .0))) t
+password-says t l κs a r x h = ap (λ (m : Stepped). called m t) h
 
-pub nonce-says : (κs : Lfts 4) (a : ArgsD nonce_given.signature κs) (r : ResD nonce_given.signature κs) (x : AtExit (endedOf 4 nonce-given-kinds.ps nonce-given-kinds.r) κs)
+pub nonce-says : (t : List ℕ) (κs : Lfts 5) (a : ArgsD nonce_given.signature κs) (r : ResD nonce_given.signature κs)
+    (x : AtExit (endedOf 5 nonce-given-kinds.ps nonce-given-kinds.r) κs)
     → nonce-given-reads.Learnt κs a r x
     → let p = a .1 .1 .1 in
     let q = x .1 .1 .1 in
-    Says (before (a .0) (stores (now (p .0)) (now (p .1 .0)) (now (p .1 .1 .0)) (now (p .1 .1 .1 .0)))) (nonceGiven (a .1 .0) (a .1 .1 .0)) r
-    (stores (now (q .0)) (now (q .1 .0)) (now (q .1 .1 .0)) (now (q .1 .1 .1 .0)))
-nonce-says κs a r x h = h
+    Says (before t (now (a .1 .1 .0)) (a .0) (stores (now (p .0)) (now (p .1 .0)) (now (p .1 .1 .0)) (now (p .1 .1 .1 .0)))) (nonceGiven (a .1 .0)) r
+    (stores (now (q .0)) (now (q .1 .0)) (now (q .1 .1 .0)) (now (q .1 .1 .1 .0))) t
+nonce-says t κs a r x h = ap (λ (m : Stepped). called m t) h
 
-pub reply-says : (κs : Lfts 5) (a : ArgsD reply_given.signature κs) (r : ResD reply_given.signature κs) (x : AtExit (endedOf 5 reply-given-kinds.ps reply-given-kinds.r) κs)
+pub reply-says : (l : List ℕ) (κs : Lfts 6) (a : ArgsD reply_given.signature κs) (r : ResD reply_given.signature κs)
+    (x : AtExit (endedOf 6 reply-given-kinds.ps reply-given-kinds.r) κs)
     → reply-given-reads.Learnt κs a r x
     → let p = a .1 .1 .1 in
     let q = x .1 .1 .1 in
-    Says (before (a .0) (stores (now (p .0)) (now (p .1 .0)) (now (p .1 .1 .0)) (now (p .1 .1 .1 .0)))) (replyGiven (a .1 .0) (now (a .1 .1 .0))) r
-    (stores (now (q .0)) (now (q .1 .0)) (now (q .1 .1 .0)) (now (q .1 .1 .1 .0)))
-reply-says κs a r x h = h
+    Says (before (now (p .0)) l (a .0) (stores (now (p .1 .0)) (now (p .1 .1 .0)) (now (p .1 .1 .1 .0)) (now (p .1 .1 .1 .1 .0))))
+    (replyGiven (a .1 .0) (now (a .1 .1 .0))) r
+    (stores (now (q .1 .0)) (now (q .1 .1 .0)) (now (q .1 .1 .1 .0)) (now (q .1 .1 .1 .1 .0))) (now (q .0))
+reply-says l κs a r x h = h
 
-pub credentials-says : (κs : Lfts 6) (a : ArgsD credentials_given.signature κs) (r : ResD credentials_given.signature κs) (x : AtExit (endedOf 6 credentials-given-kinds.ps credentials-given-kinds.r) κs)
+pub credentials-says : (t l : List ℕ) (κs : Lfts 6) (a : ArgsD credentials_given.signature κs) (r : ResD credentials_given.signature κs) (x : AtExit (endedOf 6 credentials-given-kinds.ps credentials-given-kinds.r) κs)
     → credentials-given-reads.Learnt κs a r x
     → let p = a .1 .1 .1 .1 .1 in
     let q = x .1 .1 .1 .1 .1 in
     let c = credentialsOf (a .1 .0) (given (a .1 .1 .0) (now (a .1 .1 .1 .0))) (now (a .1 .1 .1 .1 .0)) in
-    Says (before (a .0) (stores (now (p .0)) (now (p .1 .0)) (now (p .1 .1 .0)) (now (p .1 .1 .1 .0)))) (credentialsGiven c) r
-    (stores (now (q .0)) (now (q .1 .0)) (now (q .1 .1 .0)) (now (q .1 .1 .1 .0)))
-credentials-says κs a r x h = h
+    Says (before t l (a .0) (stores (now (p .0)) (now (p .1 .0)) (now (p .1 .1 .0)) (now (p .1 .1 .1 .0)))) (credentialsGiven c) r
+    (stores (now (q .0)) (now (q .1 .0)) (now (q .1 .1 .0)) (now (q .1 .1 .1 .0))) t
+credentials-says t l κs a r x h = ap (λ (m : Stepped). called m t) h

@@ -13,7 +13,7 @@ use Rattle.packet.specs.declared.auth.DigestChallenge.the-variants as challenge
 use Rattle.journal.specs.Calls.{Credentials}
 use Rattle.incoming.specs.Survey.{surveyOf}
 use Rattle.connection.specs.Reply.{fieldsOf, front}
-use Rattle.connection.specs.Peer.{idIn, isGiven, answerBy, disconnectedPeer, verifiedPeer, limited}
+use Rattle.connection.specs.Peer.{Linked, linked, idIn, isGiven, Answers, answerBy, disconnectedPeer, verifiedPeer, limited}
 use Rattle.connection.specs.ConnectReply.{connectHeaders}
 use Rattle.connection.specs.Pieces.{headersFrom, answeredIn, idGiven}
 use Rattle.connection.specs.declared.peer.Peer.{Peer}
@@ -44,43 +44,43 @@ use Rattle.engine.specs.declared.connect.Answered.{Answered}
 use Rattle.engine.specs.declared.connect.Answered.the-variants.{Missing, User}
 use Rattle.engine.specs.declared.dispatch.Route.the-variants.{Connect}
 
--- by whether the client's response can be read
+-- The client's response is missing unless it can be read; `u` is the place of its user id.
 abbrev pub answeredAs : Option Response → Found → Answered
 answeredAs none u = Missing
 answeredAs (some r) u = User u
 
--- the client's response, by where its user id stands in the packet
+-- The engine takes the first AuthenticateResponse of packet `q` as the client's response.
 abbrev pub answeredBy : List ℕ → Answered
 answeredBy q = answeredAs (responseIn (first 0x4E (headersIn (requestOf q)))) (userIn q (firstPlace 0x4E q 7))
 
--- a place that stays below the largest number, moved on
+-- A place that is moved on by `n` stays below the largest number of 64 bits.
 abbrev pub Below : ℕ → Found → Type 0
 Below n place.Missing = Unit {0}
 Below n (place.At a b) = (a ≤ b) × (n + b < 2 ^ 64)
 
--- the password is asked where a challenge is stored and a response can be read; else a new challenge is made
+-- If a challenge is stored and the client's response can be read, the engine asks the host for the password. Otherwise it asks for a nonce.
 abbrev pub verifiesPlan : Engine → Peer → Challenge → Answered → Plan
 verifiesPlan e p Absent a = asksPlan e p Nothing await.Nonce request.Nonce
 verifiesPlan e p (Stored n) Missing = asksPlan e p Nothing await.Nonce request.Nonce
 verifiesPlan e p (Stored n) (User u) = asksPlan e p Nothing await.Password (request.Password u)
 
--- once the peer's limit is set: the password where one is required, else the host is asked
+-- Once the peer's limit is set, the engine checks the client if the settings require a password, and otherwise asks the host about the Connect.
 unfoldable pub limitedPlan : Engine → Peer → Answered → Plan
 limitedPlan e p a =
     pick (e .settings .authentication) (verifiesPlan e p (p .challenge) a)
     (asksPlan e p Nothing await.Connect (request.Connect (e .length)))
 
--- a Connect packet
+-- The engine sets the peer's limit before it looks at the password (docs/PROTOCOL.md#connect).
 unfoldable pub connectPlan : Engine → List ℕ → Plan
 connectPlan e q = limitedPlan e (limited (e .peer) (connectLimit q)) (answeredBy q)
 
--- the password's check: right, the host is asked; else a new challenge is made
+-- If the password is right, the engine asks the host about the Connect. Otherwise it asks for a nonce, to challenge the client again.
 unfoldable pub passwordPlan : Engine → Bool → Plan
 passwordPlan e right =
     pick right (asksPlan e (verifiedPeer (e .peer)) Nothing await.Connect (request.Connect (e .length)))
     (asksPlan e (e .peer) Nothing await.Nonce request.Nonce)
 
--- what a call gives, and the header and reply stores afterwards
+-- A call that answers a Connect returns `took` and leaves these bytes in the header and reply stores.
 pub record Answering : Type 0 where
   pub took : CallResult
   pub headers : List ℕ
@@ -89,38 +89,46 @@ pub record Answering : Type 0 where
 abbrev pub answering : CallResult → List ℕ → List ℕ → Answering
 answering r h y = record { took = r; headers = h; reply = y }
 
--- the header store stays
+-- The call that takes the host's answer also leaves the open ids in the table store.
+pub record Accepting : Type 0 where
+  pub answer : Answering
+  pub tables : List ℕ
+
+abbrev pub accepting : Answering → List ℕ → Accepting
+accepting a t = record { answer = a; tables = t }
+
+-- The call leaves the header store as it was.
 abbrev pub leaving : List ℕ → Written → Answering
 leaving h w = answering (w .took) h (w .reply)
 
--- the packet and body store stay
+-- The call leaves the packet and body stores as they were.
 abbrev pub among : Answering → Stores → Stepped
 among a s = stepped (a .took) (stores (s .packet) (a .headers) (s .body) (a .reply))
 
--- the headers of a packet; none where it cannot be read
+-- A packet that cannot be read has no headers.
 abbrev pub headersOf : List ℕ → List Header
 headersOf q = headersIn (requestOf q)
 
--- SRM is asked for by a packet and supported
+-- Packet `q` asks for Single Response Mode (SRM), and the settings support it.
 abbrev pub srmAskedBy : Engine → List ℕ → Bool
 srmAskedBy e q = srmAsked e (surveyOf (some (headersOf q)))
 
--- a reply with Connect's fields
+-- The engine replies with Connect's fields and the headers `hs`.
 abbrev pub connectReplies : Engine → Peer → ℕ → List ℕ → List ℕ → Written
 connectReplies e p code hs y = repliesBy e p code (fieldsOf (e .settings .«max_packet_length»)) hs y
 
--- the headers of the reply to a Connect that the host accepted
+-- If the host accepts a Connect, the reply carries these headers: the id in front, Who, the host's own, the answer to a challenge, and SRM.
 unfoldable pub acceptedHeaders : Engine → ConnectionId → List ℕ → List ℕ → Option Credentials → List ℕ
 acceptedHeaders e f q hs c =
     allBytes (connectHeaders (idGiven f) (headersOf q) (headersFrom hs 0) c (srmAskedBy e q))
 
--- what the answer opens
-unfoldable pub answerFor : Engine → List ℕ → List ℕ → Answer
-answerFor e hs q =
-    answerBy (e .peer) (e .peer .«srm_enabled» || srmAskedBy e q) (idIn (first 0xCB (headersFrom hs 0)))
+-- The host's answer `hs` to the Connect in `q` opens an id in the table store `t`.
+unfoldable pub answerFor : Engine → List ℕ → List ℕ → List ℕ → Answers
+answerFor e t hs q =
+    answerBy (e .peer) t (e .peer .«srm_enabled» || srmAskedBy e q) (idIn (first 0xCB (headersFrom hs 0)))
     (isGiven (first 0x46 (headersOf q)))
 
--- credentials are asked for where the peer sent challenges that can all be read; the host's headers wait in the header store
+-- If the client sent challenges that can all be read, the engine asks for credentials, and the host's headers wait in the header store.
 abbrev pub challengedBy : DigestChallenge → Engine → Peer → ℕ → ConnectionId → List ℕ → List ℕ → List ℕ → List ℕ → Answering
 challengedBy challenge.Unreadable e p code f hs q h y = leaving h (connectReplies e p code (acceptedHeaders e f q hs none) y)
 challengedBy (challenge.Challenge n u r x) e p code f hs q h y =
@@ -129,22 +137,26 @@ challengedBy (challenge.Challenge n u r x) e p code f hs q h y =
     (front hs h)
     y
 
--- a 65th id gets 0x53
+-- The engine answers a 65th id with 0x53.
 abbrev pub openedBy : Answer → Engine → ℕ → List ℕ → List ℕ → List ℕ → List ℕ → Answering
 openedBy a e code hs q h y =
     pick (a .opening .full) (leaving h (connectReplies e (e .peer) 0x53 [] y))
     (challengedBy (answeredIn (headersOf q)) e (a .opening .peer) code (a .front) hs q h y)
 
--- the answer to a Connect: any but success is sent as it is
-unfoldable pub acceptedBy : Engine → ℕ → List ℕ → List ℕ → List ℕ → List ℕ → Answering
-acceptedBy e code hs q h y =
-    pick (isSuccess code) (openedBy (answerFor e hs q) e code hs q h y) (leaving h (connectReplies e (e .peer) code hs y))
+abbrev pub openedIn : Answers → Engine → ℕ → List ℕ → List ℕ → List ℕ → List ℕ → Accepting
+openedIn a e code hs q h y = accepting (openedBy (a .answer) e code hs q h y) (a .tables)
 
--- the peer when a reply is made: Disconnect closes ids before it
-unfoldable pub repliedPeer : Engine → List ℕ → Peer
-repliedPeer e q = pick (sameAwait (e .awaits) await.Disconnect) (disconnectedPeer (e .peer) (first 0xCB (headersOf q))) (e .peer)
+-- The engine sends any answer to a Connect but success as it is.
+unfoldable pub acceptedBy : Engine → List ℕ → ℕ → List ℕ → List ℕ → List ℕ → List ℕ → Accepting
+acceptedBy e t code hs q h y =
+    pick (isSuccess code) (openedIn (answerFor e t hs q) e code hs q h y) (accepting (leaving h (connectReplies e (e .peer) code hs y)) t)
 
--- credentials for the Connect that waits, whose headers stand in front of the header store; a long user id is 8, no such Connect 9
+-- A Disconnect closes its id before its reply is made; any other request leaves the ids as they were.
+unfoldable pub repliedLink : Engine → List ℕ → List ℕ → Linked
+repliedLink e q t = pick (sameAwait (e .awaits) await.Disconnect) (disconnectedPeer (e .peer) t (first 0xCB (headersOf q))) (linked (e .peer) t)
+
+-- Credentials answer the Connect that waits, whose headers stand at the front of the header store. The engine refuses a user id over 255 bytes with
+-- `BadAnswer`, and the call with `WrongMoment` if no Connect waits.
 abbrev pub credentialsBy : Operation → Engine → Option Credentials → List ℕ → List ℕ → List ℕ → Written
 credentialsBy (Connecting code f n) e c q h y =
     pick (longUser c) (written (refusedWith refusal.BadAnswer e) y) (connectReplies e (e .peer) code (acceptedHeaders e f q (take n h) c) y)

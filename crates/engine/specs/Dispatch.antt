@@ -18,7 +18,7 @@ use Rattle.journal.specs.Journal.{headersOf as headersIn}
 use Rattle.model.specs.Step.{Stores, Done, engineWith}
 use Rattle.model.specs.Operation.{nothingGathered, gathers}
 use Rattle.model.specs.Object.{sendsNext}
-use Rattle.model.specs.Dispatch.{Rejection, admits, rejects, rejection, drains, confirms, unknownByte, busy}
+use Rattle.model.specs.Dispatch.{Rejection, admits, rejects, rejection, knownIn, drains, confirms, unknownByte, busy}
 use Rattle.engine.specs.Step.{planned, wantsPlan, asksPlan, endsPlan, codePlan}
 use Rattle.server.specs.declared.Operation.{Operation}
 use Rattle.server.specs.declared.Operation.the-variants.{Nothing, Putting, Getting, Sending, Gathering as GatheringOp, Connecting, Draining}
@@ -43,25 +43,26 @@ use Rattle.server.specs.declared.Outcome.the-variants as outcome
 use Rattle.server.specs.declared.CallResult.{CallResult}
 use Rattle.engine.specs.declared.object.Turn.the-variants.{Send, End}
 
-abbrev pub headingOf : Packet → Heading
-headingOf r =
+abbrev pub headingOf : Packet → Bool → Heading
+headingOf r known =
     record {
       survey = surveyOf (some (r .headers));
       opcode = r .opcode;
       backup = backup (r .bytes);
       «no_create» = noCreate (r .bytes);
       «is_final» = r .final;
+      known = known;
     }
 
--- the host is asked
+-- The engine asks the host.
 abbrev pub askRoute : Await → HostRequest → Route
 askRoute a r = Plain (brief.Ask a r)
 
--- a reply of a code
+-- The engine replies with a code alone.
 abbrev pub codeRoute : ℕ → Route
 codeRoute code = Plain (brief.Code await.Taken (sentCode code))
 
--- a password is required and not given, but for Disconnect
+-- The engine turns a packet away if a password is required and not given. A Disconnect may not be refused.
 abbrev pub unauthorizedFor : Engine → Opcode → Bool
 unauthorizedFor e o = e .settings .authentication && (not (e .peer .authenticated) && not (sameOpcode o op.Disconnect))
 
@@ -69,15 +70,15 @@ abbrev pub admissionOf : Rejection → Admission
 admissionOf admits = Admits
 admissionOf (rejects code) = Rejects code
 
--- under SRM a Put or Get that is turned away is read to its end before the reply
+-- Under Single Response Mode (SRM) the engine reads a Put or Get that it turns away to its end before it replies.
 abbrev pub drainedBy : Engine → Heading → Bool
 drainedBy e h = e .peer .«srm_enabled» && (drains (h .opcode) && not (h .«is_final»))
 
--- turned away
+-- The engine turns a packet away with `code`, after a drain or at once.
 abbrev pub rejectedRoute : Engine → Heading → ℕ → Route
 rejectedRoute e h code = pick (drainedBy e h) (Plain (brief.Drain code)) (codeRoute code)
 
--- a packet of a Put, of a Get's request, of a Get's object, of an operation of headers alone
+-- The ways of a packet of a Put, of a Get's request, of a Get's object, and of an operation of headers alone.
 abbrev pub putRoute : Heading → Gathered → Bool → Bool → Route
 putRoute h g srm confirm = Gather kind.Put g (h .«is_final») (h .survey .additional) srm confirm
 
@@ -90,7 +91,7 @@ sendRoute h o srm = Send o srm (h .survey .wait)
 abbrev pub headersRoute : Heading → Opcode → Gathered → Route
 headersRoute h o g = Gather (kind.Headers o) g (h .«is_final») false false false
 
--- a packet that is admitted, where nothing is open
+-- The engine dispatches an admitted packet by its opcode.
 abbrev pub dispatchRoute : Opcode → Engine → Heading → Route
 dispatchRoute op.Connect e h = Connect
 dispatchRoute op.Abort e h = askRoute await.Acknowledgement (request.Abort (e .length))
@@ -102,29 +103,29 @@ dispatchRoute op.Action e h = headersRoute h op.Action nothingGathered
 dispatchRoute op.Session e h = headersRoute h op.Session nothingGathered
 dispatchRoute (op.UserDefined x) e h = headersRoute h (op.UserDefined x) nothingGathered
 
--- admitted or turned away
+-- The engine admits a packet or turns it away.
 abbrev pub admittedRoute : Admission → Engine → Heading → Route
 admittedRoute Admits e h = dispatchRoute (h .opcode) e h
 admittedRoute (Rejects code) e h = rejectedRoute e h code
 
--- nothing is open; Connect is not turned away
+-- If nothing is open, the engine tests admission first, but never turns a Connect away.
 unfoldable pub openRoute : Engine → Heading → Route
 openRoute e h =
-    pick (sameOpcode (h .opcode) op.Connect) Connect (admittedRoute (admissionOf (rejection e (h .opcode) (h .survey))) e h)
+    pick (sameOpcode (h .opcode) op.Connect) Connect (admittedRoute (admissionOf (rejection e (h .opcode) (h .survey) (h .known))) e h)
 
--- another opcode inside an operation: 0x40, and the engine ends once that reply is taken
+-- Another opcode inside an operation gets 0x40, and the engine ends once the host has sent that reply.
 abbrev pub interruptsRoute : Route
 interruptsRoute = Plain (brief.Code await.Last (sentCode 0x40))
 
--- of an operation that is open
+-- A packet of the open operation's opcode `o` goes on with it.
 abbrev pub continuedRoute : Heading → Opcode → Route → Route
 continuedRoute h o r = pick (sameOpcode (h .opcode) o) r interruptsRoute
 
--- an operation that is turned away is read to its final packet
+-- The engine reads an operation that it has turned away up to its final packet.
 abbrev pub drainingRoute : Heading → ℕ → Route
 drainingRoute h code = pick (h .«is_final») (codeRoute code) (Plain (brief.Drain code))
 
--- by what is open
+-- The engine decides by the operation that is open.
 abbrev pub insideRoute : Operation → Engine → Heading → Route
 insideRoute Nothing e h = openRoute e h
 insideRoute (Putting g srm) e h = continuedRoute h op.Put (putRoute h g srm false)
@@ -134,24 +135,24 @@ insideRoute (GatheringOp o g) e h = continuedRoute h o (headersRoute h o g)
 insideRoute (Connecting c f n) e h = interruptsRoute
 insideRoute (Draining code) e h = drainingRoute h code
 
--- Abort goes before all else
+-- An Abort goes before all else.
 unfoldable pub headingRoute : Engine → Heading → Route
 headingRoute e h =
     pick (sameOpcode (h .opcode) op.Abort) (askRoute await.Acknowledgement (request.Abort (e .length)))
     (insideRoute (e .operation) e h)
 
--- an unreadable packet, by whether its first byte is unknown
+-- An unreadable packet ends the engine inside an operation. Otherwise it gets 0x51 if its first byte is `unknown`, else 0x40.
 abbrev pub unreadableRoute : Operation → Bool → Route
 unreadableRoute o unknown = pick (busy o) (Plain (brief.End end.Unreadable)) (codeRoute (pick unknown 0x51 0x40))
 
--- readable or not
-abbrev pub routeAs : Option Packet → Engine → List ℕ → Route
-routeAs none e q = unreadableRoute (e .operation) (unknownByte (firstByte (getD q 0 0)))
-routeAs (some r) e q = headingRoute e (headingOf r)
+-- The engine decides by whether packet `q` reads as a request.
+abbrev pub routeAs : Option Packet → Engine → List ℕ → List ℕ → Route
+routeAs none e q t = unreadableRoute (e .operation) (unknownByte (firstByte (getD q 0 0)))
+routeAs (some r) e q t = headingRoute e (headingOf r (knownIn e t (surveyOf (some (r .headers)))))
 
--- a whole packet
-unfoldable pub packetRoute : Engine → List ℕ → Route
-packetRoute e q = routeAs (requestOf q) e q
+-- This is the way of a whole packet, if the open ids stand in the table store `t`.
+unfoldable pub packetRoute : Engine → List ℕ → List ℕ → Route
+packetRoute e q t = routeAs (requestOf q) e q t
 
 unfoldable pub simplePlan : Engine → Simple → Plan
 simplePlan e (brief.Ask a r) = asksPlan e (e .peer) Nothing a r
@@ -159,7 +160,7 @@ simplePlan e (brief.Code a b) = codePlan e (e .peer) a b
 simplePlan e (brief.Drain code) = wantsPlan e (e .peer) (Draining code)
 simplePlan e (brief.End n) = endsPlan e (e .peer) n
 
--- with the packet
+-- The engine acts on a packet by its way.
 abbrev pub acts : Route → Engine → List ℕ → Stores → Done
 acts (Plain b) e q s = planned (simplePlan e b) s
 acts Connect e q s = planned (connectPlan e q) s
@@ -167,11 +168,11 @@ acts (Gather k g final asked srm confirm) e q s =
     actsGathered e k final asked srm confirm (gathers e (keepOf k) (headersIn (requestOf q)) g s) s
 acts (Send o srm wait) e q s = sendsNext e o srm wait s
 
--- so many bytes were taken
+-- The result says that `t` of the offered bytes were taken.
 abbrev pub withTaken : CallResult → ℕ → CallResult
 withTaken r t = record { engine = r .engine; taken = t; outcome = r .outcome }
 
--- more bytes of the packet are wanted
+-- The engine wants more bytes of a packet of which `b` have come.
 abbrev pub moreTook : Engine → ℕ → ℕ → CallResult
 moreTook e b t =
     record {

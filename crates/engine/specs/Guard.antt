@@ -4,6 +4,7 @@ use Prim.Native.Nat.{ℕ}
 use mathlib.Core.Bool.{Bool, _&&_, _||_}
 use lib.Dec.{ltb}
 use Rattle.base.specs.Pick.{pick}
+use Rattle.packet.specs.Limits.{maxConnections}
 use Rattle.model.specs.Step.{limitOf}
 use Rattle.model.specs.Guard.{sound, fits}
 use Rattle.server.specs.declared.CallKind.{CallKind}
@@ -15,21 +16,27 @@ use Rattle.server.specs.declared.Engine.{Engine}
 use Rattle.server.specs.declared.Outcome.the-variants as outcome
 use Rattle.server.specs.declared.CallResult.{CallResult}
 
--- a lent store is too short, by the lengths of packet, headers, body and reply
+-- One of the four stores is too short, by the lengths `p`, `h`, `b` and `y` of packet, headers, body and reply.
 unfoldable pub shortBy : ℕ → ℕ → ℕ → ℕ → ℕ → Bool
 shortBy limit p h b y = ltb p 65535 || (ltb h 65535 || (ltb y 65535 || ltb b limit))
 
--- what the guard says of a call of a kind: a short store comes before a wrong moment
+-- The guard refuses a call of kind `k` for a short store before it looks at the moment.
 unfoldable pub guardedBy : CallKind → Engine → ℕ → ℕ → ℕ → ℕ → Guarded
 guardedBy k e p h b y =
     pick (shortBy (limitOf e) p h b y) (Refuse refusal.StoreTooShort)
     (pick (sound e && fits k (e .awaits)) Proceed (Refuse refusal.WrongMoment))
 
--- what a refused call gives
+-- The guard of a call that is lent the table store tests its length `t` too.
+unfoldable pub guardedLent : CallKind → Engine → ℕ → ℕ → ℕ → ℕ → ℕ → Guarded
+guardedLent k e t p h b y =
+    pick (ltb t maxConnections || shortBy (limitOf e) p h b y) (Refuse refusal.StoreTooShort)
+    (pick (sound e && fits k (e .awaits)) Proceed (Refuse refusal.WrongMoment))
+
+-- A refused call returns the state as it was.
 abbrev pub refusedWith : Refusal → Engine → CallResult
 refusedWith r e = record { engine = e; taken = 0; outcome = outcome.Refused r }
 
--- what the guard says of a start: a short store comes before a realm of over 254 bytes after its charset
-unfoldable pub guardedStart : ℕ → ℕ → ℕ → ℕ → ℕ → ℕ → Guarded
-guardedStart limit realm p h b y =
-    pick (shortBy limit p h b y) (Refuse refusal.StoreTooShort) (pick (ltb 254 realm) (Refuse refusal.BadAnswer) Proceed)
+-- The guard refuses a start for a short store before it looks whether the realm is too `long`.
+unfoldable pub guardedStart : ℕ → Bool → ℕ → ℕ → ℕ → ℕ → ℕ → Guarded
+guardedStart limit long t p h b y =
+    pick (ltb t maxConnections || shortBy limit p h b y) (Refuse refusal.StoreTooShort) (pick long (Refuse refusal.BadAnswer) Proceed)

@@ -24,11 +24,11 @@ use Rattle.model.specs.Object.{sendsNext}
 use Rattle.engine.specs.declared.object.Turn.{Turn}
 use Rattle.engine.specs.declared.object.Turn.the-variants.{Send, Wait, End}
 
--- the operation after a packet of an object
+-- The engine goes on sending after a packet of an object that is not its last.
 abbrev pub sendingOn : NextPacket → Bool → Bool → Bool → Operation
 sendingOn k last srm wait = pick last Nothing (Sending (k .outgoing) (k .chunk) srm wait)
 
--- a packet of an object, the body read that it needs, or 0x50 where a header is too long for any packet
+-- The engine sends a packet of the object, asks for the body bytes that it needs, or replies with 0x50 if a header is too long for any packet.
 abbrev pub madePlan : Next → Engine → Bool → Bool → NextPacket → Plan
 madePlan (next.Send n last) e srm wait k =
     plan (engineWith (e .settings) (e .peer) (sendingOn k last srm wait) await.Taken 0 (e .length)) (outcome.Reply n) Silent
@@ -36,11 +36,11 @@ madePlan next.Read e srm wait k =
     asksPlan e (e .peer) (sendingOn k false srm wait) await.Body (request.Read (k .chunk .room))
 madePlan next.TooLarge e srm wait k = codePlan e (e .peer) await.Taken 0xD0
 
--- by what is next
+-- The engine decides by what comes next of the object.
 unfoldable pub packetPlan : Engine → Bool → Bool → NextPacket → Plan
 packetPlan e srm wait k = madePlan (k .next) e srm wait k
 
--- a plan, and the reply store before it is carried out
+-- A plan with the bytes of the reply store before it is carried out.
 pub record PlanMade : Type 0 where
   pub plan : Plan
   pub reply : List ℕ
@@ -48,19 +48,19 @@ pub record PlanMade : Type 0 where
 abbrev pub planMade : Plan → List ℕ → PlanMade
 planMade p y = record { plan = p; reply = y }
 
--- the plan for the next packet of an object, after the packet's bytes
+-- The plan for the next packet of an object stands beside the bytes of that packet.
 abbrev pub objectPlan : Engine → Bool → Bool → Made → PlanMade
 objectPlan e srm wait m = planMade (packetPlan e srm wait (m .packet)) (m .reply)
 
--- the plan carried out after the packet's bytes
+-- The engine carries the plan out after it has written the packet's bytes.
 abbrev pub packetSent : Engine → Bool → Bool → Made → Written
 packetSent e srm wait m = carried (packetPlan e srm wait (m .packet)) (m .reply)
 
--- under SRM and without a wait the next packet of an object follows at once
+-- Under Single Response Mode (SRM) and without a wait the next packet of an object follows at once.
 abbrev pub followsTurn : Outgoing → Bool → Bool → Turn
 followsTurn o srm wait = pick (srm && not wait) (Send o srm wait) Wait
 
--- after a reply that is not the last
+-- After a reply that is not the last the operation goes on.
 abbrev pub goesTurn : Operation → Turn
 goesTurn (Sending o c srm wait) = followsTurn o srm wait
 goesTurn Nothing = Wait
@@ -70,11 +70,11 @@ goesTurn (GatheringOp o g) = Wait
 goesTurn (Connecting c f n) = Wait
 goesTurn (Draining code) = Wait
 
--- what follows a reply that is taken
+-- The engine goes on, or ends, once the host has sent the reply.
 abbrev pub turnOf : Engine → Turn
 turnOf e = pick (sameAwait (e .awaits) await.Taken) (goesTurn (e .operation)) End
 
--- what it does
+-- The engine carries out what follows a reply that is taken.
 abbrev pub turnActs : Turn → Engine → Stores → Done
 turnActs (Send o srm wait) e s = sendsNext e o srm wait s
 turnActs Wait e s = wants e (e .peer) (e .operation) s

@@ -21,61 +21,61 @@ use Rattle.incoming.specs.declared.gather.Keep.the-variants as keep
 use Rattle.engine.specs.declared.operation.GatherKind.{GatherKind}
 use Rattle.engine.specs.declared.operation.GatherKind.the-variants as kind
 
--- a Put packet that is not final: first under SRM, then without
+-- After a Put packet that is not final, first under Single Response Mode (SRM), then without (docs/PROTOCOL.md#put-limit).
 abbrev pub putContinuePlan : Engine → Gathered → Bool → Bool → Bool → Plan
 putContinuePlan e g true confirm additional =
     pick additional (continuePlan e (Putting g true) false) (wantsPlan e (e .peer) (Putting g true))
 putContinuePlan e g false confirm additional =
     pick (g .over) (codePlan e (e .peer) await.Taken 0xCD) (continuePlan e (Putting g confirm) confirm)
 
--- a final Put packet
+-- After the final packet of a Put the host gets the record, unless its body is past the limit.
 abbrev pub putFinalPlan : Engine → Gathered → Plan
 putFinalPlan e g =
     pick (g .over) (codePlan e (e .peer) await.Taken 0xCD)
     (asksPlan e (e .peer) Nothing await.Reply (request.Put (g .kept) (putBody g)))
 
--- a Put packet: kept headers that are too long come before 0x4D
+-- Kept headers over 65,535 bytes end the engine before the limit is looked at.
 unfoldable pub putPlan : Engine → Gathered → Bool → Bool → Bool → Bool → Plan
 putPlan e g final additional srm confirm =
     pick (g .full) (endsPlan e (e .peer) end.HeadersTooLarge) (pick final (putFinalPlan e g) (putContinuePlan e g srm confirm additional))
 
--- a Get packet that is not final: first under SRM, then without
+-- After a packet of a Get's request that is not final, first under SRM, then without.
 abbrev pub getContinuePlan : Engine → Gathered → Bool → Bool → Bool → Plan
 getContinuePlan e g true confirm wait = wantsPlan e (e .peer) (Getting g true confirm wait)
 getContinuePlan e g false confirm wait = continuePlan e (Getting g confirm false wait) confirm
 
--- a Get packet of the request
+-- The engine asks the host about a Get once its request is final.
 unfoldable pub getPlan : Engine → Gathered → Bool → Bool → Bool → Bool → Plan
 getPlan e g final wait srm confirm =
     pick (g .full) (endsPlan e (e .peer) end.HeadersTooLarge)
     (pick final (asksPlan e (e .peer) (Getting g srm confirm wait) await.Get (request.Get (g .kept)))
     (getContinuePlan e g srm confirm wait))
 
--- a packet of Action, Session or a user-defined operation
+-- The engine asks the host about an Action, a Session or a user-defined operation once it is final.
 unfoldable pub headersPlan : Engine → Opcode → Gathered → Bool → Plan
 headersPlan e o g final =
     pick (g .full) (endsPlan e (e .peer) end.HeadersTooLarge)
     (pick final (asksPlan e (e .peer) Nothing await.Reply (headersRequest o (g .kept)))
     (continuePlan e (GatheringOp o g) false))
 
--- which headers are kept
+-- The kind of an operation says which of its headers the engine keeps.
 abbrev pub keepOf : GatherKind → Keep
 keepOf kind.Put = keep.Put
 keepOf kind.Get = keep.Get
 keepOf (kind.Headers o) = keep.All
 
--- where the headers start
+-- The headers of such a packet start here.
 abbrev pub fromOf : GatherKind → ℕ
 fromOf kind.Put = 3
 fromOf kind.Get = 3
 fromOf (kind.Headers o) = prefixOf o
 
--- a packet that is gathered
+-- The engine plans by the kind of the operation whose packet it has gathered.
 unfoldable pub kindPlan : Engine → GatherKind → Gathered → Bool → Bool → Bool → Bool → Plan
 kindPlan e kind.Put g final asked srm confirm = putPlan e g final asked srm confirm
 kindPlan e kind.Get g final asked srm confirm = getPlan e g final asked srm confirm
 kindPlan e (kind.Headers o) g final asked srm confirm = headersPlan e o g final
 
--- with the stores that gathering left
+-- The engine carries the plan out on the stores that gathering left.
 abbrev pub actsGathered : Engine → GatherKind → Bool → Bool → Bool → Bool → Gathering → Stores → Done
 actsGathered e k final asked srm confirm g s = planned (kindPlan e k (g .got) final asked srm confirm) (withGathered s g)

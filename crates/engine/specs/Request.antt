@@ -5,11 +5,11 @@ use mathlib.Core.Option.{Option, none, some}
 use lib.ListN.{length}
 use Rattle.packet.specs.Packet.{Request as Packet, requestOf, prefixOf}
 
--- after the fields of its opcode
+-- The headers of a request start behind the fields of its opcode.
 abbrev pub fromIn : Option Packet → ℕ → ℕ
 fromIn none n = n
 fromIn (some r) n = prefixOf (r .opcode)
 
--- of a packet that cannot be read there are no headers: they start at its end
+-- The headers of a packet that cannot be read start at its end, so that it has none.
 unfoldable pub lastFrom : List ℕ → ℕ
 lastFrom q = fromIn (requestOf q) (length q)

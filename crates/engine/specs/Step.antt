@@ -23,32 +23,32 @@ use Rattle.server.specs.declared.HostRequest.{HostRequest}
 use Rattle.server.specs.declared.Outcome.{Outcome}
 use Rattle.engine.specs.declared.step.ShortReply.{ShortReply}
 
--- the bytes of a small reply
+-- The bytes of a short reply.
 abbrev pub smallBytes : ShortReply → List ℕ
 smallBytes Silent = []
 smallBytes (Byte b) = packetBytes b [] []
 smallBytes Grant = packetBytes 0x90 [] (0x97 ∷ 0x01 ∷ [])
 
--- a plan carried out
+-- The engine carries a plan out: it writes the short reply to the front of the reply store.
 abbrev pub planned : Plan → Stores → Done
 planned p s = done (p .engine) (p .outcome) (withReply s (front (smallBytes (p .small)) (s .reply)))
 
 abbrev pub plan : Engine → Outcome → ShortReply → Plan
 plan e o m = record { engine = e; outcome = o; small = m }
 
--- bytes are wanted
+-- The engine wants bytes.
 unfoldable pub wantsPlan : Engine → Peer → Operation → Plan
 wantsPlan e p o = plan (engineWith (e .settings) p o await.Bytes 0 (e .length)) outcome.WantsBytes Silent
 
--- the host is asked
+-- The engine asks the host.
 unfoldable pub asksPlan : Engine → Peer → Operation → Await → HostRequest → Plan
 asksPlan e p o a r = plan (engineWith (e .settings) p o a 0 (e .length)) (outcome.Request r) Silent
 
--- the engine ends with a number
+-- The engine ends with `x`.
 unfoldable pub endsPlan : Engine → Peer → End → Plan
 endsPlan e p x = plan (engineWith (e .settings) p Nothing await.Nothing 0 (e .length)) (outcome.End x) Silent
 
--- a reply of a first byte alone
+-- The engine replies with a first byte and no headers.
 unfoldable pub codePlan : Engine → Peer → Await → ℕ → Plan
 codePlan e p a b = plan (engineWith (e .settings) p Nothing a 0 (e .length)) (outcome.Reply 3) (Byte b)
 
@@ -60,12 +60,12 @@ abbrev pub continueSmall : Bool → ShortReply
 continueSmall true = Grant
 continueSmall false = Byte 0x90
 
--- Continue, with SingleResponseMode where it is granted
+-- The engine says Continue, with SingleResponseMode if `grant` is set.
 unfoldable pub continuePlan : Engine → Operation → Bool → Plan
 continuePlan e o grant =
     plan (engineWith (e .settings) (e .peer) o await.Taken 0 (e .length)) (outcome.Reply (continueLength grant)) (continueSmall grant)
 
--- what a call gives, and the reply store afterwards
+-- A call returns `took` and leaves these bytes in the reply store.
 pub record Written : Type 0 where
   pub took : CallResult
   pub reply : List ℕ
@@ -73,28 +73,28 @@ pub record Written : Type 0 where
 abbrev pub written : CallResult → List ℕ → Written
 written r y = record { took = r; reply = y }
 
--- the other stores stay
+-- The call leaves the other stores as they were.
 abbrev pub within : Written → Stores → Stepped
 within w s = stepped (w .took) (withReply s (w .reply))
 
--- what a call gives by its plan
+-- A call that takes no bytes returns this by its plan.
 abbrev pub tookBy : Plan → CallResult
 tookBy p = record { engine = p .engine; taken = 0; outcome = p .outcome }
 
--- the plan carried out: its small reply is at the front of the reply store
+-- The plan is carried out: its short reply stands at the front of the reply store.
 abbrev pub carried : Plan → List ℕ → Written
 carried p y = written (tookBy p) (front (smallBytes (p .small)) y)
 
--- a reply that was sent, or is too large
+-- The engine replies with what was written, or ends if it was too large.
 unfoldable pub sentPlan : Engine → Peer → Sent → Plan
 sentPlan e p sent.TooLarge = endsPlan e p end.ReplyTooLarge
 sentPlan e p (sent.Reply n) =
     plan (engineWith (e .settings) p Nothing await.Taken 0 (e .length)) (outcome.Reply n) Silent
 
--- the same, by what sending gave
+-- The same by what the writer of the reply gave.
 abbrev pub sentBy : Engine → Peer → Replying → Written
 sentBy e p z = written (tookBy (sentPlan e p (z .answer))) (z .reply)
 
--- a reply with headers, after some fields
+-- The engine replies with a code, `fields` and headers.
 unfoldable pub repliesBy : Engine → Peer → ℕ → List ℕ → List ℕ → List ℕ → Written
 repliesBy e p code fields hs y = sentBy e p (sentInto (sendBytes (p .«remote_max_packet_length») code fields hs) y)

@@ -1,6 +1,6 @@
 // The twelve calls of a host, and nothing else. Each asks the guard first and then equals its definition in model/specs/Calls.
 ghost use mathlib.Core.Path.{_≡_};
-ghost use Rattle.model.specs.Step.{stepped, stores};
+ghost use Rattle.model.specs.Step.{stepped, called, stores};
 ghost use Rattle.model.specs.Calls.{streamEndedStep, startStep, bytesOfferedStep, replyTakenStep, abortAcknowledgedStep, bodyFailedStep, bodyGivenStep, objectGivenStep, nonceGivenStep, passwordGivenStep, replyGivenStep, credentialsGivenStep};
 ghost use Rattle.packet.specs.AuthWrite.{given};
 ghost use Rattle.connection.specs.Pieces.{credentialsOf};
@@ -14,9 +14,11 @@ use crate::dispatch::packet_done;
 use crate::dispatch::with_taken;
 use crate::guard::Guarded;
 use crate::guard::guard;
+use crate::guard::guard_lent;
 use crate::guard::guard_start;
 use crate::guard::is_bad_headers;
 use crate::guard::is_bad_reply;
+use crate::guard::is_long_realm;
 use crate::guard::refuse;
 use crate::guard::same_await;
 use crate::object::either;
@@ -50,21 +52,25 @@ use server::Outcome;
 use server::Refusal;
 use server::Settings;
 
-// Starts an engine with `settings`. The start is refused with `StoreTooShort`, or with `BadAnswer` if the realm is longer than 254 bytes;
-// the state that comes back has then ended.
+// Starts an engine with `settings`, and with the bytes of `realm` if the settings say that there is one. The start is refused with
+// `StoreTooShort`, or with `BadAnswer` if the realm is longer than 254 bytes; the state that comes back has then ended.
 pub fn start(
     settings: Settings,
+    realm: &[u8],
+    tables: &[u64],
     packet: &mut [u8],
     headers: &mut [u8],
     body: &mut [u8],
     reply: &mut [u8],
 ) -> CallResult
     ensures { λ r. ⌜ stepped r (stores (now (packet .exit)) (now (headers .exit)) (now (body .exit)) (now (reply .exit)))
-        ≡ startStep settings (stores (now (packet .entry)) (now (headers .entry)) (now (body .entry)) (now (reply .entry))) ⌝ }
+        ≡ startStep settings (now (realm .entry)) (stores (now (packet .entry)) (now (headers .entry)) (now (body .entry))
+        (now (reply .entry))) (now (tables .entry)) ⌝ }
 {
     if let Guarded::Refuse(refusal) = guard_start(
         settings.max_object_size,
-        settings.realm_length,
+        is_long_realm(settings.has_realm, realm.len()),
+        tables.len(),
         packet.len(),
         headers.len(),
         body.len(),
@@ -80,10 +86,11 @@ pub fn start(
 }
 
 // Offers the engine bytes from the client. The engine takes them up to the end of a packet and never past it; the host offers the rest
-// again after the packet is answered (docs/PROTOCOL.md#frames).
+// again after the packet is answered (docs/PROTOCOL.md#frames). The open ids in `tables` decide whether a packet is admitted.
 pub fn bytes_offered(
     e: Engine,
     input: &[u8],
+    tables: &[u64],
     packet: &mut [u8],
     headers: &mut [u8],
     body: &mut [u8],
@@ -91,11 +98,12 @@ pub fn bytes_offered(
 ) -> CallResult
     ensures { λ r. ⌜ stepped r (stores (now (packet .exit)) (now (headers .exit)) (now (body .exit)) (now (reply .exit)))
         ≡ bytesOfferedStep e (now (input .entry)) (stores (now (packet .entry)) (now (headers .entry)) (now (body .entry))
-        (now (reply .entry))) ⌝ }
+        (now (reply .entry))) (now (tables .entry)) ⌝ }
 {
-    if let Guarded::Refuse(refusal) = guard(
+    if let Guarded::Refuse(refusal) = guard_lent(
         e,
         CallKind::FromPeer,
+        tables.len(),
         packet.len(),
         headers.len(),
         body.len(),
@@ -109,7 +117,7 @@ pub fn bytes_offered(
         Frame::More => more(e, f.begun, f.taken),
         Frame::Short => with_taken(took(ends(e, e.peer, End::LengthTooSmall)), f.taken),
         Frame::Whole => with_taken(
-            packet_done(e, f.begun, &packet[..], headers, body, reply),
+            packet_done(e, f.begun, tables, &packet[..], headers, body, reply),
             f.taken,
         ),
     }
@@ -165,23 +173,27 @@ pub fn reply_taken(
     carry_out(plan, reply)
 }
 
-// Gives the host's reply to a request, a code and header bytes in canonical form. A Get may be answered so, or by `object_given`.
+// Gives the host's reply to a request, a code and header bytes in canonical form. A Get may be answered so, or by `object_given`. A reply
+// to a Connect or a Disconnect may change which ids are open in `tables`.
 pub fn reply_given(
     e: Engine,
     code: u8,
     header_bytes: &[u8],
+    tables: &mut [u64],
     packet: &mut [u8],
     headers: &mut [u8],
     body: &mut [u8],
     reply: &mut [u8],
 ) -> CallResult
-    ensures { λ r. ⌜ stepped r (stores (now (packet .exit)) (now (headers .exit)) (now (body .exit)) (now (reply .exit)))
+    ensures { λ r. ⌜ called (stepped r (stores (now (packet .exit)) (now (headers .exit)) (now (body .exit)) (now (reply .exit))))
+        (now (tables .exit))
         ≡ replyGivenStep e code (now («header_bytes» .entry)) (stores (now (packet .entry)) (now (headers .entry)) (now (body .entry))
-        (now (reply .entry))) ⌝ }
+        (now (reply .entry))) (now (tables .entry)) ⌝ }
 {
-    if let Guarded::Refuse(refusal) = guard(
+    if let Guarded::Refuse(refusal) = guard_lent(
         e,
         CallKind::ReplyGiven,
+        tables.len(),
         packet.len(),
         headers.len(),
         body.len(),
@@ -195,9 +207,17 @@ pub fn reply_given(
     let length = e.length;
     let awaits = e.awaits;
     if same_await(awaits, Await::Connect) {
-        return connect_answer(e, code, header_bytes, &packet[..length], headers, reply);
+        return connect_answer(
+            e,
+            code,
+            header_bytes,
+            &packet[..length],
+            tables,
+            headers,
+            reply,
+        );
     }
-    let peer = handle_disconnect(e, &packet[..length]);
+    let peer = handle_disconnect(e, &packet[..length], tables);
     sends(e, peer, code, header_bytes, reply)
 }
 
@@ -367,19 +387,20 @@ pub fn password_given(
     took(password_plan(e, right))
 }
 
-// Gives a fresh nonce for a challenge, and the realm's bytes, of which the settings' `realm_length` count. The engine replies with 0x41 and
-// the challenge.
+// Gives a fresh nonce for a challenge. The engine replies with 0x41 and the challenge, which carries the bytes of `realm` if the settings
+// say that there is a realm. The host lends the same bytes as to the start; over 254 bytes are refused with `BadAnswer`, as there.
 pub fn nonce_given(
     e: Engine,
     n: Octets16,
-    realm: [u8; 254],
+    realm: &[u8],
     packet: &mut [u8],
     headers: &mut [u8],
     body: &mut [u8],
     reply: &mut [u8],
 ) -> CallResult
     ensures { λ r. ⌜ stepped r (stores (now (packet .exit)) (now (headers .exit)) (now (body .exit)) (now (reply .exit)))
-        ≡ nonceGivenStep e n realm (stores (now (packet .entry)) (now (headers .entry)) (now (body .entry)) (now (reply .entry))) ⌝ }
+        ≡ nonceGivenStep e n (now (realm .entry)) (stores (now (packet .entry)) (now (headers .entry)) (now (body .entry))
+        (now (reply .entry))) ⌝ }
 {
     if let Guarded::Refuse(refusal) = guard(
         e,
@@ -390,6 +411,9 @@ pub fn nonce_given(
         reply.len(),
     ) {
         return refuse(e, refusal);
+    }
+    if is_long_realm(e.settings.has_realm, realm.len()) {
+        return refuse(e, Refusal::BadAnswer);
     }
     let peer = challenged(e.peer, n);
     let sent = send_challenge(e.settings, realm, peer.remote_max_packet_length, n, reply);

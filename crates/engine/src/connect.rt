@@ -10,7 +10,8 @@ ghost use Rattle.packet.specs.AuthWrite.{given, overlong};
 ghost use Rattle.connection.specs.Pieces.{answeredIn, credentialsOf};
 ghost use Rattle.model.specs.Request.{realmIn, placedAt};
 ghost use Rattle.engine.specs.Step.{written};
-ghost use Rattle.engine.specs.Connect.{answering, headersOf, srmAskedBy, connectReplies, acceptedHeaders, answerFor, challengedBy, acceptedBy, Below, answeredBy, verifiesPlan, limitedPlan, connectPlan, passwordPlan, repliedPeer, credentialsBy};
+ghost use Rattle.engine.specs.Connect.{answering, accepting, headersOf, srmAskedBy, connectReplies, acceptedHeaders, answerFor, challengedBy, acceptedBy, Below, answeredBy, verifiesPlan, limitedPlan, connectPlan, passwordPlan, repliedLink, credentialsBy};
+ghost use Rattle.connection.specs.Peer.{linked, answers};
 ghost use Rattle.packet.specs.Packet.{requestOf};
 ghost use Rattle.journal.specs.Journal.{headersOf as headersIn};
 ghost use Rattle.digest.specs.Md5.{octets16};
@@ -18,7 +19,7 @@ ghost use Rattle.connection.specs.Reply.{fieldsOf, sendBytes, sending, sentInto
 ghost use Rattle.connection.specs.ConnectReply.{challengeHeader};
 ghost use Rattle.model.specs.Step.{limitOf};
 ghost use Rattle.model.specs.Connect.{optionsOf, realmOf};
-ghost use Rattle.model.specs.Guard.{soundOperation};
+ghost use Rattle.model.specs.Guard.{soundOperation, longRealm};
 use crate::guard::refuse;
 use crate::guard::same_await;
 use crate::request::first_id;
@@ -88,15 +89,17 @@ fn srm_after(e: Engine, packet: &[u8]) -> bool
 
 // Opens the ConnectionID that the host's answer names first. If it names none and the Connect has a Target, the engine looks for a new id
 // and puts it in front of the answer (docs/PROTOCOL.md#connection-ids).
-fn opens(e: Engine, header_bytes: &[u8], packet: &[u8]) -> Answer
-    requires { ⌜ e .peer .count ≤ 64 ⌝ }
-    ensures { λ r. ⌜ r ≡ answerFor e (now («header_bytes» .entry)) (now (packet .entry)) ⌝ }
+fn opens(e: Engine, header_bytes: &[u8], packet: &[u8], tables: &mut [u64]) -> Answer
+    requires { ⌜ (e .peer .count ≤ 64) × (64 ≤ length (now tables)) ⌝ }
+    ensures { λ r. ⌜ answers r (now (tables .exit))
+        ≡ answerFor e (now (tables .entry)) (now («header_bytes» .entry)) (now (packet .entry)) ⌝ }
 {
     opened_for(
         e.peer,
         srm_after(e, packet),
         first_id(header_bytes, 0),
         has_target(packet),
+        tables,
     )
 }
 
@@ -227,18 +230,20 @@ pub(crate) fn connect_answer(
     code: u8,
     header_bytes: &[u8],
     packet: &[u8],
+    tables: &mut [u64],
     headers: &mut [u8],
     reply: &mut [u8],
 ) -> CallResult
-    requires { ⌜ (e .peer .count ≤ 64) × (65535 ≤ length (now reply)) × (65535 ≤ length (now headers)) × (length (now packet) ≤ 65535)
+    requires { ⌜ (e .peer .count ≤ 64) × (64 ≤ length (now tables)) × (65535 ≤ length (now reply)) × (65535 ≤ length (now headers)) × (length (now packet) ≤ 65535)
         × (length (now «header_bytes») ≤ 65535) ⌝ }
-    ensures { λ r. ⌜ answering r (now (headers .exit)) (now (reply .exit))
-        ≡ acceptedBy e code (now («header_bytes» .entry)) (now (packet .entry)) (now (headers .entry)) (now (reply .entry)) ⌝ }
+    ensures { λ r. ⌜ accepting (answering r (now (headers .exit)) (now (reply .exit))) (now (tables .exit))
+        ≡ acceptedBy e (now (tables .entry)) code (now («header_bytes» .entry)) (now (packet .entry)) (now (headers .entry))
+        (now (reply .entry)) ⌝ }
 {
     if !is_success(code) {
         return sends_connect(e, e.peer, code, header_bytes, reply);
     }
-    let answer = opens(e, header_bytes, packet);
+    let answer = opens(e, header_bytes, packet, tables);
     let opening = answer.opening;
     if opening.full {
         return sends_connect(e, e.peer, SERVICE_UNAVAILABLE, &header_bytes[..0], reply);
@@ -379,17 +384,16 @@ pub(crate) fn password_plan(e: Engine, right: bool) -> Plan
 // Sends 0x41 with a challenge as the settings describe it: options, realm, and the nonce.
 pub(crate) fn send_challenge(
     settings: Settings,
-    realm: [u8; 254],
+    realm: &[u8],
     remote: u16,
     nonce: Octets16,
     reply: &mut [u8],
 ) -> Sent
-    requires { ⌜ (settings .«realm_length» ≤ 254) × (65535 ≤ length (now reply)) ⌝ }
+    requires { ⌜ (longRealm settings (now realm) ≡ false) × (65535 ≤ length (now reply)) ⌝ }
     ensures { λ r. ⌜ sending r (now (reply .exit))
         ≡ sentInto (sendBytes remote 0x41 (fieldsOf (settings .«max_packet_length»))
-        (bytesOf (challengeHeader (octets16 nonce) (optionsOf settings) (realmOf settings realm)))) (now (reply .entry)) ⌝ }
+        (bytesOf (challengeHeader (octets16 nonce) (optionsOf settings) (realmOf settings (now (realm .entry)))))) (now (reply .entry)) ⌝ }
 {
-    let n = settings.realm_length;
     challenge_reply(
         reply,
         wide16(remote),
@@ -399,7 +403,7 @@ pub(crate) fn send_challenge(
         settings.read_only,
         settings.has_realm,
         settings.charset,
-        &realm[..n],
+        realm,
     )
 }
 
@@ -461,13 +465,13 @@ pub(crate) fn connect_with_credentials(
 
 // Closes the id that a Disconnect names before its reply is made. If no id is named or left, the peer's fields are cleared
 // (docs/PROTOCOL.md#disconnect).
-pub(crate) fn handle_disconnect(e: Engine, packet: &[u8]) -> Peer
-    requires { ⌜ e .peer .count ≤ 64 ⌝ }
-    ensures { λ r. ⌜ r ≡ repliedPeer e (now (packet .entry)) ⌝ }
+pub(crate) fn handle_disconnect(e: Engine, packet: &[u8], tables: &mut [u64]) -> Peer
+    requires { ⌜ (e .peer .count ≤ 64) × (64 ≤ length (now tables)) ⌝ }
+    ensures { λ r. ⌜ linked r (now (tables .exit)) ≡ repliedLink e (now (packet .entry)) (now (tables .entry)) ⌝ }
 {
     let awaits = e.awaits;
     if !same_await(awaits, Await::Disconnect) {
         return e.peer;
     }
-    disconnected(e.peer, first_id(packet, last_from(packet)))
+    disconnected(e.peer, first_id(packet, last_from(packet)), tables)
 }

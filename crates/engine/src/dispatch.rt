@@ -2,7 +2,7 @@
 // open, else by what is open. A packet may also be turned away, drained or unreadable.
 ghost use mathlib.Core.Path.{_≡_};
 ghost use Prim.Native.Nat.{_≤_, ℕ};
-ghost use Rattle.model.specs.Dispatch.{rejection as rejectionOf, drains as drainsOf, confirms as confirmsOf, busy as busyWith, unknownByte, lengthOf, packetDone};
+ghost use Rattle.model.specs.Dispatch.{rejection as rejectionOf, knownIn, drains as drainsOf, confirms as confirmsOf, busy as busyWith, unknownByte, lengthOf, packetDone};
 ghost use Rattle.engine.specs.Dispatch.{admissionOf, unauthorizedFor, codeRoute, askRoute, drainedBy, rejectedRoute, putRoute, getRoute, sendRoute, headersRoute, dispatchRoute, openRoute, interruptsRoute, continuedRoute, drainingRoute, insideRoute, headingRoute, unreadableRoute, simplePlan, packetRoute, acts, withTaken, moreTook};
 ghost use mathlib.Core.Bool.{true};
 ghost use mathlib.Core.List.{List};
@@ -32,8 +32,8 @@ use packet::opcode::FirstByte;
 use packet::opcode::Opcode;
 use packet::opcode::from_byte;
 use packet::opcode::same;
-use packet::packet::Parsed;
-use packet::packet::parse_packet;
+use packet::packet::Head;
+use packet::packet::packet_head;
 use packet::packet::set_path_flags;
 use packet::response;
 use server::Await;
@@ -52,6 +52,8 @@ pub(crate) struct Heading {
     pub backup: bool,
     pub no_create: bool,
     pub is_final: bool,
+    // The packet names a ConnectionID, and it is open.
+    pub known: bool,
 }
 
 // A step that needs no more of the packet than its heading.
@@ -108,16 +110,14 @@ fn is_unauthorized(e: Engine, opcode: Opcode) -> bool
 // Returns the code that refuses a packet before it reaches the host, if any: 0x41 for a missing password comes before 0x53 for a
 // ConnectionID that is not open.
 fn rejection(e: Engine, h: Heading) -> Admission
-    requires { ⌜ e .peer .count ≤ 64 ⌝ }
-    ensures { λ r. ⌜ r ≡ admissionOf (rejectionOf e (h .opcode) (h .survey)) ⌝ }
+    ensures { λ r. ⌜ r ≡ admissionOf (rejectionOf e (h .opcode) (h .survey) (h .known)) ⌝ }
 {
     let opcode = h.opcode;
     if is_unauthorized(e, opcode) {
         return Admission::Rejects(response::UNAUTHORIZED);
     }
     if h.survey.has_id {
-        let ids = e.peer.connections;
-        if is_open(&ids, e.peer.count, h.survey.id) {
+        if h.known {
             return Admission::Admits;
         }
         return Admission::Rejects(response::SERVICE_UNAVAILABLE);
@@ -285,7 +285,6 @@ fn dispatch(e: Engine, h: Heading) -> Route
 
 // The way of a packet while nothing is open. A Connect is never turned away.
 fn open_route(e: Engine, h: Heading) -> Route
-    requires { ⌜ e .peer .count ≤ 64 ⌝ }
     ensures { λ r. ⌜ r ≡ openRoute e h ⌝ }
 {
     let opcode = h.opcode;
@@ -331,7 +330,6 @@ fn draining(h: Heading, code: u8) -> Route
 
 // The way of a packet by what is open.
 fn inside(e: Engine, h: Heading) -> Route
-    requires { ⌜ e .peer .count ≤ 64 ⌝ }
     ensures { λ r. ⌜ r ≡ insideRoute (e .operation) e h ⌝ }
 {
     let operation = e.operation;
@@ -370,7 +368,6 @@ fn inside(e: Engine, h: Heading) -> Route
 
 // The way of a readable packet. An Abort goes before all else: it is answered in every state.
 pub(crate) fn heading_route(e: Engine, h: Heading) -> Route
-    requires { ⌜ e .peer .count ≤ 64 ⌝ }
     ensures { λ r. ⌜ r ≡ headingRoute e h ⌝ }
 {
     let opcode = h.opcode;
@@ -446,29 +443,45 @@ fn is_unknown(byte: u8) -> bool
     }
 }
 
-// Reads a whole packet and returns its way.
-pub(crate) fn route_packet(e: Engine, p: &[u8]) -> Route
-    requires { ⌜ (1 ≤ length (now p)) × (e .peer .count ≤ 64) ⌝ }
-    ensures { λ r. ⌜ r ≡ packetRoute e (now (p .entry)) ⌝ }
+// Whether the packet names a ConnectionID that is open: one of the ids in the table store.
+fn is_known(e: Engine, v: Survey, tables: &[u64]) -> bool
+    requires { ⌜ (e .peer .count ≤ 64) × (64 ≤ length (now tables)) ⌝ }
+    ensures { λ r. ⌜ r ≡ knownIn e (now (tables .entry)) v ⌝ }
 {
-    let Parsed::Request {
+    if v.has_id {
+        return is_open(tables, e.peer.count, v.id);
+    }
+    false
+}
+
+// Reads a whole packet, in one pass over its headers, and returns its way.
+pub(crate) fn route_packet(e: Engine, p: &[u8], tables: &[u64]) -> Route
+    requires { ⌜ (1 ≤ length (now p)) × (e .peer .count ≤ 64) × (64 ≤ length (now tables)) ⌝ }
+    ensures { λ r. ⌜ r ≡ packetRoute e (now (p .entry)) (now (tables .entry)) ⌝ }
+{
+    let Head::Known {
         opcode,
         is_final,
         headers,
-        length: _,
-    } = parse_packet(p)
+    } = packet_head(p)
     else {
         return unreadable(e, is_unknown(p[0]));
     };
+    let survey = survey_headers(p, headers);
+    if !survey.readable {
+        return unreadable(e, is_unknown(p[0]));
+    }
     let flags = set_path_flags(p);
+    let known = is_known(e, survey, tables);
     heading_route(
         e,
         Heading {
-            survey: survey_headers(p, headers),
+            survey,
             opcode,
             backup: flags.backup,
             no_create: flags.no_create,
             is_final,
+            known,
         },
     )
 }
@@ -486,15 +499,22 @@ pub(crate) fn simple_plan(e: Engine, brief: Simple) -> Plan
 }
 
 // Acts on a packet and returns the plan that is still to be carried out.
-fn act(e: Engine, p: &[u8], headers: &mut [u8], body: &mut [u8], reply: &mut [u8]) -> Plan
-    requires { ⌜ (1 ≤ length (now p)) × (e .peer .count ≤ 64) × (255 ≤ e .peer .«remote_max_packet_length»)
+fn act(
+    e: Engine,
+    p: &[u8],
+    tables: &[u64],
+    headers: &mut [u8],
+    body: &mut [u8],
+    reply: &mut [u8],
+) -> Plan
+    requires { ⌜ (1 ≤ length (now p)) × (e .peer .count ≤ 64) × (64 ≤ length (now tables)) × (255 ≤ e .peer .«remote_max_packet_length»)
         × (soundOperation (limitOf e) (e .operation) ≡ true) × (65535 ≤ length (now headers)) × (limitOf e ≤ length (now body))
         × (65535 ≤ length (now reply)) ⌝ }
     ensures { λ r. ⌜ ((q : List ℕ) → planned r (stores q (now (headers .exit)) (now (body .exit)) (now (reply .exit)))
-        ≡ acts (packetRoute e (now (p .entry))) e (now (p .entry))
+        ≡ acts (packetRoute e (now (p .entry)) (now (tables .entry))) e (now (p .entry))
         (stores q (now (headers .entry)) (now (body .entry)) (now (reply .entry)))) ⌝ }
 {
-    match route_packet(e, p) {
+    match route_packet(e, p, tables) {
         Route::Plain(brief) => simple_plan(e, brief),
         Route::Connect => handle_connect(e, p),
         Route::Gather {
@@ -537,19 +557,21 @@ fn whole(e: Engine, n: usize) -> Engine
 pub(crate) fn packet_done(
     e: Engine,
     n: usize,
+    tables: &[u64],
     packet: &[u8],
     headers: &mut [u8],
     body: &mut [u8],
     reply: &mut [u8],
 ) -> CallResult
-    requires { ⌜ (1 ≤ n) × (n ≤ length (now packet)) × (e .peer .count ≤ 64) × (255 ≤ e .peer .«remote_max_packet_length»)
+    requires { ⌜ (1 ≤ n) × (n ≤ length (now packet)) × (e .peer .count ≤ 64) × (64 ≤ length (now tables)) × (255 ≤ e .peer .«remote_max_packet_length»)
         × (soundOperation (limitOf e) (e .operation) ≡ true) × (65535 ≤ length (now headers)) × (limitOf e ≤ length (now body))
         × (65535 ≤ length (now reply)) ⌝ }
     ensures { λ r. ⌜ stepped r (stores (now (packet .entry)) (now (headers .exit)) (now (body .exit)) (now (reply .exit)))
-        ≡ after 0 (packetDone e n (stores (now (packet .entry)) (now (headers .entry)) (now (body .entry)) (now (reply .entry)))) ⌝ }
+        ≡ after 0 (packetDone e n (stores (now (packet .entry)) (now (headers .entry)) (now (body .entry)) (now (reply .entry)))
+        (now (tables .entry))) ⌝ }
 {
     let at = whole(e, n);
-    let plan = act(at, &packet[..n], headers, body, reply);
+    let plan = act(at, &packet[..n], tables, headers, body, reply);
     carry_out(plan, reply)
 }
 

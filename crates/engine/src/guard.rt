@@ -2,7 +2,10 @@
 ghost use mathlib.Core.Path.{_≡_};
 ghost use Rattle.model.specs.Guard.{awaitNumber, sameAwait, fits, sound, soundGathered, soundOutgoing, soundOperation, badHeaders, badReply};
 ghost use Rattle.server.specs.declared.CallKind.the-variants as kind;
-ghost use Rattle.engine.specs.Guard.{shortBy, guardedBy, guardedStart, refusedWith};
+ghost use mathlib.Core.Bool.{_&&_};
+ghost use lib.Dec.{ltb};
+ghost use Rattle.packet.specs.Limits.{maxRealm};
+ghost use Rattle.engine.specs.Guard.{shortBy, guardedBy, guardedLent, guardedStart, refusedWith};
 use incoming::gather::Gathered;
 use outgoing::object::Chunk;
 use outgoing::object::Outgoing;
@@ -193,9 +196,6 @@ pub(crate) fn is_sound(e: Engine) -> bool
     if e.peer.remote_max_packet_length < MIN_PACKET {
         return false;
     }
-    if e.settings.realm_length > MAX_REALM {
-        return false;
-    }
     let operation = e.operation;
     sound_operation(e.settings.max_object_size, operation)
 }
@@ -231,22 +231,53 @@ pub(crate) fn guard(
     Guarded::Refuse(Refusal::WrongMoment)
 }
 
-// Returns the refusal of a start, or says that it may proceed: a short store comes before a realm of over 254 bytes, the most that fit
-// beside the charset.
-pub(crate) fn guard_start(
-    limit: u32,
-    realm: usize,
+// Returns the refusal of a call that is lent the table store too, which holds 64 numbers, or says that it may proceed.
+pub(crate) fn guard_lent(
+    e: Engine,
+    k: CallKind,
+    tables: usize,
     packet: usize,
     headers: usize,
     body: usize,
     reply: usize,
 ) -> Guarded
-    ensures { λ r. ⌜ r ≡ guardedStart limit realm packet headers body reply ⌝ }
+    ensures { λ r. ⌜ r ≡ guardedLent k e tables packet headers body reply ⌝ }
 {
+    if tables < MAX_CONNECTIONS {
+        return Guarded::Refuse(Refusal::StoreTooShort);
+    }
+    guard(e, k, packet, headers, body, reply)
+}
+
+// Whether a realm is longer than the 254 bytes that fit beside the charset. Without a realm in the settings no length counts.
+pub(crate) fn is_long_realm(has_realm: bool, length: usize) -> bool
+    ensures { λ r. ⌜ r ≡ «has_realm» && ltb maxRealm length ⌝ }
+{
+    if has_realm {
+        return length > MAX_REALM;
+    }
+    false
+}
+
+// Returns the refusal of a start, or says that it may proceed: a short store comes before a realm that is too long.
+pub(crate) fn guard_start(
+    limit: u32,
+    long: bool,
+    tables: usize,
+    packet: usize,
+    headers: usize,
+    body: usize,
+    reply: usize,
+) -> Guarded
+    ensures { λ r. ⌜ r ≡ guardedStart limit long tables packet headers body reply ⌝ }
+{
+    if tables < MAX_CONNECTIONS {
+        return Guarded::Refuse(Refusal::StoreTooShort);
+    }
     if is_short(limit, packet, headers, body, reply) {
         return Guarded::Refuse(Refusal::StoreTooShort);
     }
-    if realm > MAX_REALM {
+    if long {
         return Guarded::Refuse(Refusal::BadAnswer);
     }
     Guarded::Proceed

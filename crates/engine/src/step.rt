@@ -70,7 +70,6 @@ fn fresh_peer() -> Peer
     ensures { λ r. ⌜ r ≡ freshPeer ⌝ }
 {
     Peer {
-        connections: [0; 64],
         count: 0,
         next_connection_id: 1,
         remote_max_packet_length: MIN_PACKET,

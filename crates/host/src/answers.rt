@@ -1,4 +1,4 @@
-// A host that keeps nothing: codes without headers, no password and no credentials.
+// A host that keeps nothing: it answers with codes without headers, and has no password and no credentials.
 use engine::calls;
 use packet::response::NOT_IMPLEMENTED;
 use packet::response::SUCCESS;
@@ -6,19 +6,20 @@ use server::CallResult;
 use server::Engine;
 use server::HostRequest;
 ghost use mathlib.Core.Path.{_≡_};
-ghost use Rattle.model.specs.Step.{stepped, stores};
+ghost use Rattle.model.specs.Step.{stepped, called, stores};
 ghost use Rattle.host.specs.Answers.{callFor, callBy, answered};
 
-// The call that answers a request.
+// Which call answers a request.
 pub enum Kind {
     Reply(u8),
     Acknowledge,
     NoPassword,
     NoCredentials,
-    // Nonces are asked for with authentication, bodies for an object: neither is here.
+    // The engine asks for a nonce only with authentication and for body bytes only of an object. This host has neither.
     Never,
 }
 
+// Returns which call answers `request`.
 fn kind_of(request: HostRequest) -> Kind
     ensures { λ r. ⌜ callBy r ≡ callFor request ⌝ }
 {
@@ -48,20 +49,22 @@ fn kind_of(request: HostRequest) -> Kind
     }
 }
 
-// The host's answer to a request.
+// Answers `request` with the call that is due. The stores are arrays, since a program's stores have lengths that are known; the engine is lent
+// them whole.
 pub fn answer(
     e: Engine,
     request: HostRequest,
-    packet: &mut [u8],
-    headers: &mut [u8],
-    body: &mut [u8],
-    reply: &mut [u8],
+    tables: &mut [u64; 320],
+    packet: &mut [u8; 65535],
+    headers: &mut [u8; 65535],
+    body: &mut [u8; 1048576],
+    reply: &mut [u8; 65535],
 ) -> CallResult
-    ensures { λ r. ⌜ stepped r (stores (now (packet .exit)) (now (headers .exit)) (now (body .exit)) (now (reply .exit)))
-        ≡ answered (callFor request) e (stores (now (packet .entry)) (now (headers .entry)) (now (body .entry)) (now (reply .entry))) ⌝ }
+    ensures { λ r. ⌜ called (stepped r (stores (now (packet .exit)) (now (headers .exit)) (now (body .exit)) (now (reply .exit)))) (now (tables .exit))
+        ≡ answered (callFor request) e (stores (now (packet .entry)) (now (headers .entry)) (now (body .entry)) (now (reply .entry))) (now (tables .entry)) ⌝ }
 {
     match kind_of(request) {
-        Kind::Reply(code) => calls::reply_given(e, code, b"", packet, headers, body, reply),
+        Kind::Reply(code) => calls::reply_given(e, code, b"", tables, packet, headers, body, reply),
         Kind::Acknowledge => calls::abort_acknowledged(e, packet, headers, body, reply),
         Kind::NoPassword => calls::password_given(e, false, b"", packet, headers, body, reply),
         Kind::NoCredentials => calls::credentials_given(

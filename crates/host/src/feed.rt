@@ -1,4 +1,4 @@
-// Offering the peer's bytes to the engine. What it does not take is offered again.
+// Offering the peer's bytes to the engine. Bytes that the engine does not take are offered again.
 use engine::calls;
 use lines::input::read;
 use server::CallResult;
@@ -10,19 +10,20 @@ ghost use mathlib.Core.Path.{_≡_};
 ghost use lib.ListN.{length};
 ghost use Rattle.host.specs.Rest.{Within, endedBy};
 
-// The part of the input store that was read and is not taken yet.
+// The part of the input store that was read and that the engine has not taken yet.
 pub struct Rest {
     pub at: usize,
     pub end: usize,
 }
 
-// What the last call gave, and the input that is left.
+// What the last call returned, and the input that is left.
 pub struct Step {
     pub took: CallResult,
     pub rest: Rest,
 }
 
-// The number at which the session is over, or 0. A program that makes the calls that are awaited is never refused.
+// Returns the number of the end or of the refusal that `outcome` is, or 0 if the session goes on. The engine never refuses a program that
+// makes the calls that it waits for.
 pub fn over(outcome: Outcome) -> u8
     ensures { λ r. ⌜ r ≡ endedBy outcome ⌝ }
 {
@@ -35,7 +36,7 @@ pub fn over(outcome: Outcome) -> u8
     }
 }
 
-// Reads once where nothing is left. Nothing is left after that at the end of the stream only.
+// Reads standard input once if nothing is left. If nothing is left after that, the stream has ended.
 fn refilled(rest: Rest, input: &mut [u8]) -> Rest
     ensures { λ r. ⌜ Within r (length (now (input .exit))) ⌝ }
 {
@@ -48,7 +49,7 @@ fn refilled(rest: Rest, input: &mut [u8]) -> Rest
     Rest { at: 0, end }
 }
 
-// A call never takes more than it was offered.
+// Returns what is left of `rest` once `taken` bytes of it are taken. A call never takes more than it was offered.
 fn without(rest: Rest, taken: usize, len: usize) -> Rest
     requires { ⌜ Within rest len ⌝ }
     ensures { λ r. ⌜ Within r len ⌝ }
@@ -62,15 +63,16 @@ fn without(rest: Rest, taken: usize, len: usize) -> Rest
     }
 }
 
-// Offers what is left of the input, or tells the engine that the stream has ended.
+// Offers the engine what is left of the input, or tells it that the stream has ended.
 pub fn feed(
     e: Engine,
     rest: Rest,
     input: &mut [u8],
-    packet: &mut [u8],
-    headers: &mut [u8],
-    body: &mut [u8],
-    reply: &mut [u8],
+    tables: &[u64; 320],
+    packet: &mut [u8; 65535],
+    headers: &mut [u8; 65535],
+    body: &mut [u8; 1048576],
+    reply: &mut [u8; 65535],
 ) -> Step
     ensures { λ r. ⌜ Within (r .rest) (length (now (input .exit))) ⌝ }
 {
@@ -81,7 +83,7 @@ pub fn feed(
         let took = calls::stream_ended(e, packet, headers, body, reply);
         return Step { took, rest: r };
     }
-    let took = calls::bytes_offered(e, &input[at..end], packet, headers, body, reply);
+    let took = calls::bytes_offered(e, &input[at..end], tables, packet, headers, body, reply);
     let left = without(r, took.taken, input.len());
     Step { took, rest: left }
 }

@@ -1,35 +1,43 @@
-// Requests by name.
+// The names of requests.
 ghost use Prim.Native.Nat.{_≤_};
 ghost use lib.ListN.{length};
-use lines::output::put;
+use lines::output::put_line_at;
 use server::HostRequest;
 
-// The name of the handler's method behind the first n bytes. A nonce and a body read are no methods, and have none.
-pub fn put_name(out: &mut [u8], n: usize, request: HostRequest) -> usize
-    ensures { λ r. ⌜ r ≤ length (now (out .exit)) ⌝ }
-{
+// Returns which line of the names in `put_name` is that of `request`.
+fn line_of(request: HostRequest) -> usize {
     match request {
-        HostRequest::Connect { length: _ } => put(out, n, b"connect"),
-        HostRequest::Disconnect { length: _ } => put(out, n, b"disconnect"),
+        HostRequest::Connect { length: _ } => 1,
+        HostRequest::Disconnect { length: _ } => 2,
         HostRequest::SetPath {
             length: _,
             backup: _,
             no_create: _,
-        } => put(out, n, b"set_path"),
-        HostRequest::Abort { length: _ } => put(out, n, b"abort"),
-        HostRequest::Put { kept: _, body: _ } => put(out, n, b"put"),
-        HostRequest::Get { kept: _ } => put(out, n, b"get"),
-        HostRequest::Action { kept: _ } => put(out, n, b"action"),
-        HostRequest::Session { kept: _ } => put(out, n, b"session"),
-        HostRequest::UserDefined { opcode: _, kept: _ } => put(out, n, b"user_defined"),
-        HostRequest::Password { user_id: _ } => put(out, n, b"password"),
+        } => 3,
+        HostRequest::Abort { length: _ } => 4,
+        HostRequest::Put { kept: _, body: _ } => 5,
+        HostRequest::Get { kept: _ } => 6,
+        HostRequest::Action { kept: _ } => 7,
+        HostRequest::Session { kept: _ } => 8,
+        HostRequest::UserDefined { opcode: _, kept: _ } => 9,
+        HostRequest::Password { user_id: _ } => 10,
         HostRequest::Credentials {
             nonce: _,
             user_id_required: _,
             read_only: _,
             realm: _,
-        } => put(out, n, b"credentials"),
-        HostRequest::Nonce => put(out, n, b""),
-        HostRequest::Read { room: _ } => put(out, n, b""),
+        } => 11,
+        HostRequest::Nonce => 0,
+        HostRequest::Read { room: _ } => 0,
     }
+}
+
+// Puts the name of the handler's method behind the first `n` bytes. A nonce and a body read are no methods, and have no name: line 0 is
+// empty.
+pub fn put_name(out: &mut [u8], n: usize, request: HostRequest) -> usize
+    ensures { λ r. ⌜ r ≤ length (now (out .exit)) ⌝ }
+{
+    let names =
+        b"\nconnect\ndisconnect\nset_path\nabort\nput\nget\naction\nsession\nuser_defined\npassword\ncredentials\n";
+    put_line_at(out, n, names, line_of(request))
 }

@@ -345,7 +345,7 @@ module _ (j : Journal) (fs : List Fed) (h : j .ended ≡ false) (ih : (d : Journ
   call-told bodyFailed b = same-told
   call-told abortAcknowledged b = same-told
   call-told (passwordGiven p) b = ih (stands j (passwordChecked (j .standing) (passes j p))) h at n i place
-  call-told (nonceGiven d l) b = ih (stands j (challenged (j .standing) (octets16 d))) h at n i place
+  call-told (nonceGiven d) b = ih (stands j (challenged (j .standing) (octets16 d))) h at n i place
   call-told (credentialsGiven c) b = same-told
 
   fed-told : (c : Call) (v : Verdict) (b : ℕ) → After (journalFed j c v b) (fedReads j c v)

@@ -368,7 +368,7 @@ journalCall j (bodyGiven d) b = unchanged j
 journalCall j bodyFailed b = unchanged j
 journalCall j abortAcknowledged b = unchanged j
 journalCall j (passwordGiven p) b = unchanged (stands j (passwordChecked (j .standing) (passes j p)))
-journalCall j (nonceGiven n l) b = unchanged (stands j (challenged (j .standing) (octets16 n)))
+journalCall j (nonceGiven n) b = unchanged (stands j (challenged (j .standing) (octets16 n)))
 journalCall j (credentialsGiven c) b = unchanged j
 
 -- The step of a call; a call that was refused, or that comes after the end, is no step.
@@ -409,7 +409,7 @@ callReads j (bodyGiven d) = []
 callReads j bodyFailed = []
 callReads j abortAcknowledged = []
 callReads j (passwordGiven p) = []
-callReads j (nonceGiven n l) = []
+callReads j (nonceGiven n) = []
 callReads j (credentialsGiven c) = []
 
 -- The packets that a call reads, by its verdict.

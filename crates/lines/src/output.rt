@@ -2,6 +2,7 @@
 ghost use mathlib.Core.Path.{_≡_};
 ghost use Prim.Native.Nat.{_≤_, _<_};
 ghost use lib.ListN.{length};
+use crate::word::line_at;
 use base::copy_into;
 use digest::md5;
 use libc::STDOUT_FILENO;
@@ -21,6 +22,17 @@ pub fn put(out: &mut [u8], n: usize, s: &[u8]) -> usize
     let k = least(s.len(), out.len() - at);
     copy_into(out, at, &s[0..k]);
     at + k
+}
+
+// Puts the line of `text` with the number `k`, without its end, behind the first `n` bytes. A name that depends on a case is the line of one
+// text, so that the store is lent once and not in every case.
+pub fn put_line_at(out: &mut [u8], n: usize, text: &[u8], k: usize) -> usize
+    ensures { λ r. ⌜ r ≤ length (now (out .exit)) ⌝ }
+{
+    let place = line_at(text, k);
+    let start = place.start;
+    let end = place.end;
+    put(out, n, &text[start..end])
 }
 
 fn digit(x: u8) -> u8

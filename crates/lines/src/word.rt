@@ -11,6 +11,12 @@ struct Scan {
     unit: usize,
 }
 
+// Where a line stands in a text, without the end of the line.
+pub struct Place {
+    pub start: usize,
+    pub end: usize,
+}
+
 // The place of a byte from another place on, or the end.
 pub fn find(s: &[u8], from: usize, byte: u8) -> usize
     requires { ⌜ from ≤ length (now s) ⌝ }
@@ -32,6 +38,22 @@ pub fn after(s: &[u8], end: usize) -> usize
     ensures { λ r. ⌜ (end ≤ r) × (r ≤ length (now (s .entry))) ⌝ }
 {
     if end < s.len() { end + 1 } else { end }
+}
+
+// Returns where the line with the number `k` stands in `text`. The lines are counted from 0; if there are fewer, the place is empty.
+pub fn line_at(text: &[u8], k: usize) -> Place
+    ensures { λ r. ⌜ (r .start ≤ r .end) × (r .end ≤ length (now (text .entry))) ⌝ }
+{
+    let mut start = 0;
+    let mut i = 0;
+    while i < k {
+        start = after(text, find(text, start, b'\n'));
+        i += 1;
+    }
+    Place {
+        start,
+        end: find(text, start, b'\n'),
+    }
 }
 
 // The byte at a place, 0 past the end.

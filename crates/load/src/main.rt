@@ -17,6 +17,16 @@ use server::Outcome;
 use server::default_settings;
 use std::num::wrapping_add_usize;
 
+// The stores are arrays of known lengths, so that the proof need not be told that no call changes them. The table store is longer than the
+// engine asks.
+const READ: usize = 65536;
+
+const TABLES: usize = 320;
+
+const PACKET: usize = 65535;
+
+const BODY: usize = 65536;
+
 // The longest body of a Put, and the object's length.
 const LIMIT: u32 = 65536;
 
@@ -138,7 +148,7 @@ fn noted(
     outcome: Outcome,
     stream: &[u8],
     longest: usize,
-    input: &mut [u8],
+    input: &mut [u8; READ],
     body: &[u8],
     reply: &[u8],
 ) -> Progress {
@@ -156,10 +166,11 @@ fn answer(
     e: Engine,
     request: HostRequest,
     chunk: &[u8],
-    packet: &mut [u8],
-    headers: &mut [u8],
-    body: &mut [u8],
-    reply: &mut [u8],
+    tables: &mut [u64; TABLES],
+    packet: &mut [u8; PACKET],
+    headers: &mut [u8; PACKET],
+    body: &mut [u8; BODY],
+    reply: &mut [u8; PACKET],
 ) -> CallResult {
     match request {
         HostRequest::Get { kept: _ } => calls::object_given(
@@ -179,7 +190,7 @@ fn answer(
             body,
             reply,
         ),
-        _ => calls::reply_given(e, 0x20, &chunk[0..0], packet, headers, body, reply),
+        _ => calls::reply_given(e, 0x20, &chunk[0..0], tables, packet, headers, body, reply),
     }
 }
 
@@ -189,19 +200,29 @@ fn call(
     outcome: Outcome,
     piece: &[u8],
     chunk: &[u8],
-    packet: &mut [u8],
-    headers: &mut [u8],
-    body: &mut [u8],
-    reply: &mut [u8],
+    tables: &mut [u64; TABLES],
+    packet: &mut [u8; PACKET],
+    headers: &mut [u8; PACKET],
+    body: &mut [u8; BODY],
+    reply: &mut [u8; PACKET],
 ) -> CallResult {
     match outcome {
-        Outcome::Request(request) => answer(e, request, chunk, packet, headers, body, reply),
+        Outcome::Request(request) => answer(
+            e,
+            request,
+            chunk,
+            tables,
+            packet,
+            headers,
+            body,
+            reply,
+        ),
         Outcome::Reply { length: _ } => calls::reply_taken(e, packet, headers, body, reply),
         _ => {
             if piece.len() == 0 {
                 return calls::stream_ended(e, packet, headers, body, reply);
             }
-            calls::bytes_offered(e, piece, packet, headers, body, reply)
+            calls::bytes_offered(e, piece, &tables[..], packet, headers, body, reply)
         }
     }
 }
@@ -213,10 +234,11 @@ fn next(
     p: Progress,
     zeros: &[u8],
     input: &[u8],
-    packet: &mut [u8],
-    headers: &mut [u8],
-    body: &mut [u8],
-    reply: &mut [u8],
+    tables: &mut [u64; TABLES],
+    packet: &mut [u8; PACKET],
+    headers: &mut [u8; PACKET],
+    body: &mut [u8; BODY],
+    reply: &mut [u8; PACKET],
 ) -> CallResult {
     let to = least(p.to, input.len());
     let from = least(p.from, to);
@@ -226,6 +248,7 @@ fn next(
         outcome,
         &input[from..to],
         &zeros[0..given],
+        tables,
         packet,
         headers,
         body,
@@ -256,14 +279,23 @@ fn play(
     stream: &[u8],
     longest: usize,
     zeros: &[u8],
-    input: &mut [u8],
-    packet: &mut [u8],
-    headers: &mut [u8],
-    body: &mut [u8],
-    reply: &mut [u8],
+    input: &mut [u8; READ],
+    tables: &mut [u64; TABLES],
+    packet: &mut [u8; PACKET],
+    headers: &mut [u8; PACKET],
+    body: &mut [u8; BODY],
+    reply: &mut [u8; PACKET],
 ) -> Progress {
     let mut q = begin(p);
-    let mut took = calls::start(default_settings(LIMIT), packet, headers, body, reply);
+    let mut took = calls::start(
+        default_settings(LIMIT),
+        &zeros[0..0],
+        &tables[..],
+        packet,
+        headers,
+        body,
+        reply,
+    );
     let mut left = CALLS;
     while left > 0 {
         let outcome = took.outcome;
@@ -277,6 +309,7 @@ fn play(
             q,
             zeros,
             input,
+            tables,
             packet,
             headers,
             body,
@@ -316,11 +349,12 @@ fn repeat(
     count: usize,
     longest: usize,
     zeros: &[u8],
-    input: &mut [u8],
-    packet: &mut [u8],
-    headers: &mut [u8],
-    body: &mut [u8],
-    reply: &mut [u8],
+    input: &mut [u8; READ],
+    tables: &mut [u64; TABLES],
+    packet: &mut [u8; PACKET],
+    headers: &mut [u8; PACKET],
+    body: &mut [u8; BODY],
+    reply: &mut [u8; PACKET],
 ) -> Progress {
     let mut p = Progress {
         at: 0,
@@ -341,6 +375,7 @@ fn repeat(
             longest,
             zeros,
             input,
+            tables,
             packet,
             headers,
             body,
@@ -354,11 +389,12 @@ fn repeat(
 fn run(
     stream: &mut [u8],
     zeros: &[u8],
-    input: &mut [u8],
-    packet: &mut [u8],
-    headers: &mut [u8],
-    body: &mut [u8],
-    reply: &mut [u8],
+    input: &mut [u8; READ],
+    tables: &mut [u64; TABLES],
+    packet: &mut [u8; PACKET],
+    headers: &mut [u8; PACKET],
+    body: &mut [u8; BODY],
+    reply: &mut [u8; PACKET],
 ) {
     let n = io::read_full(STDIN_FILENO, stream);
     print(repeat(
@@ -367,6 +403,7 @@ fn run(
         argument(2),
         zeros,
         input,
+        tables,
         packet,
         headers,
         body,
@@ -377,15 +414,17 @@ fn run(
 fn main() {
     let mut stream = [0u8; 1048576];
     let zeros = [0u8; 65536];
-    let mut input = [0u8; 65536];
-    let mut packet = [0u8; 65535];
-    let mut headers = [0u8; 65535];
-    let mut body = [0u8; 65536];
-    let mut reply = [0u8; 65535];
+    let mut input = [0u8; READ];
+    let mut tables = [0u64; TABLES];
+    let mut packet = [0u8; PACKET];
+    let mut headers = [0u8; PACKET];
+    let mut body = [0u8; BODY];
+    let mut reply = [0u8; PACKET];
     run(
         &mut stream,
         &zeros,
         &mut input,
+        &mut tables,
         &mut packet,
         &mut headers,
         &mut body,

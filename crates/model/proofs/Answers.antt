@@ -3,7 +3,7 @@ use mathlib.Core.Path.{_≡_, refl, sym, ap, ap₂, _∙_, subst}
 use mathlib.Core.List.{List, []}
 use mathlib.Core.Bool.{Bool, true, false, _||_}
 use mathlib.Core.Option.{Option, none, some}
-use Prim.Native.Nat.{ℕ}
+use Prim.Native.Nat.{ℕ, _≤_}
 use lib.ListN.{length}
 use Rattle.base.specs.Pick.{pick}
 use Rattle.digest.specs.Md5.{octets16}
@@ -18,13 +18,14 @@ use Rattle.journal.specs.Calls.{Credentials}
 use Rattle.journal.specs.Journal.{Settings as JournalSettings, Standing, Opened, Journal, unchanged, stands, asksSrm, opensFor, connected, disconnected, replyTo, replyLast, replied, passesWith, responseIn, passes, headersOf, passwordChecked, challenged, listOf}
 use Rattle.incoming.specs.Survey.{surveyOf}
 use Rattle.connection.specs.Reply.{fieldsOf, sendBytes, front}
-use Rattle.connection.specs.Peer.{verifiedPeer, challengedPeer, openedFor, disconnectedPeer}
+use Rattle.connection.specs.Peer.{Linked, verifiedPeer, challengedPeer, openedFor, disconnectedPeer}
 use Rattle.connection.specs.ConnectReply.{answeredChallenge}
 use Rattle.connection.specs.declared.peer.Challenge.{Challenge}
 use Rattle.connection.specs.declared.peer.Challenge.the-variants.{Stored, Absent}
 use Rattle.connection.specs.declared.peer.Peer.{Peer}
-use Rattle.model.specs.Step.{Stores, withHeaders, asks, sent, sends, sendsConnect}
+use Rattle.model.specs.Step.{Stores, withHeaders, doneTabled, asks, sent, sends, sendsConnect}
 use Rattle.model.specs.Request.{lastPacket, lastHeaders, clientResponse}
+use Rattle.model.specs.Calls.{sendsLinked}
 use Rattle.model.specs.Connect.{srmAsked, connectSends, frontFor, credentialsFor, connectChallenged, connectOpened, connectAnswer, checks, passwordAnswer, nonceAnswer}
 use Rattle.model.specs.Theorem.{settingsOf}
 use Rattle.server.specs.declared.Operation.the-variants.{Nothing, Connecting}
@@ -35,25 +36,25 @@ use Rattle.server.specs.declared.Engine.{Engine}
 use Rattle.server.specs.declared.HostRequest.the-variants as request
 use Rattle.server.specs.declared.Outcome.the-variants as outcome
 use Rattle.connection.proofs.Standings.{PeerFits, challengeBytes, standingOf, verified-standing, challenged-standing, disconnected-standing, opened-standing, full-standing}
-use Rattle.model.proofs.Coupling.{Held, AskedBy, Told, told-done, told-ends, told-replies}
+use Rattle.model.proofs.Coupling.{Held, AskedBy, Told, ToldTabled, told-done, told-ends, told-replies}
 
 -- ---- a reply that is sent, or is too long
 
-module _ (e : Engine) (s : Stores) (p : Peer) (j : Journal) (w : Held (e .settings) p Nothing s [] j) where
-  sent-told : (x : Option (List ℕ)) → Told (sent e p x s) (unchanged j)
-  sent-told none = told-ends e p s j why.ReplyTooLarge
-  sent-told (some q) = told-replies e p s j Nothing q refl w
+module _ (ts : List ℕ) (e : Engine) (s : Stores) (p : Peer) (j : Journal) (w : Held ts (e .settings) p Nothing s [] j) where
+  sent-told : (x : Option (List ℕ)) → Told ts (sent e p x s) (unchanged j)
+  sent-told none = told-ends ts e p s j why.ReplyTooLarge
+  sent-told (some q) = told-replies ts e p s j Nothing q refl w
 
-  pub sends-told : (code : ℕ) (hs : List ℕ) → Told (sends e p code hs s) (unchanged j)
+  pub sends-told : (code : ℕ) (hs : List ℕ) → Told ts (sends e p code hs s) (unchanged j)
   unfolding sends
   sends-told code hs = sent-told (sendBytes (p .«remote_max_packet_length») code [] hs)
 
-  pub sends-connect-told : (code : ℕ) (hs : List ℕ) → Told (sendsConnect e p code hs s) (unchanged j)
+  pub sends-connect-told : (code : ℕ) (hs : List ℕ) → Told ts (sendsConnect e p code hs s) (unchanged j)
   unfolding sendsConnect
   sends-connect-told code hs = sent-told (sendBytes (p .«remote_max_packet_length») code (fieldsOf (e .settings .«max_packet_length»)) hs)
 
   pub connect-sends-told : (code : ℕ) (f : ConnectionId) (answer : List Header) (c : Option Credentials)
-      → Told (connectSends e p code f answer c s) (unchanged j)
+      → Told ts (connectSends e p code f answer c s) (unchanged j)
   unfolding connectSends
   connect-sends-told code f answer c = sends-connect-told code _
 
@@ -66,22 +67,22 @@ checks-are (Stored n) none p = refl
 checks-are (Stored n) (some r) none = refl
 checks-are (Stored n) (some r) (some p) = refl
 
-module _ (e : Engine) (s : Stores) (j : Journal) (o : Opcode) (w : AskedBy (e .settings) (e .peer) o (e .length) s j) where
+module _ (ts : List ℕ) (e : Engine) (s : Stores) (j : Journal) (o : Opcode) (w : AskedBy ts (e .settings) (e .peer) o (e .length) s j) where
   headers-are : w .request .headers ≡ lastHeaders e s
   unfolding lastHeaders lastPacket
   headers-are = w .headers
 
-  -- the journal with another standing
-  held-stands : (z : Stores) (p : Peer) (x : Standing) → x ≡ standingOf p → Held (e .settings) p Nothing z [] (stands j x)
-  held-stands z p x i =
+  -- the journal with another standing, over a table store `u`
+  held-stands : (u : List ℕ) (z : Stores) (p : Peer) (x : Standing) → x ≡ standingOf p u → Held u (e .settings) p Nothing z [] (stands j x)
+  held-stands u z p x i =
       record {
         fixed = record { settings = w .held .fixed .settings; standing = i; ended = w .held .fixed .ended };
         begun = w .held .begun;
         opened = w .held .opened;
       }
 
-  asked-stands : (p : Peer) (x : Standing) → x ≡ standingOf p → AskedBy (e .settings) p o (e .length) s (stands j x)
-  asked-stands p x i = record { held = held-stands s p x i; request = w .request; last = w .last; opcode = w .opcode; headers = w .headers }
+  asked-stands : (p : Peer) (x : Standing) → x ≡ standingOf p ts → AskedBy ts (e .settings) p o (e .length) s (stands j x)
+  asked-stands p x i = record { held = held-stands ts s p x i; request = w .request; last = w .last; opcode = w .opcode; headers = w .headers }
 
   -- what the journal does on a reply
   replied-to : (code : ℕ) (hs : List ℕ) → replied (j .opened) j code hs ≡ replyTo o j (w .request) code hs
@@ -99,55 +100,59 @@ module _ (e : Engine) (s : Stores) (j : Journal) (o : Opcode) (w : AskedBy (e .s
 
   connected-is : (code : ℕ) (answer : List Header)
       → connected (j .settings) (j .standing) (w .request .headers) code answer
-      ≡ pick (isSuccess code) (opensFor (standingOf (e .peer)) srm (first 0xCB answer) target) (standingOf (e .peer))
+      ≡ pick (isSuccess code) (opensFor (standingOf (e .peer) ts) srm (first 0xCB answer) target) (standingOf (e .peer) ts)
   unfolding connected asksSrm surveyOf
   connected-is code answer =
       ap (λ (x : JournalSettings). connected x (j .standing) (w .request .headers) code answer) (w .held .fixed .settings)
       ∙ ap₂ (λ (x : Standing) (y : List Header). connected (settingsOf (e .settings)) x y code answer) (w .held .fixed .standing) headers-are
 
-  module _ (f : PeerFits (e .peer)) (code : ℕ) (hs : List ℕ) where
+  module _ (f : PeerFits (e .peer)) (room : 64 ≤ length ts) (code : ℕ) (hs : List ℕ) where
     -- the ConnectionID that the host's answer names
     abbrev named : Option (List ℕ)
     named = first 0xCB (listOf (readHeaders hs 0))
 
-    challenged-told : (p : Peer) (x : Standing) (g : ConnectionId) (c : Option PeerChallenge) → x ≡ standingOf p
-        → Told (connectChallenged e p code g hs c s) (unchanged (stands j x))
-    challenged-told p x g none i = connect-sends-told e s p (stands j x) (held-stands s p x i) code g _ none
-    challenged-told p x g (some c) i =
-        told-done e p (Connecting code g (length hs)) await.Credentials (outcome.Request (credentialsFor (lastPacket e s) c))
+    challenged-told : (u : List ℕ) (p : Peer) (x : Standing) (g : ConnectionId) (c : Option PeerChallenge) → x ≡ standingOf p u
+        → Told u (connectChallenged e p code g hs c s) (unchanged (stands j x))
+    challenged-told u p x g none i = connect-sends-told u e s p (stands j x) (held-stands u s p x i) code g _ none
+    challenged-told u p x g (some c) i =
+        told-done u e p (Connecting code g (length hs)) await.Credentials (outcome.Request (credentialsFor (lastPacket e s) c))
         (withHeaders s (front hs (s .headers))) (stands j x) []
-        (held-stands (withHeaders s (front hs (s .headers))) p x i) refl
+        (held-stands u (withHeaders s (front hs (s .headers))) p x i) refl
 
-    opened-told : (a : Option (List ℕ)) (g : ConnectionId) (p : Option Peer) → openedFor (e .peer) srm a target ≡ p
-        → Told (connectOpened e p code g hs s) (unchanged (stands j (opensFor (standingOf (e .peer)) srm a target)))
-    opened-told a g none i = sends-connect-told e s (e .peer) (stands j _) (held-stands s (e .peer) _ (full-standing (e .peer) srm a target f i)) 0x53 []
-    opened-told a g (some p) i = challenged-told p _ g (answeredChallenge (lastHeaders e s)) (sym (opened-standing (e .peer) p srm a target f i))
+    opened-told : (a : Option (List ℕ)) (g : ConnectionId) (p : Option Linked) → openedFor (e .peer) ts srm a target ≡ p
+        → ToldTabled (connectOpened e ts p code g hs s) (unchanged (stands j (opensFor (standingOf (e .peer) ts) srm a target)))
+    opened-told a g none i =
+        sends-connect-told ts e s (e .peer) (stands j _) (held-stands ts s (e .peer) _ (full-standing (e .peer) ts srm f room a target i)) 0x53 []
+    opened-told a g (some q) i =
+        challenged-told (q .tables) (q .peer) _ g (answeredChallenge (lastHeaders e s)) (sym (opened-standing (e .peer) ts srm f room q a target i))
 
-    pub connect-told : o ≡ op.Connect → Told (connectAnswer e code hs s) (unchanged (replied (j .opened) j code hs))
+    pub connect-told : o ≡ op.Connect → ToldTabled (connectAnswer e code hs s ts) (unchanged (replied (j .opened) j code hs))
     unfolding connectAnswer
     connect-told c =
-        subst (λ (x : Journal). Told (connectAnswer e code hs s) (unchanged x))
+        subst (λ (x : Journal). ToldTabled (connectAnswer e code hs s ts) (unchanged x))
         (sym (replied-to code hs ∙ ap (λ (x : Opcode). replyTo x j (w .request) code hs) c ∙ ap (stands j) (connected-is code (listOf (readHeaders hs 0)))))
         (go (isSuccess code))
       where
         go : (t : Bool)
-            → Told (pick t (connectOpened e (openedFor (e .peer) srm named target) code (frontFor (e .peer) named target) hs s) (sendsConnect e (e .peer) code hs s))
-            (unchanged (stands j (pick t (opensFor (standingOf (e .peer)) srm named target) (standingOf (e .peer)))))
-        go true = opened-told named (frontFor (e .peer) named target) (openedFor (e .peer) srm named target) refl
-        go false = sends-connect-told e s (e .peer) (stands j (standingOf (e .peer))) (held-stands s (e .peer) (standingOf (e .peer)) refl) code hs
+            → ToldTabled (pick t (connectOpened e ts (openedFor (e .peer) ts srm named target) code (frontFor (e .peer) ts named target) hs s) (doneTabled (sendsConnect e (e .peer) code hs s) ts))
+            (unchanged (stands j (pick t (opensFor (standingOf (e .peer) ts) srm named target) (standingOf (e .peer) ts))))
+        go true = opened-told named (frontFor (e .peer) ts named target) (openedFor (e .peer) ts srm named target) refl
+        go false =
+            sends-connect-told ts e s (e .peer) (stands j (standingOf (e .peer) ts)) (held-stands ts s (e .peer) (standingOf (e .peer) ts) refl) code hs
 
     -- ---- Disconnect
 
-    pub disconnect-told : o ≡ op.Disconnect
-        → Told (sends e (disconnectedPeer (e .peer) (first 0xCB (lastHeaders e s))) code hs s) (unchanged (replied (j .opened) j code hs))
+    abbrev left : Linked
+    left = disconnectedPeer (e .peer) ts (first 0xCB (lastHeaders e s))
+
+    pub disconnect-told : o ≡ op.Disconnect → ToldTabled (sendsLinked e left code hs s) (unchanged (replied (j .opened) j code hs))
     disconnect-told c =
-        subst (λ (x : Journal). Told (sends e (disconnectedPeer (e .peer) (first 0xCB (lastHeaders e s))) code hs s) (unchanged x))
+        subst (λ (x : Journal). ToldTabled (sendsLinked e left code hs s) (unchanged x))
         (sym (replied-to code hs ∙ ap (λ (x : Opcode). replyTo x j (w .request) code hs) c))
-        (sends-told e s (disconnectedPeer (e .peer) (first 0xCB (lastHeaders e s)))
-        (stands j (disconnected (j .standing) (first 0xCB (w .request .headers))))
-        (held-stands s _ _
+        (sends-told (left .tables) e s (left .peer) (stands j (disconnected (j .standing) (first 0xCB (w .request .headers))))
+        (held-stands (left .tables) s (left .peer) _
         (ap₂ (λ (x : Standing) (y : List Header). disconnected x (first 0xCB y)) (w .held .fixed .standing) headers-are
-        ∙ sym (disconnected-standing (e .peer) (first 0xCB (lastHeaders e s)) f)))
+        ∙ sym (disconnected-standing (e .peer) ts (first 0xCB (lastHeaders e s)))))
         code hs)
 
   -- ---- the password and the nonce
@@ -161,31 +166,31 @@ module _ (e : Engine) (s : Stores) (j : Journal) (o : Opcode) (w : AskedBy (e .s
       ∙ checks-are (e .peer .challenge) _ p
 
   pub password-told : o ≡ op.Connect → (p : Option (List ℕ))
-      → Told (passwordAnswer e p s) (unchanged (stands j (passwordChecked (j .standing) (passes j p))))
+      → Told ts (passwordAnswer e p s) (unchanged (stands j (passwordChecked (j .standing) (passes j p))))
   unfolding passwordAnswer
   password-told c p =
-      subst (λ (x : Standing). Told (passwordAnswer e p s) (unchanged (stands j x)))
+      subst (λ (x : Standing). Told ts (passwordAnswer e p s) (unchanged (stands j x)))
       (sym (ap₂ (λ (x : Standing) (t : Bool). passwordChecked x t) (w .held .fixed .standing) (passes-is p)))
       (go (checks (e .peer .challenge) (clientResponse e s) p))
     where
-      still-asked : (q : Peer) (x : Standing) → x ≡ standingOf q → AskedBy (e .settings) q op.Connect (e .length) s (stands j x)
-      still-asked q x i = subst (λ (y : Opcode). AskedBy (e .settings) q y (e .length) s (stands j x)) c (asked-stands q x i)
+      still-asked : (q : Peer) (x : Standing) → x ≡ standingOf q ts → AskedBy ts (e .settings) q op.Connect (e .length) s (stands j x)
+      still-asked q x i = subst (λ (y : Opcode). AskedBy ts (e .settings) q y (e .length) s (stands j x)) c (asked-stands q x i)
 
       go : (t : Bool)
-          → Told
+          → Told ts
           (pick t (asks e (verifiedPeer (e .peer)) Nothing await.Connect (request.Connect (e .length)) s) (asks e (e .peer) Nothing await.Nonce request.Nonce s))
-          (unchanged (stands j (passwordChecked (standingOf (e .peer)) t)))
+          (unchanged (stands j (passwordChecked (standingOf (e .peer) ts) t)))
       go true =
-          told-done e (verifiedPeer (e .peer)) Nothing await.Connect (outcome.Request (request.Connect (e .length))) s (stands j _) []
-          (still-asked (verifiedPeer (e .peer)) _ (sym (verified-standing (e .peer)))) refl
+          told-done ts e (verifiedPeer (e .peer)) Nothing await.Connect (outcome.Request (request.Connect (e .length))) s (stands j _) []
+          (still-asked (verifiedPeer (e .peer)) _ (sym (verified-standing (e .peer) ts))) refl
       go false =
-          told-done e (e .peer) Nothing await.Nonce (outcome.Request request.Nonce) s (stands j _) []
-          (still-asked (e .peer) (standingOf (e .peer)) refl) refl
+          told-done ts e (e .peer) Nothing await.Nonce (outcome.Request request.Nonce) s (stands j _) []
+          (still-asked (e .peer) (standingOf (e .peer) ts) refl) refl
 
-  pub nonce-told : (n : Octets16) (l : List ℕ) → Told (nonceAnswer e n l s) (unchanged (stands j (challenged (j .standing) (octets16 n))))
+  pub nonce-told : (n : Octets16) (l : List ℕ) → Told ts (nonceAnswer e n l s) (unchanged (stands j (challenged (j .standing) (octets16 n))))
   unfolding nonceAnswer
   nonce-told n l =
-      sends-connect-told e s (challengedPeer (e .peer) n) (stands j (challenged (j .standing) (octets16 n)))
-      (held-stands s (challengedPeer (e .peer) n) _
-      (ap (λ (x : Standing). challenged x (octets16 n)) (w .held .fixed .standing) ∙ sym (challenged-standing (e .peer) n)))
+      sends-connect-told ts e s (challengedPeer (e .peer) n) (stands j (challenged (j .standing) (octets16 n)))
+      (held-stands ts s (challengedPeer (e .peer) n) _
+      (ap (λ (x : Standing). challenged x (octets16 n)) (w .held .fixed .standing) ∙ sym (challenged-standing (e .peer) ts n)))
       0x41 _

@@ -19,7 +19,7 @@ use Rattle.incoming.specs.Gather.{gathering as gatheringOf}
 use Rattle.incoming.specs.declared.gather.Gathered.{Gathered}
 use Rattle.connection.specs.Reply.{front}
 use Rattle.connection.specs.declared.peer.Peer.{Peer}
-use Rattle.model.specs.Step.{Stores, withReply, engineWith, Done, done, wants, ends, replies, repliesCode}
+use Rattle.model.specs.Step.{Stores, withReply, engineWith, Done, done, DoneTabled, wants, ends, replies, repliesCode}
 use Rattle.model.specs.Runs.{handed}
 use Rattle.model.specs.Theorem.{settingsOf}
 use Rattle.server.specs.declared.Settings.{Settings}
@@ -64,21 +64,21 @@ OpenedAt limit (Draining c) h b x = x ≡ draining
 
 -- ---- the coupling
 
--- settings and standing are the journal's, and it has not ended
-pub record Fixed (st : Settings) (p : Peer) (j : Journal) : Type 0 where
+-- settings and standing are the journal's, and it has not ended; the open ids stand in the table store `ts`
+pub record Fixed (ts : List ℕ) (st : Settings) (p : Peer) (j : Journal) : Type 0 where
   pub settings : j .settings ≡ settingsOf st
-  pub standing : j .standing ≡ standingOf p
+  pub standing : j .standing ≡ standingOf p ts
   pub ended : j .ended ≡ false
 
 -- and so are what is open and the bytes of a packet begun
-pub record Held (st : Settings) (p : Peer) (o : Operation) (s : Stores) (q : List ℕ) (j : Journal) : Type 0 where
-  pub fixed : Fixed st p j
+pub record Held (ts : List ℕ) (st : Settings) (p : Peer) (o : Operation) (s : Stores) (q : List ℕ) (j : Journal) : Type 0 where
+  pub fixed : Fixed ts st p j
   pub begun : j .begun ≡ q
   pub opened : OpenedAt (st .«max_object_size») o (s .headers) (s .body) (j .opened)
 
 -- the host's answer to the last packet, a Connect or a Disconnect, is awaited
-pub record AskedBy (st : Settings) (p : Peer) (o : Opcode) (n : ℕ) (s : Stores) (j : Journal) : Type 0 where
-  pub held : Held st p Nothing s [] j
+pub record AskedBy (ts : List ℕ) (st : Settings) (p : Peer) (o : Opcode) (n : ℕ) (s : Stores) (j : Journal) : Type 0 where
+  pub held : Held ts st p Nothing s [] j
   pub request : Packet
   pub last : j .last ≡ some request
   pub opcode : request .opcode ≡ o
@@ -89,39 +89,47 @@ abbrev pub Still : Journal → Type 0
 Still j = (code : ℕ) (hs : List ℕ) → replyLast (j .last) j code hs ≡ j
 
 -- while a reply waits, the journal is told by what it does once the reply is taken
-abbrev pub CoupledAt : Await → Operation → Settings → Peer → ℕ → ℕ → Stores → Journal → Type 0
-CoupledAt await.Bytes o st p b n s j = Held st p o s (take b (s .packet)) j
-CoupledAt await.Taken o st p b n s j = (j .ended ≡ false) × Held st p o s [] (takenAt (j .opened) j (getD (s .reply) 0 0))
-CoupledAt await.Last o st p b n s j = j .ended ≡ true
-CoupledAt await.Connect o st p b n s j = AskedBy st p op.Connect n s j
-CoupledAt await.Disconnect o st p b n s j = AskedBy st p op.Disconnect n s j
-CoupledAt await.Get o st p b n s j = Held st p o s [] j
-CoupledAt await.Reply o st p b n s j = Held st p Nothing s [] j × Still j
-CoupledAt await.Acknowledgement o st p b n s j = Held st p Nothing s [] j
-CoupledAt await.Password o st p b n s j = AskedBy st p op.Connect n s j
-CoupledAt await.Nonce o st p b n s j = AskedBy st p op.Connect n s j
-CoupledAt await.Credentials o st p b n s j = Held st p Nothing s [] j
-CoupledAt await.Body o st p b n s j = Held st p o s [] j
-CoupledAt await.Nothing o st p b n s j = Unit {0}
+abbrev pub CoupledAt : List ℕ → Await → Operation → Settings → Peer → ℕ → ℕ → Stores → Journal → Type 0
+CoupledAt ts await.Bytes o st p b n s j = Held ts st p o s (take b (s .packet)) j
+CoupledAt ts await.Taken o st p b n s j = (j .ended ≡ false) × Held ts st p o s [] (takenAt (j .opened) j (getD (s .reply) 0 0))
+CoupledAt ts await.Last o st p b n s j = j .ended ≡ true
+CoupledAt ts await.Connect o st p b n s j = AskedBy ts st p op.Connect n s j
+CoupledAt ts await.Disconnect o st p b n s j = AskedBy ts st p op.Disconnect n s j
+CoupledAt ts await.Get o st p b n s j = Held ts st p o s [] j
+CoupledAt ts await.Reply o st p b n s j = Held ts st p Nothing s [] j × Still j
+CoupledAt ts await.Acknowledgement o st p b n s j = Held ts st p Nothing s [] j
+CoupledAt ts await.Password o st p b n s j = AskedBy ts st p op.Connect n s j
+CoupledAt ts await.Nonce o st p b n s j = AskedBy ts st p op.Connect n s j
+CoupledAt ts await.Credentials o st p b n s j = Held ts st p Nothing s [] j
+CoupledAt ts await.Body o st p b n s j = Held ts st p o s [] j
+CoupledAt ts await.Nothing o st p b n s j = Unit {0}
 
-abbrev pub Coupled : Engine → Stores → Journal → Type 0
-Coupled e s j = CoupledAt (e .awaits) (e .operation) (e .settings) (e .peer) (e .begun) (e .length) s j
+abbrev pub Coupled : List ℕ → Engine → Stores → Journal → Type 0
+Coupled ts e s j = CoupledAt ts (e .awaits) (e .operation) (e .settings) (e .peer) (e .begun) (e .length) s j
 
 -- ---- what a step leads to is what the journal enters
 
-pub record Told (d : Done) (x : Entry) : Type 0 where
+pub record Told (ts : List ℕ) (d : Done) (x : Entry) : Type 0 where
   pub given : handed (d .outcome) (d .stores) ≡ x .given
-  pub after : Coupled (d .engine) (d .stores) (x .next)
+  pub after : Coupled ts (d .engine) (d .stores) (x .next)
 
-pub told-pick : (t : Bool) (a b : Done) (x : Entry) → (t ≡ true → Told a x) → (t ≡ false → Told b x) → Told (pick t a b) x
-told-pick true a b x f g = f refl
-told-pick false a b x f g = g refl
+pub told-pick : (ts : List ℕ) (t : Bool) (a b : Done) (x : Entry) → (t ≡ true → Told ts a x) → (t ≡ false → Told ts b x) → Told ts (pick t a b) x
+told-pick ts true a b x f g = f refl
+told-pick ts false a b x f g = g refl
 
-pub told-done : (e : Engine) (p : Peer) (o : Operation) (a : Await) (c : Outcome) (z : Stores) (j : Journal) (l : List Record)
-    → CoupledAt a o (e .settings) p 0 (e .length) z j → handed c z ≡ l
-    → Told (done (engineWith (e .settings) p o a 0 (e .length)) c z) (record { next = j; given = l })
+-- the same of a step that may write the table store
+abbrev pub ToldTabled : DoneTabled → Entry → Type 0
+ToldTabled x y = Told (x .tables) (x .done) y
+
+pub tabled-told-pick : (t : Bool) (a b : DoneTabled) (x : Entry) → (t ≡ true → ToldTabled a x) → (t ≡ false → ToldTabled b x) → ToldTabled (pick t a b) x
+tabled-told-pick true a b x f g = f refl
+tabled-told-pick false a b x f g = g refl
+
+pub told-done : (ts : List ℕ) (e : Engine) (p : Peer) (o : Operation) (a : Await) (c : Outcome) (z : Stores) (j : Journal) (l : List Record)
+    → CoupledAt ts a o (e .settings) p 0 (e .length) z j → handed c z ≡ l
+    → Told ts (done (engineWith (e .settings) p o a 0 (e .length)) c z) (record { next = j; given = l })
 unfolding engineWith
-told-done e p o a c z j l w g = record { given = g; after = w }
+told-done ts e p o a c z j l w g = record { given = g; after = w }
 
 -- no operation that sends an object
 abbrev pub quiet : Operation → Bool
@@ -143,35 +151,35 @@ taken-still limit (GatheringOp o g) h b x j y q w = ap (λ (u : Opened). takenAt
 taken-still limit (Connecting c f n) h b x j y q w = absurd w
 taken-still limit (Draining c) h b x j y q w = ap (λ (u : Opened). takenAt u j y) w
 
-module _ (e : Engine) (p : Peer) (z : Stores) (j : Journal) where
-  pub told-ends : (x : End) → Told (ends e p x z) (unchanged j)
-  told-ends x = told-done e p Nothing await.Nothing (outcome.End x) z j [] tt refl
+module _ (ts : List ℕ) (e : Engine) (p : Peer) (z : Stores) (j : Journal) where
+  pub told-ends : (x : End) → Told ts (ends e p x z) (unchanged j)
+  told-ends x = told-done ts e p Nothing await.Nothing (outcome.End x) z j [] tt refl
 
-  pub told-wants : (o : Operation) → Held (e .settings) p o z [] j → Told (wants e p o z) (unchanged j)
-  told-wants o w = told-done e p o await.Bytes outcome.WantsBytes z j [] w refl
+  pub told-wants : (o : Operation) → Held ts (e .settings) p o z [] j → Told ts (wants e p o z) (unchanged j)
+  told-wants o w = told-done ts e p o await.Bytes outcome.WantsBytes z j [] w refl
 
-  pub told-replies : (o : Operation) (q : List ℕ) → quiet o ≡ true → Held (e .settings) p o z [] j
-      → Told (replies e p o await.Taken q z) (unchanged j)
+  pub told-replies : (o : Operation) (q : List ℕ) → quiet o ≡ true → Held ts (e .settings) p o z [] j
+      → Told ts (replies e p o await.Taken q z) (unchanged j)
   told-replies o q k w =
-      told-done e p o await.Taken (outcome.Reply (length q)) (withReply z (front q (z .reply))) j [] (
+      told-done ts e p o await.Taken (outcome.Reply (length q)) (withReply z (front q (z .reply))) j [] (
         w .fixed .ended,
-        subst (λ (x : Journal). Held (e .settings) p o (withReply z (front q (z .reply))) [] x)
+        subst (λ (x : Journal). Held ts (e .settings) p o (withReply z (front q (z .reply))) [] x)
             (sym (taken-still (e .settings .«max_object_size») o (z .headers) (z .body) (j .opened) j (getD (front q (z .reply)) 0 0) k (w .opened)))
             (record { fixed = w .fixed; begun = w .begun; opened = w .opened }),
       )
       refl
 
-  pub told-code : (code : ℕ) → Held (e .settings) p Nothing z [] j → Told (repliesCode e p Nothing code z) (unchanged j)
+  pub told-code : (code : ℕ) → Held ts (e .settings) p Nothing z [] j → Told ts (repliesCode e p Nothing code z) (unchanged j)
   told-code code w = told-replies Nothing (packetBytes (sentCode code) [] []) refl w
 
   -- a Get whose object was sent closes on a reply that is not 0x90
-  pub told-closes : (c : Outcome) (y : List ℕ) → handed c (withReply z y) ≡ [] → eqb (getD y 0 0) 0x90 ≡ false → Fixed (e .settings) p j
+  pub told-closes : (c : Outcome) (y : List ℕ) → handed c (withReply z y) ≡ [] → eqb (getD y 0 0) 0x90 ≡ false → Fixed ts (e .settings) p j
       → j .begun ≡ [] → j .opened ≡ sending
-      → Told (done (engineWith (e .settings) p Nothing await.Taken 0 (e .length)) c (withReply z y)) (unchanged j)
+      → Told ts (done (engineWith (e .settings) p Nothing await.Taken 0 (e .length)) c (withReply z y)) (unchanged j)
   told-closes c y g b f k w =
-      told-done e p Nothing await.Taken c (withReply z y) j [] (
+      told-done ts e p Nothing await.Taken c (withReply z y) j [] (
         f .ended,
-        subst (λ (x : Journal). Held (e .settings) p Nothing (withReply z y) [] x)
+        subst (λ (x : Journal). Held ts (e .settings) p Nothing (withReply z y) [] x)
             (sym (ap (λ (u : Opened). takenAt u j (getD y 0 0)) w ∙ ap (λ (t : Bool). pick t j (opens j nothing)) b))
             (record { fixed = record { settings = f .settings; standing = f .standing; ended = f .ended }; begun = k; opened = refl }),
       )

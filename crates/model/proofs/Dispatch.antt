@@ -27,7 +27,7 @@ use Rattle.model.specs.Step.{Stores, Done, wants, asks, repliesCode, lim
 use Rattle.model.specs.Operation.{putPacket, headersPacket, nothingGathered}
 use Rattle.model.specs.Request.{lastPacket, clientResponse, userPlace}
 use Rattle.model.specs.Connect.{verifies, connectPacket}
-use Rattle.model.specs.Dispatch.{Rejection, admits, rejects, rejection, drains, rejected, confirms, dispatches, admittedAs, dispatch}
+use Rattle.model.specs.Dispatch.{Rejection, admits, rejects, rejection, knownIn, drains, rejected, confirms, dispatches, admittedAs, dispatch}
 use Rattle.model.specs.Runs.{handedBy}
 use Rattle.server.specs.declared.Operation.the-variants.{Nothing, Draining}
 use Rattle.server.specs.declared.Await.{Await}
@@ -49,7 +49,12 @@ survey-open : (ids : List ℕ) (x : Option (List ℕ)) → notOpen ids x ≡ (pr
 survey-open ids none = refl
 survey-open ids (some v) = refl
 
-module _ (e : Engine) (s : Stores) (j : Journal) (f : Fixed (e .settings) (e .peer) j) (r : Packet) where
+-- an id that is named and not open is one that is named and not known
+known-open : (a b : Bool) → (a && not (a && b)) ≡ (a && not b)
+known-open true b = refl
+known-open false b = refl
+
+module _ (ts : List ℕ) (e : Engine) (s : Stores) (j : Journal) (f : Fixed ts (e .settings) (e .peer) j) (r : Packet) where
   abbrev v : Survey
   v = surveyOf (some (r .headers))
 
@@ -59,47 +64,53 @@ module _ (e : Engine) (s : Stores) (j : Journal) (f : Fixed (e .settings) (e .pe
   abbrev closedId : Bool
   closedId = notOpen (j .standing .ids) (first 0xCB (r .headers))
 
-  rejection-is : rejection e (r .opcode) v ≡ pick noPassword (rejects 0x41) (pick closedId (rejects 0x53) admits)
+  abbrev known : Bool
+  known = knownIn e ts v
+
+  rejection-is : rejection e (r .opcode) v known ≡ pick noPassword (rejects 0x41) (pick closedId (rejects 0x53) admits)
   unfolding rejection unauthorized surveyOf
-  rejection-is = rw (f .settings, f .standing) (rw (survey-open (idsOf (e .peer)) (first 0xCB (r .headers))) refl)
+  rejection-is =
+      ap (λ (t : Bool). pick (e .settings .authentication && (not (e .peer .authenticated) && not (sameOpcode (r .opcode) op.Disconnect))) (rejects 0x41)
+      (pick t (rejects 0x53) admits)) (known-open (v .«has_id») (member (v .id) (idsOf (e .peer) ts)))
+      ∙ rw (f .settings, f .standing) (rw (survey-open (idsOf (e .peer) ts) (first 0xCB (r .headers))) refl)
 
   admitted-is : admitted (j .settings) (j .standing) r ≡ (not noPassword && not closedId)
   unfolding admitted
   admitted-is = refl
 
   -- turned away or not, as the journal has it
-  decides : (y z : Entry) → Told (dispatches (r .opcode) e r v s) y → ((code : ℕ) → Told (rejected e r code s) z)
-      → Told (admittedAs (rejection e (r .opcode) v) e r v s) (pick (admitted (j .settings) (j .standing) r) y z)
+  decides : (y z : Entry) → Told ts (dispatches (r .opcode) e r v s) y → ((code : ℕ) → Told ts (rejected e r code s) z)
+      → Told ts (admittedAs (rejection e (r .opcode) v known) e r v s) (pick (admitted (j .settings) (j .standing) r) y z)
   decides y z a b = rw (rejection-is, admitted-is) (go noPassword closedId)
     where
-      go : (t u : Bool) → Told (admittedAs (pick t (rejects 0x41) (pick u (rejects 0x53) admits)) e r v s) (pick (not t && not u) y z)
+      go : (t u : Bool) → Told ts (admittedAs (pick t (rejects 0x41) (pick u (rejects 0x53) admits)) e r v s) (pick (not t && not u) y z)
       go true u = b 0x41
       go false true = b 0x53
       go false false = a
 
-  drops : (code : ℕ) → Told (repliesCode e (e .peer) Nothing code s) (dropped j r)
-  drops code = told-code e (e .peer) s (after j (some r) nothing) code (held-after e s j f r Nothing nothing s refl)
+  drops : (code : ℕ) → Told ts (repliesCode e (e .peer) Nothing code s) (dropped j r)
+  drops code = told-code ts e (e .peer) s (after j (some r) nothing) code (held-after ts e s j f r Nothing nothing s refl)
 
   -- turned away: drained, or dropped
   srm-is : j .standing .srm ≡ e .peer .«srm_enabled»
   srm-is = ap (λ (x : Standing). x .srm) (f .standing)
 
-  turned-away : (code : ℕ) → drains (r .opcode) ≡ true → Told (rejected e r code s) (turnedAway j r)
+  turned-away : (code : ℕ) → drains (r .opcode) ≡ true → Told ts (rejected e r code s) (turnedAway j r)
   turned-away code d =
-      subst (λ (t : Bool). Told (pick t (wants e (e .peer) (Draining code) s) (repliesCode e (e .peer) Nothing code s)) (turnedAway j r))
+      subst (λ (t : Bool). Told ts (pick t (wants e (e .peer) (Draining code) s) (repliesCode e (e .peer) Nothing code s)) (turnedAway j r))
       (ap₂ (λ (m t : Bool). m && (t && not (r .final))) srm-is (sym d)) (go (j .standing .srm && not (r .final)))
     where
       go : (t : Bool)
-          → Told (pick t (wants e (e .peer) (Draining code) s) (repliesCode e (e .peer) Nothing code s)) (unchanged (after j (some r) (pick t draining nothing)))
-      go true = told-wants e (e .peer) s (after j (some r) draining) (Draining code) (held-after e s j f r (Draining code) draining s refl)
+          → Told ts (pick t (wants e (e .peer) (Draining code) s) (repliesCode e (e .peer) Nothing code s)) (unchanged (after j (some r) (pick t draining nothing)))
+      go true = told-wants ts e (e .peer) s (after j (some r) draining) (Draining code) (held-after ts e s j f r (Draining code) draining s refl)
       go false = drops code
 
-  turned-down : (code : ℕ) → drains (r .opcode) ≡ false → Told (rejected e r code s) (dropped j r)
+  turned-down : (code : ℕ) → drains (r .opcode) ≡ false → Told ts (rejected e r code s) (dropped j r)
   turned-down code d = rw (d, and-false (e .peer .«srm_enabled»)) (drops code)
 
   -- admitted or not, the journal keeps nothing of it
-  either-way : (x : Rejection) (y : Entry) → Told (dispatches (r .opcode) e r v s) y → ((code : ℕ) → Told (rejected e r code s) y)
-      → Told (admittedAs x e r v s) y
+  either-way : (x : Rejection) (y : Entry) → Told ts (dispatches (r .opcode) e r v s) y → ((code : ℕ) → Told ts (rejected e r code s) y)
+      → Told ts (admittedAs x e r v s) y
   either-way admits y a b = a
   either-way (rejects code) y a b = b code
 
@@ -107,11 +118,11 @@ module _ (e : Engine) (s : Stores) (j : Journal) (f : Fixed (e .settings) (e .pe
 
   module _ (last : requestOf (take (e .length) (s .packet)) ≡ some r) where
     -- the host is asked about this packet
-    asks-told : (o : Opcode) (p : Peer) (a : Await) (q : HostRequest) → r .opcode ≡ o → standingOf p ≡ standingOf (e .peer)
-        → (AskedBy (e .settings) p o (e .length) s (after j (some r) nothing) → CoupledAt a Nothing (e .settings) p 0 (e .length) s (after j (some r) nothing))
-        → handedBy q s ≡ [] → Told (asks e p Nothing a q s) (dropped j r)
+    asks-told : (o : Opcode) (p : Peer) (a : Await) (q : HostRequest) → r .opcode ≡ o → standingOf p ts ≡ standingOf (e .peer) ts
+        → (AskedBy ts (e .settings) p o (e .length) s (after j (some r) nothing) → CoupledAt ts a Nothing (e .settings) p 0 (e .length) s (after j (some r) nothing))
+        → handedBy q s ≡ [] → Told ts (asks e p Nothing a q s) (dropped j r)
     asks-told o p a q i k w g =
-        told-done e p Nothing a (outcome.Request q) s (after j (some r) nothing) []
+        told-done ts e p Nothing a (outcome.Request q) s (after j (some r) nothing) []
         (w (record {
           held = record { fixed = record { settings = f .settings; standing = f .standing ∙ sym k; ended = f .ended }; begun = refl; opened = refl };
           request = r;
@@ -121,19 +132,19 @@ module _ (e : Engine) (s : Stores) (j : Journal) (f : Fixed (e .settings) (e .pe
         }))
         g
 
-    connect-told : r .opcode ≡ op.Connect → Told (connectPacket e s) (dropped j r)
+    connect-told : r .opcode ≡ op.Connect → Told ts (connectPacket e s) (dropped j r)
     unfolding connectPacket
     connect-told i =
-        told-pick (e .settings .authentication) _ _ _ (λ m. go (p .challenge) (clientResponse e s))
+        told-pick ts (e .settings .authentication) _ _ _ (λ m. go (p .challenge) (clientResponse e s))
         (λ m. asks-told op.Connect p await.Connect (request.Connect (e .length)) i same (λ x. x) refl)
       where
         p : Peer
         p = limited (e .peer) (connectLimit (lastPacket e s))
 
-        same : standingOf p ≡ standingOf (e .peer)
-        same = limited-standing (e .peer) (connectLimit (lastPacket e s))
+        same : standingOf p ts ≡ standingOf (e .peer) ts
+        same = limited-standing (e .peer) ts (connectLimit (lastPacket e s))
 
-        go : (c : Challenge) (x : Option Response) → Told (verifies e p c x s) (dropped j r)
+        go : (c : Challenge) (x : Option Response) → Told ts (verifies e p c x s) (dropped j r)
         go Absent x = asks-told op.Connect p await.Nonce request.Nonce i same (λ x. x) refl
         go (Stored n) none = asks-told op.Connect p await.Nonce request.Nonce i same (λ x. x) refl
         go (Stored n) (some x) = asks-told op.Connect p await.Password (request.Password (userPlace e s)) i same (λ x. x) refl
@@ -144,8 +155,8 @@ module _ (e : Engine) (s : Stores) (j : Journal) (f : Fixed (e .settings) (e .pe
       none-kept : KeptAgrees (limitOf e) (gatheringOf nothingGathered (s .headers) (s .body)) []
       none-kept = kept-begins (limitOf e) (s .headers) (s .body) (h .room .headers) (h .room .body)
 
-      plain-told : (o : Opcode) → r .opcode ≡ o → Plain o → Told (headersPacket e r o nothingGathered s) (gatherRead j r o (allBytes (r .headers)))
-      plain-told o i p = headers-packet e s j f r o nothingGathered [] none-kept small p i
+      plain-told : (o : Opcode) → r .opcode ≡ o → Plain o → Told ts (headersPacket e r o nothingGathered s) (gatherRead j r o (allBytes (r .headers)))
+      plain-told o i p = headers-packet ts e s j f r o nothingGathered [] none-kept small p i
 
       -- SRM from the second packet on
       srm-next : (m a : Bool) → pick m true (not m && a) ≡ (m || a)
@@ -160,44 +171,44 @@ module _ (e : Engine) (s : Stores) (j : Journal) (f : Fixed (e .settings) (e .pe
       firstPut = putPacket e r v (e .peer .«srm_enabled») (confirms e v) nothingGathered s
 
       first-put : r .opcode ≡ op.Put
-          → Told firstPut (putRead j r (j .standing .srm) (j .standing .srm || asksSrm (j .settings) (r .headers)) (carriedBy (r .headers)))
+          → Told ts firstPut (putRead j r (j .standing .srm) (j .standing .srm || asksSrm (j .settings) (r .headers)) (carriedBy (r .headers)))
       first-put i =
-          subst (λ (t : Bool). Told firstPut (putRead j r (j .standing .srm) t (carriedBy (r .headers))))
+          subst (λ (t : Bool). Told ts firstPut (putRead j r (j .standing .srm) t (carriedBy (r .headers))))
           (ap (pick (j .standing .srm) true) confirms-is ∙ srm-next (j .standing .srm) (asksSrm (j .settings) (r .headers)))
-          (subst (λ (t : Bool). Told firstPut (putRead j r t (pick t true (confirms e v)) (carriedBy (r .headers))))
+          (subst (λ (t : Bool). Told ts firstPut (putRead j r t (pick t true (confirms e v)) (carriedBy (r .headers))))
           (sym (ap (λ (x : Standing). x .srm) (f .standing)))
-          (put-packet e s j f r v (e .peer .«srm_enabled») (confirms e v) nothingGathered bare
+          (put-packet ts e s j f r v (e .peer .«srm_enabled») (confirms e v) nothingGathered bare
           (put-begins (limitOf e) (s .headers) (s .body) (h .room .headers) (h .room .body))
           (omega (arith, carried-headers (r .headers))) i))
 
       not-connect : (o : Opcode) (y : Entry) → r .opcode ≡ o → sameOpcode o op.Connect ≡ false
-          → Told (admittedAs (rejection e (r .opcode) v) e r v s) y → Told (dispatch e r v s) y
+          → Told ts (admittedAs (rejection e (r .opcode) v known) e r v s) y → Told ts (dispatch e r v known s) y
       unfolding dispatch
       not-connect o y i n w =
-          subst (λ (t : Bool). Told (pick t (connectPacket e s) (admittedAs (rejection e (r .opcode) v) e r v s)) y)
+          subst (λ (t : Bool). Told ts (pick t (connectPacket e s) (admittedAs (rejection e (r .opcode) v known) e r v s)) y)
           (sym (ap (λ (x : Opcode). sameOpcode x op.Connect) i ∙ n)) w
 
-      by-opcode : (o : Opcode) (y : Entry) → r .opcode ≡ o → Told (dispatches o e r v s) y → Told (dispatches (r .opcode) e r v s) y
-      by-opcode o y i w = subst (λ (x : Opcode). Told (dispatches x e r v s) y) (sym i) w
+      by-opcode : (o : Opcode) (y : Entry) → r .opcode ≡ o → Told ts (dispatches o e r v s) y → Told ts (dispatches (r .opcode) e r v s) y
+      by-opcode o y i w = subst (λ (x : Opcode). Told ts (dispatches x e r v s) y) (sym i) w
 
-      plain-first : (o : Opcode) (y : Entry) → r .opcode ≡ o → sameOpcode o op.Connect ≡ false → drains o ≡ false → Told (dispatches o e r v s) y
-          → Told (dispatch e r v s) (pick (admitted (j .settings) (j .standing) r) y (dropped j r))
+      plain-first : (o : Opcode) (y : Entry) → r .opcode ≡ o → sameOpcode o op.Connect ≡ false → drains o ≡ false → Told ts (dispatches o e r v s) y
+          → Told ts (dispatch e r v known s) (pick (admitted (j .settings) (j .standing) r) y (dropped j r))
       plain-first o y i n d w = not-connect o _ i n (decides y (dropped j r) (by-opcode o y i w) (λ code. turned-down code (ap drains i ∙ d)))
 
-      drained-first : (o : Opcode) (y : Entry) → r .opcode ≡ o → sameOpcode o op.Connect ≡ false → drains o ≡ true → Told (dispatches o e r v s) y
-          → Told (dispatch e r v s) (pick (admitted (j .settings) (j .standing) r) y (turnedAway j r))
+      drained-first : (o : Opcode) (y : Entry) → r .opcode ≡ o → sameOpcode o op.Connect ≡ false → drains o ≡ true → Told ts (dispatches o e r v s) y
+          → Told ts (dispatch e r v known s) (pick (admitted (j .settings) (j .standing) r) y (turnedAway j r))
       drained-first o y i n d w = not-connect o _ i n (decides y (turnedAway j r) (by-opcode o y i w) (λ code. turned-away code (ap drains i ∙ d)))
 
-      dropped-first : (o : Opcode) → r .opcode ≡ o → sameOpcode o op.Connect ≡ false → drains o ≡ false → Told (dispatches o e r v s) (dropped j r)
-          → Told (dispatch e r v s) (dropped j r)
+      dropped-first : (o : Opcode) → r .opcode ≡ o → sameOpcode o op.Connect ≡ false → drains o ≡ false → Told ts (dispatches o e r v s) (dropped j r)
+          → Told ts (dispatch e r v known s) (dropped j r)
       dropped-first o i n d w =
           not-connect o _ i n
-          (either-way (rejection e (r .opcode) v) (dropped j r) (by-opcode o (dropped j r) i w) (λ code. turned-down code (ap drains i ∙ d)))
+          (either-way (rejection e (r .opcode) v known) (dropped j r) (by-opcode o (dropped j r) i w) (λ code. turned-down code (ap drains i ∙ d)))
 
-      pub dispatch-told : (o : Opcode) → r .opcode ≡ o → sameOpcode o op.Abort ≡ false → Told (dispatch e r v s) (firstRead o j r)
+      pub dispatch-told : (o : Opcode) → r .opcode ≡ o → sameOpcode o op.Abort ≡ false → Told ts (dispatch e r v known s) (firstRead o j r)
       unfolding dispatch firstRead sameOpcode
       dispatch-told op.Connect i n =
-          subst (λ (t : Bool). Told (pick t (connectPacket e s) (admittedAs (rejection e (r .opcode) v) e r v s)) (dropped j r))
+          subst (λ (t : Bool). Told ts (pick t (connectPacket e s) (admittedAs (rejection e (r .opcode) v known) e r v s)) (dropped j r))
           (sym (ap (λ (x : Opcode). sameOpcode x op.Connect) i)) (connect-told i)
       dispatch-told op.Abort i n = absurd (true≢false n)
       dispatch-told op.Disconnect i n =
@@ -206,11 +217,11 @@ module _ (e : Engine) (s : Stores) (j : Journal) (f : Fixed (e .settings) (e .pe
       dispatch-told op.SetPath i n =
           dropped-first op.SetPath i refl refl
           (asks-told op.SetPath (e .peer) await.Reply (request.SetPath (e .length) (backup (r .bytes)) (noCreate (r .bytes))) i refl
-          (λ x. (x .held, still-after e s j f r op.SetPath nothing i (λ a b y z. refl))) refl)
+          (λ x. (x .held, still-after ts e s j f r op.SetPath nothing i (λ a b y z. refl))) refl)
       dispatch-told op.Put i n = drained-first op.Put _ i refl refl (first-put i)
       dispatch-told op.Get i n =
           drained-first op.Get _ i refl refl
-          (get-packet e s j f r v (e .peer .«srm_enabled») (confirms e v) nothingGathered [] none-kept (omega (arith, kept-headers (r .headers))))
+          (get-packet ts e s j f r v (e .peer .«srm_enabled») (confirms e v) nothingGathered [] none-kept (omega (arith, kept-headers (r .headers))))
       dispatch-told op.Action i n = plain-first op.Action _ i refl refl (plain-told op.Action i (λ a b y z. refl))
       dispatch-told op.Session i n = plain-first op.Session _ i refl refl (plain-told op.Session i (λ a b y z. refl))
       dispatch-told (op.UserDefined x) i n = plain-first (op.UserDefined x) _ i refl refl (plain-told (op.UserDefined x) i (λ a b y z. refl))

@@ -19,8 +19,9 @@ use Rattle.outgoing.specs.declared.object.Outgoing.{Outgoing}
 use Rattle.outgoing.specs.declared.object.Chunk.{Chunk}
 use Rattle.connection.specs.Reply.{front}
 use Rattle.connection.specs.declared.peer.Peer.{Peer}
-use Rattle.model.specs.Step.{Stores, withHeaders, stores, withReply, engineWith, Done, done, wants, asks, ends, replies, repliesCode, continueBytes, continues, limitOf}
-use Rattle.model.specs.Guard.{short, soundOperation, sound}
+use Rattle.model.specs.Step.{Stores, withHeaders, stores, withReply, engineWith, Done, done, DoneTabled, wants, asks, ends, replies, repliesCode, continueBytes, continues, limitOf}
+use Rattle.model.specs.Guard.{short, shortTables, longRealm, soundOperation, sound}
+use Rattle.model.specs.Runs.{State}
 use Rattle.model.specs.Refusals.{Waits, bytes, taking, reply, object, acknowledgement, password, nonce, credentials, nothing, reading, asked, told, verdictOf}
 use Rattle.server.specs.declared.Operation.{Operation}
 use Rattle.server.specs.declared.Operation.the-variants.{Nothing, Putting, Getting, Sending, Gathering as GatheringOp, Connecting, Draining}
@@ -169,7 +170,6 @@ waitsOf await.Nothing o = nothing
 pub record Base (e : Engine) (s : Stores) : Type 0 where
   pub room : Room (limitOf e) s
   pub peer : PeerFits (e .peer)
-  pub realm : e .settings .«realm_length» ≤ 254
   pub last : e .length ≤ 65535
 
 -- the bytes of a packet begun
@@ -196,59 +196,83 @@ is-sound e s h =
       le-leb _ _ (h .base .last),
       le-leb _ _ (h .base .peer .count),
       le-leb _ _ (h .base .peer .least),
-      le-leb _ _
-          (h .base .realm),
       h .counts,
     )
 
+-- and all that is lent
+pub record Seated (s : State) : Type 0 where
+  pub sits : Sits (s .engine) (s .stores)
+  pub tables : 64 ≤ length (s .tables)
+  pub realm : longRealm (s .engine .settings) (s .realm) ≡ false
+
+pub tables-room : (t : List ℕ) → shortTables t ≡ false → 64 ≤ length t
+unfolding shortTables
+tables-room t h = ltb-false _ _ h
+
+pub tables-long : (t : List ℕ) → 64 ≤ length t → shortTables t ≡ false
+unfolding shortTables
+tables-long t h = le-ltb _ _ h
+
 -- ---- what a step leads to
 
-pub record Fine (d : Done) : Type 0 where
+-- of an engine `e`, whose settings stay
+pub record Fine (e : Engine) (d : Done) : Type 0 where
+  pub settings : d .engine .settings ≡ e .settings
   pub sits : Sits (d .engine) (d .stores)
   pub waits : (w : Waits) → told w (d .outcome) ≡ waitsOf (d .engine .awaits) (d .engine .operation)
   pub goes : verdictOf (d .outcome) ≡ goes
 
-pub fine-pick : (t : Bool) (a b : Done) → Fine a → Fine b → Fine (pick t a b)
-fine-pick true a b x y = x
-fine-pick false a b x y = y
+pub fine-pick : (e : Engine) (t : Bool) (a b : Done) → Fine e a → Fine e b → Fine e (pick t a b)
+fine-pick e true a b x y = x
+fine-pick e false a b x y = y
+
+-- the same of a step that may write the table store, which keeps its length
+pub record FineTabled (e : Engine) (t : List ℕ) (x : DoneTabled) : Type 0 where
+  pub done : Fine e (x .done)
+  pub tables : length (x .tables) ≡ length t
+
+pub tabled-pick : (e : Engine) (t : List ℕ) (b : Bool) (x y : DoneTabled) → FineTabled e t x → FineTabled e t y → FineTabled e t (pick b x y)
+tabled-pick e t true x y f g = f
+tabled-pick e t false x y f g = g
 
 module _ (e : Engine) (s : Stores) (h : Base e s) where
   pub fine-done : (p : Peer) (o : Operation) (a : Await) (c : Outcome) (z : Stores) → PeerFits p → Room (limitOf e) z
       → soundOperation (limitOf e) o ≡ true → Shape a o
-      → ((w : Waits) → told w c ≡ waitsOf a o) → verdictOf c ≡ goes → Fine (done (engineWith (e .settings) p o a 0 (e .length)) c z)
+      → ((w : Waits) → told w c ≡ waitsOf a o) → verdictOf c ≡ goes → Fine e (done (engineWith (e .settings) p o a 0 (e .length)) c z)
   unfolding engineWith
   fine-done p o a c z f r k x w g =
       record {
-        sits = record { base = record { room = r; peer = f; realm = h .realm; last = h .last }; begun = none-begun (z .packet); counts = k; shape = x };
+        settings = refl;
+        sits = record { base = record { room = r; peer = f; last = h .last }; begun = none-begun (z .packet); counts = k; shape = x };
         waits = w;
         goes = g;
       }
 
   pub fine-wants : (p : Peer) (o : Operation) (z : Stores) → PeerFits p → Room (limitOf e) z → soundOperation (limitOf e) o ≡ true
       → Shape await.Bytes o
-      → Fine (wants e p o z)
+      → Fine e (wants e p o z)
   fine-wants p o z f r k x = fine-done p o await.Bytes outcome.WantsBytes z f r k x (λ w. refl) refl
 
   pub fine-asks : (p : Peer) (a : Await) (q : HostRequest) (z : Stores) → PeerFits p → Room (limitOf e) z → Shape a Nothing → asked q ≡ waitsOf a Nothing
-      → Fine (asks e p Nothing a q z)
+      → Fine e (asks e p Nothing a q z)
   fine-asks p a q z f r x w = fine-done p Nothing a (outcome.Request q) z f r refl x (λ v. w) refl
 
-  pub fine-ends : (p : Peer) (x : End) (z : Stores) → PeerFits p → Room (limitOf e) z → Fine (ends e p x z)
+  pub fine-ends : (p : Peer) (x : End) (z : Stores) → PeerFits p → Room (limitOf e) z → Fine e (ends e p x z)
   fine-ends p x z f r = fine-done p Nothing await.Nothing (outcome.End x) z f r refl refl (λ w. refl) refl
 
   pub fine-replies : (p : Peer) (o : Operation) (a : Await) (q : List ℕ) (z : Stores) → PeerFits p → Room (limitOf e) z
       → soundOperation (limitOf e) o ≡ true → Shape a o
-      → taking ≡ waitsOf a o → length q ≤ 65535 → Fine (replies e p o a q z)
+      → taking ≡ waitsOf a o → length q ≤ 65535 → Fine e (replies e p o a q z)
   fine-replies p o a q z f r k x w l =
       fine-done p o a (outcome.Reply (length q)) (withReply z (front q (z .reply))) f
       (room-reply (limitOf e) z (front q (z .reply)) (front-length q (z .reply) (omega (arith, r .reply))) r) k x (λ v. w) refl
 
-  pub fine-code : (p : Peer) (code : ℕ) (z : Stores) → PeerFits p → Room (limitOf e) z → Fine (repliesCode e p Nothing code z)
+  pub fine-code : (p : Peer) (code : ℕ) (z : Stores) → PeerFits p → Room (limitOf e) z → Fine e (repliesCode e p Nothing code z)
   unfolding packetBytes
   fine-code p code z f r = fine-replies p Nothing await.Taken (packetBytes (sentCode code) [] []) z f r refl refl refl (omega arith)
 
   pub fine-continues : (o : Operation) (grant : Bool) (z : Stores) → Room (limitOf e) z → soundOperation (limitOf e) o ≡ true → Shape await.Taken o
-      → Fine (continues e o grant z)
+      → Fine e (continues e o grant z)
   unfolding packetBytes
   fine-continues o true z r k x = fine-replies (e .peer) o await.Taken (continueBytes true) z (h .peer) r k x refl (omega arith)
   fine-continues o false z r k x = fine-replies (e .peer) o await.Taken (continueBytes false) z (h .peer) r k x refl (omega arith)

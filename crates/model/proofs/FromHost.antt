@@ -19,12 +19,12 @@ use Rattle.outgoing.specs.Object.{bodyGiven as givenBody}
 use Rattle.outgoing.specs.declared.object.Outgoing.{Outgoing}
 use Rattle.outgoing.specs.declared.object.Chunk.{Chunk}
 use Rattle.connection.specs.Reply.{front}
-use Rattle.model.specs.Step.{Stores, withHeaders, Done, after, limitOf, sends}
-use Rattle.model.specs.Connect.{connectSends}
+use Rattle.model.specs.Step.{DoneTabled, called, Stores, withHeaders, Done, after, limitOf, sends}
+use Rattle.model.specs.Connect.{nonceAnswer, connectSends}
 use Rattle.model.specs.Guard.{refuse, sameAwait, fits, badHeaders, badReply, checked, longUser, soundOperation}
 use Rattle.model.specs.Object.{sendsPacket, sendsNext, objectOf}
 use Rattle.model.specs.Calls.{replyAnswer, objectFor, bodyFor, credentialsWith}
-use Rattle.model.specs.Runs.{State}
+use Rattle.model.specs.Runs.{State, keeps}
 use Rattle.model.specs.Refusals.{Waits, roomIn, bad}
 use Rattle.server.specs.declared.Operation.{Operation}
 use Rattle.server.specs.declared.CallKind.the-variants as kind
@@ -33,12 +33,12 @@ use Rattle.server.specs.declared.Await.{Await}
 use Rattle.server.specs.declared.Await.the-variants as await
 use Rattle.server.specs.declared.Engine.{Engine}
 use Rattle.outgoing.proofs.Sent.{body-sends}
-use Rattle.model.proofs.Fit.{and-left, and-right, or-left, or-right, room-headers, IsGetting, IsSending, IsConnecting, Shape, roomOf, waitsOf, Base, Sits, Fine, fine-code}
+use Rattle.model.proofs.Fit.{and-left, and-right, or-left, or-right, room-headers, IsGetting, IsSending, IsConnecting, Shape, roomOf, waitsOf, Base, Seated, Fine, fine-code}
 use Rattle.model.proofs.Steps.{OutgoingFits, outgoing-within, sends-next-fine, sends-packet-fine, reply-fine, password-fine, nonce-fine, connect-sends-fine}
-use Rattle.model.proofs.Coupling.{KeptOpen, OpenedAt, Held, Coupled, Told, told-pick, told-code}
+use Rattle.model.proofs.Coupling.{KeptOpen, OpenedAt, Held, Coupled, Told, ToldTabled, tabled-told-pick, told-code}
 use Rattle.model.proofs.Gathers.{next-told, fails-told, sends-told as made-told}
 use Rattle.model.proofs.Answers.{sends-told, connect-sends-told, connect-told, disconnect-told, password-told, nonce-told}
-use Rattle.model.proofs.Moments.{same-await, or-second, Agree, Agrees, fed-goes, agree-goes, agree-refused, agrees}
+use Rattle.model.proofs.Moments.{same-await, or-second, Agree, AgreeKept, Agrees, fed-goes, agree-tabled, agree-goes, agree-refused, agrees}
 use Rattle.model.proofs.FromPeer.{coupled-at}
 
 -- an answer's headers that are not refused fit the header store
@@ -50,15 +50,18 @@ pub reply-headers-fit : (code : ℕ) (hs : List ℕ) → badReply code hs ≡ fa
 unfolding badReply
 reply-headers-fit code hs b = headers-fit hs (or-right (not (isCode code)) _ b)
 
-module _ (w : Waits) (s : State) (h : Sits (s .engine) (s .stores)) (k : w ≡ waitsOf (s .engine .awaits) (s .engine .operation)) where
+module _ (w : Waits) (s : State) (h : Seated s) (k : w ≡ waitsOf (s .engine .awaits) (s .engine .operation)) where
   abbrev e : Engine
   e = s .engine
 
   abbrev st : Stores
   st = s .stores
 
+  abbrev ts : List ℕ
+  ts = s .tables
+
   shape-at : (a : Await) → e .awaits ≡ a → Shape a (e .operation)
-  shape-at a i = subst (λ (x : Await). Shape x (e .operation)) i (h .shape)
+  shape-at a i = subst (λ (x : Await). Shape x (e .operation)) i (h .sits .shape)
 
   -- a Get that the host is asked about is a Get for the journal, and a body that is read an object's
   get-open : (at : e .awaits ≡ await.Get) (j : Journal) → OpenedAt (limitOf e) (e .operation) (st .headers) (st .body) (j .opened)
@@ -67,14 +70,14 @@ module _ (w : Waits) (s : State) (h : Sits (s .engine) (s .stores)) (k : w ≡ w
       subst (λ (o : Operation). OpenedAt (limitOf e) o (st .headers) (st .body) (j .opened)) (shape-at await.Get at .is) w
 
   -- the journal's step, on a journal that has not ended
-  entered : (c : Call) (j : Journal) (d : Done) → j .ended ≡ false → Told d (journalCall j c (getD (st .reply) 0 0))
-      → Told d (journalFed j c goes (getD (st .reply) 0 0))
-  entered c j d i x = subst (Told d) (sym (fed-goes j c (getD (st .reply) 0 0) i)) x
+  entered : (c : Call) (j : Journal) (d : Done) → j .ended ≡ false → Told ts d (journalCall j c (getD (st .reply) 0 0))
+      → Told ts d (journalFed j c goes (getD (st .reply) 0 0))
+  entered c j d i x = subst (Told ts d) (sym (fed-goes j c (getD (st .reply) 0 0) i)) x
 
   -- an answer that may be refused with 8
-  checked-agrees : (c : Call) (b : Bool) (d : Done) → (b ≡ false → Fine d)
-      → (b ≡ false → (j : Journal) → Coupled e st j → Told d (journalFed j c goes (getD (st .reply) 0 0)))
-      → Agree w s c (pick b (refused 8) goes) (checked b e st d)
+  checked-agrees : (c : Call) (b : Bool) (d : Done) → (b ≡ false → Fine e d)
+      → (b ≡ false → (j : Journal) → Coupled ts e st j → Told ts d (journalFed j c goes (getD (st .reply) 0 0)))
+      → AgreeKept w s c (pick b (refused 8) goes) (checked b e st d)
   checked-agrees c true d f g = agree-refused w s h k c refusal.BadAnswer
   checked-agrees c false d f g = agree-goes w s h k c 0 d (f refl) (λ j x u. g refl j x)
 
@@ -83,32 +86,36 @@ module _ (w : Waits) (s : State) (h : Sits (s .engine) (s .stores)) (k : w ≡ w
   module _ (code : ℕ) (hs : List ℕ) where
     -- to a Get it is sent as it is, and closes it; to any other request it is sent as it is
     plain-reply : (t : Bool) → sameAwait (e .awaits) await.Get ≡ t → (sameAwait (e .awaits) await.Get ≡ false → e .awaits ≡ await.Reply) → (j : Journal)
-        → Coupled e st j
-        → Told (sends e (e .peer) code hs st) (journalFed j (replyGiven code hs) goes (getD (st .reply) 0 0))
+        → Coupled ts e st j
+        → Told ts (sends e (e .peer) code hs st) (journalFed j (replyGiven code hs) goes (getD (st .reply) 0 0))
     plain-reply true i o j x =
         let at = same-await (e .awaits) await.Get i in
         let y = coupled-at w s h k await.Get j at x in
         let g = get-open at j (y .opened) in
         entered (replyGiven code hs) j _ (y .fixed .ended)
-        (subst (λ (u : Opened). Told (sends e (e .peer) code hs st) (unchanged (replied u j code hs))) (sym (g .is))
-        (sends-told e st (e .peer) (opens j nothing)
+        (subst (λ (u : Opened). Told ts (sends e (e .peer) code hs st) (unchanged (replied u j code hs))) (sym (g .is))
+        (sends-told ts e st (e .peer) (opens j nothing)
         (record { fixed = record { settings = y .fixed .settings; standing = y .fixed .standing; ended = y .fixed .ended }; begun = y .begun; opened = refl }) code hs))
     plain-reply false i o j x =
         let y = coupled-at w s h k await.Reply j (o i) x in
         entered (replyGiven code hs) j _ (y .0 .fixed .ended)
-        (subst (λ (u : Journal). Told (sends e (e .peer) code hs st) (unchanged u)) (sym (ap (λ (v : Opened). replied v j code hs) (y .0 .opened) ∙ y .1 code hs))
-        (sends-told e st (e .peer) j (y .0) code hs))
+        (subst (λ (u : Journal). Told ts (sends e (e .peer) code hs st) (unchanged u)) (sym (ap (λ (v : Opened). replied v j code hs) (y .0 .opened) ∙ y .1 code hs))
+        (sends-told ts e st (e .peer) j (y .0) code hs))
 
-    reply-told : fits kind.ReplyGiven (e .awaits) ≡ true → (j : Journal) → Coupled e st j
-        → Told (replyAnswer e code hs st) (journalFed j (replyGiven code hs) goes (getD (st .reply) 0 0))
+    entered-tabled : (j : Journal) (d : DoneTabled) → j .ended ≡ false → ToldTabled d (journalCall j (replyGiven code hs) (getD (st .reply) 0 0))
+        → ToldTabled d (journalFed j (replyGiven code hs) goes (getD (st .reply) 0 0))
+    entered-tabled j d i x = subst (ToldTabled d) (sym (fed-goes j (replyGiven code hs) (getD (st .reply) 0 0) i)) x
+
+    reply-told : fits kind.ReplyGiven (e .awaits) ≡ true → (j : Journal) → Coupled ts e st j
+        → ToldTabled (replyAnswer e code hs st ts) (journalFed j (replyGiven code hs) goes (getD (st .reply) 0 0))
     unfolding replyAnswer
     reply-told r j x =
-        told-pick (sameAwait (e .awaits) await.Connect) _ _ _
+        tabled-told-pick (sameAwait (e .awaits) await.Connect) _ _ _
         (λ m. let y = coupled-at w s h k await.Connect j (same-await (e .awaits) await.Connect m) x in
-        entered (replyGiven code hs) j _ (y .held .fixed .ended) (connect-told e st j op.Connect y (h .base .peer) code hs refl))
-        (λ m. told-pick (sameAwait (e .awaits) await.Disconnect) _ _ _
+        entered-tabled j _ (y .held .fixed .ended) (connect-told ts e st j op.Connect y (h .sits .base .peer) (h .tables) code hs refl))
+        (λ m. tabled-told-pick (sameAwait (e .awaits) await.Disconnect) _ _ _
         (λ n. let y = coupled-at w s h k await.Disconnect j (same-await (e .awaits) await.Disconnect n) x in
-        entered (replyGiven code hs) j _ (y .held .fixed .ended) (disconnect-told e st j op.Disconnect y (h .base .peer) code hs refl))
+        entered-tabled j _ (y .held .fixed .ended) (disconnect-told ts e st j op.Disconnect y (h .sits .base .peer) (h .tables) code hs refl))
         (λ n. plain-reply (sameAwait (e .awaits) await.Get) refl (λ o. same-await (e .awaits) await.Reply (reply-left m n o)) j x))
       where
         reply-left : sameAwait (e .awaits) await.Connect ≡ false → sameAwait (e .awaits) await.Disconnect ≡ false
@@ -118,9 +125,16 @@ module _ (w : Waits) (s : State) (h : Sits (s .engine) (s .stores)) (k : w ≡ w
     pub reply-agrees : Agrees w s (replyGiven code hs)
     unfolding bad
     reply-agrees =
-        agrees w s h k (replyGiven code hs)
-        (λ r. checked-agrees (replyGiven code hs) (badReply code hs) (replyAnswer e code hs st)
-        (λ b. reply-fine e st (h .base) code hs (reply-headers-fit code hs b)) (λ b j x. reply-told r j x))
+        agrees w s h k (replyGiven code hs) (λ r. go r (badReply code hs) refl)
+      where
+        go : fits kind.ReplyGiven (e .awaits) ≡ true → (b : Bool) → badReply code hs ≡ b
+            → Agree w s (replyGiven code hs) (pick b (refused 8) goes)
+            (pick b (keeps s (refuse refusal.BadAnswer e st)) (called (after 0 (replyAnswer e code hs st ts .done)) (replyAnswer e code hs st ts .tables)))
+        go r true i = agree-refused w s h k (replyGiven code hs) refusal.BadAnswer
+        go r false i =
+            let f = reply-fine e st (h .sits .base) ts (h .tables) code hs (reply-headers-fit code hs i) in
+            agree-tabled w s h k (replyGiven code hs) (replyAnswer e code hs st ts .done) 0 (replyAnswer e code hs st ts .tables) (f .done) (f .tables)
+            (λ j x u. reply-told r j x)
 
   -- ---- an object
 
@@ -130,22 +144,22 @@ module _ (w : Waits) (s : State) (h : Sits (s .engine) (s .stores)) (k : w ≡ w
 
     object-base : length hs ≤ 65535 → Base e z
     object-base l =
-        record { room = room-headers (limitOf e) st hs l (h .base .room); peer = h .base .peer; realm = h .base .realm; last = h .base .last }
+        record { room = room-headers (limitOf e) st hs l (h .sits .base .room); peer = h .sits .base .peer; last = h .sits .base .last }
 
-    object-told : length hs ≤ 65535 → (srm confirm wait : Bool) → e .awaits ≡ await.Get → (j : Journal) → Coupled e st j
-        → Told (sendsNext e (objectOf (length hs) confirm has) srm wait z) (journalFed j (objectGiven hs has) goes (getD (st .reply) 0 0))
+    object-told : length hs ≤ 65535 → (srm confirm wait : Bool) → e .awaits ≡ await.Get → (j : Journal) → Coupled ts e st j
+        → Told ts (sendsNext e (objectOf (length hs) confirm has) srm wait z) (journalFed j (objectGiven hs has) goes (getD (st .reply) 0 0))
     object-told l srm confirm wait at j x =
         let y = coupled-at w s h k await.Get j at x in
         let g = get-open at j (y .opened) in
         entered (objectGiven hs has) j _ (y .fixed .ended)
-        (subst (λ (u : Opened). Told (sendsNext e (objectOf (length hs) confirm has) srm wait z) (unchanged (objectSent u j))) (sym (g .is))
-        (next-told e z (opens j sending) (record { settings = y .fixed .settings; standing = y .fixed .standing; ended = y .fixed .ended }) (y .begun) refl
+        (subst (λ (u : Opened). Told ts (sendsNext e (objectOf (length hs) confirm has) srm wait z) (unchanged (objectSent u j))) (sym (g .is))
+        (next-told ts e z (opens j sending) (record { settings = y .fixed .settings; standing = y .fixed .standing; ended = y .fixed .ended }) (y .begun) refl
         (object-base l) (objectOf (length hs) confirm has) srm wait (omega arith) l))
 
     object-at : (at : e .awaits ≡ await.Get) → IsGetting (e .operation)
-        → Agree w s (objectGiven hs has) (pick (badHeaders hs) (refused 8) goes) (objectFor (e .operation) e hs has st)
+        → AgreeKept w s (objectGiven hs has) (pick (badHeaders hs) (refused 8) goes) (objectFor (e .operation) e hs has st)
     object-at at v =
-        subst (λ (o : Operation). Agree w s (objectGiven hs has) (pick (badHeaders hs) (refused 8) goes) (objectFor o e hs has st)) (sym (v .is))
+        subst (λ (o : Operation). AgreeKept w s (objectGiven hs has) (pick (badHeaders hs) (refused 8) goes) (objectFor o e hs has st)) (sym (v .is))
         (checked-agrees (objectGiven hs has) (badHeaders hs) (sendsNext e (objectOf (length hs) (v .confirm) has) (v .srm || v .confirm) (v .wait) z)
         (λ b. sends-next-fine e z (object-base (headers-fit hs b)) (objectOf (length hs) (v .confirm) has) (v .srm || v .confirm) (v .wait) (omega arith)
         (headers-fit hs b))
@@ -159,8 +173,8 @@ module _ (w : Waits) (s : State) (h : Sits (s .engine) (s .stores)) (k : w ≡ w
 
   -- ---- body bytes
 
-  module _ (at : e .awaits ≡ await.Body) (j : Journal) (x : Coupled e st j) where
-    body-held : Held (e .settings) (e .peer) (e .operation) st [] j
+  module _ (at : e .awaits ≡ await.Body) (j : Journal) (x : Coupled ts e st j) where
+    body-held : Held ts (e .settings) (e .peer) (e .operation) st [] j
     body-held = coupled-at w s h k await.Body j at x
 
     body-open : j .opened ≡ sending
@@ -171,26 +185,26 @@ module _ (w : Waits) (s : State) (h : Sits (s .engine) (s .stores)) (k : w ≡ w
   module _ (d : List ℕ) where
     -- more than were asked for is refused with 9
     body-at : e .awaits ≡ await.Body → (o : Outgoing) (c : Chunk) (srm wait : Bool) → OutgoingFits o c → (t : Bool) → ltb (c .room) (length d) ≡ t
-        → Agree w s (bodyGiven d) (pick (leb (length d) (c .room)) goes (refused 9)) (pick t (refuse refusal.WrongMoment e st) (after 0 (sendsPacket e srm wait (givenBody o c d (st .reply)) st)))
+        → AgreeKept w s (bodyGiven d) (pick (leb (length d) (c .room)) goes (refused 9)) (pick t (refuse refusal.WrongMoment e st) (after 0 (sendsPacket e srm wait (givenBody o c d (st .reply)) st)))
     body-at at o c srm wait y true i =
         let more : c .room < length d = ltb-true _ _ i in
-        subst (λ (t : Bool). Agree w s (bodyGiven d) (pick t goes (refused 9)) (refuse refusal.WrongMoment e st)) (sym (lt-leb (length d) (c .room) more)) (agree-refused w s h k (bodyGiven d) refusal.WrongMoment)
+        subst (λ (t : Bool). AgreeKept w s (bodyGiven d) (pick t goes (refused 9)) (refuse refusal.WrongMoment e st)) (sym (lt-leb (length d) (c .room) more)) (agree-refused w s h k (bodyGiven d) refusal.WrongMoment)
     body-at at o c srm wait y false i =
         let within : length d ≤ c .room = ltb-false _ _ i in
-        let m = body-sends o c d (st .reply) (h .base .room .reply) within (y .begun) (y .chunk) (y .sent) in
-        subst (λ (t : Bool). Agree w s (bodyGiven d) (pick t goes (refused 9)) (after 0 (sendsPacket e srm wait (givenBody o c d (st .reply)) st))) (sym (le-leb (length d) (c .room) within))
-        (agree-goes w s h k (bodyGiven d) 0 _ (sends-packet-fine e st (h .base) o srm wait (givenBody o c d (st .reply)) (y .total) m)
+        let m = body-sends o c d (st .reply) (h .sits .base .room .reply) within (y .begun) (y .chunk) (y .sent) in
+        subst (λ (t : Bool). AgreeKept w s (bodyGiven d) (pick t goes (refused 9)) (after 0 (sendsPacket e srm wait (givenBody o c d (st .reply)) st))) (sym (le-leb (length d) (c .room) within))
+        (agree-goes w s h k (bodyGiven d) 0 _ (sends-packet-fine e st (h .sits .base) o srm wait (givenBody o c d (st .reply)) (y .total) m)
         (λ j x u. let l = body-held at j x in
         entered (bodyGiven d) j _ (l .fixed .ended)
-        (made-told e st j (l .fixed) (l .begun) (body-open at j x) o srm wait (givenBody o c d (st .reply)) m)))
+        (made-told ts e st j (l .fixed) (l .begun) (body-open at j x) o srm wait (givenBody o c d (st .reply)) m)))
 
     body-for : e .awaits ≡ await.Body → (v : IsSending (e .operation))
-        → Agree w s (bodyGiven d) (pick (leb (length d) (roomIn (waitsOf (e .awaits) (e .operation)))) goes (refused 9)) (bodyFor (e .operation) e d st)
+        → AgreeKept w s (bodyGiven d) (pick (leb (length d) (roomIn (waitsOf (e .awaits) (e .operation)))) goes (refused 9)) (bodyFor (e .operation) e d st)
     body-for at v =
-        subst (λ (a : Await). Agree w s (bodyGiven d) (pick (leb (length d) (roomIn (waitsOf a (e .operation)))) goes (refused 9)) (bodyFor (e .operation) e d st)) (sym at)
-        (subst (λ (o : Operation). Agree w s (bodyGiven d) (pick (leb (length d) (roomOf o)) goes (refused 9)) (bodyFor o e d st)) (sym (v .is))
+        subst (λ (a : Await). AgreeKept w s (bodyGiven d) (pick (leb (length d) (roomIn (waitsOf a (e .operation)))) goes (refused 9)) (bodyFor (e .operation) e d st)) (sym at)
+        (subst (λ (o : Operation). AgreeKept w s (bodyGiven d) (pick (leb (length d) (roomOf o)) goes (refused 9)) (bodyFor o e d st)) (sym (v .is))
         (body-at at (v .outgoing) (v .chunk) (v .srm) (v .wait)
-        (outgoing-within (v .outgoing) (v .chunk) (ap (soundOperation (limitOf e)) (sym (v .is)) ∙ h .counts)) _ refl))
+        (outgoing-within (v .outgoing) (v .chunk) (ap (soundOperation (limitOf e)) (sym (v .is)) ∙ h .sits .counts)) _ refl))
 
     pub body-agrees : Agrees w s (bodyGiven d)
     unfolding bad
@@ -203,9 +217,9 @@ module _ (w : Waits) (s : State) (h : Sits (s .engine) (s .stores)) (k : w ≡ w
   body-failed-agrees =
       agrees w s h k bodyFailed
       (λ r. let at = same-await (e .awaits) await.Body r in
-      agree-goes w s h k bodyFailed 0 _ (fine-code e st (h .base) (e .peer) 0x50 st (h .base .peer) (h .base .room))
+      agree-goes w s h k bodyFailed 0 _ (fine-code e st (h .sits .base) (e .peer) 0x50 st (h .sits .base .peer) (h .sits .base .room))
       (λ j x u. let l = body-held at j x in entered bodyFailed j _ (l .fixed .ended)
-      (fails-told e st j (l .fixed) (l .begun) (body-open at j x) (st .reply))))
+      (fails-told ts e st j (l .fixed) (l .begun) (body-open at j x) (st .reply))))
 
   -- ---- an Abort is acknowledged; the password, the nonce, credentials
 
@@ -213,35 +227,37 @@ module _ (w : Waits) (s : State) (h : Sits (s .engine) (s .stores)) (k : w ≡ w
   unfolding bad
   acknowledge-agrees =
       agrees w s h k abortAcknowledged
-      (λ r. agree-goes w s h k abortAcknowledged 0 _ (fine-code e st (h .base) (e .peer) 0x20 st (h .base .peer) (h .base .room))
+      (λ r. agree-goes w s h k abortAcknowledged 0 _ (fine-code e st (h .sits .base) (e .peer) 0x20 st (h .sits .base .peer) (h .sits .base .room))
       (λ j x u. let y = coupled-at w s h k await.Acknowledgement j (same-await (e .awaits) await.Acknowledgement r) x in
-      entered abortAcknowledged j _ (y .fixed .ended) (told-code e (e .peer) st j 0x20 y)))
+      entered abortAcknowledged j _ (y .fixed .ended) (told-code ts e (e .peer) st j 0x20 y)))
 
   pub password-agrees : (p : Option (List ℕ)) → Agrees w s (passwordGiven p)
   unfolding bad
   password-agrees p =
       agrees w s h k (passwordGiven p)
-      (λ r. agree-goes w s h k (passwordGiven p) 0 _ (password-fine e st (h .base) p)
+      (λ r. agree-goes w s h k (passwordGiven p) 0 _ (password-fine e st (h .sits .base) p)
       (λ j x u. let y = coupled-at w s h k await.Password j (same-await (e .awaits) await.Password r) x in
-      entered (passwordGiven p) j _ (y .held .fixed .ended) (password-told e st j op.Connect y refl p)))
+      entered (passwordGiven p) j _ (y .held .fixed .ended) (password-told ts e st j op.Connect y refl p)))
 
-  pub nonce-agrees : (n : Octets16) (l : List ℕ) → Agrees w s (nonceGiven n l)
+  -- the realm is not too long, since it was not at the start
+  pub nonce-agrees : (n : Octets16) → Agrees w s (nonceGiven n)
   unfolding bad
-  nonce-agrees n l =
-      agrees w s h k (nonceGiven n l)
-      (λ r. agree-goes w s h k (nonceGiven n l) 0 _ (nonce-fine e st (h .base) n l)
+  nonce-agrees n =
+      agrees w s h k (nonceGiven n)
+      (λ r. subst (λ (b : Bool). AgreeKept w s (nonceGiven n) goes (checked b e st (nonceAnswer e n (s .realm) st))) (sym (h .realm))
+      (agree-goes w s h k (nonceGiven n) 0 _ (nonce-fine e st (h .sits .base) n (s .realm))
       (λ j x u. let y = coupled-at w s h k await.Nonce j (same-await (e .awaits) await.Nonce r) x in
-      entered (nonceGiven n l) j _ (y .held .fixed .ended) (nonce-told e st j op.Connect y n l)))
+      entered (nonceGiven n) j _ (y .held .fixed .ended) (nonce-told ts e st j op.Connect y n (s .realm)))))
 
   credentials-at : (c : Option Credentials) → e .awaits ≡ await.Credentials → IsConnecting (e .operation)
-      → Agree w s (credentialsGiven c) (pick (longUser c) (refused 8) goes) (credentialsWith (e .operation) e c st)
+      → AgreeKept w s (credentialsGiven c) (pick (longUser c) (refused 8) goes) (credentialsWith (e .operation) e c st)
   credentials-at c at v =
       let answer = listOf (readHeaders (take (v .size) (st .headers)) 0) in
-      subst (λ (o : Operation). Agree w s (credentialsGiven c) (pick (longUser c) (refused 8) goes) (credentialsWith o e c st)) (sym (v .is))
+      subst (λ (o : Operation). AgreeKept w s (credentialsGiven c) (pick (longUser c) (refused 8) goes) (credentialsWith o e c st)) (sym (v .is))
       (checked-agrees (credentialsGiven c) (longUser c) (connectSends e (e .peer) (v .code) (v .front) answer c st)
-      (λ b. connect-sends-fine e st (h .base) (e .peer) (v .code) (v .front) answer c (h .base .peer))
+      (λ b. connect-sends-fine e st (h .sits .base) (e .peer) (v .code) (v .front) answer c (h .sits .base .peer))
       (λ b j x. let y = coupled-at w s h k await.Credentials j at x in
-      entered (credentialsGiven c) j _ (y .fixed .ended) (connect-sends-told e st (e .peer) j y (v .code) (v .front) answer c)))
+      entered (credentialsGiven c) j _ (y .fixed .ended) (connect-sends-told ts e st (e .peer) j y (v .code) (v .front) answer c)))
 
   pub credentials-agree : (c : Option Credentials) → Agrees w s (credentialsGiven c)
   unfolding bad

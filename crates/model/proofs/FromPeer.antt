@@ -32,24 +32,27 @@ use Rattle.server.specs.declared.Await.the-variants as await
 use Rattle.server.specs.declared.Engine.{Engine}
 use Rattle.server.specs.declared.Outcome.the-variants as outcome
 use Rattle.incoming.proofs.Frames.{Octets, Agrees as Frames-agree, frames-agree}
-use Rattle.model.proofs.Fit.{and-left, and-right, Room, Shape, waitsOf, Base, Sits, Fine, fine-pick, fine-wants, fine-ends}
+use Rattle.model.proofs.Fit.{and-left, and-right, Room, Shape, waitsOf, Base, Seated, Fine, fine-pick, fine-wants, fine-ends}
 use Rattle.model.proofs.Steps.{outgoing-within, sends-next-fine, read-fine}
 use Rattle.model.proofs.Coupling.{OpenedAt, Held, CoupledAt, Coupled, Told, told-pick, told-ends, told-wants}
 use Rattle.model.proofs.Gathers.{next-told}
 use Rattle.model.proofs.Packets.{read-told}
-use Rattle.model.proofs.Moments.{same-await, or-second, Agree, Agrees, fed-goes, agree-goes, agrees}
+use Rattle.model.proofs.Moments.{same-await, or-second, AgreeKept, Agrees, fed-goes, agree-goes, agrees}
 
-module _ (w : Waits) (s : State) (h : Sits (s .engine) (s .stores)) (k : w ≡ waitsOf (s .engine .awaits) (s .engine .operation)) where
+module _ (w : Waits) (s : State) (h : Seated s) (k : w ≡ waitsOf (s .engine .awaits) (s .engine .operation)) where
   abbrev e : Engine
   e = s .engine
 
   abbrev st : Stores
   st = s .stores
 
+  abbrev ts : List ℕ
+  ts = s .tables
+
   -- the coupling, where it is known what is awaited
-  pub coupled-at : (a : Await) (j : Journal) → e .awaits ≡ a → Coupled e st j
-      → CoupledAt a (e .operation) (e .settings) (e .peer) (e .begun) (e .length) st j
-  coupled-at a j i x = subst (λ (y : Await). CoupledAt y (e .operation) (e .settings) (e .peer) (e .begun) (e .length) st j) i x
+  pub coupled-at : (a : Await) (j : Journal) → e .awaits ≡ a → Coupled ts e st j
+      → CoupledAt ts a (e .operation) (e .settings) (e .peer) (e .begun) (e .length) st j
+  coupled-at a j i x = subst (λ (y : Await). CoupledAt ts y (e .operation) (e .settings) (e .peer) (e .begun) (e .length) st j) i x
 
   -- ---- bytes
 
@@ -64,7 +67,7 @@ module _ (w : Waits) (s : State) (h : Sits (s .engine) (s .stores)) (k : w ≡ w
     n = f .result .begun
 
     abbrev Begins : Journal → Type 0
-    Begins j = Held (e .settings) (e .peer) (e .operation) st (take (e .begun) (st .packet)) j
+    Begins j = Held ts (e .settings) (e .peer) (e .operation) st (take (e .begun) (st .packet)) j
 
     -- what the journal reads
     journal-reads : (j : Journal) (r : Read) → Begins j → readUp (take (e .begun) (st .packet)) i ≡ r
@@ -79,82 +82,84 @@ module _ (w : Waits) (s : State) (h : Sits (s .engine) (s .stores)) (k : w ≡ w
 
     room-at : length (f .packet) ≡ length (st .packet) → Room (limitOf e) z
     room-at l =
-        record { packet = rw l (h .base .room .packet); headers = h .base .room .headers; reply = h .base .room .reply; body = h .base .room .body }
+        record { packet = rw l (h .sits .base .room .packet); headers = h .sits .base .room .headers; reply = h .sits .base .room .reply; body = h .sits .base .room .body }
 
     -- a packet goes on
     more-fine : (q : List ℕ) → Frames-agree (st .packet) f (more q)
-        → Fine (done (engineWith (e .settings) (e .peer) (e .operation) (e .awaits) n (e .length)) outcome.WantsBytes z)
+        → Fine e (done (engineWith (e .settings) (e .peer) (e .operation) (e .awaits) n (e .length)) outcome.WantsBytes z)
     unfolding engineWith
     more-fine q (a, g, l, m) =
         record {
+          settings = refl;
           sits = record {
-            base = record { room = room-at (g .same-length); peer = h .base .peer; realm = h .base .realm; last = h .base .last };
+            base = record { room = room-at (g .same-length); peer = h .sits .base .peer; last = h .sits .base .last };
             begun = record { small = l; octets = subst Octets (g .bytes) (g .octets); goes-on = m };
-            counts = h .counts;
-            shape = h .shape;
+            counts = h .sits .counts;
+            shape = h .sits .shape;
           };
           waits = λ v. ap (λ (y : Await). waitsOf y (e .operation)) (sym at);
           goes = refl;
         }
 
     more-told : (q : List ℕ) → Frames-agree (st .packet) f (more q) → (j : Journal) → Begins j
-        → Told (done (engineWith (e .settings) (e .peer) (e .operation) (e .awaits) n (e .length)) outcome.WantsBytes z) (bytesRead j (more q))
+        → Told ts (done (engineWith (e .settings) (e .peer) (e .operation) (e .awaits) n (e .length)) outcome.WantsBytes z) (bytesRead j (more q))
     unfolding engineWith
     more-told q (a, g, l, m) j x =
         record {
           given = refl;
-          after = subst (λ (y : Await). CoupledAt y (e .operation) (e .settings) (e .peer) n (e .length) z (begin j q)) (sym at)
+          after = subst (λ (y : Await). CoupledAt ts y (e .operation) (e .settings) (e .peer) n (e .length) z (begin j q)) (sym at)
               (record { fixed = record { settings = x .fixed .settings; standing = x .fixed .standing; ended = x .fixed .ended }; begun = g .bytes; opened = x .opened });
         }
 
     -- a packet is whole
     whole-base : (q : List ℕ) → Frames-agree (st .packet) f (whole q) → Base (lengthOf e n) z
     unfolding engineWith
-    whole-base q (a, g, l) = record { room = room-at (g .same-length); peer = h .base .peer; realm = h .base .realm; last = l }
+    whole-base q (a, g, l) = record { room = room-at (g .same-length); peer = h .sits .base .peer; last = l }
 
-    whole-fine : (q : List ℕ) → Frames-agree (st .packet) f (whole q) → Fine (packetDone e n z)
+    whole-fine : (q : List ℕ) → Frames-agree (st .packet) f (whole q) → Fine e (packetDone e n z ts)
     unfolding engineWith packetDone lastPacket
     whole-fine q (a, g, l) =
-        read-fine (lengthOf e n) z (whole-base q (a, g, l)) (subst Octets (g .bytes) (g .octets)) (h .counts) (take n (f .packet))
-        (requestOf (take n (f .packet)))
+        let y = read-fine (lengthOf e n) z (whole-base q (a, g, l)) (subst Octets (g .bytes) (g .octets)) (h .sits .counts) (take n (f .packet)) ts
+        (requestOf (take n (f .packet))) in
+        record { settings = y .settings; sits = y .sits; waits = y .waits; goes = y .goes }
 
     whole-told : (q : List ℕ) → Frames-agree (st .packet) f (whole q) → (j : Journal) → Begins j → Kept (readIn j (whole q))
-        → Told (packetDone e n z) (bytesRead j (whole q))
+        → Told ts (packetDone e n z ts) (bytesRead j (whole q))
     unfolding engineWith packetDone journalPacket keptAfter
     whole-told q (a, g, l) j x y =
-        subst (λ (p : List ℕ). Told (packetDone e n z) (packetRead (requestOf p) j)) (sym (g .bytes))
-        (read-told (lengthOf e n) z j (record { settings = x .fixed .settings; standing = x .fixed .standing; ended = x .fixed .ended })
-        (whole-base q (a, g, l)) (subst Octets (g .bytes) (g .octets)) (x .opened) (h .counts)
+        subst (λ (p : List ℕ). Told ts (packetDone e n z ts) (packetRead (requestOf p) j)) (sym (g .bytes))
+        (read-told ts (lengthOf e n) z j (record { settings = x .fixed .settings; standing = x .fixed .standing; ended = x .fixed .ended })
+        (whole-base q (a, g, l)) (subst Octets (g .bytes) (g .octets)) (x .opened) (h .sits .counts)
         (take n (f .packet)) (requestOf (take n (f .packet))) refl
         (subst (λ (p : List ℕ). length (keptRead (j .opened) (requestOf p)) ≤ 65535) (g .bytes) (y .0)))
 
     -- by where the bytes end
-    frame-at : (x : Frame) → f .result .frame ≡ x → Agree w s (bytesOffered i) goes (framedAs x e n (f .result .taken) z)
-        → Agree w s (bytesOffered i) goes (offers e f st)
-    frame-at x q a = subst (λ (y : Frame). Agree w s (bytesOffered i) goes (framedAs y e n (f .result .taken) z)) (sym q) a
+    frame-at : (x : Frame) → f .result .frame ≡ x → AgreeKept w s (bytesOffered i) goes (framedAs x e n (f .result .taken) z ts)
+        → AgreeKept w s (bytesOffered i) goes (offers e f st ts)
+    frame-at x q a = subst (λ (y : Frame). AgreeKept w s (bytesOffered i) goes (framedAs y e n (f .result .taken) z ts)) (sym q) a
 
     read-agrees : (r : Read) → readUp (take (e .begun) (st .packet)) i ≡ r → Frames-agree (st .packet) f r
-        → Agree w s (bytesOffered i) goes (offers e f st)
+        → AgreeKept w s (bytesOffered i) goes (offers e f st ts)
     read-agrees (more q) y g =
         frame-at More (g .0)
         (agree-goes w s h k (bytesOffered i) (f .result .taken) _ (more-fine q g)
-        (λ j x u. subst (Told _) (sym (journal-reads j (more q) (coupled-at await.Bytes j at x) y)) (more-told q g j (coupled-at await.Bytes j at x))))
+        (λ j x u. subst (Told ts _) (sym (journal-reads j (more q) (coupled-at await.Bytes j at x) y)) (more-told q g j (coupled-at await.Bytes j at x))))
     read-agrees (whole q) y g =
         frame-at Whole (g .0)
         (agree-goes w s h k (bytesOffered i) (f .result .taken) _ (whole-fine q g)
-        (λ j x u. subst (Told _) (sym (journal-reads j (whole q) (coupled-at await.Bytes j at x) y))
+        (λ j x u. subst (Told ts _) (sym (journal-reads j (whole q) (coupled-at await.Bytes j at x) y))
         (whole-told q g j (coupled-at await.Bytes j at x) (kept-reads j (whole q) (coupled-at await.Bytes j at x) y u))))
     read-agrees short y g =
         frame-at Short (g .0)
-        (agree-goes w s h k (bytesOffered i) (f .result .taken) _ (fine-ends e st (h .base) (e .peer) why.LengthTooSmall z (h .base .peer) (room-at (g .1)))
-        (λ j x u. subst (Told _) (sym (journal-reads j short (coupled-at await.Bytes j at x) y)) (told-ends e (e .peer) z (end j) why.LengthTooSmall)))
+        (agree-goes w s h k (bytesOffered i) (f .result .taken) _ (fine-ends e st (h .sits .base) (e .peer) why.LengthTooSmall z (h .sits .base .peer) (room-at (g .1)))
+        (λ j x u. subst (Told ts _) (sym (journal-reads j short (coupled-at await.Bytes j at x) y)) (told-ends ts e (e .peer) z (end j) why.LengthTooSmall)))
 
   pub bytes-agree : (i : List ℕ) → Octets i → Agrees w s (bytesOffered i)
   unfolding bad
   bytes-agree i o =
       agrees w s h k (bytesOffered i)
       (λ r. read-agrees i o (same-await (e .awaits) await.Bytes r) _ refl
-      (frames-agree (st .packet) i (e .begun) 0 (h .begun .small) (h .base .room .packet) (h .begun .octets) o (h .begun .goes-on)))
+      (frames-agree (st .packet) i (e .begun) 0 (h .sits .begun .small) (h .sits .base .room .packet) (h .sits .begun .octets) o (h .sits .begun .goes-on)))
 
   -- ---- the end of the stream
 
@@ -162,52 +167,52 @@ module _ (w : Waits) (s : State) (h : Sits (s .engine) (s .stores)) (k : w ≡ w
   unfolding bad
   end-agrees =
       agrees w s h k streamEnded
-      (λ r. agree-goes w s h k streamEnded 0 _ (fine-ends e st (h .base) (e .peer) (pick (eqb (e .begun) 0) why.Disconnected why.Truncated) st (h .base .peer) (h .base .room))
-      (λ j x u. subst (Told _) (sym (fed-goes j streamEnded (getD (st .reply) 0 0) (coupled-at await.Bytes j (same-await (e .awaits) await.Bytes r) x .fixed .ended)))
-      (told-ends e (e .peer) st (end j) (pick (eqb (e .begun) 0) why.Disconnected why.Truncated))))
+      (λ r. agree-goes w s h k streamEnded 0 _ (fine-ends e st (h .sits .base) (e .peer) (pick (eqb (e .begun) 0) why.Disconnected why.Truncated) st (h .sits .base .peer) (h .sits .base .room))
+      (λ j x u. subst (Told ts _) (sym (fed-goes j streamEnded (getD (st .reply) 0 0) (coupled-at await.Bytes j (same-await (e .awaits) await.Bytes r) x .fixed .ended)))
+      (told-ends ts e (e .peer) st (end j) (pick (eqb (e .begun) 0) why.Disconnected why.Truncated))))
 
   -- ---- a reply is taken
 
-  goes-on-fine : (o : Operation) → soundOperation (limitOf e) o ≡ true → Fine (wants e (e .peer) (e .operation) st) → Fine (goesOn o e st)
+  goes-on-fine : (o : Operation) → soundOperation (limitOf e) o ≡ true → Fine e (wants e (e .peer) (e .operation) st) → Fine e (goesOn o e st)
   goes-on-fine Nothing c x = x
   goes-on-fine (Putting g srm) c x = x
   goes-on-fine (Getting g srm confirm wait) c x = x
   goes-on-fine (Sending o q srm wait) c x =
       let y = outgoing-within o q c in
-      fine-pick (srm && not wait) _ _ (sends-next-fine e st (h .base) o srm wait (y .sent) (y .total)) x
+      fine-pick e (srm && not wait) _ _ (sends-next-fine e st (h .sits .base) o srm wait (y .sent) (y .total)) x
   goes-on-fine (GatheringOp o g) c x = x
   goes-on-fine (Connecting q g m) c x = x
   goes-on-fine (Draining q) c x = x
 
-  goes-on-told : (j : Journal) → Held (e .settings) (e .peer) (e .operation) st [] j → (o : Operation)
+  goes-on-told : (j : Journal) → Held ts (e .settings) (e .peer) (e .operation) st [] j → (o : Operation)
       → OpenedAt (limitOf e) o (st .headers) (st .body) (j .opened) → soundOperation (limitOf e) o ≡ true
-      → Told (wants e (e .peer) (e .operation) st) (unchanged j) → Told (goesOn o e st) (unchanged j)
+      → Told ts (wants e (e .peer) (e .operation) st) (unchanged j) → Told ts (goesOn o e st) (unchanged j)
   goes-on-told j l Nothing p c x = x
   goes-on-told j l (Putting g srm) p c x = x
   goes-on-told j l (Getting g srm confirm wait) p c x = x
   goes-on-told j l (Sending o q srm wait) p c x =
       let y = outgoing-within o q c in
-      told-pick (srm && not wait) _ _ _ (λ m. next-told e st j (l .fixed) (l .begun) p (h .base) o srm wait (y .sent) (y .total)) (λ m. x)
+      told-pick ts (srm && not wait) _ _ _ (λ m. next-told ts e st j (l .fixed) (l .begun) p (h .sits .base) o srm wait (y .sent) (y .total)) (λ m. x)
   goes-on-told j l (GatheringOp o g) p c x = x
   goes-on-told j l (Connecting q g m) p c x = x
   goes-on-told j l (Draining q) p c x = x
 
   taken-goes : (t : Bool) → sameAwait (e .awaits) await.Taken ≡ t → fits kind.ReplyTaken (e .awaits) ≡ true
-      → Agree w s replyTaken goes (after 0 (pick t (goesOn (e .operation) e st) (ends e (e .peer) why.OtherOperation st)))
+      → AgreeKept w s replyTaken goes (after 0 (pick t (goesOn (e .operation) e st) (ends e (e .peer) why.OtherOperation st)))
   taken-goes true i r =
       agree-goes w s h k replyTaken 0 _
-      (goes-on-fine (e .operation) (h .counts)
-      (fine-wants e st (h .base) (e .peer) (e .operation) st (h .base .peer) (h .base .room) (h .counts) (subst (λ (x : Await). Shape x (e .operation)) at (h .shape))))
+      (goes-on-fine (e .operation) (h .sits .counts)
+      (fine-wants e st (h .sits .base) (e .peer) (e .operation) st (h .sits .base .peer) (h .sits .base .room) (h .sits .counts) (subst (λ (x : Await). Shape x (e .operation)) at (h .sits .shape))))
       (λ j x u. let y = coupled-at await.Taken j at x in
-      subst (Told _) (sym (fed-goes j replyTaken (getD (st .reply) 0 0) (y .0)))
-      (goes-on-told (takenAt (j .opened) j (getD (st .reply) 0 0)) (y .1) (e .operation) (y .1 .opened) (h .counts)
-      (told-wants e (e .peer) st _ (e .operation) (y .1))))
+      subst (Told ts _) (sym (fed-goes j replyTaken (getD (st .reply) 0 0) (y .0)))
+      (goes-on-told (takenAt (j .opened) j (getD (st .reply) 0 0)) (y .1) (e .operation) (y .1 .opened) (h .sits .counts)
+      (told-wants ts e (e .peer) st _ (e .operation) (y .1))))
     where
       at : e .awaits ≡ await.Taken
       at = same-await (e .awaits) await.Taken i
   taken-goes false i r =
-      agree-goes w s h k replyTaken 0 _ (fine-ends e st (h .base) (e .peer) why.OtherOperation st (h .base .peer) (h .base .room))
-      (λ j x u. subst (Told _) (sym (ap (λ (t : Bool). pick t (unchanged j) (journalCall j replyTaken (getD (st .reply) 0 0))) (coupled-at await.Last j at x))) (told-ends e (e .peer) st j why.OtherOperation))
+      agree-goes w s h k replyTaken 0 _ (fine-ends e st (h .sits .base) (e .peer) why.OtherOperation st (h .sits .base .peer) (h .sits .base .room))
+      (λ j x u. subst (Told ts _) (sym (ap (λ (t : Bool). pick t (unchanged j) (journalCall j replyTaken (getD (st .reply) 0 0))) (coupled-at await.Last j at x))) (told-ends ts e (e .peer) st j why.OtherOperation))
     where
       at : e .awaits ≡ await.Last
       at = same-await (e .awaits) await.Last (or-second _ _ r i)

@@ -51,10 +51,10 @@ body-handed g b = go (g .came)
     go true = refl
     go false = refl
 
-module _ (e : Engine) (s : Stores) (j : Journal) (f : Fixed (e .settings) (e .peer) j) (r : Packet) where
+module _ (ts : List ℕ) (e : Engine) (s : Stores) (j : Journal) (f : Fixed ts (e .settings) (e .peer) j) (r : Packet) where
   -- the journal after the packet, with something open
   pub held-after : (o : Operation) (x : Opened) (z : Stores) → OpenedAt (limitOf e) o (z .headers) (z .body) x
-      → Held (e .settings) (e .peer) o z [] (after j (some r) x)
+      → Held ts (e .settings) (e .peer) o z [] (after j (some r) x)
   held-after o x z w = record { fixed = record { settings = f .settings; standing = f .standing; ended = f .ended }; begun = refl; opened = w }
 
   pub still-after : (o : Opcode) (x : Opened) → r .opcode ≡ o → Plain o → Still (after j (some r) x)
@@ -81,36 +81,36 @@ module _ (e : Engine) (s : Stores) (j : Journal) (f : Fixed (e .settings) (e .pe
     put-open srm = record { carries = c; is = refl; agrees = w }
 
     put-told : (v : Survey) (srm confirm t u : Bool) → r .opcode ≡ op.Put → x .got .over ≡ t → r .final ≡ u
-        → Told (putGathered e r v srm confirm x s) (putRead j r srm (pick srm true confirm) c)
+        → Told ts (putGathered e r v srm confirm x s) (putRead j r srm (pick srm true confirm) c)
     unfolding putRead
     put-told v srm confirm true true o i k =
         simp (w .full, i, k, within-test true i)
-        (told-code e (e .peer) (withGathered s x) (after j (some r) nothing) 0x4D (held-after Nothing nothing (withGathered s x) refl))
+        (told-code ts e (e .peer) (withGathered s x) (after j (some r) nothing) 0x4D (held-after Nothing nothing (withGathered s x) refl))
     put-told v srm confirm false true o i k =
         simp (w .full, i, k, within-test false i)
-        (told-done e (e .peer) Nothing await.Reply (outcome.Request (request.Put (x .got .kept) (putBody (x .got)))) (withGathered s x)
+        (told-done ts e (e .peer) Nothing await.Reply (outcome.Request (request.Put (x .got .kept) (putBody (x .got)))) (withGathered s x)
         (after j (some r) nothing) (c ∷ [])
         (held-after Nothing nothing (withGathered s x) refl, still-after op.Put nothing o (λ a b y z. refl))
         (put-handed i))
     put-told v true confirm t false o i k =
         simp (w .full, k, within-test t i, or-true (not t))
-        (told-pick (v .additional) _ _ _
-        (λ m. told-replies e (e .peer) (withGathered s x) (after j (some r) (putting c true)) (Putting (x .got) true) (continueBytes false) refl
+        (told-pick ts (v .additional) _ _ _
+        (λ m. told-replies ts e (e .peer) (withGathered s x) (after j (some r) (putting c true)) (Putting (x .got) true) (continueBytes false) refl
         (held-after (Putting (x .got) true) (putting c true) (withGathered s x) (put-open true)))
-        (λ m. told-wants e (e .peer) (withGathered s x) (after j (some r) (putting c true)) (Putting (x .got) true)
+        (λ m. told-wants ts e (e .peer) (withGathered s x) (after j (some r) (putting c true)) (Putting (x .got) true)
         (held-after (Putting (x .got) true) (putting c true) (withGathered s x) (put-open true))))
     put-told v false confirm true false o i k =
         simp (w .full, i, k, within-test true i)
-        (told-code e (e .peer) (withGathered s x) (after j (some r) nothing) 0x4D (held-after Nothing nothing (withGathered s x) refl))
+        (told-code ts e (e .peer) (withGathered s x) (after j (some r) nothing) 0x4D (held-after Nothing nothing (withGathered s x) refl))
     put-told v false confirm false false o i k =
         simp (w .full, i, k, within-test false i)
-        (told-replies e (e .peer) (withGathered s x) (after j (some r) (putting c confirm)) (Putting (x .got) confirm) (continueBytes confirm) refl
+        (told-replies ts e (e .peer) (withGathered s x) (after j (some r) (putting c confirm)) (Putting (x .got) confirm) (continueBytes confirm) refl
         (held-after (Putting (x .got) confirm) (putting c confirm) (withGathered s x) (put-open confirm)))
 
   -- a Put packet, where c was carried before
   pub put-packet : (v : Survey) (srm confirm : Bool) (g : Gathered) (c : Record) → PutAgrees (limitOf e) (gatheringOf g (s .headers) (s .body)) c
       → length (c .headers ++ carriedBy (r .headers) .headers) ≤ 65535 → r .opcode ≡ op.Put
-      → Told (putPacket e r v srm confirm g s) (putRead j r srm (pick srm true confirm) (joined c (carriedBy (r .headers))))
+      → Told ts (putPacket e r v srm confirm g s) (putRead j r srm (pick srm true confirm) (joined c (carriedBy (r .headers))))
   unfolding putPacket
   put-packet v srm confirm g c w l o =
       put-told (gathers e keep.Put (r .headers) g s) (joined c (carriedBy (r .headers)))
@@ -120,25 +120,25 @@ module _ (e : Engine) (s : Stores) (j : Journal) (f : Fixed (e .settings) (e .pe
   -- ---- Get
 
   get-told : (v : Survey) (srm confirm u : Bool) (x : Gathering) (k : List ℕ) → KeptAgrees (limitOf e) x k → r .final ≡ u
-      → Told (getGathered e r v srm confirm x s) (unchanged (after j (some r) (getting k)))
+      → Told ts (getGathered e r v srm confirm x s) (unchanged (after j (some r) (getting k)))
   get-told v srm confirm true x k w i =
       simp (w .full, i)
-      (told-done e (e .peer) (Getting (x .got) srm confirm (v .wait)) await.Get (outcome.Request (request.Get (x .got .kept))) (withGathered s x)
+      (told-done ts e (e .peer) (Getting (x .got) srm confirm (v .wait)) await.Get (outcome.Request (request.Get (x .got .kept))) (withGathered s x)
       (after j (some r) (getting k)) []
       (held-after (Getting (x .got) srm confirm (v .wait)) (getting k) (withGathered s x) (record { keeps = k; is = refl; agrees = w }))
       refl)
   get-told v true confirm false x k w i =
       simp (w .full, i)
-      (told-wants e (e .peer) (withGathered s x) (after j (some r) (getting k)) (Getting (x .got) true confirm (v .wait))
+      (told-wants ts e (e .peer) (withGathered s x) (after j (some r) (getting k)) (Getting (x .got) true confirm (v .wait))
       (held-after (Getting (x .got) true confirm (v .wait)) (getting k) (withGathered s x) (record { keeps = k; is = refl; agrees = w })))
   get-told v false confirm false x k w i =
       simp (w .full, i)
-      (told-replies e (e .peer) (withGathered s x) (after j (some r) (getting k)) (Getting (x .got) confirm false (v .wait)) (continueBytes confirm) refl
+      (told-replies ts e (e .peer) (withGathered s x) (after j (some r) (getting k)) (Getting (x .got) confirm false (v .wait)) (continueBytes confirm) refl
       (held-after (Getting (x .got) confirm false (v .wait)) (getting k) (withGathered s x) (record { keeps = k; is = refl; agrees = w })))
 
   pub get-packet : (v : Survey) (srm confirm : Bool) (g : Gathered) (k : List ℕ) → KeptAgrees (limitOf e) (gatheringOf g (s .headers) (s .body)) k
       → length (k ++ keptByGet (r .headers)) ≤ 65535
-      → Told (getPacket e r v srm confirm g s) (unchanged (after j (some r) (getting (k ++ keptByGet (r .headers)))))
+      → Told ts (getPacket e r v srm confirm g s) (unchanged (after j (some r) (getting (k ++ keptByGet (r .headers)))))
   unfolding getPacket
   get-packet v srm confirm g k w l =
       get-told v srm confirm _ (gathers e keep.Get (r .headers) g s) (k ++ keptByGet (r .headers))
@@ -147,20 +147,20 @@ module _ (e : Engine) (s : Stores) (j : Journal) (f : Fixed (e .settings) (e .pe
   -- ---- Action, Session and user-defined operations
 
   headers-told : (o : Opcode) (u : Bool) (x : Gathering) (k : List ℕ) → KeptAgrees (limitOf e) x k → Plain o → r .opcode ≡ o → r .final ≡ u
-      → Told (headersGathered e r o x s) (gatherRead j r o k)
+      → Told ts (headersGathered e r o x s) (gatherRead j r o k)
   headers-told o true x k w p q i =
       simp (w .full, i)
-      (told-done e (e .peer) Nothing await.Reply (outcome.Request (headersRequest o (x .got .kept))) (withGathered s x) (after j (some r) nothing) []
+      (told-done ts e (e .peer) Nothing await.Reply (outcome.Request (headersRequest o (x .got .kept))) (withGathered s x) (after j (some r) nothing) []
       (held-after Nothing nothing (withGathered s x) refl, still-after o nothing q p)
       (headers-request o (x .got .kept) (withGathered s x) .1))
   headers-told o false x k w p q i =
       simp (w .full, i)
-      (told-replies e (e .peer) (withGathered s x) (after j (some r) (gathering o k)) (GatheringOp o (x .got)) (continueBytes false) refl
+      (told-replies ts e (e .peer) (withGathered s x) (after j (some r) (gathering o k)) (GatheringOp o (x .got)) (continueBytes false) refl
       (held-after (GatheringOp o (x .got)) (gathering o k) (withGathered s x) (record { keeps = k; is = refl; agrees = w }, p)))
 
   pub headers-packet : (o : Opcode) (g : Gathered) (k : List ℕ) → KeptAgrees (limitOf e) (gatheringOf g (s .headers) (s .body)) k
       → length (k ++ allBytes (r .headers)) ≤ 65535 → Plain o → r .opcode ≡ o
-      → Told (headersPacket e r o g s) (gatherRead j r o (k ++ allBytes (r .headers)))
+      → Told ts (headersPacket e r o g s) (gatherRead j r o (k ++ allBytes (r .headers)))
   unfolding headersPacket
   headers-packet o g k w l p q =
       headers-told o _ (gathers e keep.All (r .headers) g s) (k ++ allBytes (r .headers))
@@ -168,35 +168,35 @@ module _ (e : Engine) (s : Stores) (j : Journal) (f : Fixed (e .settings) (e .pe
 
 -- ---- an object is sent
 
-module _ (e : Engine) (s : Stores) (j : Journal) (f : Fixed (e .settings) (e .peer) j) (k : j .begun ≡ []) (z : j .opened ≡ sending) where
+module _ (ts : List ℕ) (e : Engine) (s : Stores) (j : Journal) (f : Fixed ts (e .settings) (e .peer) j) (k : j .begun ≡ []) (z : j .opened ≡ sending) where
   -- 0x50 ends it
-  pub fails-told : (y : List ℕ) → Told (repliesCode e (e .peer) Nothing 0x50 (withReply s y)) (unchanged j)
+  pub fails-told : (y : List ℕ) → Told ts (repliesCode e (e .peer) Nothing 0x50 (withReply s y)) (unchanged j)
   unfolding packetBytes
   fails-told y =
-      told-closes e (e .peer) s j (outcome.Reply (length (packetBytes (sentCode 0x50) [] [])))
+      told-closes ts e (e .peer) s j (outcome.Reply (length (packetBytes (sentCode 0x50) [] [])))
       (front (packetBytes (sentCode 0x50) [] []) y) refl refl f k z
 
   made-told : (o : Outgoing) (srm wait : Bool) (m : Made) → SendsFrom o (s .reply) m → (n : Next) → m .packet .next ≡ n
-      → Told (sendsMade e srm wait n m s) (unchanged j)
+      → Told ts (sendsMade e srm wait n m s) (unchanged j)
   made-told o srm wait m w (next.Send n true) i =
-      told-closes e (e .peer) s j (outcome.Reply n) (m .reply) refl (ap (λ (b : ℕ). eqb b 0x90) (w .last n i)) f k z
+      told-closes ts e (e .peer) s j (outcome.Reply n) (m .reply) refl (ap (λ (b : ℕ). eqb b 0x90) (w .last n i)) f k z
   made-told o srm wait m w (next.Send n false) i =
-      told-done e (e .peer) (Sending (m .packet .outgoing) (m .packet .chunk) srm wait) await.Taken (outcome.Reply n) (withReply s (m .reply)) j [] (
+      told-done ts e (e .peer) (Sending (m .packet .outgoing) (m .packet .chunk) srm wait) await.Taken (outcome.Reply n) (withReply s (m .reply)) j [] (
         f .ended,
-        subst (λ (x : Journal). Held (e .settings) (e .peer) (Sending (m .packet .outgoing) (m .packet .chunk) srm wait) (withReply s (m .reply)) [] x)
+        subst (λ (x : Journal). Held ts (e .settings) (e .peer) (Sending (m .packet .outgoing) (m .packet .chunk) srm wait) (withReply s (m .reply)) [] x)
             (sym (ap (λ (u : Opened). takenAt u j (getD (m .reply) 0 0)) z ∙ ap (λ (b : ℕ). takenAt sending j b) (w .going n i)))
             (record { fixed = f; begun = k; opened = z }),
       )
       refl
   made-told o srm wait m w next.Read i =
-      told-done e (e .peer) (Sending (m .packet .outgoing) (m .packet .chunk) srm wait) await.Body
+      told-done ts e (e .peer) (Sending (m .packet .outgoing) (m .packet .chunk) srm wait) await.Body
       (outcome.Request (request.Read (m .packet .chunk .room))) (withReply s (m .reply)) j []
       (record { fixed = f; begun = k; opened = z }) refl
   made-told o srm wait m w next.TooLarge i = fails-told (m .reply)
 
-  pub sends-told : (o : Outgoing) (srm wait : Bool) (m : Made) → SendsFrom o (s .reply) m → Told (sendsPacket e srm wait m s) (unchanged j)
+  pub sends-told : (o : Outgoing) (srm wait : Bool) (m : Made) → SendsFrom o (s .reply) m → Told ts (sendsPacket e srm wait m s) (unchanged j)
   sends-told o srm wait m w = made-told o srm wait m w (m .packet .next) refl
 
-  pub next-told : Base e s → (o : Outgoing) (srm wait : Bool) → o .sent ≤ o .total → o .total ≤ 65535 → Told (sendsNext e o srm wait s) (unchanged j)
+  pub next-told : Base e s → (o : Outgoing) (srm wait : Bool) → o .sent ≤ o .total → o .total ≤ 65535 → Told ts (sendsNext e o srm wait s) (unchanged j)
   unfolding sendsNext
   next-told h o srm wait k t = sends-told o srm wait (nextPacket (capacityOf e) o (s .headers) (s .reply)) (next-made e s h o k t)

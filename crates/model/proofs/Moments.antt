@@ -2,6 +2,7 @@
 -- then one step, or a refusal.
 -- Assumes nothing.
 use mathlib.Core.Path.{_≡_, refl, sym, ap, ap₂, _∙_, subst}
+use mathlib.Core.List.{List}
 use mathlib.Core.Bool.{Bool, true, false, _&&_, _||_, true≢false}
 use Prim.Native.Nat.{ℕ, _≤_}
 use native.Mathlib.Omega.{arith}
@@ -12,13 +13,13 @@ use Rattle.base.specs.Pick.{pick}
 use Rattle.journal.specs.Calls.{Call, bytesOffered, streamEnded, replyTaken, replyGiven, objectGiven, bodyGiven, bodyFailed, abortAcknowledged, passwordGiven, nonceGiven, credentialsGiven, Verdict, goes, refused}
 use Rattle.journal.specs.Journal.{Journal, unchanged, journalCall, journalFed, fedReads}
 use Rattle.incoming.specs.Frame.{framed}
-use Rattle.model.specs.Step.{Stores, Stepped, Done, done, after, ends, repliesCode, limitOf}
-use Rattle.model.specs.Guard.{refuse, sound, awaitNumber, sameAwait, fits, guarded, badReply, checked}
-use Rattle.model.specs.Calls.{offers, bytesOfferedStep, streamEndedStep, replyTakenStep, replyAnswer, replyGivenStep, objectFor, objectGivenStep, bodyFor, bodyGivenStep, bodyFailedStep, abortAcknowledgedStep, passwordGivenStep, nonceGivenStep, credentialsWith, credentialsGivenStep}
+use Rattle.model.specs.Step.{Stores, Stepped, Called, called, Done, done, after, ends, repliesCode, limitOf}
+use Rattle.model.specs.Guard.{refuse, sound, shortTables, longRealm, awaitNumber, sameAwait, fits, checked}
+use Rattle.model.specs.Calls.{offers, bytesOfferedStep, streamEndedStep, replyTakenStep, replyChecked, replyGivenStep, objectFor, objectGivenStep, bodyFor, bodyGivenStep, bodyFailedStep, abortAcknowledgedStep, passwordGivenStep, nonceGivenStep, credentialsWith, credentialsGivenStep}
 use Rattle.model.specs.Object.{goesOn}
 use Rattle.model.specs.Connect.{passwordAnswer, nonceAnswer}
-use Rattle.model.specs.Runs.{State, stepOf, stateOf}
-use Rattle.model.specs.Refusals.{Waits, roomIn, told, expected, bad, verdict, verdictAt, verdictOf}
+use Rattle.model.specs.Runs.{State, keeps, stepOf, stateOf}
+use Rattle.model.specs.Refusals.{Waits, roomIn, told, expected, bad, shortStores, lacks, verdict, verdictAt, verdictOf}
 use Rattle.model.specs.Theorem.{Kept}
 use Rattle.server.specs.Numbers.{refusalNumber}
 use Rattle.server.specs.declared.CallKind.{CallKind}
@@ -31,7 +32,7 @@ use Rattle.server.specs.declared.Operation.the-variants.{Nothing}
 use Rattle.server.specs.declared.Await.{Await}
 use Rattle.server.specs.declared.Await.the-variants as await
 use Rattle.server.specs.declared.Engine.{Engine}
-use Rattle.model.proofs.Fit.{and-left, and-right, not-short, waitsOf, Sits, is-sound, Fine}
+use Rattle.model.proofs.Fit.{not-short, waitsOf, Seated, tables-long, is-sound, Fine}
 use Rattle.model.proofs.Coupling.{Coupled, Told}
 
 -- ---- moments
@@ -47,7 +48,7 @@ kindOf (bodyGiven d) = kind.FromBody
 kindOf bodyFailed = kind.FromBody
 kindOf abortAcknowledged = kind.AbortAcknowledged
 kindOf (passwordGiven p) = kind.PasswordGiven
-kindOf (nonceGiven n l) = kind.NonceGiven
+kindOf (nonceGiven n) = kind.NonceGiven
 kindOf (credentialsGiven c) = kind.CredentialsGiven
 
 -- body bytes must also be no more than were asked for
@@ -61,7 +62,7 @@ fitting (objectGiven hs b) w = true
 fitting bodyFailed w = true
 fitting abortAcknowledged w = true
 fitting (passwordGiven p) w = true
-fitting (nonceGiven n l) w = true
+fitting (nonceGiven n) w = true
 fitting (credentialsGiven c) w = true
 
 -- whatever is awaited
@@ -95,7 +96,7 @@ moment (bodyGiven d) o a = each (Moment (bodyGiven d) o) refl refl refl refl ref
 moment bodyFailed o a = each (Moment bodyFailed o) refl refl refl refl refl refl refl refl refl refl refl refl refl a
 moment abortAcknowledged o a = each (Moment abortAcknowledged o) refl refl refl refl refl refl refl refl refl refl refl refl refl a
 moment (passwordGiven p) o a = each (Moment (passwordGiven p) o) refl refl refl refl refl refl refl refl refl refl refl refl refl a
-moment (nonceGiven n l) o a = each (Moment (nonceGiven n l) o) refl refl refl refl refl refl refl refl refl refl refl refl refl a
+moment (nonceGiven n) o a = each (Moment (nonceGiven n) o) refl refl refl refl refl refl refl refl refl refl refl refl refl a
 moment (credentialsGiven c) o a = each (Moment (credentialsGiven c) o) refl refl refl refl refl refl refl refl refl refl refl refl refl a
 
 -- what is awaited is told by its number
@@ -118,47 +119,81 @@ or-second false b h k = h
 
 -- ---- a call at its moment
 
-abbrev pub goFor : State → Call → Stepped
-goFor s (bytesOffered i) = offers (s .engine) (framed (s .stores .packet) (s .engine .begun) 0 i) (s .stores)
-goFor s streamEnded = after 0 (ends (s .engine) (s .engine .peer) (pick (eqb (s .engine .begun) 0) end.Disconnected end.Truncated) (s .stores))
-goFor s replyTaken =
+-- what a call that leaves the table store does at its moment; a reply may write it and stands below
+abbrev pub goStep : State → Call → Stepped
+goStep s (bytesOffered i) = offers (s .engine) (framed (s .stores .packet) (s .engine .begun) 0 i) (s .stores) (s .tables)
+goStep s streamEnded = after 0 (ends (s .engine) (s .engine .peer) (pick (eqb (s .engine .begun) 0) end.Disconnected end.Truncated) (s .stores))
+goStep s replyTaken =
     after 0 (pick (sameAwait (s .engine .awaits) await.Taken) (goesOn (s .engine .operation) (s .engine) (s .stores))
     (ends (s .engine) (s .engine .peer) end.OtherOperation (s .stores)))
-goFor s (replyGiven code hs) = checked (badReply code hs) (s .engine) (s .stores) (replyAnswer (s .engine) code hs (s .stores))
-goFor s (objectGiven hs b) = objectFor (s .engine .operation) (s .engine) hs b (s .stores)
-goFor s (bodyGiven d) = bodyFor (s .engine .operation) (s .engine) d (s .stores)
-goFor s bodyFailed = after 0 (repliesCode (s .engine) (s .engine .peer) Nothing 0x50 (s .stores))
-goFor s abortAcknowledged = after 0 (repliesCode (s .engine) (s .engine .peer) Nothing 0x20 (s .stores))
-goFor s (passwordGiven p) = after 0 (passwordAnswer (s .engine) p (s .stores))
-goFor s (nonceGiven n l) = after 0 (nonceAnswer (s .engine) n l (s .stores))
-goFor s (credentialsGiven c) = credentialsWith (s .engine .operation) (s .engine) c (s .stores)
+goStep s (replyGiven code hs) = refuse refusal.WrongMoment (s .engine) (s .stores)
+goStep s (objectGiven hs b) = objectFor (s .engine .operation) (s .engine) hs b (s .stores)
+goStep s (bodyGiven d) = bodyFor (s .engine .operation) (s .engine) d (s .stores)
+goStep s bodyFailed = after 0 (repliesCode (s .engine) (s .engine .peer) Nothing 0x50 (s .stores))
+goStep s abortAcknowledged = after 0 (repliesCode (s .engine) (s .engine .peer) Nothing 0x20 (s .stores))
+goStep s (passwordGiven p) = after 0 (passwordAnswer (s .engine) p (s .stores))
+goStep s (nonceGiven n) =
+    checked (longRealm (s .engine .settings) (s .realm)) (s .engine) (s .stores) (nonceAnswer (s .engine) n (s .realm) (s .stores))
+goStep s (credentialsGiven c) = credentialsWith (s .engine .operation) (s .engine) c (s .stores)
 
-step-is : (s : State) (c : Call) → stepOf s c ≡ guarded (kindOf c) (s .engine) (s .stores) (goFor s c)
+abbrev pub goFor : State → Call → Called
+goFor s (replyGiven code hs) = replyChecked (s .engine) code hs (s .stores) (s .tables)
+goFor s (bytesOffered i) = keeps s (goStep s (bytesOffered i))
+goFor s streamEnded = keeps s (goStep s streamEnded)
+goFor s replyTaken = keeps s (goStep s replyTaken)
+goFor s (objectGiven hs b) = keeps s (goStep s (objectGiven hs b))
+goFor s (bodyGiven d) = keeps s (goStep s (bodyGiven d))
+goFor s bodyFailed = keeps s (goStep s bodyFailed)
+goFor s abortAcknowledged = keeps s (goStep s abortAcknowledged)
+goFor s (passwordGiven p) = keeps s (goStep s (passwordGiven p))
+goFor s (nonceGiven n) = keeps s (goStep s (nonceGiven n))
+goFor s (credentialsGiven c) = keeps s (goStep s (credentialsGiven c))
+
+abbrev pub refuses : Refusal → State → Called
+refuses r s = keeps s (refuse r (s .engine) (s .stores))
+
+-- the guard, with the table store beside what it lets through
+kept : (s : State) (c : Call) (x y : Bool)
+    → keeps s (pick x (refuse refusal.StoreTooShort (s .engine) (s .stores)) (pick y (goStep s c) (refuse refusal.WrongMoment (s .engine) (s .stores))))
+    ≡ pick x (refuses refusal.StoreTooShort s) (pick y (keeps s (goStep s c)) (refuses refusal.WrongMoment s))
+kept s c true y = refl
+kept s c false true = refl
+kept s c false false = refl
+
+abbrev atMoment : State → Call → Bool
+atMoment s c = sound (s .engine) && fits (kindOf c) (s .engine .awaits)
+
+step-is : (s : State) (c : Call)
+    → stepOf s c ≡ pick (lacks c s) (refuses refusal.StoreTooShort s) (pick (atMoment s c) (goFor s c) (refuses refusal.WrongMoment s))
 unfolding bytesOfferedStep streamEndedStep replyTakenStep replyGivenStep objectGivenStep bodyGivenStep bodyFailedStep abortAcknowledgedStep passwordGivenStep nonceGivenStep credentialsGivenStep
-step-is s (bytesOffered i) = refl
-step-is s streamEnded = refl
-step-is s replyTaken = refl
+step-is s (bytesOffered i) = kept s (bytesOffered i) (lacks (bytesOffered i) s) (atMoment s (bytesOffered i))
+step-is s streamEnded = kept s streamEnded (lacks streamEnded s) (atMoment s streamEnded)
+step-is s replyTaken = kept s replyTaken (lacks replyTaken s) (atMoment s replyTaken)
 step-is s (replyGiven code hs) = refl
-step-is s (objectGiven hs b) = refl
-step-is s (bodyGiven d) = refl
-step-is s bodyFailed = refl
-step-is s abortAcknowledged = refl
-step-is s (passwordGiven p) = refl
-step-is s (nonceGiven n l) = refl
-step-is s (credentialsGiven c) = refl
+step-is s (objectGiven hs b) = kept s (objectGiven hs b) (lacks (objectGiven hs b) s) (atMoment s (objectGiven hs b))
+step-is s (bodyGiven d) = kept s (bodyGiven d) (lacks (bodyGiven d) s) (atMoment s (bodyGiven d))
+step-is s bodyFailed = kept s bodyFailed (lacks bodyFailed s) (atMoment s bodyFailed)
+step-is s abortAcknowledged = kept s abortAcknowledged (lacks abortAcknowledged s) (atMoment s abortAcknowledged)
+step-is s (passwordGiven p) = kept s (passwordGiven p) (lacks (passwordGiven p) s) (atMoment s (passwordGiven p))
+step-is s (nonceGiven n) = kept s (nonceGiven n) (lacks (nonceGiven n) s) (atMoment s (nonceGiven n))
+step-is s (credentialsGiven c) = kept s (credentialsGiven c) (lacks (credentialsGiven c) s) (atMoment s (credentialsGiven c))
 
 -- ---- a call's result agrees with the verdict that is due and with the journal's entry
 
-abbrev pub doneOf : Stepped → Done
+abbrev pub doneOf : Called → Done
 doneOf m = done (m .took .engine) (m .took .outcome) (m .stores)
 
-pub record Agree (w : Waits) (s : State) (c : Call) (v : Verdict) (m : Stepped) : Type 0 where
+pub record Agree (w : Waits) (s : State) (c : Call) (v : Verdict) (m : Called) : Type 0 where
   pub due : verdictOf (m .took .outcome) ≡ v
-  pub sits : Sits (m .took .engine) (m .stores)
+  pub seated : Seated (stateOf (s .realm) m)
   pub waits : told w (m .took .outcome) ≡ waitsOf (m .took .engine .awaits) (m .took .engine .operation)
-  pub unmoved : (n : ℕ) → v ≡ refused n → stateOf m ≡ s
-  pub journal : (j : Journal) → Coupled (s .engine) (s .stores) j → Kept (fedReads j c v)
-      → Told (doneOf m) (journalFed j c v (getD (s .stores .reply) 0 0))
+  pub unmoved : (n : ℕ) → v ≡ refused n → stateOf (s .realm) m ≡ s
+  pub journal : (j : Journal) → Coupled (s .tables) (s .engine) (s .stores) j → Kept (fedReads j c v)
+      → Told (m .tables) (doneOf m) (journalFed j c v (getD (s .stores .reply) 0 0))
+
+-- the same of a call that leaves the table store
+abbrev pub AgreeKept : Waits → State → Call → Verdict → Stepped → Type 0
+AgreeKept w s c v m = Agree w s c v (keeps s m)
 
 abbrev pub Agrees : Waits → State → Call → Type 0
 Agrees w s c = Agree w s c (verdictAt w s c) (stepOf s c)
@@ -167,7 +202,7 @@ Agrees w s c = Agree w s c (verdictAt w s c) (stepOf s c)
 pub fed-goes : (j : Journal) (c : Call) (b : ℕ) → j .ended ≡ false → journalFed j c goes b ≡ journalCall j c b
 fed-goes j c b e = ap (λ (t : Bool). pick t (unchanged j) (journalCall j c b)) e
 
-module _ (w : Waits) (s : State) (h : Sits (s .engine) (s .stores)) (k : w ≡ waitsOf (s .engine .awaits) (s .engine .operation)) (c : Call) where
+module _ (w : Waits) (s : State) (h : Seated s) (k : w ≡ waitsOf (s .engine .awaits) (s .engine .operation)) (c : Call) where
   abbrev e : Engine
   e = s .engine
 
@@ -180,39 +215,73 @@ module _ (w : Waits) (s : State) (h : Sits (s .engine) (s .stores)) (k : w ≡ w
   abbrev fitted : Bool
   fitted = fitting c (waitsOf (e .awaits) (e .operation))
 
+  -- a call that goes, and leaves `u` in the table store
+  pub agree-tabled : (d : Done) (t : ℕ) (u : List ℕ) → Fine e d → length u ≡ length (s .tables)
+      → ((j : Journal) → Coupled (s .tables) e st j → Kept (fedReads j c goes) → Told u d (journalFed j c goes (getD (st .reply) 0 0)))
+      → Agree w s c goes (called (after t d) u)
+  agree-tabled d t u f l g =
+      record {
+        due = f .goes;
+        seated = record { sits = f .sits; tables = rw l (h .tables); realm = rw (f .settings) (h .realm) };
+        waits = f .waits w;
+        unmoved = λ n i. absurd (let z : _≡_ {A = ℕ} 0 1 = cc in omega arith);
+        journal = g;
+      }
+
   -- a call that goes
-  pub agree-goes : (t : ℕ) (d : Done) → Fine d
-      → ((j : Journal) → Coupled e st j → Kept (fedReads j c goes) → Told d (journalFed j c goes (getD (st .reply) 0 0)))
-      → Agree w s c goes (after t d)
-  agree-goes t d f g = record { due = f .goes; sits = f .sits; waits = f .waits w; unmoved = λ n i. absurd (let z : _≡_ {A = ℕ} 0 1 = cc in omega arith); journal = g }
+  pub agree-goes : (t : ℕ) (d : Done) → Fine e d
+      → ((j : Journal) → Coupled (s .tables) e st j → Kept (fedReads j c goes) → Told (s .tables) d (journalFed j c goes (getD (st .reply) 0 0)))
+      → AgreeKept w s c goes (after t d)
+  agree-goes t d f g = agree-tabled d t (s .tables) f refl g
 
   -- a call that is refused
-  pub agree-refused : (r : Refusal) → Agree w s c (refused (refusalNumber r)) (refuse r e st)
-  agree-refused r = record { due = refl; sits = h; waits = k; unmoved = λ m i. refl; journal = λ j x y. record { given = refl; after = x } }
+  pub agree-refused : (r : Refusal) → AgreeKept w s c (refused (refusalNumber r)) (refuse r e st)
+  agree-refused r = record { due = refl; seated = h; waits = k; unmoved = λ m i. refl; journal = λ j x y. record { given = refl; after = x } }
+
+  -- nothing that is lent is too short
+  enough : lacks c s ≡ false
+  enough = go c
+    where
+      long : shortStores s ≡ false
+      long = not-short (limitOf e) st (h .sits .base .room)
+
+      both : (shortTables (s .tables) || shortStores s) ≡ false
+      both = rw (tables-long (s .tables) (h .tables)) long
+
+      go : (x : Call) → lacks x s ≡ false
+      go (bytesOffered i) = both
+      go streamEnded = long
+      go replyTaken = long
+      go (replyGiven code hs) = both
+      go (objectGiven hs b) = long
+      go (bodyGiven d) = long
+      go bodyFailed = long
+      go abortAcknowledged = long
+      go (passwordGiven p) = long
+      go (nonceGiven n) = long
+      go (credentialsGiven x) = long
 
   verdict-by : (t : Bool) → ranged ≡ t
       → verdictAt w s c ≡ pick (t && fitted) (pick (bad c) (refused 8) goes) (refused 9)
   unfolding verdict
   verdict-by t i =
-      ap (λ (x : Bool). pick x (refused 10) (pick (expected c w) (pick (bad c) (refused 8) goes) (refused 9)))
-      (not-short (limitOf e) st (h .base .room))
+      ap (λ (x : Bool). pick x (refused 10) (pick (expected c w) (pick (bad c) (refused 8) goes) (refused 9))) enough
       ∙ ap (λ (x : Bool). pick x (pick (bad c) (refused 8) goes) (refused 9))
       (ap (expected c) k ∙ moment c (e .operation) (e .awaits) ∙ ap (λ (x : Bool). x && fitted) i)
 
-  step-by : (t : Bool) → ranged ≡ t → stepOf s c ≡ pick t (goFor s c) (refuse refusal.WrongMoment e st)
+  step-by : (t : Bool) → ranged ≡ t → stepOf s c ≡ pick t (goFor s c) (refuses refusal.WrongMoment s)
   step-by t i =
       step-is s c
-      ∙ ap (λ (x : Bool). pick x (refuse refusal.StoreTooShort e st) (pick (sound e && ranged) (goFor s c) (refuse refusal.WrongMoment e st)))
-      (not-short (limitOf e) st (h .base .room))
-      ∙ ap₂ (λ (x y : Bool). pick (x && y) (goFor s c) (refuse refusal.WrongMoment e st)) (is-sound e st h) i
+      ∙ ap (λ (x : Bool). pick x (refuses refusal.StoreTooShort s) (pick (sound e && ranged) (goFor s c) (refuses refusal.WrongMoment s))) enough
+      ∙ ap₂ (λ (x y : Bool). pick (x && y) (goFor s c) (refuses refusal.WrongMoment s)) (is-sound e st (h .sits)) i
 
   -- by the moment: at another the call is refused with 9
   pub agrees : (ranged ≡ true
       → Agree w s c (pick fitted (pick (bad c) (refused 8) goes) (refused 9)) (goFor s c)) → Agrees w s c
   agrees f = go ranged refl
     where
-      at : (v : Verdict) (m : Stepped) → verdictAt w s c ≡ v → stepOf s c ≡ m → Agree w s c v m → Agrees w s c
-      at v m i l a = subst (λ (x : Verdict). Agree w s c x (stepOf s c)) (sym i) (subst (λ (y : Stepped). Agree w s c v y) (sym l) a)
+      at : (v : Verdict) (m : Called) → verdictAt w s c ≡ v → stepOf s c ≡ m → Agree w s c v m → Agrees w s c
+      at v m i l a = subst (λ (x : Verdict). Agree w s c x (stepOf s c)) (sym i) (subst (λ (y : Called). Agree w s c v y) (sym l) a)
 
       go : (t : Bool) → ranged ≡ t → Agrees w s c
       go true i = at _ _ (verdict-by true i) (step-by true i) (f i)

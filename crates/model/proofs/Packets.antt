@@ -21,7 +21,7 @@ use Rattle.incoming.specs.declared.survey.Survey.{Survey}
 use Rattle.connection.specs.Reply.{front}
 use Rattle.model.specs.Step.{Stores, withReply, Done, wants, asks, ends, repliesCode, limitOf}
 use Rattle.model.specs.Operation.{putPacket}
-use Rattle.model.specs.Dispatch.{dispatch, interrupts, inside, busy, unknownByte, unreadable, readAs}
+use Rattle.model.specs.Dispatch.{knownIn, dispatch, interrupts, inside, busy, unknownByte, unreadable, readAs}
 use Rattle.model.specs.Guard.{soundOperation}
 use Rattle.server.specs.declared.Operation.{Operation}
 use Rattle.server.specs.declared.Operation.the-variants.{Nothing, Putting, Getting, Sending, Gathering as GatheringOp, Connecting, Draining}
@@ -50,25 +50,25 @@ busy-same limit (GatheringOp o g) h b x w = ap busyOpened (w .0 .is)
 busy-same limit (Connecting c f n) h b x w = absurd w
 busy-same limit (Draining c) h b x w = ap busyOpened w
 
-module _ (e : Engine) (s : Stores) (j : Journal) (f : Fixed (e .settings) (e .peer) j) (h : Base e s) where
+module _ (ts : List ℕ) (e : Engine) (s : Stores) (j : Journal) (f : Fixed ts (e .settings) (e .peer) j) (h : Base e s) where
   -- ---- a packet that can be read
 
   module _ (r : Packet) (last : requestOf (take (e .length) (s .packet)) ≡ some r) (small : length (allBytes (r .headers)) ≤ 65535) where
     abbrev v : Survey
     v = surveyOf (some (r .headers))
 
-    interrupts-told : Told (interrupts e s) (stopped j)
+    interrupts-told : Told ts (interrupts e s) (stopped j)
     interrupts-told =
-        told-done e (e .peer) Nothing await.Last (outcome.Reply (length (packetBytes (sentCode 0x40) [] [])))
+        told-done ts e (e .peer) Nothing await.Last (outcome.Reply (length (packetBytes (sentCode 0x40) [] [])))
         (withReply s (front (packetBytes (sentCode 0x40) [] []) (s .reply))) (end j) [] refl refl
 
     -- of an operation that is open, a packet of its opcode or of another; the premise on kept headers is for the first
     goes-on : (o : Opcode) (d : Done) (y : Entry) (k : List ℕ) → length (pick (sameOpcode (r .opcode) o) k []) ≤ 65535
-        → (length k ≤ 65535 → r .opcode ≡ o → Told d y)
-        → Told (pick (sameOpcode (r .opcode) o) d (interrupts e s)) (pick (sameOpcode (r .opcode) o) y (stopped j))
+        → (length k ≤ 65535 → r .opcode ≡ o → Told ts d y)
+        → Told ts (pick (sameOpcode (r .opcode) o) d (interrupts e s)) (pick (sameOpcode (r .opcode) o) y (stopped j))
     goes-on o d y k l w = go (sameOpcode (r .opcode) o) refl l
       where
-        go : (t : Bool) → sameOpcode (r .opcode) o ≡ t → length (pick t k []) ≤ 65535 → Told (pick t d (interrupts e s)) (pick t y (stopped j))
+        go : (t : Bool) → sameOpcode (r .opcode) o ≡ t → length (pick t k []) ≤ 65535 → Told ts (pick t d (interrupts e s)) (pick t y (stopped j))
         go true i l = w l (same-equal (r .opcode) o i)
         go false i l = interrupts-told
 
@@ -77,33 +77,33 @@ module _ (e : Engine) (s : Stores) (j : Journal) (f : Fixed (e .settings) (e .pe
     srm-stays false = refl
 
     drain-told : (code : ℕ) (t : Bool)
-        → Told (pick t (repliesCode e (e .peer) Nothing code s) (wants e (e .peer) (Draining code) s)) (unchanged (after j (some r) (pick t nothing draining)))
-    drain-told code true = told-code e (e .peer) s (after j (some r) nothing) code (held-after e s j f r Nothing nothing s refl)
-    drain-told code false = told-wants e (e .peer) s (after j (some r) draining) (Draining code) (held-after e s j f r (Draining code) draining s refl)
+        → Told ts (pick t (repliesCode e (e .peer) Nothing code s) (wants e (e .peer) (Draining code) s)) (unchanged (after j (some r) (pick t nothing draining)))
+    drain-told code true = told-code ts e (e .peer) s (after j (some r) nothing) code (held-after ts e s j f r Nothing nothing s refl)
+    drain-told code false = told-wants ts e (e .peer) s (after j (some r) draining) (Draining code) (held-after ts e s j f r (Draining code) draining s refl)
 
     -- by what is open, x for the journal
     inside-told : (o : Operation) (x : Opened) → OpenedAt (limitOf e) o (s .headers) (s .body) x → soundOperation (limitOf e) o ≡ true
         → length (keptWith x r) ≤ 65535
-        → sameOpcode (r .opcode) op.Abort ≡ false → Told (inside o e r v s) (requestRead x j r)
+        → sameOpcode (r .opcode) op.Abort ≡ false → Told ts (inside o e r v (knownIn e ts v) s) (requestRead x j r)
     inside-told Nothing x w c k n =
-        subst (λ (y : Opened). Told (dispatch e r v s) (requestRead y j r)) (sym w) (dispatch-told e s j f r last h small (r .opcode) refl n)
+        subst (λ (y : Opened). Told ts (dispatch e r v (knownIn e ts v) s) (requestRead y j r)) (sym w) (dispatch-told ts e s j f r last h small (r .opcode) refl n)
     inside-told (Putting g srm) x w c k n =
         let a = w .carries in
-        subst (λ (y : Opened). length (keptWith y r) ≤ 65535 → Told (inside (Putting g srm) e r v s) (requestRead y j r)) (sym (w .is))
+        subst (λ (y : Opened). length (keptWith y r) ≤ 65535 → Told ts (inside (Putting g srm) e r v (knownIn e ts v) s) (requestRead y j r)) (sym (w .is))
         (λ l. goes-on op.Put _ _ (a .headers ++ carriedBy (r .headers) .headers) l
-        (λ l′ i. subst (λ (t : Bool). Told (putPacket e r v srm false g s) (putRead j r srm t (joined a (carriedBy (r .headers))))) (srm-stays srm)
-        (put-packet e s j f r v srm false g a (w .agrees) l′ i)))
+        (λ l′ i. subst (λ (t : Bool). Told ts (putPacket e r v srm false g s) (putRead j r srm t (joined a (carriedBy (r .headers))))) (srm-stays srm)
+        (put-packet ts e s j f r v srm false g a (w .agrees) l′ i)))
         k
     inside-told (Getting g srm confirm wait) x w c k n =
         let a = w .keeps in
-        subst (λ (y : Opened). length (keptWith y r) ≤ 65535 → Told (inside (Getting g srm confirm wait) e r v s) (requestRead y j r)) (sym (w .is))
-        (λ l. goes-on op.Get _ _ (a ++ keptByGet (r .headers)) l (λ l′ i. get-packet e s j f r v srm confirm g a (w .agrees) l′))
+        subst (λ (y : Opened). length (keptWith y r) ≤ 65535 → Told ts (inside (Getting g srm confirm wait) e r v (knownIn e ts v) s) (requestRead y j r)) (sym (w .is))
+        (λ l. goes-on op.Get _ _ (a ++ keptByGet (r .headers)) l (λ l′ i. get-packet ts e s j f r v srm confirm g a (w .agrees) l′))
         k
     inside-told (Sending o q srm wait) x w c k n =
         let z = outgoing-within o q c in
-        subst (λ (y : Opened). Told (inside (Sending o q srm wait) e r v s) (requestRead y j r)) (sym w)
+        subst (λ (y : Opened). Told ts (inside (Sending o q srm wait) e r v (knownIn e ts v) s) (requestRead y j r)) (sym w)
         (goes-on op.Get _ _ [] (nil-short (sameOpcode (r .opcode) op.Get))
-        (λ l i. next-told e s (after j (some r) sending) (record { settings = f .settings; standing = f .standing; ended = f .ended }) refl refl h o srm
+        (λ l i. next-told ts e s (after j (some r) sending) (record { settings = f .settings; standing = f .standing; ended = f .ended }) refl refl h o srm
         (v .wait) (z .sent) (z .total)))
       where
         nil-short : (t : Bool) → length (pick {A = List ℕ} t [] []) ≤ 65535
@@ -111,28 +111,28 @@ module _ (e : Engine) (s : Stores) (j : Journal) (f : Fixed (e .settings) (e .pe
         nil-short false = omega arith
     inside-told (GatheringOp o g) x w c k n =
         let a = w .0 .keeps in
-        subst (λ (y : Opened). length (keptWith y r) ≤ 65535 → Told (inside (GatheringOp o g) e r v s) (requestRead y j r)) (sym (w .0 .is))
-        (λ l. goes-on o _ _ (a ++ allBytes (r .headers)) l (λ l′ i. headers-packet e s j f r o g a (w .0 .agrees) l′ (w .1) i))
+        subst (λ (y : Opened). length (keptWith y r) ≤ 65535 → Told ts (inside (GatheringOp o g) e r v (knownIn e ts v) s) (requestRead y j r)) (sym (w .0 .is))
+        (λ l. goes-on o _ _ (a ++ allBytes (r .headers)) l (λ l′ i. headers-packet ts e s j f r o g a (w .0 .agrees) l′ (w .1) i))
         k
     inside-told (Connecting q g m) x w c k n = absurd w
     inside-told (Draining code) x w c k n =
-        subst (λ (y : Opened). Told (inside (Draining code) e r v s) (requestRead y j r)) (sym w) (drain-told code (r .final))
+        subst (λ (y : Opened). Told ts (inside (Draining code) e r v (knownIn e ts v) s) (requestRead y j r)) (sym w) (drain-told code (r .final))
 
   -- ---- any packet
 
   pub read-told : Octets (take (e .length) (s .packet)) → OpenedAt (limitOf e) (e .operation) (s .headers) (s .body) (j .opened)
       → soundOperation (limitOf e) (e .operation) ≡ true
       → (q : List ℕ) (x : Option Packet) → requestOf (take (e .length) (s .packet)) ≡ x → length (keptRead (j .opened) x) ≤ 65535
-      → Told (readAs x e q s) (packetRead x j)
+      → Told ts (readAs x e q s ts) (packetRead x j)
   read-told o w c q none i k =
-      subst (λ (t : Bool). Told (unreadable e q s) (unchanged (pick t (end j) (after j none nothing)))) (sym (busy-same (limitOf e) (e .operation) (s .headers) (s .body) (j .opened) w))
+      subst (λ (t : Bool). Told ts (unreadable e q s) (unchanged (pick t (end j) (after j none nothing)))) (sym (busy-same (limitOf e) (e .operation) (s .headers) (s .body) (j .opened) w))
       (go (busy (e .operation)))
     where
       go : (t : Bool)
-          → Told (pick t (ends e (e .peer) why.Unreadable s) (repliesCode e (e .peer) Nothing (pick (unknownByte (firstByte (getD q 0 0))) 0x51 0x40) s)) (unchanged (pick t (end j) (after j none nothing)))
-      go true = told-ends e (e .peer) s (end j) why.Unreadable
+          → Told ts (pick t (ends e (e .peer) why.Unreadable s) (repliesCode e (e .peer) Nothing (pick (unknownByte (firstByte (getD q 0 0))) 0x51 0x40) s)) (unchanged (pick t (end j) (after j none nothing)))
+      go true = told-ends ts e (e .peer) s (end j) why.Unreadable
       go false =
-          told-code e (e .peer) s (after j none nothing) _
+          told-code ts e (e .peer) s (after j none nothing) _
           (record { fixed = record { settings = f .settings; standing = f .standing; ended = f .ended }; begun = refl; opened = refl })
   read-told o w c q (some r) i k = go (sameOpcode (r .opcode) op.Abort) refl
     where
@@ -140,10 +140,10 @@ module _ (e : Engine) (s : Stores) (j : Journal) (f : Fixed (e .settings) (e .pe
       short = omega (arith, request-headers (take (e .length) (s .packet)) r o i, length-take (e .length) (s .packet), h .last)
 
       go : (t : Bool) → sameOpcode (r .opcode) op.Abort ≡ t
-          → Told
-          (pick t (asks e (e .peer) Nothing await.Acknowledgement (request.Abort (e .length)) s) (inside (e .operation) e r (surveyOf (some (r .headers))) s))
+          → Told ts
+          (pick t (asks e (e .peer) Nothing await.Acknowledgement (request.Abort (e .length)) s) (inside (e .operation) e r (surveyOf (some (r .headers))) (knownIn e ts (surveyOf (some (r .headers)))) s))
           (pick t (dropped j r) (requestRead (j .opened) j r))
       go true m =
-          told-done e (e .peer) Nothing await.Acknowledgement (outcome.Request (request.Abort (e .length))) s (after j (some r) nothing) []
-          (held-after e s j f r Nothing nothing s refl) refl
+          told-done ts e (e .peer) Nothing await.Acknowledgement (outcome.Request (request.Abort (e .length))) s (after j (some r) nothing) []
+          (held-after ts e s j f r Nothing nothing s refl) refl
       go false m = inside-told r i short (e .operation) (j .opened) w c k m

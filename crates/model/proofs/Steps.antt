@@ -30,7 +30,7 @@ use Rattle.outgoing.specs.declared.object.Chunk.{Chunk}
 use Rattle.outgoing.specs.declared.object.Next.{Next}
 use Rattle.outgoing.specs.declared.object.Next.the-variants as next
 use Rattle.connection.specs.Reply.{fieldsOf, sendBytes, front}
-use Rattle.connection.specs.Peer.{limited, verifiedPeer, challengedPeer, openedFor}
+use Rattle.connection.specs.Peer.{Linked, limited, verifiedPeer, challengedPeer, openedFor, disconnectedPeer}
 use Rattle.connection.specs.ConnectReply.{answeredChallenge}
 use Rattle.connection.specs.declared.peer.Challenge.{Challenge}
 use Rattle.connection.specs.declared.peer.Challenge.the-variants.{Stored, Absent}
@@ -41,7 +41,7 @@ use Rattle.model.specs.Request.{lastPacket, lastHeaders, clientResponse,
 use Rattle.model.specs.Operation.{nothingGathered, gathers, putBody, putContinues, putPacket, getContinues, getPacket, headersRequest, headersPacket}
 use Rattle.model.specs.Object.{sendsMade, sendsPacket, sendsNext}
 use Rattle.model.specs.Connect.{verifies, connectPacket, connectSends, frontFor, credentialsFor, connectChallenged, connectOpened, connectAnswer, checks, passwordAnswer, nonceAnswer, srmAsked}
-use Rattle.model.specs.Dispatch.{Rejection, admits, rejects, rejection, drains, dispatches, admittedAs, dispatch, interrupts, inside, busy, readAs}
+use Rattle.model.specs.Dispatch.{Rejection, admits, rejects, rejection, knownIn, drains, dispatches, admittedAs, dispatch, interrupts, inside, busy, readAs}
 use Rattle.model.specs.Guard.{soundGathered, soundOutgoing, soundOperation, sameAwait}
 use Rattle.model.specs.Calls.{replyAnswer}
 use Rattle.model.specs.Runs.{handedBy}
@@ -55,11 +55,11 @@ use Rattle.server.specs.declared.Engine.{Engine}
 use Rattle.server.specs.declared.HostRequest.{HostRequest}
 use Rattle.server.specs.declared.HostRequest.the-variants as request
 use Rattle.server.specs.declared.Outcome.the-variants as outcome
-use Rattle.connection.proofs.Standings.{PeerFits, limited-fits, verified-fits, challenged-fits, disconnected-fits, opened-fits}
+use Rattle.connection.proofs.Standings.{PeerFits, limited-fits, verified-fits, challenged-fits, disconnected-fits, disconnected-length, opened-fits, opened-length}
 use Rattle.incoming.proofs.Frames.{Octets}
 use Rattle.incoming.proofs.Gathers.{gather-lengths}
 use Rattle.outgoing.proofs.Sent.{SendsFrom, next-sends}
-use Rattle.model.proofs.Fit.{and-left, and-right, Room, room-reply, room-headers, Base, Fine, fine-pick, fine-done, fine-wants, fine-asks, fine-ends, fine-replies, fine-code, fine-continues}
+use Rattle.model.proofs.Fit.{and-left, and-right, Room, room-reply, room-headers, Base, Fine, fine-pick, FineTabled, tabled-pick, fine-done, fine-wants, fine-asks, fine-ends, fine-replies, fine-code, fine-continues}
 
 -- ---- counts
 
@@ -137,72 +137,72 @@ module _ (e : Engine) (s : Stores) (h : Base e s) where
       }
 
   put-continues : (g : Gathered) (srm confirm additional : Bool) (z : Stores) → Room (limitOf e) z → soundGathered (limitOf e) g ≡ true
-      → Fine (putContinues e g srm confirm additional z)
+      → Fine e (putContinues e g srm confirm additional z)
   put-continues g true confirm additional z r c =
-      fine-pick additional _ _ (fine-continues e s h (Putting g true) false z r c refl) (fine-wants e s h (e .peer) (Putting g true) z (h .peer) r c refl)
+      fine-pick e additional _ _ (fine-continues e s h (Putting g true) false z r c refl) (fine-wants e s h (e .peer) (Putting g true) z (h .peer) r c refl)
   put-continues g false confirm additional z r c =
-      fine-pick (g .over) _ _ (fine-code e s h (e .peer) 0x4D z (h .peer) r) (fine-continues e s h (Putting g confirm) confirm z r c refl)
+      fine-pick e (g .over) _ _ (fine-code e s h (e .peer) 0x4D z (h .peer) r) (fine-continues e s h (Putting g confirm) confirm z r c refl)
 
   put-fine : (r : Packet) (v : Survey) (srm confirm : Bool) (g : Gathered) → soundGathered (limitOf e) g ≡ true
-      → Fine (putPacket e r v srm confirm g s)
+      → Fine e (putPacket e r v srm confirm g s)
   unfolding putPacket
   put-fine r v srm confirm g c =
       let w = gathers-fit keep.Put (r .headers) g c in
       let x = gathers e keep.Put (r .headers) g s in
       let z = withGathered s x in
-      fine-pick (x .got .full) _ _ (fine-ends e s h (e .peer) end.HeadersTooLarge z (h .peer) (w .room))
-      (fine-pick (r .final) _ _
-      (fine-pick (x .got .over) _ _ (fine-code e s h (e .peer) 0x4D z (h .peer) (w .room))
+      fine-pick e (x .got .full) _ _ (fine-ends e s h (e .peer) end.HeadersTooLarge z (h .peer) (w .room))
+      (fine-pick e (r .final) _ _
+      (fine-pick e (x .got .over) _ _ (fine-code e s h (e .peer) 0x4D z (h .peer) (w .room))
       (fine-asks e s h (e .peer) await.Reply (request.Put (x .got .kept) (putBody (x .got))) z (h .peer) (w .room) refl refl))
       (put-continues (x .got) srm confirm (v .additional) z (w .room) (w .counts)))
 
   get-continues : (g : Gathered) (srm confirm wait : Bool) (z : Stores) → Room (limitOf e) z → soundGathered (limitOf e) g ≡ true
-      → Fine (getContinues e g srm confirm wait z)
+      → Fine e (getContinues e g srm confirm wait z)
   get-continues g true confirm wait z r c = fine-wants e s h (e .peer) (Getting g true confirm wait) z (h .peer) r c refl
   get-continues g false confirm wait z r c = fine-continues e s h (Getting g confirm false wait) confirm z r c refl
 
   get-fine : (r : Packet) (v : Survey) (srm confirm : Bool) (g : Gathered) → soundGathered (limitOf e) g ≡ true
-      → Fine (getPacket e r v srm confirm g s)
+      → Fine e (getPacket e r v srm confirm g s)
   unfolding getPacket
   get-fine r v srm confirm g c =
       let w = gathers-fit keep.Get (r .headers) g c in
       let x = gathers e keep.Get (r .headers) g s in
       let z = withGathered s x in
-      fine-pick (x .got .full) _ _ (fine-ends e s h (e .peer) end.HeadersTooLarge z (h .peer) (w .room))
-      (fine-pick (r .final) _ _
+      fine-pick e (x .got .full) _ _ (fine-ends e s h (e .peer) end.HeadersTooLarge z (h .peer) (w .room))
+      (fine-pick e (r .final) _ _
       (fine-done e s h (e .peer) (Getting (x .got) srm confirm (v .wait)) await.Get (outcome.Request (request.Get (x .got .kept))) z (h .peer) (w .room)
       (w .counts) (record { gathered = x .got; srm = srm; confirm = confirm; wait = v .wait; is = refl }) (λ u. refl) refl)
       (get-continues (x .got) srm confirm (v .wait) z (w .room) (w .counts)))
 
-  headers-fine : (r : Packet) (o : Opcode) (g : Gathered) → soundGathered (limitOf e) g ≡ true → Fine (headersPacket e r o g s)
+  headers-fine : (r : Packet) (o : Opcode) (g : Gathered) → soundGathered (limitOf e) g ≡ true → Fine e (headersPacket e r o g s)
   unfolding headersPacket
   headers-fine r o g c =
       let w = gathers-fit keep.All (r .headers) g c in
       let x = gathers e keep.All (r .headers) g s in
       let z = withGathered s x in
-      fine-pick (x .got .full) _ _ (fine-ends e s h (e .peer) end.HeadersTooLarge z (h .peer) (w .room))
-      (fine-pick (r .final) _ _
+      fine-pick e (x .got .full) _ _ (fine-ends e s h (e .peer) end.HeadersTooLarge z (h .peer) (w .room))
+      (fine-pick e (r .final) _ _
       (fine-asks e s h (e .peer) await.Reply (headersRequest o (x .got .kept)) z (h .peer) (w .room) refl (headers-request o (x .got .kept) z .0))
       (fine-continues e s h (GatheringOp o (x .got)) false z (w .room) (w .counts) refl))
 
   -- ---- replies
 
-  sent-fine : (p : Peer) (x : Option (List ℕ)) → ((q : List ℕ) → x ≡ some q → length q ≤ 65535) → PeerFits p → Fine (sent e p x s)
+  sent-fine : (p : Peer) (x : Option (List ℕ)) → ((q : List ℕ) → x ≡ some q → length q ≤ 65535) → PeerFits p → Fine e (sent e p x s)
   sent-fine p none l f = fine-ends e s h p end.ReplyTooLarge s f (h .room)
   sent-fine p (some q) l f = fine-replies e s h p Nothing await.Taken q s f (h .room) refl refl refl (l q refl)
 
-  pub sends-fine : (p : Peer) (code : ℕ) (hs : List ℕ) → PeerFits p → Fine (sends e p code hs s)
+  pub sends-fine : (p : Peer) (code : ℕ) (hs : List ℕ) → PeerFits p → Fine e (sends e p code hs s)
   unfolding sends
   sends-fine p code hs f = sent-fine p _ (λ q i. send-length (p .«remote_max_packet_length») code [] hs q (omega arith) i) f
 
-  pub sends-connect-fine : (p : Peer) (code : ℕ) (hs : List ℕ) → PeerFits p → Fine (sendsConnect e p code hs s)
+  pub sends-connect-fine : (p : Peer) (code : ℕ) (hs : List ℕ) → PeerFits p → Fine e (sendsConnect e p code hs s)
   unfolding sendsConnect
   sends-connect-fine p code hs f =
       sent-fine p _ (λ q i. send-length (p .«remote_max_packet_length») code (fieldsOf (e .settings .«max_packet_length»)) hs q (omega arith) i) f
 
   -- ---- an object
 
-  made-fine : (o : Outgoing) (srm wait : Bool) (n : Next) (m : Made) → o .total ≤ 65535 → SendsFrom o (s .reply) m → Fine (sendsMade e srm wait n m s)
+  made-fine : (o : Outgoing) (srm wait : Bool) (n : Next) (m : Made) → o .total ≤ 65535 → SendsFrom o (s .reply) m → Fine e (sendsMade e srm wait n m s)
   made-fine o srm wait n m t w = go n
     where
       filled : Room (limitOf e) (withReply s (m .reply))
@@ -213,7 +213,7 @@ module _ (e : Engine) (s : Stores) (h : Base e s) where
           outgoing-sound (m .packet .outgoing) (m .packet .chunk)
           (record { total = rw (w .total) t; sent = rw (w .total) (w .sent); begun = w .begun; chunk = w .chunk })
 
-      go : (n : Next) → Fine (sendsMade e srm wait n m s)
+      go : (n : Next) → Fine e (sendsMade e srm wait n m s)
       go (next.Send n true) = fine-done e s h (e .peer) Nothing await.Taken (outcome.Reply n) _ (h .peer) filled refl refl (λ u. refl) refl
       go (next.Send n false) =
           fine-done e s h (e .peer) (Sending (m .packet .outgoing) (m .packet .chunk) srm wait) await.Taken (outcome.Reply n) _
@@ -225,7 +225,7 @@ module _ (e : Engine) (s : Stores) (h : Base e s) where
       go next.TooLarge = fine-code e s h (e .peer) 0x50 _ (h .peer) filled
 
   pub sends-packet-fine : (o : Outgoing) (srm wait : Bool) (m : Made) → o .total ≤ 65535 → SendsFrom o (s .reply) m
-      → Fine (sendsPacket e srm wait m s)
+      → Fine e (sendsPacket e srm wait m s)
   sends-packet-fine o srm wait m t w = made-fine o srm wait (m .packet .next) m t w
 
   pub next-made : (o : Outgoing) → o .sent ≤ o .total → o .total ≤ 65535
@@ -234,69 +234,77 @@ module _ (e : Engine) (s : Stores) (h : Base e s) where
       next-sends (capacityOf e) o (s .headers) (s .reply) (omega (arith, h .peer .least)) (omega (arith, h .peer .most)) (h .room .reply) k t
       (omega (arith, h .room .headers))
 
-  pub sends-next-fine : (o : Outgoing) (srm wait : Bool) → o .sent ≤ o .total → o .total ≤ 65535 → Fine (sendsNext e o srm wait s)
+  pub sends-next-fine : (o : Outgoing) (srm wait : Bool) → o .sent ≤ o .total → o .total ≤ 65535 → Fine e (sendsNext e o srm wait s)
   unfolding sendsNext
   sends-next-fine o srm wait k t = sends-packet-fine o srm wait _ t (next-made o k t)
 
   -- ---- Connect
 
-  verifies-fine : (p : Peer) (c : Challenge) (r : Option Response) → PeerFits p → Fine (verifies e p c r s)
+  verifies-fine : (p : Peer) (c : Challenge) (r : Option Response) → PeerFits p → Fine e (verifies e p c r s)
   verifies-fine p Absent r f = fine-asks e s h p await.Nonce request.Nonce s f (h .room) refl refl
   verifies-fine p (Stored n) none f = fine-asks e s h p await.Nonce request.Nonce s f (h .room) refl refl
   verifies-fine p (Stored n) (some r) f = fine-asks e s h p await.Password (request.Password (userPlace e s)) s f (h .room) refl refl
 
-  connect-fine : Octets (lastPacket e s) → Fine (connectPacket e s)
+  connect-fine : Octets (lastPacket e s) → Fine e (connectPacket e s)
   unfolding connectPacket
   connect-fine o =
       let p = limited (e .peer) (connectLimit (lastPacket e s)) in
       let f = limited-fits (e .peer) (connectLimit (lastPacket e s)) (limit-small (lastPacket e s) o) (h .peer) in
-      fine-pick (e .settings .authentication) _ _ (verifies-fine p (p .challenge) (clientResponse e s) f)
+      fine-pick e (e .settings .authentication) _ _ (verifies-fine p (p .challenge) (clientResponse e s) f)
       (fine-asks e s h p await.Connect (request.Connect (e .length)) s f (h .room) refl refl)
 
   pub connect-sends-fine : (p : Peer) (code : ℕ) (f : ConnectionId) (answer : List Header) (c : Option Credentials) → PeerFits p
-      → Fine (connectSends e p code f answer c s)
+      → Fine e (connectSends e p code f answer c s)
   unfolding connectSends
   connect-sends-fine p code f answer c k = sends-connect-fine p code _ k
 
   connect-challenged-fine : (p : Peer) (code : ℕ) (f : ConnectionId) (hs : List ℕ) (c : Option PeerChallenge) → PeerFits p → length hs ≤ 65535
-      → Fine (connectChallenged e p code f hs c s)
+      → Fine e (connectChallenged e p code f hs c s)
   connect-challenged-fine p code f hs none k l = connect-sends-fine p code f _ none k
   connect-challenged-fine p code f hs (some c) k l =
       fine-done e s h p (Connecting code f (length hs)) await.Credentials (outcome.Request (credentialsFor (lastPacket e s) c))
       (withHeaders s (front hs (s .headers))) k
       (room-headers (limitOf e) s hs l (h .room)) (le-leb _ _ l) (record { code = code; front = f; size = length hs; is = refl }) (λ u. refl) refl
 
-  connect-opened-fine : (p : Option Peer) (code : ℕ) (f : ConnectionId) (hs : List ℕ) → ((q : Peer) → p ≡ some q → PeerFits q) → length hs ≤ 65535
-      → Fine (connectOpened e p code f hs s)
-  connect-opened-fine none code f hs k l = sends-connect-fine (e .peer) 0x53 [] (h .peer)
-  connect-opened-fine (some p) code f hs k l = connect-challenged-fine p code f hs (answeredChallenge (lastHeaders e s)) (k p refl) l
+  module _ (t : List ℕ) (room : 64 ≤ length t) where
+    connect-opened-fine : (p : Option Linked) (code : ℕ) (f : ConnectionId) (hs : List ℕ)
+        → ((q : Linked) → p ≡ some q → PeerFits (q .peer) × (length (q .tables) ≡ length t)) → length hs ≤ 65535
+        → FineTabled e t (connectOpened e t p code f hs s)
+    connect-opened-fine none code f hs k l = record { done = sends-connect-fine (e .peer) 0x53 [] (h .peer); tables = refl }
+    connect-opened-fine (some q) code f hs k l =
+        record { done = connect-challenged-fine (q .peer) code f hs (answeredChallenge (lastHeaders e s)) (k q refl .0) l; tables = k q refl .1 }
 
-  connect-answer-fine : (code : ℕ) (hs : List ℕ) → length hs ≤ 65535 → Fine (connectAnswer e code hs s)
-  unfolding connectAnswer
-  connect-answer-fine code hs l =
-      let answer = first 0xCB (listOf (readHeaders hs 0)) in
-      let target = first 0x46 (lastHeaders e s) in
-      let srm = e .peer .«srm_enabled» || srmAsked e (surveyOf (some (lastHeaders e s))) in
-      fine-pick (isSuccess code) _ _
-      (connect-opened-fine (openedFor (e .peer) srm answer target) code (frontFor (e .peer) answer target) hs
-      (λ q i. opened-fits (e .peer) q srm answer target (h .peer) i) l)
-      (sends-connect-fine (e .peer) code hs (h .peer))
+    connect-answer-fine : (code : ℕ) (hs : List ℕ) → length hs ≤ 65535 → FineTabled e t (connectAnswer e code hs s t)
+    unfolding connectAnswer
+    connect-answer-fine code hs l =
+        let answer = first 0xCB (listOf (readHeaders hs 0)) in
+        let target = first 0x46 (lastHeaders e s) in
+        let srm = e .peer .«srm_enabled» || srmAsked e (surveyOf (some (lastHeaders e s))) in
+        tabled-pick e t (isSuccess code) _ _
+        (connect-opened-fine (openedFor (e .peer) t srm answer target) code (frontFor (e .peer) t answer target) hs
+        (λ q i. (opened-fits (e .peer) t srm (h .peer) room q answer target i, opened-length (e .peer) t srm (h .peer) room q answer target i)) l)
+        (record { done = sends-connect-fine (e .peer) code hs (h .peer); tables = refl })
 
-  pub reply-fine : (code : ℕ) (hs : List ℕ) → length hs ≤ 65535 → Fine (replyAnswer e code hs s)
-  unfolding replyAnswer
-  reply-fine code hs l =
-      fine-pick (sameAwait (e .awaits) await.Connect) _ _ (connect-answer-fine code hs l)
-      (fine-pick (sameAwait (e .awaits) await.Disconnect) _ _ (sends-fine _ code hs (disconnected-fits (e .peer) (first 0xCB (lastHeaders e s)) (h .peer)))
-      (sends-fine (e .peer) code hs (h .peer)))
+    pub reply-fine : (code : ℕ) (hs : List ℕ) → length hs ≤ 65535 → FineTabled e t (replyAnswer e code hs s t)
+    unfolding replyAnswer
+    reply-fine code hs l =
+        let named = first 0xCB (lastHeaders e s) in
+        tabled-pick e t (sameAwait (e .awaits) await.Connect) _ _ (connect-answer-fine code hs l)
+        (tabled-pick e t (sameAwait (e .awaits) await.Disconnect) _ _
+        (record {
+          done = sends-fine (disconnectedPeer (e .peer) t named .peer) code hs (disconnected-fits (e .peer) t named (h .peer));
+          tables = disconnected-length (e .peer) t named (h .peer) room;
+        })
+        (record { done = sends-fine (e .peer) code hs (h .peer); tables = refl }))
 
-  pub password-fine : (p : Option (List ℕ)) → Fine (passwordAnswer e p s)
+  pub password-fine : (p : Option (List ℕ)) → Fine e (passwordAnswer e p s)
   unfolding passwordAnswer
   password-fine p =
-      fine-pick (checks (e .peer .challenge) (clientResponse e s) p) _ _
+      fine-pick e (checks (e .peer .challenge) (clientResponse e s) p) _ _
       (fine-asks e s h (verifiedPeer (e .peer)) await.Connect (request.Connect (e .length)) s (verified-fits (e .peer) (h .peer)) (h .room) refl refl)
       (fine-asks e s h (e .peer) await.Nonce request.Nonce s (h .peer) (h .room) refl refl)
 
-  pub nonce-fine : (n : Octets16) (l : List ℕ) → Fine (nonceAnswer e n l s)
+  pub nonce-fine : (n : Octets16) (l : List ℕ) → Fine e (nonceAnswer e n l s)
   unfolding nonceAnswer
   nonce-fine n l = sends-connect-fine (challengedPeer (e .peer) n) 0x41 _ (challenged-fits (e .peer) n (h .peer))
 
@@ -306,7 +314,7 @@ module _ (e : Engine) (s : Stores) (h : Base e s) where
   none-gathered = gathered-sound (limitOf e) nothingGathered (omega arith) (omega arith)
 
   module _ (octets : Octets (lastPacket e s)) (r : Packet) (v : Survey) where
-    dispatches-fine : (o : Opcode) → Fine (dispatches o e r v s)
+    dispatches-fine : (o : Opcode) → Fine e (dispatches o e r v s)
     dispatches-fine op.Connect = connect-fine octets
     dispatches-fine op.Abort = fine-asks e s h (e .peer) await.Acknowledgement (request.Abort (e .length)) s (h .peer) (h .room) refl refl
     dispatches-fine op.Disconnect = fine-asks e s h (e .peer) await.Disconnect (request.Disconnect (e .length)) s (h .peer) (h .room) refl refl
@@ -317,40 +325,41 @@ module _ (e : Engine) (s : Stores) (h : Base e s) where
     dispatches-fine op.Session = headers-fine r op.Session nothingGathered none-gathered
     dispatches-fine (op.UserDefined x) = headers-fine r (op.UserDefined x) nothingGathered none-gathered
 
-    admitted-fine : (x : Rejection) → Fine (admittedAs x e r v s)
+    admitted-fine : (x : Rejection) → Fine e (admittedAs x e r v s)
     admitted-fine admits = dispatches-fine (r .opcode)
     admitted-fine (rejects code) =
-        fine-pick (e .peer .«srm_enabled» && (drains (r .opcode) && not (r .final))) _ _
+        fine-pick e (e .peer .«srm_enabled» && (drains (r .opcode) && not (r .final))) _ _
         (fine-wants e s h (e .peer) (Draining code) s (h .peer) (h .room) refl refl)
         (fine-code e s h (e .peer) code s (h .peer) (h .room))
 
-    dispatch-fine : Fine (dispatch e r v s)
+    dispatch-fine : (known : Bool) → Fine e (dispatch e r v known s)
     unfolding dispatch
-    dispatch-fine = fine-pick (sameOpcode (r .opcode) op.Connect) _ _ (connect-fine octets) (admitted-fine (rejection e (r .opcode) v))
+    dispatch-fine known =
+        fine-pick e (sameOpcode (r .opcode) op.Connect) _ _ (connect-fine octets) (admitted-fine (rejection e (r .opcode) v known))
 
-    interrupts-fine : Fine (interrupts e s)
+    interrupts-fine : Fine e (interrupts e s)
     unfolding packetBytes
     interrupts-fine =
         fine-replies e s h (e .peer) Nothing await.Last (packetBytes (sentCode 0x40) [] []) s (h .peer) (h .room) refl refl refl (omega arith)
 
-    inside-fine : (o : Operation) → soundOperation (limitOf e) o ≡ true → Fine (inside o e r v s)
-    inside-fine Nothing c = dispatch-fine
-    inside-fine (Putting g srm) c = fine-pick (sameOpcode (r .opcode) op.Put) _ _ (put-fine r v srm false g c) interrupts-fine
-    inside-fine (Getting g srm confirm wait) c = fine-pick (sameOpcode (r .opcode) op.Get) _ _ (get-fine r v srm confirm g c) interrupts-fine
-    inside-fine (Sending o k srm wait) c =
+    inside-fine : (o : Operation) (known : Bool) → soundOperation (limitOf e) o ≡ true → Fine e (inside o e r v known s)
+    inside-fine Nothing known c = dispatch-fine known
+    inside-fine (Putting g srm) known c = fine-pick e (sameOpcode (r .opcode) op.Put) _ _ (put-fine r v srm false g c) interrupts-fine
+    inside-fine (Getting g srm confirm wait) known c = fine-pick e (sameOpcode (r .opcode) op.Get) _ _ (get-fine r v srm confirm g c) interrupts-fine
+    inside-fine (Sending o k srm wait) known c =
         let w = outgoing-within o k c in
-        fine-pick (sameOpcode (r .opcode) op.Get) _ _ (sends-next-fine o srm (v .wait) (w .sent) (w .total)) interrupts-fine
-    inside-fine (GatheringOp o g) c = fine-pick (sameOpcode (r .opcode) o) _ _ (headers-fine r o g c) interrupts-fine
-    inside-fine (Connecting k f n) c = interrupts-fine
-    inside-fine (Draining code) c =
-        fine-pick (r .final) _ _ (fine-code e s h (e .peer) code s (h .peer) (h .room))
+        fine-pick e (sameOpcode (r .opcode) op.Get) _ _ (sends-next-fine o srm (v .wait) (w .sent) (w .total)) interrupts-fine
+    inside-fine (GatheringOp o g) known c = fine-pick e (sameOpcode (r .opcode) o) _ _ (headers-fine r o g c) interrupts-fine
+    inside-fine (Connecting k f n) known c = interrupts-fine
+    inside-fine (Draining code) known c =
+        fine-pick e (r .final) _ _ (fine-code e s h (e .peer) code s (h .peer) (h .room))
         (fine-wants e s h (e .peer) (Draining code) s (h .peer) (h .room) refl refl)
 
-  pub read-fine : Octets (lastPacket e s) → soundOperation (limitOf e) (e .operation) ≡ true → (q : List ℕ) (x : Option Packet)
-      → Fine (readAs x e q s)
-  read-fine o c q none =
-      fine-pick (busy (e .operation)) _ _ (fine-ends e s h (e .peer) end.Unreadable s (h .peer) (h .room)) (fine-code e s h (e .peer) _ s (h .peer) (h .room))
-  read-fine o c q (some r) =
-      fine-pick (sameOpcode (r .opcode) op.Abort) _ _
+  pub read-fine : Octets (lastPacket e s) → soundOperation (limitOf e) (e .operation) ≡ true → (q t : List ℕ) (x : Option Packet)
+      → Fine e (readAs x e q s t)
+  read-fine o c q t none =
+      fine-pick e (busy (e .operation)) _ _ (fine-ends e s h (e .peer) end.Unreadable s (h .peer) (h .room)) (fine-code e s h (e .peer) _ s (h .peer) (h .room))
+  read-fine o c q t (some r) =
+      fine-pick e (sameOpcode (r .opcode) op.Abort) _ _
       (fine-asks e s h (e .peer) await.Acknowledgement (request.Abort (e .length)) s (h .peer) (h .room) refl refl)
-      (inside-fine o r (surveyOf (some (r .headers))) (e .operation) c)
+      (inside-fine o r (surveyOf (some (r .headers))) (e .operation) (knownIn e t (surveyOf (some (r .headers)))) c)

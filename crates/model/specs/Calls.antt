@@ -1,7 +1,7 @@
 -- The model: what each call does, as a total function of the state, the lent stores and the arguments. The engine's contracts say that the code equals it.
 use Prim.Native.Nat.{ℕ}
 use mathlib.Core.List.{List}
-use mathlib.Core.Bool.{Bool, _||_}
+use mathlib.Core.Bool.{Bool, _&&_, _||_}
 use mathlib.Core.Option.{Option, none}
 use lib.ListN.{length, take}
 use lib.Dec.{ltb, eqb}
@@ -17,7 +17,7 @@ use Rattle.incoming.specs.declared.frame.Frame.{Frame}
 use Rattle.incoming.specs.declared.frame.Frame.the-variants.{More, Whole, Short}
 use Rattle.outgoing.specs.Object.{bodyGiven}
 use Rattle.connection.specs.Reply.{front}
-use Rattle.connection.specs.Peer.{freshPeer, disconnectedPeer}
+use Rattle.connection.specs.Peer.{freshPeer, Linked, linked, disconnectedPeer}
 use Rattle.server.specs.declared.Settings.{Settings}
 use Rattle.server.specs.declared.Operation.{Operation}
 use Rattle.server.specs.declared.Operation.the-variants.{Nothing, Putting, Getting, Sending, Gathering as GatheringOp, Connecting, Draining}
@@ -29,30 +29,30 @@ use Rattle.server.specs.declared.Engine.{Engine}
 use Rattle.server.specs.declared.Body.the-variants as body
 use Rattle.server.specs.declared.HostRequest.the-variants as request
 use Rattle.server.specs.declared.Outcome.the-variants as outcome
-use Rattle.model.specs.Step.{Stores, stores, withHeaders, engineWith, Done, ends, repliesCode, sent, sends, Stepped, stepped, after}
+use Rattle.model.specs.Step.{Stores, stores, withHeaders, engineWith, Done, DoneTabled, doneTabled, ends, repliesCode, sent, sends, limitOf, Stepped, stepped, Called, called, after}
 use Rattle.model.specs.Request.{lastHeaders}
 use Rattle.model.specs.Object.{sendsPacket, sendsNext, goesOn, objectOf}
 use Rattle.model.specs.Connect.{connectSends, connectAnswer, passwordAnswer, nonceAnswer}
 use Rattle.model.specs.Dispatch.{inside, packetDone}
-use Rattle.model.specs.Guard.{refuse, short, sameAwait, guarded, badHeaders, badReply, checked, longUser}
+use Rattle.model.specs.Guard.{refuse, short, sound, shortTables, longRealm, sameAwait, fits, guarded, guardedTables, badHeaders, badReply, checked, longUser}
 
--- What follows by where the frame stands, with `b` bytes of a packet in the packet store and `t` taken.
-abbrev pub framedAs : Frame → Engine → ℕ → ℕ → Stores → Stepped
-framedAs More e b t s =
-    stepped (record { engine = engineWith (e .settings) (e .peer) (e .operation) (e .awaits) b (e .length); taken = t; outcome = outcome.WantsBytes }) s
-framedAs Short e b t s = after t (ends e (e .peer) end.LengthTooSmall s)
-framedAs Whole e b t s = after t (packetDone e b s)
+-- What follows by where the frame stands, with `b` bytes of a packet in the packet store and `n` taken.
+abbrev pub framedAs : Frame → Engine → ℕ → ℕ → Stores → List ℕ → Stepped
+framedAs More e b n s t =
+    stepped (record { engine = engineWith (e .settings) (e .peer) (e .operation) (e .awaits) b (e .length); taken = n; outcome = outcome.WantsBytes }) s
+framedAs Short e b n s t = after n (ends e (e .peer) end.LengthTooSmall s)
+framedAs Whole e b n s t = after n (packetDone e b s t)
 
 abbrev pub withPacket : Stores → List ℕ → Stores
 withPacket s p = stores p (s .headers) (s .body) (s .reply)
 
 -- What follows the bytes that were read into the packet store.
-abbrev pub offers : Engine → Frames → Stores → Stepped
-offers e f s = framedAs (f .result .frame) e (f .result .begun) (f .result .taken) (withPacket s (f .packet))
+abbrev pub offers : Engine → Frames → Stores → List ℕ → Stepped
+offers e f s t = framedAs (f .result .frame) e (f .result .begun) (f .result .taken) (withPacket s (f .packet)) t
 
--- Bytes from the client.
-unfoldable pub bytesOfferedStep : Engine → List ℕ → Stores → Stepped
-bytesOfferedStep e i s = guarded kind.FromPeer e s (offers e (framed (s .packet) (e .begun) 0 i) s)
+-- Bytes from the client. The table store `t` says which ConnectionIDs are open.
+unfoldable pub bytesOfferedStep : Engine → List ℕ → Stores → List ℕ → Stepped
+bytesOfferedStep e i s t = guardedTables kind.FromPeer e s t (offers e (framed (s .packet) (e .begun) 0 i) s t)
 
 -- The end of the client's stream, between packets or inside one.
 unfoldable pub streamEndedStep : Engine → Stores → Stepped
@@ -65,15 +65,26 @@ replyTakenStep e s =
 
 -- The host's reply by what it answers: a Disconnect closes ids before its reply is made; to a Get or any other request the reply is sent as
 -- it is.
-unfoldable pub replyAnswer : Engine → ℕ → List ℕ → Stores → Done
-replyAnswer e code hs s =
-    pick (sameAwait (e .awaits) await.Connect) (connectAnswer e code hs s)
-    (pick (sameAwait (e .awaits) await.Disconnect) (sends e (disconnectedPeer (e .peer) (first header-id.connectionId (lastHeaders e s))) code hs s)
-    (sends e (e .peer) code hs s))
+abbrev pub sendsLinked : Engine → Linked → ℕ → List ℕ → Stores → DoneTabled
+sendsLinked e l code hs s = doneTabled (sends e (l .peer) code hs s) (l .tables)
 
--- The host's reply.
-unfoldable pub replyGivenStep : Engine → ℕ → List ℕ → Stores → Stepped
-replyGivenStep e code hs s = guarded kind.ReplyGiven e s (checked (badReply code hs) e s (replyAnswer e code hs s))
+unfoldable pub replyAnswer : Engine → ℕ → List ℕ → Stores → List ℕ → DoneTabled
+replyAnswer e code hs s t =
+    pick (sameAwait (e .awaits) await.Connect) (connectAnswer e code hs s t)
+    (pick (sameAwait (e .awaits) await.Disconnect)
+    (sendsLinked e (disconnectedPeer (e .peer) t (first header-id.connectionId (lastHeaders e s))) code hs s)
+    (sendsLinked e (linked (e .peer) t) code hs s))
+
+-- The host's reply; a reply to a Connect or a Disconnect may change which ids are open.
+abbrev pub replyChecked : Engine → ℕ → List ℕ → Stores → List ℕ → Called
+replyChecked e code hs s t =
+    pick (badReply code hs) (called (refuse refusal.BadAnswer e s) t)
+    (called (after 0 (replyAnswer e code hs s t .done)) (replyAnswer e code hs s t .tables))
+
+unfoldable pub replyGivenStep : Engine → ℕ → List ℕ → Stores → List ℕ → Called
+replyGivenStep e code hs s t =
+    pick (shortTables t || short (limitOf e) s) (called (refuse refusal.StoreTooShort e s) t)
+    (pick (sound e && fits kind.ReplyGiven (e .awaits)) (replyChecked e code hs s t) (called (refuse refusal.WrongMoment e s) t))
 
 -- The host's object, for the Get that is open.
 abbrev pub objectFor : Operation → Engine → List ℕ → Bool → Stores → Stepped
@@ -117,9 +128,9 @@ abortAcknowledgedStep e s = guarded kind.AbortAcknowledged e s (after 0 (replies
 unfoldable pub passwordGivenStep : Engine → Option (List ℕ) → Stores → Stepped
 passwordGivenStep e p s = guarded kind.PasswordGiven e s (after 0 (passwordAnswer e p s))
 
--- The nonce that the host gives, and the realm's bytes.
+-- The nonce that the host gives. The realm's bytes `l` are lent as they were at the start.
 unfoldable pub nonceGivenStep : Engine → Octets16 → List ℕ → Stores → Stepped
-nonceGivenStep e n l s = guarded kind.NonceGiven e s (after 0 (nonceAnswer e n l s))
+nonceGivenStep e n l s = guarded kind.NonceGiven e s (checked (longRealm (e .settings) l) e s (nonceAnswer e n l s))
 
 -- Credentials for the Connect that waits for them.
 abbrev pub credentialsWith : Operation → Engine → Option Credentials → Stores → Stepped
@@ -141,8 +152,8 @@ unfoldable pub started : Settings → Engine
 started st = engineWith st freshPeer Nothing await.Bytes 0 0
 
 -- The start. It is refused if a lent store is short, then if the realm is over 254 bytes after its charset; the state has then ended.
-unfoldable pub startStep : Settings → Stores → Stepped
-startStep st s =
-    pick (short (st .«max_object_size») s) (refuse refusal.StoreTooShort (engineWith st freshPeer Nothing await.Nothing 0 0) s)
-    (pick (ltb 254 (st .«realm_length»)) (refuse refusal.BadAnswer (engineWith st freshPeer Nothing await.Nothing 0 0) s)
+unfoldable pub startStep : Settings → List ℕ → Stores → List ℕ → Stepped
+startStep st l s t =
+    pick (shortTables t || short (st .«max_object_size») s) (refuse refusal.StoreTooShort (engineWith st freshPeer Nothing await.Nothing 0 0) s)
+    (pick (longRealm st l) (refuse refusal.BadAnswer (engineWith st freshPeer Nothing await.Nothing 0 0) s)
     (stepped (record { engine = started st; taken = 0; outcome = outcome.WantsBytes }) s))

@@ -15,7 +15,7 @@ use Rattle.journal.specs.Calls.{Call, bytesOffered, replyTaken, objectGiven, bo
 use Rattle.model.specs.Step.{Stores}
 use Rattle.model.specs.Calls.{started}
 use Rattle.server.specs.Settings.{defaultSettings}
-use Rattle.model.specs.Runs.{State, stepOf, stateOf, records}
+use Rattle.model.specs.Runs.{State, stepOf, nextState, records}
 use Rattle.server.specs.declared.Outcome.{Outcome}
 use Rattle.server.specs.declared.Outcome.the-variants as outcome
 
@@ -25,6 +25,8 @@ freshState limit =
     record {
       engine = started (defaultSettings limit);
       stores = record { packet = replicate 65535 0; headers = replicate 65535 0; body = replicate limit 0; reply = replicate 65535 0 };
+      tables = replicate 64 0;
+      realm = [];
     }
 
 -- the replies that calls make
@@ -37,7 +39,7 @@ replyIn (outcome.Refused n) s = []
 
 abbrev pub replies : State → List Call → List (List ℕ)
 replies s [] = []
-replies s (c ∷ cs) = replyIn (stepOf s c .took .outcome) (stepOf s c .stores) ++ replies (stateOf (stepOf s c)) cs
+replies s (c ∷ cs) = replyIn (stepOf s c .took .outcome) (stepOf s c .stores) ++ replies (nextState s c) cs
 
 -- what is given: a first byte; open ids and a counter; bytes of text; or calls on a fresh engine with a Put limit
 pub data Given : Type 0 where

@@ -3,7 +3,7 @@ use Prim.Native.Nat.{ℕ, _+_, _*_}
 use mathlib.Core.List.{List, [], _∷_}
 use mathlib.Core.Bool.{Bool, true, false, _&&_, _||_}
 use mathlib.Core.Option.{Option, none, some}
-use lib.ListN.{length, take}
+use lib.ListN.{length}
 use Rattle.base.specs.Pick.{pick}
 use Rattle.digest.specs.Md5.{octets16, numbers16}
 use Rattle.digest.specs.declared.md5.Octets16.{Octets16}
@@ -18,7 +18,7 @@ use Rattle.journal.specs.Journal.{listOf}
 use Rattle.incoming.specs.Survey.{surveyOf}
 use Rattle.incoming.specs.declared.survey.Survey.{Survey}
 use Rattle.connection.specs.Reply.{front}
-use Rattle.connection.specs.Peer.{limited, verifiedPeer, challengedPeer, searched, openedFor}
+use Rattle.connection.specs.Peer.{Linked, limited, verifiedPeer, challengedPeer, searched, openedFor}
 use Rattle.connection.specs.ConnectReply.{answeredChallenge, connectHeaders, challengeHeader}
 use Rattle.connection.specs.Pieces.{idGiven}
 use Rattle.connection.specs.declared.peer.Challenge.{Challenge}
@@ -32,7 +32,7 @@ use Rattle.server.specs.declared.Await.the-variants as await
 use Rattle.server.specs.declared.Engine.{Engine}
 use Rattle.server.specs.declared.HostRequest.{HostRequest}
 use Rattle.server.specs.declared.HostRequest.the-variants as request
-use Rattle.model.specs.Step.{Stores, withHeaders, Done, asks, sent, sendsConnect, after}
+use Rattle.model.specs.Step.{Stores, withHeaders, Done, DoneTabled, doneTabled, asks, sent, sendsConnect, after}
 use Rattle.model.specs.Request.{lastPacket, lastHeaders, clientResponse, userPlace, realmIn}
 
 -- If a challenge is stored and the client's response can be read, the host is asked for the password; otherwise for a nonce, to challenge
@@ -61,10 +61,10 @@ connectSends e p code f answer c s =
     s
 
 -- The ConnectionID that the engine puts in front of the host's headers: a new one for a Target, if the host gave none.
-abbrev pub frontFor : Peer → Option (List ℕ) → Option (List ℕ) → ConnectionId
-frontFor p (some v) target = front-id.Missing
-frontFor p none none = front-id.Missing
-frontFor p none (some t) = front-id.Id (searched p)
+abbrev pub frontFor : Peer → List ℕ → Option (List ℕ) → Option (List ℕ) → ConnectionId
+frontFor p t (some v) target = front-id.Missing
+frontFor p t none none = front-id.Missing
+frontFor p t none (some v) = front-id.Id (searched p t)
 
 -- What the host is told of the client's challenge.
 abbrev pub credentialsFor : List ℕ → PeerChallenge → HostRequest
@@ -78,19 +78,20 @@ connectChallenged e p code f hs none s = connectSends e p code f (listOf (readHe
 connectChallenged e p code f hs (some c) s =
     asks e p (Connecting code f (length hs)) await.Credentials (credentialsFor (lastPacket e s) c) (withHeaders s (front hs (s .headers)))
 
--- A 65th id gets 0x53 with Connect's fields, and the peer stays as it was.
-abbrev pub connectOpened : Engine → Option Peer → ℕ → ConnectionId → List ℕ → Stores → Done
-connectOpened e none code f hs s = sendsConnect e (e .peer) response.serviceUnavailable [] s
-connectOpened e (some p) code f hs s = connectChallenged e p code f hs (answeredChallenge (lastHeaders e s)) s
+-- A 65th id gets 0x53 with Connect's fields, and the peer and the table store `t` stay as they were.
+abbrev pub connectOpened : Engine → List ℕ → Option Linked → ℕ → ConnectionId → List ℕ → Stores → DoneTabled
+connectOpened e t none code f hs s = doneTabled (sendsConnect e (e .peer) response.serviceUnavailable [] s) t
+connectOpened e t (some l) code f hs s =
+    doneTabled (connectChallenged e (l .peer) code f hs (answeredChallenge (lastHeaders e s)) s) (l .tables)
 
 -- The host's answer to a Connect: any but success is sent as it is.
-unfoldable pub connectAnswer : Engine → ℕ → List ℕ → Stores → Done
-connectAnswer e code hs s =
+unfoldable pub connectAnswer : Engine → ℕ → List ℕ → Stores → List ℕ → DoneTabled
+connectAnswer e code hs s t =
     let answer = first header-id.connectionId (listOf (readHeaders hs 0)) in
     let target = first header-id.target (lastHeaders e s) in
     let srm = e .peer .«srm_enabled» || srmAsked e (surveyOf (some (lastHeaders e s))) in
-    pick (isSuccess code) (connectOpened e (openedFor (e .peer) srm answer target) code (frontFor (e .peer) answer target) hs s)
-    (sendsConnect e (e .peer) code hs s)
+    pick (isSuccess code) (connectOpened e t (openedFor (e .peer) t srm answer target) code (frontFor (e .peer) t answer target) hs s)
+    (doneTabled (sendsConnect e (e .peer) code hs s) t)
 
 -- Whether the client is verified: a challenge is stored, the response can be read, and its digest is that of the password (the source's
 -- verify_client).
@@ -118,7 +119,7 @@ optionsOf st = bit (st .«user_id_required») + 2 * bit (st .«read_only»)
 
 -- The realm of the server's challenges, if there is one: its charset and its bytes.
 abbrev pub realmOf : Settings → List ℕ → Option (List ℕ)
-realmOf st l = pick (st .«has_realm») (some (st .charset ∷ take (st .«realm_length») l)) none
+realmOf st l = pick (st .«has_realm») (some (st .charset ∷ l)) none
 
 -- The reply with a new challenge: 0x41 with Connect's fields.
 unfoldable pub nonceAnswer : Engine → Octets16 → List ℕ → Stores → Done

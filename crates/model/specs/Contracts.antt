@@ -1,11 +1,12 @@
 -- The claims over contracts: a run of calls of which is known only what the calls' contracts say, the state and the stores passed on.
+use Prim.Native.Nat.{ℕ}
 use mathlib.Core.Path.{_≡_}
 use mathlib.Core.List.{List, [], _∷_, _++_}
 use Rattle.journal.specs.Record.{Record}
 use Rattle.journal.specs.Calls.{Call, Verdict}
 use Rattle.journal.specs.Journal.{journalRecords, fresh, packets}
 use Rattle.journal.specs.PutForm.{Exactly}
-use Rattle.model.specs.Step.{Stores, stepped}
+use Rattle.model.specs.Step.{Stores, stepped, called}
 use Rattle.model.specs.Calls.{startStep}
 use Rattle.model.specs.Runs.{State, stepOf, handed, AllOctets}
 use Rattle.model.specs.Refusals.{bytes, verdictOf, due, feedOf}
@@ -14,22 +15,23 @@ use Rattle.server.specs.declared.Settings.{Settings}
 use Rattle.server.specs.declared.CallResult.{CallResult}
 use Rattle.server.specs.declared.Outcome.the-variants as outcome
 
-abbrev pub state : CallResult → Stores → State
-state r t = record { engine = r .engine; stores = t }
+-- The state after a call that returned `r` and left the stores `t` and the table store `u`.
+abbrev pub state : List ℕ → CallResult → Stores → List ℕ → State
+state l r t u = record { engine = r .engine; stores = t; tables = u; realm = l }
 
--- What a call's contract says of its result and of the stores afterwards.
-abbrev pub Says : State → Call → CallResult → Stores → Type 0
-Says s c r t = stepped r t ≡ stepOf s c
+-- What a call's contract says of its result and of the stores afterwards. A call that is not lent the table store leaves it.
+abbrev pub Says : State → Call → CallResult → Stores → List ℕ → Type 0
+Says s c r t u = called (stepped r t) u ≡ stepOf s c
 
 -- A run of calls of which only the contracts are known, with the verdicts that it returns and the records that it hands over.
 pub data Ran : State → List Call → List Verdict → List Record → Type 0 where
   none : {s : State} → Ran s [] [] []
-  call : {s : State} {cs : List Call} {vs : List Verdict} {ls : List Record} (c : Call) (r : CallResult) (t : Stores) → Says s c r t
-      → Ran (state r t) cs vs ls → Ran s (c ∷ cs) (verdictOf (r .outcome) ∷ vs) (handed (r .outcome) t ++ ls)
+  call : {s : State} {cs : List Call} {vs : List Verdict} {ls : List Record} (c : Call) (r : CallResult) (t : Stores) (u : List ℕ)
+      → Says s c r t u → Ran (state (s .realm) r t u) cs vs ls → Ran s (c ∷ cs) (verdictOf (r .outcome) ∷ vs) (handed (r .outcome) t ++ ls)
 
 -- A start that was accepted, by what its contract says.
-pub record Accepted (st : Settings) (s : Stores) (r : CallResult) (t : Stores) : Type 0 where
-  pub says : stepped r t ≡ startStep st s
+pub record Accepted (st : Settings) (l : List ℕ) (s : Stores) (r : CallResult) (t : Stores) (u : List ℕ) : Type 0 where
+  pub says : stepped r t ≡ startStep st l s u
   pub accepted : r .outcome ≡ outcome.WantsBytes
 
 -- The records theorem of the functions themselves, from an accepted start.
@@ -42,5 +44,5 @@ pub record Upholds (st : Settings) (s : State) (cs : List Call) (vs : List Verdi
 -- The records theorem over contracts, for every list of calls from an accepted start.
 abbrev pub ContractsUphold : Type 0
 ContractsUphold =
-    (st : Settings) (s t : Stores) (r : CallResult) (cs : List Call) (vs : List Verdict) (ls : List Record) → Accepted st s r t → AllOctets cs
-    → Ran (state r t) cs vs ls → Upholds st (state r t) cs vs ls
+    (st : Settings) (l : List ℕ) (s t : Stores) (u : List ℕ) (r : CallResult) (cs : List Call) (vs : List Verdict) (ls : List Record)
+    → Accepted st l s r t u → AllOctets cs → Ran (state l r t u) cs vs ls → Upholds st (state l r t u) cs vs ls

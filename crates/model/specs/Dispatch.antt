@@ -34,12 +34,16 @@ pub data Rejection : Type 0 where
   admits : Rejection
   rejects : ℕ → Rejection
 
+-- Whether the packet names a ConnectionID that is open: one of the ids in the table store `t`.
+abbrev pub knownIn : Engine → List ℕ → Survey → Bool
+knownIn e t v = v .«has_id» && member (v .id) (idsOf (e .peer) t)
+
 -- The code that refuses a packet before it reaches the host: 0x41 if a password is required and not given, but for a Disconnect, which may
 -- not be refused; then 0x53 if the first ConnectionID is not open (docs/PROTOCOL.md#admission).
-unfoldable pub rejection : Engine → Opcode → Survey → Rejection
-rejection e o v =
+unfoldable pub rejection : Engine → Opcode → Survey → Bool → Rejection
+rejection e o v known =
     pick (e .settings .authentication && (not (e .peer .authenticated) && not (sameOpcode o op.Disconnect))) (rejects response.unauthorized)
-    (pick (v .«has_id» && not (member (v .id) (idsOf (e .peer)))) (rejects response.serviceUnavailable) admits)
+    (pick (v .«has_id» && not known) (rejects response.serviceUnavailable) admits)
 
 -- The operations that are drained if they are turned away under Single Response Mode (SRM).
 abbrev pub drains : Opcode → Bool
@@ -74,24 +78,24 @@ admittedAs admits e r v s = dispatches (r .opcode) e r v s
 admittedAs (rejects code) e r v s = rejected e r code s
 
 -- A packet while nothing is open. A Connect is never turned away.
-unfoldable pub dispatch : Engine → Packet → Survey → Stores → Done
-dispatch e r v s =
-    pick (sameOpcode (r .opcode) op.Connect) (connectPacket e s) (admittedAs (rejection e (r .opcode) v) e r v s)
+unfoldable pub dispatch : Engine → Packet → Survey → Bool → Stores → Done
+dispatch e r v known s =
+    pick (sameOpcode (r .opcode) op.Connect) (connectPacket e s) (admittedAs (rejection e (r .opcode) v known) e r v s)
 
 -- A packet of another opcode inside an operation gets 0x40; the engine ends once that reply is taken (docs/PROTOCOL.md#other-operation).
 abbrev pub interrupts : Engine → Stores → Done
 interrupts e s = replies e (e .peer) Nothing await.Last (packetBytes (sentCode response.badRequest) [] []) s
 
--- A packet by what is open.
-abbrev pub inside : Operation → Engine → Packet → Survey → Stores → Done
-inside Nothing e r v s = dispatch e r v s
-inside (Putting g srm) e r v s = pick (sameOpcode (r .opcode) op.Put) (putPacket e r v srm false g s) (interrupts e s)
-inside (Getting g srm confirm wait) e r v s =
+-- A packet by what is open; `known` says that it names an open ConnectionID.
+abbrev pub inside : Operation → Engine → Packet → Survey → Bool → Stores → Done
+inside Nothing e r v known s = dispatch e r v known s
+inside (Putting g srm) e r v known s = pick (sameOpcode (r .opcode) op.Put) (putPacket e r v srm false g s) (interrupts e s)
+inside (Getting g srm confirm wait) e r v known s =
     pick (sameOpcode (r .opcode) op.Get) (getPacket e r v srm confirm g s) (interrupts e s)
-inside (Sending o c srm wait) e r v s = pick (sameOpcode (r .opcode) op.Get) (sendsNext e o srm (v .wait) s) (interrupts e s)
-inside (GatheringOp o g) e r v s = pick (sameOpcode (r .opcode) o) (headersPacket e r o g s) (interrupts e s)
-inside (Connecting c f n) e r v s = interrupts e s
-inside (Draining code) e r v s = pick (r .final) (repliesCode e (e .peer) Nothing code s) (wants e (e .peer) (Draining code) s)
+inside (Sending o c srm wait) e r v known s = pick (sameOpcode (r .opcode) op.Get) (sendsNext e o srm (v .wait) s) (interrupts e s)
+inside (GatheringOp o g) e r v known s = pick (sameOpcode (r .opcode) o) (headersPacket e r o g s) (interrupts e s)
+inside (Connecting c f n) e r v known s = interrupts e s
+inside (Draining code) e r v known s = pick (r .final) (repliesCode e (e .peer) Nothing code s) (wants e (e .peer) (Draining code) s)
 
 -- Whether a first byte names no opcode.
 abbrev pub unknownByte : FirstByte → Bool
@@ -114,15 +118,16 @@ unreadable e q s =
     (repliesCode e (e .peer) Nothing (pick (unknownByte (firstByte (getD q 0 0))) response.notImplemented response.badRequest) s)
 
 -- A packet that can be read or not. An Abort goes before all else.
-abbrev pub readAs : Option Packet → Engine → List ℕ → Stores → Done
-readAs none e q s = unreadable e q s
-readAs (some r) e q s =
+abbrev pub readAs : Option Packet → Engine → List ℕ → Stores → List ℕ → Done
+readAs none e q s t = unreadable e q s
+readAs (some r) e q s t =
+    let v = surveyOf (some (r .headers)) in
     pick (sameOpcode (r .opcode) op.Abort) (asks e (e .peer) Nothing await.Acknowledgement (request.Abort (e .length)) s)
-    (inside (e .operation) e r (surveyOf (some (r .headers))) s)
+    (inside (e .operation) e r v (knownIn e t v) s)
 
 -- The state after a whole packet of `n` bytes has arrived.
 abbrev pub lengthOf : Engine → ℕ → Engine
 lengthOf e n = engineWith (e .settings) (e .peer) (e .operation) (e .awaits) 0 n
 
-unfoldable pub packetDone : Engine → ℕ → Stores → Done
-packetDone e n s = readAs (requestOf (take n (s .packet))) (lengthOf e n) (take n (s .packet)) s
+unfoldable pub packetDone : Engine → ℕ → Stores → List ℕ → Done
+packetDone e n s t = readAs (requestOf (take n (s .packet))) (lengthOf e n) (take n (s .packet)) s t

@@ -6,12 +6,14 @@ use mathlib.Core.Option.{Option, none, some}
 use lib.ListN.{length}
 use lib.Dec.{ltb, leb, eqb}
 use Rattle.base.specs.Pick.{pick}
+use Rattle.packet.specs.Limits.{maxConnections, maxRealm}
 use Rattle.packet.specs.Codes.{isCode}
 use Rattle.packet.specs.Canonical.{canonical}
 use Rattle.journal.specs.Calls.{Credentials}
 use Rattle.incoming.specs.declared.gather.Gathered.{Gathered}
 use Rattle.outgoing.specs.declared.object.Outgoing.{Outgoing}
 use Rattle.outgoing.specs.declared.object.Chunk.{Chunk}
+use Rattle.server.specs.declared.Settings.{Settings}
 use Rattle.server.specs.declared.Operation.{Operation}
 use Rattle.server.specs.declared.Operation.the-variants.{Nothing, Putting, Getting, Sending, Gathering as GatheringOp, Connecting, Draining}
 use Rattle.server.specs.declared.Await.{Await}
@@ -27,7 +29,7 @@ use Rattle.server.specs.declared.Body.the-variants as body
 use Rattle.server.specs.declared.Outcome.the-variants as outcome
 use Rattle.model.specs.Step.{Stores, Done, sent, limitOf, Stepped, stepped, after}
 
--- Whether a lent store is too short.
+-- Whether one of the four stores is too short.
 unfoldable pub short : ℕ → Stores → Bool
 short limit s =
     ltb (length (s .packet)) 65535 || (ltb (length (s .headers)) 65535 || (ltb (length (s .reply)) 65535 || ltb (length (s .body)) limit))
@@ -54,7 +56,16 @@ soundOperation limit (Draining code) = true
 unfoldable pub sound : Engine → Bool
 sound e =
     ltb (e .begun) 65535 && (leb (e .length) 65535 && (leb (e .peer .count) 64 && (leb 255 (e .peer .«remote_max_packet_length»)
-    && (leb (e .settings .«realm_length») 254 && soundOperation (limitOf e) (e .operation)))))
+    && soundOperation (limitOf e) (e .operation))))
+
+-- Whether the table store, which holds the open ids, is too short. Only the calls that look at it are lent it.
+unfoldable pub shortTables : List ℕ → Bool
+shortTables t = ltb (length t) maxConnections
+
+-- Whether the realm of the server's challenges is over 254 bytes: its tag's value has 255 at most, and the charset is the first of them.
+-- Without a realm in the settings the bytes that are lent do not count.
+unfoldable pub longRealm : Settings → List ℕ → Bool
+longRealm st l = st .«has_realm» && ltb maxRealm (length l)
 
 -- A number for each thing awaited, by which two of them are told apart.
 abbrev pub awaitNumber : Await → ℕ
@@ -96,6 +107,12 @@ refuse r e s = stepped (record { engine = e; taken = 0; outcome = outcome.Refuse
 abbrev pub guarded : CallKind → Engine → Stores → Stepped → Stepped
 guarded k e s go =
     pick (short (limitOf e) s) (refuse refusal.StoreTooShort e s)
+    (pick (sound e && fits k (e .awaits)) go (refuse refusal.WrongMoment e s))
+
+-- The same for a call that is lent the table store `t` too.
+abbrev pub guardedTables : CallKind → Engine → Stores → List ℕ → Stepped → Stepped
+guardedTables k e s t go =
+    pick (shortTables t || short (limitOf e) s) (refuse refusal.StoreTooShort e s)
     (pick (sound e && fits k (e .awaits)) go (refuse refusal.WrongMoment e s))
 
 -- Whether header bytes are none that a host may give: over 65,535, or not what the writer gives for what the reader reads.

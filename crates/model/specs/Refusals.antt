@@ -7,8 +7,8 @@ use lib.ListN.{length, getD}
 use lib.Dec.{eqb, leb}
 use Rattle.base.specs.Pick.{pick}
 use Rattle.journal.specs.Calls.{Call, bytesOffered, streamEnded, replyTaken, replyGiven, objectGiven, bodyGiven, bodyFailed, abortAcknowledged, passwordGiven, nonceGiven, credentialsGiven, Credentials, Verdict, goes, refused, Fed}
-use Rattle.model.specs.Guard.{short, badReply, badHeaders, longUser}
-use Rattle.model.specs.Runs.{State, stepOf, stateOf}
+use Rattle.model.specs.Guard.{short, shortTables, badReply, badHeaders, longUser}
+use Rattle.model.specs.Runs.{State, stepOf, nextState}
 use Rattle.server.specs.Numbers.{refusalNumber}
 use Rattle.server.specs.declared.HostRequest.{HostRequest}
 use Rattle.server.specs.declared.HostRequest.the-variants as request
@@ -85,7 +85,7 @@ expected (replyGiven code hs) w = sameWait w reply || sameWait w object
 expected (objectGiven hs b) w = sameWait w object
 expected abortAcknowledged w = sameWait w acknowledgement
 expected (passwordGiven p) w = sameWait w password
-expected (nonceGiven n l) w = sameWait w nonce
+expected (nonceGiven n) w = sameWait w nonce
 expected (credentialsGiven c) w = sameWait w credentials
 expected (bodyGiven d) w = sameWait w (reading 0) && leb (length d) (roomIn w)
 expected bodyFailed w = sameWait w (reading 0)
@@ -102,15 +102,32 @@ bad (bodyGiven d) = false
 bad bodyFailed = false
 bad abortAcknowledged = false
 bad (passwordGiven p) = false
-bad (nonceGiven n l) = false
+bad (nonceGiven n) = false
 
 -- The verdict on a call: 10 comes before 9, and 9 before 8.
 unfoldable pub verdict : Bool → Waits → Call → Verdict
 verdict s w c = pick s (refused 10) (pick (expected c w) (pick (bad c) (refused 8) goes) (refused 9))
 
--- The verdict by the stores that are lent.
+-- Whether what a call is lent is too short: the four stores, and for the calls that are lent it the table store.
+abbrev pub shortStores : State → Bool
+shortStores s = short (s .engine .settings .«max_object_size») (s .stores)
+
+abbrev pub lacks : Call → State → Bool
+lacks (bytesOffered i) s = shortTables (s .tables) || shortStores s
+lacks (replyGiven code hs) s = shortTables (s .tables) || shortStores s
+lacks streamEnded s = shortStores s
+lacks replyTaken s = shortStores s
+lacks (objectGiven hs b) s = shortStores s
+lacks (bodyGiven d) s = shortStores s
+lacks bodyFailed s = shortStores s
+lacks abortAcknowledged s = shortStores s
+lacks (passwordGiven p) s = shortStores s
+lacks (nonceGiven n) s = shortStores s
+lacks (credentialsGiven c) s = shortStores s
+
+-- The verdict by what is lent.
 abbrev pub verdictAt : Waits → State → Call → Verdict
-verdictAt w s c = verdict (short (s .engine .settings .«max_object_size») (s .stores)) w c
+verdictAt w s c = verdict (lacks c s) w c
 
 -- The verdict that a result tells.
 abbrev pub verdictOf : Outcome → Verdict
@@ -125,12 +142,12 @@ verdictOf (outcome.End n) = goes
 -- The verdicts that are due along a list of calls.
 abbrev pub due : Waits → State → List Call → List Verdict
 due w s [] = []
-due w s (c ∷ cs) = verdictAt w s c ∷ due (told w (stepOf s c .took .outcome)) (stateOf (stepOf s c)) cs
+due w s (c ∷ cs) = verdictAt w s c ∷ due (told w (stepOf s c .took .outcome)) (nextState s c) cs
 
 -- The verdicts that the results give.
 abbrev pub returned : State → List Call → List Verdict
 returned s [] = []
-returned s (c ∷ cs) = verdictOf (stepOf s c .took .outcome) ∷ returned (stateOf (stepOf s c)) cs
+returned s (c ∷ cs) = verdictOf (stepOf s c .took .outcome) ∷ returned (nextState s c) cs
 
 -- What the journal is fed of a call: the call, whether it is due to be refused, and the first byte of the reply that waits.
 abbrev pub fedAt : Waits → State → Call → Fed
@@ -138,4 +155,4 @@ fedAt w s c = record { call = c; verdict = verdictAt w s c; reply = getD (s .sto
 
 abbrev pub feedOf : Waits → State → List Call → List Fed
 feedOf w s [] = []
-feedOf w s (c ∷ cs) = fedAt w s c ∷ feedOf (told w (stepOf s c .took .outcome)) (stateOf (stepOf s c)) cs
+feedOf w s (c ∷ cs) = fedAt w s c ∷ feedOf (told w (stepOf s c .took .outcome)) (nextState s c) cs

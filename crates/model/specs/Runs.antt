@@ -1,5 +1,5 @@
 -- A list of calls on one engine, each getting the state and the stores as the call before left them, and the records that it hands over.
-use Prim.Native.Nat.{ℕ, _<_, _≤_}
+use Prim.Native.Nat.{ℕ, _<_}
 use mathlib.Core.Path.{_≡_}
 use mathlib.Core.List.{List, [], _∷_, _++_}
 use mathlib.Core.Bool.{false}
@@ -7,9 +7,9 @@ use mathlib.Core.Option.{Option, none, some}
 use lib.ListN.{getD, take}
 use Rattle.journal.specs.Record.{Record}
 use Rattle.journal.specs.Calls.{Call, bytesOffered, streamEnded, replyTaken, replyGiven, objectGiven, bodyGiven, bodyFailed, abortAcknowledged, passwordGiven, nonceGiven, credentialsGiven}
-use Rattle.model.specs.Step.{Stores, Stepped}
+use Rattle.model.specs.Step.{Stores, Stepped, Called, called}
 use Rattle.model.specs.Calls.{bytesOfferedStep, streamEndedStep, replyTakenStep, replyGivenStep, objectGivenStep, bodyGivenStep, bodyFailedStep, abortAcknowledgedStep, passwordGivenStep, nonceGivenStep, credentialsGivenStep, started}
-use Rattle.model.specs.Guard.{short}
+use Rattle.model.specs.Guard.{short, shortTables, longRealm}
 use Rattle.server.specs.declared.Settings.{Settings}
 use Rattle.server.specs.declared.Engine.{Engine}
 use Rattle.server.specs.declared.Body.{Body}
@@ -19,27 +19,37 @@ use Rattle.server.specs.declared.HostRequest.the-variants as request
 use Rattle.server.specs.declared.Outcome.{Outcome}
 use Rattle.server.specs.declared.Outcome.the-variants as outcome
 
--- The state and the stores between two calls.
+-- The state and all that is lent, between two calls: the four stores, the table store, and the realm, which no call writes.
 pub record State : Type 0 where
   pub engine : Engine
   pub stores : Stores
+  pub tables : List ℕ
+  pub realm : List ℕ
+
+-- A call that may not write the table store leaves it.
+abbrev pub keeps : State → Stepped → Called
+keeps s m = called m (s .tables)
 
 -- A call is the model's step.
-abbrev pub stepOf : State → Call → Stepped
-stepOf s (bytesOffered i) = bytesOfferedStep (s .engine) i (s .stores)
-stepOf s streamEnded = streamEndedStep (s .engine) (s .stores)
-stepOf s replyTaken = replyTakenStep (s .engine) (s .stores)
-stepOf s (replyGiven code hs) = replyGivenStep (s .engine) code hs (s .stores)
-stepOf s (objectGiven hs b) = objectGivenStep (s .engine) hs b (s .stores)
-stepOf s (bodyGiven d) = bodyGivenStep (s .engine) d (s .stores)
-stepOf s bodyFailed = bodyFailedStep (s .engine) (s .stores)
-stepOf s abortAcknowledged = abortAcknowledgedStep (s .engine) (s .stores)
-stepOf s (passwordGiven p) = passwordGivenStep (s .engine) p (s .stores)
-stepOf s (nonceGiven n l) = nonceGivenStep (s .engine) n l (s .stores)
-stepOf s (credentialsGiven c) = credentialsGivenStep (s .engine) c (s .stores)
+abbrev pub stepOf : State → Call → Called
+stepOf s (bytesOffered i) = keeps s (bytesOfferedStep (s .engine) i (s .stores) (s .tables))
+stepOf s streamEnded = keeps s (streamEndedStep (s .engine) (s .stores))
+stepOf s replyTaken = keeps s (replyTakenStep (s .engine) (s .stores))
+stepOf s (replyGiven code hs) = replyGivenStep (s .engine) code hs (s .stores) (s .tables)
+stepOf s (objectGiven hs b) = keeps s (objectGivenStep (s .engine) hs b (s .stores))
+stepOf s (bodyGiven d) = keeps s (bodyGivenStep (s .engine) d (s .stores))
+stepOf s bodyFailed = keeps s (bodyFailedStep (s .engine) (s .stores))
+stepOf s abortAcknowledged = keeps s (abortAcknowledgedStep (s .engine) (s .stores))
+stepOf s (passwordGiven p) = keeps s (passwordGivenStep (s .engine) p (s .stores))
+stepOf s (nonceGiven n) = keeps s (nonceGivenStep (s .engine) n (s .realm) (s .stores))
+stepOf s (credentialsGiven c) = keeps s (credentialsGivenStep (s .engine) c (s .stores))
 
-abbrev pub stateOf : Stepped → State
-stateOf m = record { engine = m .took .engine; stores = m .stores }
+-- The state after a call, with the realm as it was.
+abbrev pub stateOf : List ℕ → Called → State
+stateOf l m = record { engine = m .took .engine; stores = m .stores; tables = m .tables; realm = l }
+
+abbrev pub nextState : State → Call → State
+nextState s c = stateOf (s .realm) (stepOf s c)
 
 -- ---- handing over: a call returns the Put request, with its kept headers and its body bytes or none (docs/PROTOCOL.md#handing-over)
 
@@ -73,12 +83,13 @@ handed (outcome.Refused n) s = []
 -- The records that a list of calls hands over, in order.
 abbrev pub records : State → List Call → List Record
 records s [] = []
-records s (c ∷ cs) = handed (stepOf s c .took .outcome) (stepOf s c .stores) ++ records (stateOf (stepOf s c)) cs
+records s (c ∷ cs) = handed (stepOf s c .took .outcome) (stepOf s c .stores) ++ records (nextState s c) cs
 
--- ---- the accepted starts: a fresh engine with these settings, and stores that are long enough
+-- ---- the accepted starts: a fresh engine with these settings, stores that are long enough, and a realm that is not too long
 pub record Started (st : Settings) (s : State) : Type 0 where
   pub fresh : s .engine ≡ started st
-  pub realm : st .«realm_length» ≤ 254
+  pub realm : longRealm st (s .realm) ≡ false
+  pub tables : shortTables (s .tables) ≡ false
   pub room : short (st .«max_object_size») (s .stores) ≡ false
 
 -- Whether a list is one of bytes.
@@ -96,7 +107,7 @@ Octet (bodyGiven d) = Unit {0}
 Octet bodyFailed = Unit {0}
 Octet abortAcknowledged = Unit {0}
 Octet (passwordGiven p) = Unit {0}
-Octet (nonceGiven n l) = Unit {0}
+Octet (nonceGiven n) = Unit {0}
 Octet (credentialsGiven c) = Unit {0}
 
 abbrev pub AllOctets : List Call → Type 0

@@ -57,6 +57,14 @@ pub record Done : Type 0 where
 abbrev pub done : Engine → Outcome → Stores → Done
 done e o s = record { engine = e; outcome = o; stores = s }
 
+-- The same for a step that may write the table store, in which the open ids stand.
+pub record DoneTabled : Type 0 where
+  pub done : Done
+  pub tables : List ℕ
+
+abbrev pub doneTabled : Done → List ℕ → DoneTabled
+doneTabled d t = record { done = d; tables = t }
+
 -- The engine wants bytes, inside an operation or not.
 abbrev pub wants : Engine → Peer → Operation → Stores → Done
 wants e p o s = done (engineWith (e .settings) p o await.Bytes 0 (e .length)) outcome.WantsBytes s
@@ -114,6 +122,15 @@ pub record Stepped : Type 0 where
 
 abbrev pub stepped : CallResult → Stores → Stepped
 stepped r s = record { took = r; stores = s }
+
+-- What a call returns, the four stores and the table store afterwards.
+pub record Called : Type 0 where
+  pub took : CallResult
+  pub stores : Stores
+  pub tables : List ℕ
+
+abbrev pub called : Stepped → List ℕ → Called
+called m t = record { took = m .took; stores = m .stores; tables = t }
 
 -- A step as a call: `t` of the offered bytes were taken.
 abbrev pub after : ℕ → Done → Stepped

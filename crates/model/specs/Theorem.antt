@@ -7,7 +7,7 @@ use lib.ListN.{length}
 use Rattle.journal.specs.Calls.{Call, refused}
 use Rattle.journal.specs.Journal.{Settings as JournalSettings, journalRecords, fresh, packets, Marked, keptAfter}
 use Rattle.journal.specs.PutForm.{Exactly}
-use Rattle.model.specs.Runs.{State, stepOf, stateOf, records, Started, AllOctets}
+use Rattle.model.specs.Runs.{State, stepOf, nextState, records, Started, AllOctets}
 use Rattle.model.specs.Refusals.{bytes, verdictOf, due, returned, feedOf}
 use Rattle.server.specs.declared.Settings.{Settings}
 
@@ -39,7 +39,7 @@ Refusals = (st : Settings) (s : State) → Started st s → (cs : List Call) →
 abbrev pub Unmoved : State → List Call → Type 0
 Unmoved s [] = Unit {0}
 Unmoved s (c ∷ cs) =
-    ((n : ℕ) → verdictOf (stepOf s c .took .outcome) ≡ refused n → stateOf (stepOf s c) ≡ s) × Unmoved (stateOf (stepOf s c)) cs
+    ((n : ℕ) → verdictOf (stepOf s c .took .outcome) ≡ refused n → nextState s c ≡ s) × Unmoved (nextState s c) cs
 
 abbrev pub RefusedUnmoved : Type 0
 RefusedUnmoved = (st : Settings) (s : State) → Started st s → (cs : List Call) → AllOctets cs → Unmoved s cs

@@ -9,7 +9,7 @@ ghost use Rattle.packet.specs.Tags.{putting};
 ghost use Rattle.packet.specs.Placed.{laid};
 ghost use Rattle.packet.specs.Packet.{fieldsOf, prefixOf, connectLimit, packetBytes};
 ghost use Rattle.packet.specs.PacketWrite.{connectBytes, setPathByte, fieldBytes, filled4, parameterBytes, writePacket, writeRequest, writeResponse};
-ghost use Rattle.packet.specs.PacketRead.{packetLength, parsePacket, parseFront, flagsOf};
+ghost use Rattle.packet.specs.PacketRead.{packetHead, packetLength, parsePacket, parseFront, flagsOf};
 use crate::flags::flag_bits;
 use crate::header::is_readable;
 use crate::limits::MAX_PACKET;
@@ -41,6 +41,16 @@ const NO_CREATE: u8 = 0x02;
 pub enum Length {
     Known(usize),
     Missing,
+}
+
+// What stands before a packet's headers, which start at `headers`.
+pub enum Head {
+    Known {
+        opcode: Opcode,
+        is_final: bool,
+        headers: usize,
+    },
+    Unreadable,
 }
 
 // A packet as read.
@@ -100,20 +110,40 @@ pub fn prefix_len(opcode: Opcode) -> usize
     PACKET_PREFIX_LENGTH + fields_len(opcode)
 }
 
+// Reads what stands before the headers of packet `p`. Whether its headers can be read is not looked at, so that a caller who walks them
+// anyway need not walk them twice.
+pub fn packet_head(p: &[u8]) -> Head
+    ensures { λ r. ⌜ r ≡ packetHead (now (p .entry)) ⌝ }
+{
+    if p.len() < PACKET_PREFIX_LENGTH {
+        return Head::Unreadable;
+    }
+    let FirstByte::Known { opcode, is_final } = from_byte(p[0]) else {
+        return Head::Unreadable;
+    };
+    let headers = prefix_len(opcode);
+    if p.len() < headers {
+        return Head::Unreadable;
+    }
+    Head::Known {
+        opcode,
+        is_final,
+        headers,
+    }
+}
+
 // Reads `p` as one packet, whatever its length field says.
 pub fn parse_packet(p: &[u8]) -> Parsed
     ensures { λ r. ⌜ r ≡ parsePacket (now (p .entry)) ⌝ }
 {
-    if p.len() < PACKET_PREFIX_LENGTH {
-        return Parsed::Unreadable;
-    }
-    let FirstByte::Known { opcode, is_final } = from_byte(p[0]) else {
+    let Head::Known {
+        opcode,
+        is_final,
+        headers,
+    } = packet_head(p)
+    else {
         return Parsed::Unreadable;
     };
-    let headers = prefix_len(opcode);
-    if p.len() < headers {
-        return Parsed::Unreadable;
-    }
     if !is_readable(p, headers) {
         return Parsed::Unreadable;
     }

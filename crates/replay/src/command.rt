@@ -1,4 +1,5 @@
 // Lines of a transcript as commands: which call each of them is, and what it hands over.
+use crate::state::bare;
 use check::same;
 use digest::md5::Octets16;
 use digest::md5::octets16_at;
@@ -21,11 +22,11 @@ pub enum Command {
     Taken,
     Acknowledge,
     Show,
-    // What the original did, or nothing.
+    // A line that tells what the original did, or no command.
     Other,
 }
 
-// The settings of a start; the realm's bytes stand beside them.
+// The settings of a start. The realm's bytes stand in the realm store.
 pub struct Options {
     pub max_object_size: usize,
     pub max_packet_length: usize,
@@ -36,7 +37,7 @@ pub struct Options {
     pub authentication: bool,
     pub user_id_required: bool,
     pub read_only: bool,
-    // The stores are filled with zeros.
+    // Whether the stores are filled with zeros.
     pub clear: bool,
 }
 
@@ -155,7 +156,7 @@ fn key_of(w: &[u8]) -> Key {
     Key::Other
 }
 
-// As the original starts.
+// The settings with which the original starts.
 pub(crate) fn default_options() -> Options {
     Options {
         max_object_size: 67108864,
@@ -171,7 +172,7 @@ pub(crate) fn default_options() -> Options {
     }
 }
 
-// Two digits.
+// Returns the byte that two hexadecimal digits stand for.
 fn byte_of(w: &[u8]) -> u8 {
     value(byte_at(w, 0)) * 16 + value(byte_at(w, 1))
 }
@@ -187,7 +188,7 @@ fn with_realm(o: Options, length: usize) -> Options {
     r
 }
 
-// One setting; a realm's bytes were read already.
+// Returns the options with one setting changed. A realm's bytes stand in their store already.
 fn with_option(o: Options, key: Key, w: &[u8], realm: usize) -> Options {
     let mut r = o;
     match key {
@@ -209,6 +210,8 @@ fn is_realm(key: Key) -> bool {
     if let Key::Realm = key { true } else { false }
 }
 
+// Stores the realm's bytes if the setting is a realm, and returns how many there are. The store keeps 1,024 of them, so that a realm of over
+// 254 bytes reaches the engine, which refuses it.
 fn realm(key: Key, w: &[u8], store: &mut [u8]) -> usize {
     if is_realm(key) {
         return unhex(w, store);
@@ -224,6 +227,7 @@ fn option(o: Options, w: &[u8], store: &mut [u8]) -> Options {
     with_option(o, key, &w[from..], n)
 }
 
+// Returns the settings that the words of a start name.
 fn options_of(s: &[u8], store: &mut [u8]) -> Options {
     let mut o = default_options();
     let mut at = 0;
@@ -235,18 +239,9 @@ fn options_of(s: &[u8], store: &mut [u8]) -> Options {
     o
 }
 
-fn start(s: &[u8], store: &mut [u8]) -> Decoded {
-    let o = options_of(s, store);
-    Decoded {
-        call: Call::Start(o),
-        first: o.realm_length,
-        second: 0,
-    }
-}
-
 // ---- what the host answers
 
-// By the answer's name and the words behind it.
+// Returns the call of an answer, by its name and the two words behind the name.
 fn answer_of(name: &[u8], first: &[u8], second: &[u8]) -> Call {
     if same(name, b"reply") {
         return Call::Reply(byte_of(first));
@@ -272,7 +267,7 @@ fn answer_of(name: &[u8], first: &[u8], second: &[u8]) -> Call {
     Call::Nothing
 }
 
-// A name and two words, of which one or both are bytes.
+// Decodes an answer: its name and two words, of which one or both are bytes.
 fn answer(s: &[u8], store: &mut [u8]) -> Decoded {
     let e0 = find(s, 0, b' ');
     let s1 = after(s, e0);
@@ -288,7 +283,7 @@ fn answer(s: &[u8], store: &mut [u8]) -> Decoded {
     }
 }
 
-// A nonce that is not sixteen bytes long is none.
+// Returns the call with the nonce `s`, or none if that is not sixteen bytes long.
 fn nonce_of(s: &[u8]) -> Call {
     if s.len() == 16 {
         return Call::Nonce(octets16_at(s, 0));
@@ -303,15 +298,7 @@ fn nonce(s: &[u8], store: &mut [u8]) -> Call {
 
 // ---- calls
 
-fn bare(call: Call) -> Decoded {
-    Decoded {
-        call,
-        first: 0,
-        second: 0,
-    }
-}
-
-// No bytes are the end of the stream.
+// Returns the call of a read: a read of no bytes is the end of the stream.
 fn read_of(n: usize) -> Call {
     if n == 0 {
         return Call::EndOfStream;
@@ -319,15 +306,33 @@ fn read_of(n: usize) -> Call {
     Call::Bytes
 }
 
-// The call that a command is, by the words behind its name; bytes go into the store.
-pub(crate) fn decode(c: Command, s: &[u8], store: &mut [u8]) -> Decoded {
+// The call of a command that hands over no bytes, by the words behind its name.
+fn call_alone(c: Command, s: &[u8]) -> Call {
     match c {
-        Command::Start => start(s, store),
-        Command::Read => bare(read_of(number(s))),
-        Command::Nonce => bare(nonce(s, store)),
-        Command::Answer => answer(s, store),
-        Command::Taken => bare(Call::Taken),
-        Command::Acknowledge => bare(Call::Acknowledge),
-        _ => bare(Call::Nothing),
+        Command::Read => read_of(number(s)),
+        Command::Taken => Call::Taken,
+        Command::Acknowledge => Call::Acknowledge,
+        _ => Call::Nothing,
     }
+}
+
+// The call of a command, by the words behind its name; the bytes of an answer go into `words`.
+fn decode_answer(c: Command, s: &[u8], words: &mut [u8]) -> Decoded {
+    match c {
+        Command::Nonce => bare(nonce(s, words)),
+        Command::Answer => answer(s, words),
+        _ => bare(call_alone(c, s)),
+    }
+}
+
+fn is_start(c: Command) -> bool {
+    if let Command::Start = c { true } else { false }
+}
+
+// The call of any command. The realm of a start goes into `realm`.
+pub(crate) fn decode(c: Command, s: &[u8], words: &mut [u8], realm: &mut [u8]) -> Decoded {
+    if is_start(c) {
+        return bare(Call::Start(options_of(s, realm)));
+    }
+    decode_answer(c, s, words)
 }

@@ -1,4 +1,5 @@
-// What the engine did, in the words of the original's `oracle engine`.
+// What the engine did, in the words of the original's `oracle engine`. A line is printed by a form: a text with signs `%` and a letter, in
+// whose place a value stands. Which form and which values is decided without a store, so that the output store is lent few times.
 ghost use Prim.Native.Nat.{_≤_};
 use crate::state::Lent;
 use connection::peer::Challenge;
@@ -7,14 +8,16 @@ use digest::md5::Octets16;
 use digest::md5::octets;
 use lines::output::least;
 use lines::output::put;
-use lines::output::put_byte;
 use lines::output::put_digest;
 use lines::output::put_digits;
-use lines::output::put_flag;
 use lines::output::put_hex;
 use lines::output::put_number;
 use lines::output::put_u32;
+use lines::word::Place;
+use lines::word::after;
 use lines::word::byte_at;
+use lines::word::find;
+use lines::word::line_at;
 use packet::tlv::Found;
 use server::Body;
 use server::HostRequest;
@@ -22,314 +25,74 @@ use server::Outcome;
 use server::end_number;
 use server::refusal_number;
 
-// ---- words
-
-// What stands in a store between two places.
-fn put_part(out: &mut [u8], n: usize, s: &[u8], start: usize, end: usize, longest: usize) -> usize {
-    let to = least(end, s.len());
-    let from = least(start, to);
-    put_hex(out, n, &s[from..to], longest)
+// The values of a form, with the letters that stand for them.
+pub struct Values {
+    // %o, sixteen bytes in hexadecimal.
+    octets: Octets16,
+    // %i, eight hexadecimal digits; %x, the last two of them.
+    id: u32,
+    // %p, %h and %r: a part of the packet, header and reply store. %c is the byte of the packet store at its start. %P and %H: the length
+    // and the MD5 of as many first bytes of the packet store as `start` says, and of the header store as `end` says.
+    start: usize,
+    end: usize,
+    // %q and %b: a part of the packet and body store. %B and %R: the length and the MD5 of as many first bytes of the body store as `from`
+    // says, and of the reply store as `to` says.
+    from: usize,
+    to: usize,
+    // %1, %2, %3: numbers. A flag is 0 or 1.
+    first: usize,
+    second: usize,
+    third: usize,
+    // %l, the ids: how many are open.
+    count: usize,
+    // A longer part of a store is printed by length and MD5.
+    longest: usize,
 }
 
-fn put_named_flag(out: &mut [u8], n: usize, name: &[u8], flag: bool) -> usize {
-    let a = put(out, n, name);
-    put_flag(out, a, flag)
+// A line: the number of its form, 0 for no line, and its values.
+pub struct Line {
+    form: usize,
+    values: Values,
 }
 
-fn put_octets(out: &mut [u8], n: usize, x: Octets16) -> usize {
-    let bytes = octets(x);
-    put_digits(out, n, &bytes)
-}
-
-// A word and a number, as a line.
-fn put_numbered(out: &mut [u8], n: usize, name: &[u8], x: usize) -> usize {
-    let a = put(out, n, name);
-    let b = put_number(out, a, x);
-    put(out, b, b"\n")
+// What stands in the place of a letter.
+enum Word {
+    Number(usize),
+    // The last bytes of sixteen, from one of them on.
+    Octets { octets: Octets16, from: usize },
+    Ids,
+    // A part of a store, or its length and MD5.
+    Part(Place),
+    Digest(Place),
+    Nothing,
 }
 
 fn wide(x: u8) -> usize {
     x as usize
 }
 
-// ---- requests with a packet or with kept headers
-
-fn put_headers(
-    out: &mut [u8],
-    n: usize,
-    name: &[u8],
-    is_final: bool,
-    s: &[u8],
-    start: usize,
-    end: usize,
-    longest: usize,
-) -> usize {
-    let a = put(out, n, name);
-    let b = put_named_flag(out, a, b" final=", is_final);
-    let c = put(out, b, b" headers=");
-    put_part(out, c, s, start, end, longest)
+fn wide16(x: u16) -> usize {
+    x as usize
 }
-
-// A request whose packet stands in the packet store, its headers behind a prefix.
-fn put_packet(
-    out: &mut [u8],
-    n: usize,
-    name: &[u8],
-    packet: &[u8],
-    prefix: usize,
-    length: usize,
-    longest: usize,
-) -> usize {
-    let is_final = byte_at(packet, 0) >= 128;
-    put_headers(out, n, name, is_final, packet, prefix, length, longest)
-}
-
-// A request of gathered packets, of which the last was final.
-fn put_kept(
-    out: &mut [u8],
-    n: usize,
-    name: &[u8],
-    headers: &[u8],
-    kept: usize,
-    longest: usize,
-) -> usize {
-    put_headers(out, n, name, true, headers, 0, kept, longest)
-}
-
-fn put_connect(out: &mut [u8], n: usize, packet: &[u8], length: usize, longest: usize) -> usize {
-    let a = put_packet(out, n, b"connect", packet, 7, length, longest);
-    let b = put(out, a, b" fields=");
-    put_part(out, b, packet, 3, 7, longest)
-}
-
-fn put_set_path(
-    out: &mut [u8],
-    n: usize,
-    packet: &[u8],
-    length: usize,
-    backup: bool,
-    no_create: bool,
-    longest: usize,
-) -> usize {
-    let a = put_packet(out, n, b"set_path", packet, 5, length, longest);
-    let b = put_named_flag(out, a, b" backup=", backup);
-    put_named_flag(out, b, b" no_create=", no_create)
-}
-
-fn put_body(out: &mut [u8], n: usize, bytes: Body, body: &[u8], longest: usize) -> usize {
-    let a = put(out, n, b" body=");
-    match bytes {
-        Body::Bytes(k) => put_part(out, a, body, 0, k, longest),
-        Body::Missing => put(out, a, b"none"),
-    }
-}
-
-fn put_put(
-    out: &mut [u8],
-    n: usize,
-    headers: &[u8],
-    kept: usize,
-    bytes: Body,
-    body: &[u8],
-    longest: usize,
-) -> usize {
-    let a = put_kept(out, n, b"put", headers, kept, longest);
-    put_body(out, a, bytes, body, longest)
-}
-
-fn put_user_defined(
-    out: &mut [u8],
-    n: usize,
-    headers: &[u8],
-    kept: usize,
-    opcode: u8,
-    longest: usize,
-) -> usize {
-    let a = put_kept(out, n, b"user_defined", headers, kept, longest);
-    let b = put(out, a, b" opcode=");
-    put_byte(out, b, opcode)
-}
-
-// ---- other requests
-
-fn put_password(out: &mut [u8], n: usize, user_id: Found, packet: &[u8], longest: usize) -> usize {
-    let a = put(out, n, b"password ");
-    match user_id {
-        Found::At { start, end } => put_part(out, a, packet, start, end, longest),
-        Found::Missing => put(out, a, b"none"),
-    }
-}
-
-// The charset, and the realm behind it.
-fn put_realm_at(out: &mut [u8], n: usize, packet: &[u8], start: usize, end: usize) -> usize {
-    let from = least(start, 65535);
-    let a = put_byte(out, n, byte_at(packet, from));
-    let b = put(out, a, b":");
-    put_part(out, b, packet, from + 1, end, 65535)
-}
-
-fn put_realm(out: &mut [u8], n: usize, realm: Found, packet: &[u8]) -> usize {
-    let a = put(out, n, b" realm=");
-    match realm {
-        Found::At { start, end } => put_realm_at(out, a, packet, start, end),
-        Found::Missing => put(out, a, b"none"),
-    }
-}
-
-fn put_credentials(
-    out: &mut [u8],
-    n: usize,
-    nonce: Octets16,
-    user_id_required: bool,
-    read_only: bool,
-    realm: Found,
-    packet: &[u8],
-) -> usize {
-    let a = put(out, n, b"credentials nonce=");
-    let b = put_octets(out, a, nonce);
-    let c = put_named_flag(out, b, b" user_id_required=", user_id_required);
-    let d = put_named_flag(out, c, b" read_only=", read_only);
-    put_realm(out, d, realm, packet)
-}
-
-// ---- any request, without the end of its line
-
-fn put_packet_request(
-    out: &mut [u8],
-    n: usize,
-    request: HostRequest,
-    packet: &[u8],
-    longest: usize,
-) -> usize {
-    match request {
-        HostRequest::Connect { length } => put_connect(out, n, packet, length, longest),
-        HostRequest::Disconnect { length } => put_packet(
-            out,
-            n,
-            b"disconnect",
-            packet,
-            3,
-            length,
-            longest,
-        ),
-        HostRequest::SetPath {
-            length,
-            backup,
-            no_create,
-        } => put_set_path(out, n, packet, length, backup, no_create, longest),
-        HostRequest::Abort { length } => put_packet(out, n, b"abort", packet, 3, length, longest),
-        HostRequest::Password { user_id } => put_password(out, n, user_id, packet, longest),
-        HostRequest::Credentials {
-            nonce,
-            user_id_required,
-            read_only,
-            realm,
-        } => put_credentials(out, n, nonce, user_id_required, read_only, realm, packet),
-        _ => n,
-    }
-}
-
-fn put_request(
-    out: &mut [u8],
-    n: usize,
-    request: HostRequest,
-    packet: &[u8],
-    headers: &[u8],
-    body: &[u8],
-    longest: usize,
-) -> usize {
-    match request {
-        HostRequest::Put { kept, body: bytes } => put_put(
-            out,
-            n,
-            headers,
-            kept,
-            bytes,
-            body,
-            longest,
-        ),
-        HostRequest::Get { kept } => put_kept(out, n, b"get", headers, kept, longest),
-        HostRequest::Action { kept } => put_kept(out, n, b"action", headers, kept, longest),
-        HostRequest::Session { kept } => put_kept(out, n, b"session", headers, kept, longest),
-        HostRequest::UserDefined { opcode, kept } => put_user_defined(
-            out,
-            n,
-            headers,
-            kept,
-            opcode,
-            longest,
-        ),
-        HostRequest::Read { room } => {
-            let a = put(out, n, b"body-read ");
-            put_number(out, a, room)
-        }
-        _ => put_packet_request(out, n, request, packet, longest),
-    }
-}
-
-fn is_nonce(request: HostRequest) -> bool {
-    if let HostRequest::Nonce = request {
-        true
-    } else {
-        false
-    }
-}
-
-// The original makes its nonces itself, and tells of no request for one.
-fn put_asked(
-    out: &mut [u8],
-    n: usize,
-    request: HostRequest,
-    packet: &[u8],
-    headers: &[u8],
-    body: &[u8],
-    longest: usize,
-) -> usize {
-    if is_nonce(request) {
-        return n;
-    }
-    let a = put_request(out, n, request, packet, headers, body, longest);
-    put(out, a, b"\n")
-}
-
-fn put_reply(out: &mut [u8], n: usize, reply: &[u8], length: usize, longest: usize) -> usize {
-    let a = put(out, n, b"out ");
-    let b = put_part(out, a, reply, 0, length, longest);
-    put(out, b, b"\n")
-}
-
-// What a call gave.
-pub(crate) fn put_outcome(
-    out: &mut [u8],
-    n: usize,
-    outcome: Outcome,
-    packet: &[u8],
-    headers: &[u8],
-    body: &[u8],
-    reply: &[u8],
-    longest: usize,
-) -> usize {
-    match outcome {
-        Outcome::WantsBytes => n,
-        Outcome::Reply { length } => put_reply(out, n, reply, length, longest),
-        Outcome::Request(request) => put_asked(out, n, request, packet, headers, body, longest),
-        Outcome::End(end) => put_numbered(out, n, b"end ", wide(end_number(end))),
-        Outcome::Refused(refusal) => put_numbered(
-            out,
-            n,
-            b"refused ",
-            wide(refusal_number(refusal)),
-        ),
-    }
-}
-
-// ---- the state
 
 fn wide32(x: u32) -> u64 {
     x as u64
 }
 
-// The id, where it is from a number on and less than another.
+fn flag(b: bool) -> usize {
+    if b { 1 } else { 0 }
+}
+
+fn no_octets() -> Octets16 {
+    Octets16 {
+        first: 0,
+        second: 0,
+    }
+}
+
+// ---- the ids
+
+// Returns `id` if it is at least `from` and less than `than`, and `than` otherwise.
 fn nearer(id: u64, from: u64, than: u64) -> u64
     ensures { λ r. ⌜ r ≤ than ⌝ }
 {
@@ -339,14 +102,14 @@ fn nearer(id: u64, from: u64, than: u64) -> u64
     if id < than { id } else { than }
 }
 
-// The least id from a number on, or 2^32.
-fn next_id(ids: &[u32], from: u64) -> u64
+// Returns the least id that is at least `from`, or 2^32 if there is none.
+fn next_id(ids: &[u64], from: u64) -> u64
     ensures { λ r. ⌜ r ≤ 4294967296 ⌝ }
 {
     let mut least = 4294967296;
     let mut i = 0;
     while i < ids.len() {
-        least = nearer(wide32(ids[i]), from, least);
+        least = nearer(ids[i], from, least);
         i += 1;
     }
     least
@@ -361,7 +124,8 @@ fn put_next_id(out: &mut [u8], n: usize, id: u64) -> usize {
     put_id(out, a, id)
 }
 
-fn put_ids(out: &mut [u8], n: usize, ids: &[u32]) -> usize {
+// Puts the ids in ascending order, or a dash if there are none.
+fn put_ids(out: &mut [u8], n: usize, ids: &[u64]) -> usize {
     if ids.len() == 0 {
         return put(out, n, b"-");
     }
@@ -376,71 +140,410 @@ fn put_ids(out: &mut [u8], n: usize, ids: &[u32]) -> usize {
     a
 }
 
-fn put_challenge(out: &mut [u8], n: usize, challenge: Challenge) -> usize {
-    let a = put(out, n, b" challenge=");
-    match challenge {
-        Challenge::Stored(nonce) => put_octets(out, a, nonce),
-        Challenge::Absent => put(out, a, b"none"),
+fn put_first_ids(out: &mut [u8], n: usize, tables: &[u64], count: usize) -> usize {
+    let k = least(count, tables.len());
+    put_ids(out, n, &tables[0..k])
+}
+
+// ---- words
+
+fn put_part(out: &mut [u8], n: usize, s: &[u8], place: Place, longest: usize) -> usize {
+    let to = least(place.end, s.len());
+    let from = least(place.start, to);
+    put_hex(out, n, &s[from..to], longest)
+}
+
+fn put_part_digest(out: &mut [u8], n: usize, s: &[u8], place: Place) -> usize {
+    let to = least(place.end, s.len());
+    put_digest(out, n, &s[0..to])
+}
+
+fn put_octets(out: &mut [u8], n: usize, x: Octets16, from: usize) -> usize {
+    let bytes = octets(x);
+    put_digits_from(out, n, &bytes, from)
+}
+
+fn put_digits_from(out: &mut [u8], n: usize, s: &[u8], from: usize) -> usize {
+    let k = least(from, s.len());
+    put_digits(out, n, &s[k..])
+}
+
+// Puts a word. The letter has chosen the store `s`, of which a part may be put.
+fn put_word(out: &mut [u8], n: usize, w: Word, s: &[u8], tables: &[u64], v: Values) -> usize {
+    match w {
+        Word::Number(x) => put_number(out, n, x),
+        Word::Octets { octets, from } => put_octets(out, n, octets, from),
+        Word::Ids => put_first_ids(out, n, tables, v.count),
+        Word::Part(place) => put_part(out, n, s, place, v.longest),
+        Word::Digest(place) => put_part_digest(out, n, s, place),
+        Word::Nothing => n,
     }
 }
 
-fn wide16(x: u16) -> usize {
-    x as usize
+// The word that a number in hexadecimal is, with the last bytes of sixteen from `from` on.
+fn digits_of(x: u64, from: usize) -> Word {
+    Word::Octets {
+        octets: Octets16 {
+            first: 0,
+            second: x,
+        },
+        from,
+    }
 }
 
-fn put_flags(out: &mut [u8], n: usize, p: Peer) -> usize {
-    let a = put(out, n, b"state remote_max=");
-    let b = put_number(out, a, wide16(p.remote_max_packet_length));
-    let c = put_named_flag(out, b, b" srm=", p.srm_enabled);
-    put_named_flag(out, c, b" authenticated=", p.authenticated)
+fn place(start: usize, end: usize) -> Place {
+    Place { start, end }
 }
 
-fn put_first_ids(out: &mut [u8], n: usize, ids: &[u32], count: usize) -> usize {
-    let k = least(count, ids.len());
-    put_ids(out, n, &ids[0..k])
+// The word that a letter stands for. `charset` is the byte at the start of the part of the packet store.
+fn word_of(letter: u8, v: Values, charset: u8) -> Word {
+    let octets = v.octets;
+    match letter {
+        b'1' => Word::Number(v.first),
+        b'2' => Word::Number(v.second),
+        b'3' => Word::Number(v.third),
+        b'p' | b'h' | b'r' => Word::Part(place(v.start, v.end)),
+        b'q' | b'b' => Word::Part(place(v.from, v.to)),
+        b'P' => Word::Digest(place(0, v.start)),
+        b'H' => Word::Digest(place(0, v.end)),
+        b'B' => Word::Digest(place(0, v.from)),
+        b'R' => Word::Digest(place(0, v.to)),
+        b'x' => digits_of(wide32(v.id), 15),
+        b'c' => digits_of(base::wide(charset) as u64, 15),
+        b'i' => digits_of(wide32(v.id), 12),
+        b'o' => Word::Octets { octets, from: 0 },
+        b'l' => Word::Ids,
+        _ => Word::Nothing,
+    }
 }
 
-fn put_open(out: &mut [u8], n: usize, p: Peer) -> usize {
-    let a = put(out, n, b" ids=");
-    let ids = p.connections;
-    put_first_ids(out, a, &ids, p.count)
+// The store of which a letter stands for a part.
+fn store_of<'a>(
+    letter: u8,
+    packet: &'a [u8],
+    headers: &'a [u8],
+    body: &'a [u8],
+    reply: &'a [u8],
+) -> &'a [u8] {
+    match letter {
+        b'h' | b'H' => headers,
+        b'b' | b'B' => body,
+        b'r' | b'R' => reply,
+        _ => packet,
+    }
 }
 
-fn put_counter(out: &mut [u8], n: usize, p: Peer) -> usize {
-    let a = put(out, n, b" next=");
-    let b = put_u32(out, a, p.next_connection_id);
-    let challenge = p.challenge;
-    put_challenge(out, b, challenge)
-}
+// ---- lines
 
-pub(crate) fn put_state(out: &mut [u8], n: usize, p: Peer) -> usize {
-    let a = put_flags(out, n, p);
-    let b = put_open(out, a, p);
-    let c = put_counter(out, b, p);
-    put(out, c, b"\n")
-}
-
-// ---- the stores
-
-fn put_store(out: &mut [u8], n: usize, s: &[u8], length: usize) -> usize {
-    let k = least(length, s.len());
-    let a = put(out, n, b" ");
-    put_digest(out, a, &s[0..k])
-}
-
-pub(crate) fn put_stores(
+// Puts what stands in the place of a letter.
+fn put_value<'a>(
     out: &mut [u8],
     n: usize,
-    lent: Lent,
-    packet: &[u8],
-    headers: &[u8],
-    body: &[u8],
-    reply: &[u8],
+    letter: u8,
+    v: Values,
+    tables: &[u64],
+    packet: &'a [u8],
+    headers: &'a [u8],
+    body: &'a [u8],
+    reply: &'a [u8],
 ) -> usize {
-    let a = put(out, n, b"stores");
-    let b = put_store(out, a, packet, lent.packet);
-    let c = put_store(out, b, headers, lent.headers);
-    let d = put_store(out, c, body, lent.body);
-    let e = put_store(out, d, reply, lent.reply);
-    put(out, e, b"\n")
+    let w = word_of(letter, v, byte_at(packet, v.start));
+    put_word(
+        out,
+        n,
+        w,
+        store_of(letter, packet, headers, body, reply),
+        tables,
+        v,
+    )
+}
+
+// Puts a form with its values.
+fn put_form<'a>(
+    out: &mut [u8],
+    n: usize,
+    form: &[u8],
+    v: Values,
+    tables: &[u64],
+    packet: &'a [u8],
+    headers: &'a [u8],
+    body: &'a [u8],
+    reply: &'a [u8],
+) -> usize {
+    let mut a = n;
+    let mut at = 0;
+    while at < form.len() {
+        let end = find(form, at, b'%');
+        a = put(out, a, &form[at..end]);
+        let letter = byte_at(form, end + 1);
+        a = put_value(out, a, letter, v, tables, packet, headers, body, reply);
+        at = end + 2;
+    }
+    a
+}
+
+// Puts a line of the text `forms` with its end, the line number 0 excepted, which is none.
+fn put_form_of<'a>(
+    out: &mut [u8],
+    n: usize,
+    forms: &[u8],
+    line: Line,
+    tables: &[u64],
+    packet: &'a [u8],
+    headers: &'a [u8],
+    body: &'a [u8],
+    reply: &'a [u8],
+) -> usize {
+    if line.form == 0 {
+        return n;
+    }
+    let place = line_at(forms, line.form);
+    let start = place.start;
+    let end = after(forms, place.end);
+    let values = line.values;
+    put_form(
+        out,
+        n,
+        &forms[start..end],
+        values,
+        tables,
+        packet,
+        headers,
+        body,
+        reply,
+    )
+}
+
+// Puts a line. The functions below name its form by the number of the line here.
+pub(crate) fn put_line<'a>(
+    out: &mut [u8],
+    n: usize,
+    line: Line,
+    tables: &[u64],
+    packet: &'a [u8],
+    headers: &'a [u8],
+    body: &'a [u8],
+    reply: &'a [u8],
+) -> usize {
+    let forms = b"\n\
+        out %r\n\
+        connect final=%1 headers=%p fields=%q\n\
+        disconnect final=%1 headers=%p\n\
+        set_path final=%1 headers=%p backup=%2 no_create=%3\n\
+        abort final=%1 headers=%p\n\
+        put final=1 headers=%h body=%b\n\
+        put final=1 headers=%h body=none\n\
+        get final=1 headers=%h\n\
+        action final=1 headers=%h\n\
+        session final=1 headers=%h\n\
+        user_defined final=1 headers=%h opcode=%x\n\
+        body-read %1\n\
+        password %p\n\
+        password none\n\
+        credentials nonce=%o user_id_required=%2 read_only=%3 realm=%c:%q\n\
+        credentials nonce=%o user_id_required=%2 read_only=%3 realm=none\n\
+        end %1\n\
+        refused %1\n\
+        state remote_max=%1 srm=%2 authenticated=%3 ids=%l next=%i challenge=%o\n\
+        state remote_max=%1 srm=%2 authenticated=%3 ids=%l next=%i challenge=none\n\
+        stores %P %H %B %R\n";
+    put_form_of(out, n, forms, line, tables, packet, headers, body, reply)
+}
+
+fn no_values(longest: usize) -> Values {
+    Values {
+        octets: no_octets(),
+        id: 0,
+        start: 0,
+        end: 0,
+        from: 0,
+        to: 0,
+        first: 0,
+        second: 0,
+        third: 0,
+        count: 0,
+        longest,
+    }
+}
+
+fn no_line(v: Values) -> Line {
+    Line { form: 0, values: v }
+}
+
+fn with_number(v: Values, form: usize, x: usize) -> Line {
+    let mut values = v;
+    values.first = x;
+    Line { form, values }
+}
+
+// A line with a part of a store that starts at `start`.
+fn with_part(v: Values, form: usize, start: usize, end: usize) -> Line {
+    let mut values = v;
+    values.start = start;
+    values.end = end;
+    Line { form, values }
+}
+
+// ---- the lines of requests
+
+// Connect's fields stand before its headers.
+fn connect(v: Values, length: usize) -> Line {
+    let mut values = v;
+    values.from = 3;
+    values.to = 7;
+    with_part(values, 2, 7, length)
+}
+
+fn set_path(v: Values, length: usize, backup: bool, no_create: bool) -> Line {
+    let mut values = v;
+    values.second = flag(backup);
+    values.third = flag(no_create);
+    with_part(values, 4, 5, length)
+}
+
+fn put_request(v: Values, kept: usize, body: Body) -> Line {
+    match body {
+        Body::Bytes(k) => {
+            let mut values = v;
+            values.to = k;
+            with_part(values, 6, 0, kept)
+        }
+        Body::Missing => with_part(v, 7, 0, kept),
+    }
+}
+
+fn user_defined(v: Values, kept: usize, opcode: u8) -> Line {
+    let mut values = v;
+    values.id = opcode as u32;
+    with_part(values, 11, 0, kept)
+}
+
+fn password(v: Values, user_id: Found) -> Line {
+    match user_id {
+        Found::At { start, end } => with_part(v, 13, start, end),
+        Found::Missing => Line {
+            form: 14,
+            values: v,
+        },
+    }
+}
+
+// The realm is its charset and the bytes behind that. It is printed whole.
+fn with_realm(v: Values, realm: Found) -> Line {
+    match realm {
+        Found::At { start, end } => {
+            let mut values = v;
+            values.start = least(start, 65535);
+            values.from = least(start, 65535) + 1;
+            values.to = end;
+            values.longest = 65535;
+            Line { form: 15, values }
+        }
+        Found::Missing => Line {
+            form: 16,
+            values: v,
+        },
+    }
+}
+
+fn credentials(
+    v: Values,
+    nonce: Octets16,
+    user_id_required: bool,
+    read_only: bool,
+    realm: Found,
+) -> Line {
+    let mut values = v;
+    values.octets = nonce;
+    values.second = flag(user_id_required);
+    values.third = flag(read_only);
+    with_realm(values, realm)
+}
+
+// The line of a request. The original makes its nonces itself, so it tells of no request for one.
+fn request_line(v: Values, request: HostRequest) -> Line {
+    match request {
+        HostRequest::Connect { length } => connect(v, length),
+        HostRequest::Disconnect { length } => with_part(v, 3, 3, length),
+        HostRequest::SetPath {
+            length,
+            backup,
+            no_create,
+        } => set_path(v, length, backup, no_create),
+        HostRequest::Abort { length } => with_part(v, 5, 3, length),
+        HostRequest::Put { kept, body } => put_request(v, kept, body),
+        HostRequest::Get { kept } => with_part(v, 8, 0, kept),
+        HostRequest::Action { kept } => with_part(v, 9, 0, kept),
+        HostRequest::Session { kept } => with_part(v, 10, 0, kept),
+        HostRequest::UserDefined { opcode, kept } => user_defined(v, kept, opcode),
+        HostRequest::Read { room } => with_number(v, 12, room),
+        HostRequest::Password { user_id } => password(v, user_id),
+        HostRequest::Credentials {
+            nonce,
+            user_id_required,
+            read_only,
+            realm,
+        } => credentials(v, nonce, user_id_required, read_only, realm),
+        HostRequest::Nonce => no_line(v),
+    }
+}
+
+// ---- other lines
+
+// The line of what a call returned. `opcode` is the first byte of the packet, whose top bit says whether it is final.
+pub(crate) fn outcome_line(outcome: Outcome, opcode: u8, longest: usize) -> Line {
+    let mut v = no_values(longest);
+    v.first = flag(opcode >= 128);
+    match outcome {
+        Outcome::WantsBytes => no_line(v),
+        Outcome::Reply { length } => with_part(v, 1, 0, length),
+        Outcome::Request(request) => request_line(v, request),
+        Outcome::End(end) => with_number(v, 17, wide(end_number(end))),
+        Outcome::Refused(refusal) => with_number(v, 18, wide(refusal_number(refusal))),
+    }
+}
+
+fn with_challenge(v: Values, challenge: Challenge) -> Line {
+    match challenge {
+        Challenge::Stored(nonce) => {
+            let mut values = v;
+            values.octets = nonce;
+            Line { form: 19, values }
+        }
+        Challenge::Absent => Line {
+            form: 20,
+            values: v,
+        },
+    }
+}
+
+// The line of the state, or none if `shows` is false.
+pub(crate) fn state_line(p: Peer, shows: bool) -> Line {
+    let mut v = no_values(0);
+    if !shows {
+        return no_line(v);
+    }
+    v.id = p.next_connection_id;
+    v.first = wide16(p.remote_max_packet_length);
+    v.second = flag(p.srm_enabled);
+    v.third = flag(p.authenticated);
+    v.count = p.count;
+    let challenge = p.challenge;
+    with_challenge(v, challenge)
+}
+
+// The line of the stores as far as they are lent, or none if `shows` is false.
+pub(crate) fn stores_line(lent: Lent, shows: bool) -> Line {
+    let mut v = no_values(0);
+    if !shows {
+        return no_line(v);
+    }
+    v.start = lent.packet;
+    v.end = lent.headers;
+    v.from = lent.body;
+    v.to = lent.reply;
+    Line {
+        form: 21,
+        values: v,
+    }
 }

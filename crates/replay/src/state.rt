@@ -1,5 +1,7 @@
-// What the program keeps from line to line, and what the lines without a call change of it.
+// What the program keeps from line to line, beside what the engine's last call returned, and what the lines without a call change of it.
+use crate::command::Call;
 use crate::command::Command;
+use crate::command::Decoded;
 use lines::input::keep;
 use lines::output::least;
 use lines::word::after;
@@ -7,8 +9,6 @@ use lines::word::byte_at;
 use lines::word::find;
 use lines::word::number;
 use lines::word::unhex;
-use server::CallResult;
-use server::Engine;
 use server::Outcome;
 
 // How much of each store is lent to the engine.
@@ -17,6 +17,7 @@ pub struct Lent {
     pub headers: usize,
     pub body: usize,
     pub reply: usize,
+    pub tables: usize,
 }
 
 // How far the peer's bytes in the stream store were sent, read, and taken by the engine.
@@ -26,20 +27,30 @@ pub struct Stream {
     pub sent: usize,
 }
 
+// The lines that stand in the input store: where the next one starts, and how far the store is filled.
+pub struct Lines {
+    pub at: usize,
+    pub end: usize,
+}
+
 pub struct Replay {
-    pub engine: Engine,
-    // The realm's bytes, which the engine is lent with each nonce.
-    pub realm: [u8; 254],
-    // What the last call gave.
-    pub outcome: Outcome,
+    // The call that is due with the lengths of its two byte strings, or none if the next line is due.
+    pub due: Decoded,
+    pub lines: Lines,
     pub stream: Stream,
     pub lent: Lent,
+    // How many bytes of the realm store are the realm of the last start.
+    pub realm: usize,
     // How many bytes of output are collected.
     pub n: usize,
     // Longer byte strings are printed by length and MD5.
     pub longest: usize,
-    // Replies are not taken and Aborts not acknowledged by themselves.
+    // Whether replies wait for `taken` and Aborts for `acknowledge`.
     pub hold: bool,
+    // Whether the stores are to be printed.
+    pub show: bool,
+    // Whether standard input has ended.
+    pub over: bool,
 }
 
 fn whole() -> Lent {
@@ -48,6 +59,7 @@ fn whole() -> Lent {
         headers: 65536,
         body: 1048576,
         reply: 65536,
+        tables: 320,
     }
 }
 
@@ -59,18 +71,28 @@ fn no_bytes() -> Stream {
     }
 }
 
-pub(crate) fn begun(r: CallResult) -> Replay {
-    let engine = r.engine;
-    let outcome = r.outcome;
+// Returns `call` with no byte strings.
+pub(crate) fn bare(call: Call) -> Decoded {
+    Decoded {
+        call,
+        first: 0,
+        second: 0,
+    }
+}
+
+// The state before the first line.
+pub(crate) fn begun() -> Replay {
     Replay {
-        engine,
-        realm: [0; 254],
-        outcome,
+        due: bare(Call::Nothing),
+        lines: Lines { at: 0, end: 0 },
         stream: no_bytes(),
         lent: whole(),
+        realm: 0,
         n: 0,
         longest: 512,
         hold: false,
+        show: false,
+        over: false,
     }
 }
 
@@ -80,7 +102,46 @@ pub(crate) fn with_output(s: Replay, n: usize) -> Replay {
     r
 }
 
-// A place moved on, up to another.
+pub(crate) fn with_lines(s: Replay, at: usize, end: usize) -> Replay {
+    let mut r = s;
+    let lines = Lines { at, end };
+    r.lines = lines;
+    r
+}
+
+// The state after a read of standard input, which has ended if it gave no bytes.
+pub(crate) fn with_input(s: Replay, end: usize, over: bool) -> Replay {
+    let mut r = with_lines(s, 0, end);
+    r.over = over;
+    r
+}
+
+// The state once the stores are printed if that was due.
+pub(crate) fn without_show(s: Replay) -> Replay {
+    let mut r = s;
+    r.show = false;
+    r
+}
+
+pub(crate) fn with_due(s: Replay, due: Decoded) -> Replay {
+    let mut r = s;
+    r.due = due;
+    r
+}
+
+// A start brings its own realm; before any other call the realm stays.
+pub(crate) fn with_realm(s: Replay) -> Replay {
+    let due = s.due;
+    let call = due.call;
+    if let Call::Start(o) = call {
+        let mut r = s;
+        r.realm = o.realm_length;
+        return r;
+    }
+    s
+}
+
+// Returns `place` moved on by `n`, but not past `end`.
 fn moved(place: usize, end: usize, n: usize) -> usize {
     if end <= place {
         return place;
@@ -91,35 +152,26 @@ fn moved(place: usize, end: usize, n: usize) -> usize {
     place + n
 }
 
-// After a call.
-pub(crate) fn after_call(s: Replay, realm: [u8; 254], r: CallResult) -> Replay {
-    let engine = r.engine;
-    let outcome = r.outcome;
-    let stream = s.stream;
-    let lent = s.lent;
-    Replay {
-        engine,
-        realm,
-        outcome,
-        stream: Stream {
-            taken: moved(stream.taken, stream.read, r.taken),
-            read: stream.read,
-            sent: stream.sent,
-        },
-        lent,
-        n: s.n,
-        longest: s.longest,
-        hold: s.hold,
-    }
-}
-
 fn with_stream(s: Replay, stream: Stream) -> Replay {
     let mut r = s;
     r.stream = stream;
     r
 }
 
-// Two hexadecimal digits a byte have to fit beside a line's other words into half of the output.
+// The state after the engine has taken `n` bytes.
+pub(crate) fn with_taken(s: Replay, n: usize) -> Replay {
+    let stream = s.stream;
+    with_stream(
+        s,
+        Stream {
+            taken: moved(stream.taken, stream.read, n),
+            read: stream.read,
+            sent: stream.sent,
+        },
+    )
+}
+
+// The printed digits of a byte string, two for each byte, have to fit beside a line's other words into half of the output store.
 fn with_longest(s: Replay, n: usize) -> Replay {
     let mut r = s;
     r.longest = least(n, 100000);
@@ -132,7 +184,13 @@ fn with_hold(s: Replay) -> Replay {
     r
 }
 
-// A start: nothing is sent yet, and every store is lent whole.
+fn with_show(s: Replay) -> Replay {
+    let mut r = s;
+    r.show = true;
+    r
+}
+
+// The state at a start: the peer has sent nothing yet, and every store is lent whole.
 fn fresh(s: Replay) -> Replay {
     let mut r = s;
     r.stream = no_bytes();
@@ -141,33 +199,43 @@ fn fresh(s: Replay) -> Replay {
     r
 }
 
-fn with_stores(s: Replay, w: &[u8]) -> Replay {
+// Returns how many numbers of the tables are lent: all of them if the word is missing.
+fn tables_of(w: &[u8]) -> usize {
+    if w.len() == 0 {
+        return 320;
+    }
+    number(w)
+}
+
+fn lent_of(w: &[u8]) -> Lent {
     let e0 = find(w, 0, b' ');
     let s1 = after(w, e0);
     let e1 = find(w, s1, b' ');
     let s2 = after(w, e1);
     let e2 = find(w, s2, b' ');
     let s3 = after(w, e2);
-    let lent = Lent {
+    let e3 = find(w, s3, b' ');
+    let s4 = after(w, e3);
+    Lent {
         packet: number(&w[0..e0]),
         headers: number(&w[s1..e1]),
         body: number(&w[s2..e2]),
-        reply: number(&w[s3..]),
-    };
-    let mut r = s;
-    r.lent = lent;
-    r
+        reply: number(&w[s3..e3]),
+        tables: tables_of(&w[s4..]),
+    }
 }
 
-// A line that `show` printed is no command.
+// The state with as much of the stores lent as `w` says. A line that `show` printed is no command.
 fn with_lent(s: Replay, w: &[u8]) -> Replay {
     if byte_at(w, 0) == b'#' {
         return s;
     }
-    with_stores(s, w)
+    let mut r = s;
+    r.lent = lent_of(w);
+    r
 }
 
-// So many bytes more are read.
+// The state after the engine's host has read `n` bytes more.
 fn with_read(s: Replay, n: usize) -> Replay {
     let stream = s.stream;
     with_stream(
@@ -184,7 +252,7 @@ fn minus(a: usize, b: usize) -> usize {
     if a < b { 0 } else { a - b }
 }
 
-// A piece is sent: it goes behind what was not taken, which moves to the front.
+// The state after the peer has sent a piece. It goes behind the bytes that the engine has not taken, which move to the front.
 fn with_sent(s: Replay, w: &[u8], store: &mut [u8]) -> Replay {
     let stream = s.stream;
     let end = least(stream.sent, store.len());
@@ -201,15 +269,73 @@ fn with_sent(s: Replay, w: &[u8], store: &mut [u8]) -> Replay {
     )
 }
 
-// What a command changes before its call, by the words behind its name.
-pub(crate) fn settled(s: Replay, c: Command, w: &[u8], store: &mut [u8]) -> Replay {
+// What a command changes that sends nothing.
+fn settled_alone(s: Replay, c: Command, w: &[u8]) -> Replay {
     match c {
         Command::Read => with_read(s, number(w)),
-        Command::Sent => with_sent(s, w, store),
         Command::Start => fresh(s),
         Command::Longest => with_longest(s, number(w)),
         Command::Stores => with_lent(s, w),
         Command::Hold => with_hold(s),
+        Command::Show => with_show(s),
         _ => s,
     }
+}
+
+fn is_sent(c: Command) -> bool {
+    if let Command::Sent = c { true } else { false }
+}
+
+// What a command changes before its call, by the words `w` behind its name.
+pub(crate) fn settled(s: Replay, c: Command, w: &[u8], store: &mut [u8]) -> Replay {
+    if is_sent(c) {
+        return with_sent(s, w, store);
+    }
+    settled_alone(s, c, w)
+}
+
+// ---- the call that follows by itself
+
+fn unless(hold: bool, call: Call) -> Call {
+    if hold {
+        return Call::Nothing;
+    }
+    call
+}
+
+fn is_abort(request: server::HostRequest) -> bool {
+    if let server::HostRequest::Abort { length: _ } = request {
+        true
+    } else {
+        false
+    }
+}
+
+// Returns the call that follows: the host takes a reply, acknowledges an Abort, and offers the bytes again that are left.
+fn next_call(s: Replay, outcome: Outcome) -> Call {
+    match outcome {
+        Outcome::Reply { length: _ } => unless(s.hold, Call::Taken),
+        Outcome::Request(request) => {
+            if is_abort(request) {
+                return unless(s.hold, Call::Acknowledge);
+            }
+            Call::Nothing
+        }
+        Outcome::WantsBytes => unless(s.stream.read <= s.stream.taken, Call::Bytes),
+        _ => Call::Nothing,
+    }
+}
+
+// The state after a call, with the call that follows.
+pub(crate) fn after_call(s: Replay, outcome: Outcome) -> Replay {
+    let due = s.due;
+    let call = next_call(s, outcome);
+    with_due(
+        s,
+        Decoded {
+            call,
+            first: due.first,
+            second: due.second,
+        },
+    )
 }

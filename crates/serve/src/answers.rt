@@ -10,46 +10,78 @@ use server::CallResult;
 use server::Engine;
 use server::HostRequest;
 
-// What the answer's call gave, and the file that is being sent from then on.
+// What the answer's call returned, and the file that is being sent from then on, or -1.
 pub struct Answered {
     pub took: CallResult,
     pub file: i32,
 }
 
+// Writes a Put's body to the file of its Name, and replies with what became of it.
 fn put(
     e: Engine,
     kept: usize,
     content: Body,
-    packet: &mut [u8],
-    headers: &mut [u8],
-    body: &mut [u8],
-    reply: &mut [u8],
+    tables: &mut [u64; 320],
+    packet: &mut [u8; 65535],
+    headers: &mut [u8; 65535],
+    body: &mut [u8; 1048576],
+    reply: &mut [u8; 65535],
 ) -> CallResult {
     let code = file::put_body(front(headers, kept), content, body);
-    calls::reply_given(e, code, b"", packet, headers, body, reply)
+    calls::reply_given(e, code, b"", tables, packet, headers, body, reply)
 }
 
-fn get(
+// Gives the engine an object if the file of a Get could be opened, and otherwise the code that says why not.
+fn give(
     e: Engine,
-    kept: usize,
-    packet: &mut [u8],
-    headers: &mut [u8],
-    body: &mut [u8],
-    reply: &mut [u8],
-) -> Answered {
-    match file::get(front(headers, kept)) {
-        Opened::File(fd) => {
-            let took = calls::object_given(e, b"", true, packet, headers, body, reply);
-            Answered { took, file: fd }
-        }
-        Opened::Code(code) => {
-            let took = calls::reply_given(e, code, b"", packet, headers, body, reply);
-            Answered { took, file: -1 }
-        }
+    opened: Opened,
+    tables: &mut [u64; 320],
+    packet: &mut [u8; 65535],
+    headers: &mut [u8; 65535],
+    body: &mut [u8; 1048576],
+    reply: &mut [u8; 65535],
+) -> CallResult {
+    match opened {
+        Opened::File(_) => calls::object_given(e, b"", true, packet, headers, body, reply),
+        Opened::Code(code) => calls::reply_given(
+            e,
+            code,
+            b"",
+            tables,
+            packet,
+            headers,
+            body,
+            reply,
+        ),
     }
 }
 
-// Reads once, at most so many bytes.
+// Returns the file that is being sent once it is opened.
+fn file_of(opened: Opened) -> i32 {
+    match opened {
+        Opened::File(fd) => fd,
+        Opened::Code(_) => -1,
+    }
+}
+
+// Answers a Get with the file of its Name.
+fn get(
+    e: Engine,
+    kept: usize,
+    tables: &mut [u64; 320],
+    packet: &mut [u8; 65535],
+    headers: &mut [u8; 65535],
+    body: &mut [u8; 1048576],
+    reply: &mut [u8; 65535],
+) -> Answered {
+    let opened = file::get(front(headers, kept));
+    Answered {
+        took: give(e, opened, tables, packet, headers, body, reply),
+        file: file_of(opened),
+    }
+}
+
+// Reads once, at most `room` bytes.
 fn read_some(fd: i32, room: usize, store: &mut [u8]) -> isize {
     if room < store.len() {
         return libc::read(fd, &mut store[0..room]);
@@ -57,49 +89,58 @@ fn read_some(fd: i32, room: usize, store: &mut [u8]) -> isize {
     libc::read(fd, store)
 }
 
-// A file is closed once it gives no more bytes.
-fn file_after(fd: i32, got: usize) -> i32 {
-    if got == 0 {
+// Returns the file that is sent on. A file that cannot be read, or gives no more bytes, is closed.
+fn file_after(fd: i32, got: isize) -> i32 {
+    if got <= 0 {
         return file::closed(fd);
     }
     fd
 }
 
-// The next bytes of the file, none at its end.
+// Gives the engine the bytes that were read, none at the file's end, or tells it that the file cannot be read on.
+fn give_bytes(
+    e: Engine,
+    got: isize,
+    store: &[u8],
+    packet: &mut [u8; 65535],
+    headers: &mut [u8; 65535],
+    body: &mut [u8; 1048576],
+    reply: &mut [u8; 65535],
+) -> CallResult {
+    if got < 0 {
+        return calls::body_failed(e, packet, headers, body, reply);
+    }
+    let k = io::count(got, store);
+    calls::body_given(e, &store[..k], packet, headers, body, reply)
+}
+
+// Answers with the next bytes of the file.
 fn read(
     e: Engine,
     fd: i32,
     room: usize,
-    packet: &mut [u8],
-    headers: &mut [u8],
-    body: &mut [u8],
-    reply: &mut [u8],
+    packet: &mut [u8; 65535],
+    headers: &mut [u8; 65535],
+    body: &mut [u8; 1048576],
+    reply: &mut [u8; 65535],
 ) -> Answered {
     let mut store = [0u8; 65536];
     let got = read_some(fd, room, &mut store);
-    if got < 0 {
-        let took = calls::body_failed(e, packet, headers, body, reply);
-        return Answered {
-            took,
-            file: file::closed(fd),
-        };
-    }
-    let k = io::count(got, &store);
-    let took = calls::body_given(e, &store[..k], packet, headers, body, reply);
     Answered {
-        took,
-        file: file_after(fd, k),
+        took: give_bytes(e, got, &store, packet, headers, body, reply),
+        file: file_after(fd, got),
     }
 }
 
-// The answers that need no file. SetPath is granted and does nothing: clients send it first, and there is one folder.
+// Answers a request that needs no file. SetPath is granted and does nothing: clients send it first, and there is one folder.
 fn plain(
     e: Engine,
     request: HostRequest,
-    packet: &mut [u8],
-    headers: &mut [u8],
-    body: &mut [u8],
-    reply: &mut [u8],
+    tables: &mut [u64; 320],
+    packet: &mut [u8; 65535],
+    headers: &mut [u8; 65535],
+    body: &mut [u8; 1048576],
+    reply: &mut [u8; 65535],
 ) -> CallResult {
     log::request(request);
     match request {
@@ -107,36 +148,35 @@ fn plain(
             length: _,
             backup: _,
             no_create: _,
-        } => calls::reply_given(e, SUCCESS, b"", packet, headers, body, reply),
-        _ => host::answers::answer(e, request, packet, headers, body, reply),
+        } => calls::reply_given(e, SUCCESS, b"", tables, packet, headers, body, reply),
+        _ => host::answers::answer(e, request, tables, packet, headers, body, reply),
     }
 }
 
+// Answers a request. `file` is the file that is being sent, which any request but a Put and a Read ends.
 pub(crate) fn answer(
     e: Engine,
     request: HostRequest,
     file: i32,
-    packet: &mut [u8],
-    headers: &mut [u8],
-    body: &mut [u8],
-    reply: &mut [u8],
+    tables: &mut [u64; 320],
+    packet: &mut [u8; 65535],
+    headers: &mut [u8; 65535],
+    body: &mut [u8; 1048576],
+    reply: &mut [u8; 65535],
 ) -> Answered {
     match request {
         HostRequest::Put {
             kept,
             body: content,
-        } => {
-            let took = put(e, kept, content, packet, headers, body, reply);
-            Answered { took, file }
-        }
-        HostRequest::Get { kept } => get(e, kept, packet, headers, body, reply),
+        } => Answered {
+            took: put(e, kept, content, tables, packet, headers, body, reply),
+            file,
+        },
+        HostRequest::Get { kept } => get(e, kept, tables, packet, headers, body, reply),
         HostRequest::Read { room } => read(e, file, room, packet, headers, body, reply),
-        _ => {
-            let took = plain(e, request, packet, headers, body, reply);
-            Answered {
-                took,
-                file: file::closed(file),
-            }
-        }
+        _ => Answered {
+            took: plain(e, request, tables, packet, headers, body, reply),
+            file: file::closed(file),
+        },
     }
 }

@@ -1,5 +1,5 @@
 // A server for a person: the peer's bytes come on standard input, and replies go to standard output. A Put writes a file of the
-// working folder, a Get reads one. What it does goes to standard error, a line an operation.
+// working folder, a Get reads one. The program tells what it does on standard error, a line for each operation.
 mod answers;
 mod file;
 mod log;
@@ -14,39 +14,45 @@ use host::feed::Step;
 use host::feed::feed;
 use host::feed::over;
 use libc::STDOUT_FILENO;
+use server::CallResult;
 use server::Outcome;
 use server::Settings;
 use server::default_settings;
 
 // The last step, and the file that is being sent, or -1.
 struct Serving {
-    step: host::feed::Step,
+    step: Step,
     file: i32,
 }
 
-// The original's, with SRM, and records of 1 MiB at most.
+// The settings are the original's, with Single Response Mode (SRM), and with records of 1 MiB at most.
 fn settings() -> Settings {
     let mut s = default_settings(1048576);
     s.srm_supported = true;
     s
 }
 
-fn after_answer(a: Answered, rest: host::feed::Rest) -> Serving {
-    let took = a.took;
+fn after_call(took: CallResult, rest: Rest, file: i32) -> Serving {
     Serving {
-        step: host::feed::Step { took, rest },
-        file: a.file,
+        step: Step { took, rest },
+        file,
     }
 }
 
-// One call: the one that the last call's outcome asks for.
+fn after_answer(a: Answered, rest: Rest) -> Serving {
+    let took = a.took;
+    after_call(took, rest, a.file)
+}
+
+// Makes the call that the last call's outcome asks for. After the end it makes none.
 fn turn(
     s: Serving,
-    input: &mut [u8],
-    packet: &mut [u8],
-    headers: &mut [u8],
-    body: &mut [u8],
-    reply: &mut [u8],
+    input: &mut [u8; 65536],
+    tables: &mut [u64; 320],
+    packet: &mut [u8; 65535],
+    headers: &mut [u8; 65535],
+    body: &mut [u8; 1048576],
+    reply: &mut [u8; 65535],
 ) -> Serving {
     let file = s.file;
     let before = s.step;
@@ -56,60 +62,65 @@ fn turn(
     let outcome = last.outcome;
     match outcome {
         Outcome::WantsBytes => {
-            let step = host::feed::feed(e, rest, input, packet, headers, body, reply);
+            let step = feed(e, rest, input, tables, packet, headers, body, reply);
             Serving { step, file }
         }
         Outcome::Reply { length } => {
             io::write_all(STDOUT_FILENO, front(reply, length));
-            let took = calls::reply_taken(e, packet, headers, body, reply);
-            Serving {
-                step: host::feed::Step { took, rest },
+            after_call(
+                calls::reply_taken(e, packet, headers, body, reply),
+                rest,
                 file,
-            }
+            )
         }
         Outcome::Request(request) => after_answer(
-            answer(e, request, file, packet, headers, body, reply),
+            answer(e, request, file, tables, packet, headers, body, reply),
             rest,
         ),
-        Outcome::End(_) => s,
-        Outcome::Refused(_) => s,
+        _ => s,
     }
 }
 
-// A proved loop has to end, and nothing says that the input does. So the turns are counted down, from a number that no run uses up.
+// Serves one session. A proved loop has to end, and nothing says that the input does, so the turns are counted down from a number that no run
+// uses up.
 fn serve(
-    input: &mut [u8],
-    packet: &mut [u8],
-    headers: &mut [u8],
-    body: &mut [u8],
-    reply: &mut [u8],
+    input: &mut [u8; 65536],
+    tables: &mut [u64; 320],
+    packet: &mut [u8; 65535],
+    headers: &mut [u8; 65535],
+    body: &mut [u8; 1048576],
+    reply: &mut [u8; 65535],
 ) {
-    let took = calls::start(settings(), packet, headers, body, reply);
-    let rest = host::feed::Rest { at: 0, end: 0 };
-    let mut s = Serving {
-        step: host::feed::Step { took, rest },
-        file: -1,
-    };
+    let took = calls::start(settings(), b"", tables, packet, headers, body, reply);
+    let mut s = after_call(took, Rest { at: 0, end: 0 }, -1);
     let mut left = u64::MAX;
     while left > 0 {
         let step = s.step;
         let last = step.took;
         let outcome = last.outcome;
-        let number = host::feed::over(outcome);
+        let number = over(outcome);
         if number != 0 {
             log::end(number);
             return;
         }
-        s = turn(s, input, packet, headers, body, reply);
+        s = turn(s, input, tables, packet, headers, body, reply);
         left -= 1;
     }
 }
 
 fn main() {
     let mut input = [0u8; 65536];
+    let mut tables = [0u64; 320];
     let mut packet = [0u8; 65535];
     let mut headers = [0u8; 65535];
     let mut body = [0u8; 1048576];
     let mut reply = [0u8; 65535];
-    serve(&mut input, &mut packet, &mut headers, &mut body, &mut reply);
+    serve(
+        &mut input,
+        &mut tables,
+        &mut packet,
+        &mut headers,
+        &mut body,
+        &mut reply,
+    );
 }

@@ -7,7 +7,6 @@ use Rattle.server.specs.declared.Settings.{Settings}
 abbrev pub defaultSettings : ℕ → Settings
 defaultSettings limit =
     record {
-      «realm_length» = 0;
       «max_object_size» = limit;
       «max_packet_length» = 65535;
       charset = 0;

@@ -6,15 +6,13 @@ ghost use Rattle.server.specs.Numbers.{endNumber, refusalNumber};
 
 // The settings at the start (docs/PROTOCOL.md#settings).
 pub struct Settings {
-    // How many bytes the realm of the server's challenges has. The host lends the bytes themselves with each nonce.
-    pub realm_length: usize,
     // The Put limit: the most body bytes that one Put may carry.
     pub max_object_size: u32,
     // The longest packet that the server takes, as Connect's reply tells the client.
     pub max_packet_length: u16,
     // The character set of the realm, its first byte on the wire.
     pub charset: u8,
-    // Whether the server's challenges carry a realm.
+    // Whether the server's challenges carry a realm. Its bytes are a store that the host lends to the start and with each nonce.
     pub has_realm: bool,
     // Whether the server grants Single Response Mode (SRM) to a client that asks for it.
     pub srm_supported: bool,
@@ -31,7 +29,6 @@ pub fn default_settings(max_object_size: u32) -> Settings
     ensures { λ r. ⌜ r ≡ defaultSettings «max_object_size» ⌝ }
 {
     Settings {
-        realm_length: 0,
         max_object_size,
         max_packet_length: 65535,
         charset: 0,

@@ -1,17 +1,15 @@
--- `load::play` counts its calls down, and no call changes the length of a store. Assumes nothing.
+-- `load::play` counts its calls down. The stores are arrays, so that their lengths are known. Assumes nothing.
 use borrow.Author.Needs.{needs}
 use native.Mathlib.Omega.{arith}
-use mathlib.Core.Path.{_≡_}
-use lib.ListN.{length}
 use Rattle.load.proofs.play.Statement.{statement}
 use Rattle.load.proofs.play.Tie as tie
 
 abbrev Inv-loop : tie.InvT-loop
-Inv-loop stream longest zeros input₀ packet₀ headers₀ body₀ reply₀ q₀ took₀ left₀ input packet headers body reply q took left =
-    (length input ≡ length input₀) × (length packet ≡ length packet₀) × (length headers ≡ length headers₀) × (length body ≡ length body₀) × (length reply ≡ length reply₀)
+Inv-loop stream longest zeros input₀ tables₀ packet₀ headers₀ body₀ reply₀ q₀ took₀ left₀ input tables packet headers body reply q took left =
+    Unit {0}
 
 abbrev μ-loop : tie.MeasureT-loop
-μ-loop stream longest zeros input₀ packet₀ headers₀ body₀ reply₀ q₀ took₀ left₀ input packet headers body reply q took left =
+μ-loop stream longest zeros input₀ tables₀ packet₀ headers₀ body₀ reply₀ q₀ took₀ left₀ input tables packet headers body reply q took left =
     left
 
 begin-requires : tie.Need-begin-requires Inv-loop μ-loop
@@ -20,29 +18,23 @@ begin-requires c κs = search needs
 default-settings-requires : tie.Need-default-settings-requires Inv-loop μ-loop
 default-settings-requires c κs = search needs
 
+sub-start : tie.Need-sub-start Inv-loop μ-loop
+sub-start c = search needs
+
+part-start-start : tie.Need-part-start-start Inv-loop μ-loop
+part-start-start c = search needs
+
+part-start-end : tie.Need-part-start-end Inv-loop μ-loop
+part-start-end c = search needs
+
 start-requires : tie.Need-start-requires Inv-loop μ-loop
 start-requires c κs = search needs
 
 loop-holds : tie.Need-loop-holds Inv-loop μ-loop
-loop-holds c = search needs
+loop-holds c = tt
 
 is-over-requires : tie.Need-is-over-requires Inv-loop μ-loop
 is-over-requires c κs = search needs
-
-same-length : tie.Need-same-length Inv-loop μ-loop
-same-length c = search needs
-
-same-length-2 : tie.Need-same-length-2 Inv-loop μ-loop
-same-length-2 c = search needs
-
-same-length-3 : tie.Need-same-length-3 Inv-loop μ-loop
-same-length-3 c = search needs
-
-same-length-4 : tie.Need-same-length-4 Inv-loop μ-loop
-same-length-4 c = search needs
-
-same-length-5 : tie.Need-same-length-5 Inv-loop μ-loop
-same-length-5 c = search needs
 
 returns : tie.Need-returns Inv-loop μ-loop
 returns c = search needs
@@ -57,28 +49,13 @@ taken-requires : tie.Need-taken-requires Inv-loop μ-loop
 taken-requires c κs = search needs
 
 sub-left : tie.Need-sub-left Inv-loop μ-loop
-sub-left c = omega (arith, c .before .before .before .before .before .before .before .before .before .before .before .before .before .before .before .before .before .before .before .before .before .before .before .loop-test .taken)
+sub-left c = omega (arith, c .before .before .before .before .before .before .before .before .before .before .before .before .before .before .before .before .before .loop-test .taken)
 
 loop-less : tie.Need-loop-less Inv-loop μ-loop
-loop-less c = omega (arith, c .before .before .before .before .before .before .before .before .before .before .before .before .before .before .before .before .before .before .before .before .before .before .before .loop-test .taken)
+loop-less c = omega (arith, c .before .before .before .before .before .before .before .before .before .before .before .before .before .before .before .before .before .loop-test .taken)
 
 loop-again : tie.Need-loop-again Inv-loop μ-loop
-loop-again c = let v = c .before .before .before .before .before .before .before .before .before .before .before .before .before .before .before .before .before .before .before .before .before .before .before .before .loop .inv in let n = c .before .before .before .before .before .before .before .before .before .before .before .before .before .before .before .before .before .noted .kept in let m = c .before .before .before .before .before .before .before .before .before .next .kept in (omega (arith, v .0, n .1 .1 .1 .1 .0), omega (arith, v .1, m .1 .1 .1 .1 .1 .0), omega (arith, v .2, m .1 .1 .1 .1 .1 .1 .0), omega (arith, v .3, m .1 .1 .1 .1 .1 .1 .1 .0), omega (arith, v .4, m .1 .1 .1 .1 .1 .1 .1 .1 .0))
-
-same-length-6 : tie.Need-same-length-6 Inv-loop μ-loop
-same-length-6 c = search needs
-
-same-length-7 : tie.Need-same-length-7 Inv-loop μ-loop
-same-length-7 c = search needs
-
-same-length-8 : tie.Need-same-length-8 Inv-loop μ-loop
-same-length-8 c = search needs
-
-same-length-9 : tie.Need-same-length-9 Inv-loop μ-loop
-same-length-9 c = search needs
-
-same-length-10 : tie.Need-same-length-10 Inv-loop μ-loop
-same-length-10 c = search needs
+loop-again c = tt
 
 returns-2 : tie.Need-returns-2 Inv-loop μ-loop
 returns-2 c = search needs
@@ -91,14 +68,12 @@ play-spec =
     μ-loop
     begin-requires
     default-settings-requires
+    sub-start
+    part-start-start
+    part-start-end
     start-requires
     loop-holds
     is-over-requires
-    same-length
-    same-length-2
-    same-length-3
-    same-length-4
-    same-length-5
     returns
     noted-requires
     next-requires
@@ -106,9 +81,4 @@ play-spec =
     sub-left
     loop-less
     loop-again
-    same-length-6
-    same-length-7
-    same-length-8
-    same-length-9
-    same-length-10
     returns-2)

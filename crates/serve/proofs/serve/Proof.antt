@@ -1,21 +1,25 @@
--- serve::serve meets its contract: the turns are counted down, and no call changes a store's length. Assumes nothing.
+-- `serve::serve` meets its contract: the turns are counted down. Assumes nothing.
 use borrow.Author.Needs.{needs}
-use mathlib.Core.Path.{_≡_}
-use lib.ListN.{length}
 use Rattle.serve.proofs.serve.Statement.{statement}
 use Rattle.serve.proofs.serve.Tie as tie
 
 abbrev Inv-loop : tie.InvT-loop
-Inv-loop input₀ packet₀ headers₀ body₀ reply₀ s₀ left₀ input packet headers body reply s left = (length input ≡ length input₀) × (length packet ≡ length packet₀) × (length headers ≡ length headers₀) × (length body ≡ length body₀) × (length reply ≡ length reply₀)
+Inv-loop input₀ tables₀ packet₀ headers₀ body₀ reply₀ s₀ left₀ input tables packet headers body reply s left = Unit {0}
 
 abbrev μ-loop : tie.MeasureT-loop
-μ-loop input₀ packet₀ headers₀ body₀ reply₀ s₀ left₀ input packet headers body reply s left = left
+μ-loop input₀ tables₀ packet₀ headers₀ body₀ reply₀ s₀ left₀ input tables packet headers body reply s left = left
 
 settings-requires : tie.Need-settings-requires Inv-loop μ-loop
 settings-requires c κs = search needs
 
+slice-aggregate-start : tie.Need-slice-aggregate-start Inv-loop μ-loop
+slice-aggregate-start c = search needs
+
 start-requires : tie.Need-start-requires Inv-loop μ-loop
 start-requires c κs = search needs
+
+after-call-requires : tie.Need-after-call-requires Inv-loop μ-loop
+after-call-requires c κs = search needs
 
 loop-holds : tie.Need-loop-holds Inv-loop μ-loop
 loop-holds c = search needs
@@ -25,21 +29,6 @@ over-requires c κs = search needs
 
 end-requires : tie.Need-end-requires Inv-loop μ-loop
 end-requires c κs = search needs
-
-same-length : tie.Need-same-length Inv-loop μ-loop
-same-length c = search needs
-
-same-length-2 : tie.Need-same-length-2 Inv-loop μ-loop
-same-length-2 c = search needs
-
-same-length-3 : tie.Need-same-length-3 Inv-loop μ-loop
-same-length-3 c = search needs
-
-same-length-4 : tie.Need-same-length-4 Inv-loop μ-loop
-same-length-4 c = search needs
-
-same-length-5 : tie.Need-same-length-5 Inv-loop μ-loop
-same-length-5 c = search needs
 
 returns : tie.Need-returns Inv-loop μ-loop
 returns c = search needs
@@ -56,21 +45,6 @@ loop-less c = search needs
 loop-again : tie.Need-loop-again Inv-loop μ-loop
 loop-again c = search needs
 
-same-length-6 : tie.Need-same-length-6 Inv-loop μ-loop
-same-length-6 c = search needs
-
-same-length-7 : tie.Need-same-length-7 Inv-loop μ-loop
-same-length-7 c = search needs
-
-same-length-8 : tie.Need-same-length-8 Inv-loop μ-loop
-same-length-8 c = search needs
-
-same-length-9 : tie.Need-same-length-9 Inv-loop μ-loop
-same-length-9 c = search needs
-
-same-length-10 : tie.Need-same-length-10 Inv-loop μ-loop
-same-length-10 c = search needs
-
 returns-2 : tie.Need-returns-2 Inv-loop μ-loop
 returns-2 c = search needs
 
@@ -81,23 +55,15 @@ serve-spec =
     Inv-loop
     μ-loop
     settings-requires
+    slice-aggregate-start
     start-requires
+    after-call-requires
     loop-holds
     over-requires
     end-requires
-    same-length
-    same-length-2
-    same-length-3
-    same-length-4
-    same-length-5
     returns
     turn-requires
     sub-left
     loop-less
     loop-again
-    same-length-6
-    same-length-7
-    same-length-8
-    same-length-9
-    same-length-10
     returns-2)

@@ -12,10 +12,10 @@ use Rattle.connection.proofs.peer.close_id.Statement.{statement}
 use Rattle.connection.proofs.peer.close_id.Tie as tie
 
 abbrev Inv-loop : tie.InvT-loop
-Inv-loop ids₀ count id kept₀ i₀ ids kept i = (i ≤ count) × (kept ≤ i) × (length ids ≡ length ids₀) × Closed ids₀ id i ids kept
+Inv-loop ids₀ count id closed kept₀ i₀ ids kept i = (i ≤ count) × (kept ≤ i) × (length ids ≡ length ids₀) × Closed ids₀ id i ids kept
 
 abbrev μ-loop : tie.MeasureT-loop
-μ-loop ids₀ count id kept₀ i₀ ids kept i = count - i
+μ-loop ids₀ count id closed kept₀ i₀ ids kept i = count - i
 
 loop-holds : tie.Need-loop-holds Inv-loop μ-loop
 loop-holds c = (omega arith, omega arith, refl, closed-none (c .args .ids .now) (c .args .id))

@@ -11,10 +11,10 @@ use Rattle.connection.proofs.peer.is_open.Statement.{statement}
 use Rattle.connection.proofs.peer.is_open.Tie as tie
 
 abbrev Inv-loop : tie.InvT-loop
-Inv-loop ids count id i₀ i = (i ≤ count) × (member id (drop i (take count ids)) ≡ member id (take count ids))
+Inv-loop ids count id wanted i₀ i = (i ≤ count) × (member id (drop i (take count ids)) ≡ member id (take count ids))
 
 abbrev μ-loop : tie.MeasureT-loop
-μ-loop ids count id i₀ i = count - i
+μ-loop ids count id wanted i₀ i = count - i
 
 loop-holds : tie.Need-loop-holds Inv-loop μ-loop
 loop-holds c = (omega arith, refl)

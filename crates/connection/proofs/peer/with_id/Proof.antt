@@ -1,15 +1,9 @@
--- `connection::peer::with_id` meets its contract. The id goes behind those that are open; the limit and authentication stay. Assumes nothing.
+-- `connection::peer::with_id` meets its contract. Only the count, the counter and SRM change. Assumes nothing.
 use mathlib.Core.Path.{refl}
-use borrow.Author.Needs.{needs}
 use Rattle.connection.specs.Peer.{peerWith}
+use borrow.Author.Needs.{needs}
 use Rattle.connection.proofs.peer.with_id.Statement.{statement}
 use Rattle.connection.proofs.peer.with_id.Tie as tie
-
-mul-r : tie.Need-mul-r
-mul-r c = search needs
-
-element-write-r : tie.Need-element-write-r
-element-write-r c = search needs
 
 add-r : tie.Need-add-r
 add-r c = search needs
@@ -19,4 +13,4 @@ unfolding peerWith
 returns c = refl
 
 pub with-id-spec : {M : Type 1} → statement M
-with-id-spec = tie.close (tie.spec mul-r element-write-r add-r returns)
+with-id-spec = tie.close (tie.spec add-r returns)

@@ -1,32 +1,33 @@
 -- `engine::calls::bytes_offered` meets its contract: the guard and each end of the frame are the model's (proofs/Arrivals.antt).
 -- Assumes nothing.
-use borrow.Author.Needs.{needs}
 use native.Mathlib.Omega.{arith}
-use mathlib.Core.Path.{_≡_, ap}
+use mathlib.Core.Path.{_≡_, ap, _∙_}
 use Rattle.incoming.specs.declared.frame.Frame.{Frame}
 use Rattle.model.specs.Step.{Stores, Stepped, stores, stepped}
+use Rattle.model.specs.Guard.{refuse}
 use Rattle.model.specs.Calls.{withPacket, framedAs, bytesOfferedStep}
 use Rattle.server.specs.declared.CallResult.{CallResult}
+use Rattle.server.specs.declared.Refusal.{Refusal}
 use Rattle.server.specs.declared.CallKind.the-variants as kind
-use Rattle.engine.proofs.Guards.{Goes, going}
-use Rattle.engine.proofs.Carried.{refused-call}
+use Rattle.engine.proofs.Guards.{GoesLent, turned-lent, going-lent}
 use Rattle.engine.proofs.Arrivals.{framed-call, taken-after, short-took}
+use borrow.Author.Needs.{needs}
 use Rattle.engine.proofs.calls.bytes_offered.Statement.{statement}
 use Rattle.engine.proofs.calls.bytes_offered.Tie as tie
 
-abbrev start : tie.After-guard → tie.Start
-start k = k .before .before .before .before .before .before
+abbrev start : tie.After-guard-lent → tie.Start
+start k = k .before .before .before .before .before .before .before
 
 -- the stores that are lent
-abbrev lent : tie.After-guard → Stores
+abbrev lent : tie.After-guard-lent → Stores
 lent k = let a = start k .args in stores (a .packet .now) (a .headers .now) (a .body .now) (a .reply .now)
 
 -- the guard says that the call may proceed
-abbrev passed : tie.After-enum-told → tie.After-guard
+abbrev passed : tie.After-enum-told → tie.After-guard-lent
 passed z = z .before .before
 
-goes : (z : tie.After-enum-told) → Goes kind.FromPeer (start (passed z) .args .e) (lent (passed z))
-goes z = going kind.FromPeer _ _ _ (passed z .guard .ensures) (z .enum-told .given .1)
+goes : (z : tie.After-enum-told) → let a = start (passed z) .args in GoesLent kind.FromPeer (a .e) (lent (passed z)) (a .tables .now)
+goes z = going-lent kind.FromPeer _ _ _ _ (passed z .guard-lent .ensures) (z .enum-told .given .1)
 
 -- the stores once bytes were read
 abbrev read : tie.After-read-packet → Stores
@@ -34,12 +35,12 @@ read r = withPacket (lent (passed (r .before .before))) (r .read-packet .last .1
 
 -- what follows where the frame stands is the model's step
 ending : (r : tie.After-read-packet) (x : Frame) (d : Stepped) → let a = start (passed (r .before .before)) .args in
-    r .read-packet .result .frame ≡ x → d ≡ framedAs x (a .e) (r .read-packet .result .begun) (r .read-packet .result .taken) (read r)
-    → d ≡ bytesOfferedStep (a .e) (a .input .now) (lent (passed (r .before .before)))
-ending r x d k w = framed-call _ _ _ (r .read-packet .result) _ x d (goes (r .before .before)) (r .read-packet .ensures .1) k w
+    r .read-packet .result .frame ≡ x → d ≡ framedAs x (a .e) (r .read-packet .result .begun) (r .read-packet .result .taken) (read r) (a .tables .now)
+    → d ≡ bytesOfferedStep (a .e) (a .input .now) (lent (passed (r .before .before))) (a .tables .now)
+ending r x d k w = framed-call _ _ _ _ (r .read-packet .result) _ x d (goes (r .before .before)) (r .read-packet .ensures .1) k w
 
-guard-requires : tie.Need-guard-requires
-guard-requires c κs = search needs
+guard-lent-requires : tie.Need-guard-lent-requires
+guard-lent-requires c κs = search needs
 
 enum-known-refusal : tie.Need-enum-known-refusal
 enum-known-refusal c = search needs
@@ -51,13 +52,15 @@ returns : tie.Need-returns
 unfolding bytesOfferedStep
 returns c =
     let k = c .before .before .before .before in
-    refused-call kind.FromPeer (start k .args .e) (lent k) _ _ _ _ (c .refuse .ensures) (k .guard .ensures) (c .before .before .refusal .given .1)
+    let e = start k .args .e in
+    ap (λ (r : CallResult). stepped r (lent k)) (c .refuse .ensures)
+    ∙ turned-lent kind.FromPeer e (lent k) _ (λ (q : Refusal). refuse q e (lent k)) _ _ _ (k .guard-lent .ensures) (c .before .before .refusal .given .1)
 
 enum-told : tie.Need-enum-told
 enum-told c = search needs
 
 read-packet-requires : tie.Need-read-packet-requires
-read-packet-requires c κs = let g = goes (c .before) in (g .bounds .begun, g .room .packet)
+read-packet-requires c κs = let g = goes (c .before) .goes in (g .bounds .begun, g .room .packet)
 
 enum-told-2 : tie.Need-enum-told-2
 enum-told-2 c = search needs
@@ -85,9 +88,19 @@ packet-done-requires c κs =
     let t = c .before .before .before .before in
     let p = t .before .before .before in
     let r = p .before in
-    let g = goes (r .before .before) in
-    let w = r .read-packet .ensures .0 (t .enum-told4 .given .1) in
-    (omega (arith, w .0), omega (arith, w .1, g .room .packet, p .packet .given), g .bounds .count, g .bounds .remote, g .bounds .operation, g .room .headers, g .room .body, g .room .reply)
+    let l = goes (r .before .before) in
+    let g = l .goes in
+    let w = r .read-packet .ensures .0 (t .enum-told4 .given .1) in (
+      omega (arith, w .0),
+      omega (arith, w .1, g .room .packet, p .packet .given),
+      g .bounds .count,
+      l .tables,
+      g .bounds .remote,
+      g .bounds .operation,
+      g .room .headers,
+      g .room .body,
+      g .room .reply,
+    )
 
 with-taken-requires-2 : tie.Need-with-taken-requires-2
 with-taken-requires-2 c κs = search needs
@@ -112,9 +125,7 @@ returns-3 c =
     (taken-after _ _ _ (read r) _ (c .with-taken .ensures) (short-took e _ _ (read r) (c .before .took .ensures) (c .before .before .ends .ensures)))
 
 same-length-3 : tie.Need-same-length-3
-same-length-3 c =
-    let d = c .before .before .before .before .before .before .before in
-    omega (arith, d .before .before .before .before .before .before .before .before .packet .given)
+same-length-3 c = omega (arith, c .before .before .before .before .before .before .before .before .before .before .before .before .before .before .before .packet .given)
 
 same-length-4 : tie.Need-same-length-4
 same-length-4 c = search needs
@@ -135,7 +146,7 @@ pub bytes-offered-spec : {M : Type 1} → statement M
 bytes-offered-spec =
     tie.close
     (tie.spec
-    guard-requires
+    guard-lent-requires
     enum-known-refusal
     refuse-requires
     returns

@@ -1,5 +1,6 @@
 -- `engine::connect::connect_answer` meets its contract: the three ways are those of the definition. Assumes nothing.
 use borrow.Author.Tests.{not-true, not-false}
+use Rattle.connection.specs.Peer.{answers}
 use Rattle.engine.proofs.Accepts.{answer-declined, answer-full, answer-accepted}
 use borrow.Author.Needs.{needs}
 use Rattle.engine.proofs.connect.connect_answer.Statement.{statement}
@@ -19,8 +20,8 @@ returns c =
     let s = c .before .before in
     let i = s .before .before in
     let b = i .before in
-    let k = b .before .before .before .before .before .args in
-    answer-declined (k .e) (k .code) (k .header-bytes .now) (k .packet .now) (k .headers .now) (k .reply .now) _ (b .is-success .ensures)
+    let k = b .before .before .before .before .before .before .args in
+    answer-declined (k .e) (k .tables .now) (k .code) (k .header-bytes .now) (k .packet .now) (k .headers .now) (k .reply .now) _ (b .is-success .ensures)
     (not-true (b .is-success .result) (i .if1 .taken)) _ (s .sends-connect .ensures)
 
 opens-requires : tie.Need-opens-requires
@@ -35,36 +36,42 @@ sends-connect-requires-2 c κs = search needs
 same-length-2 : tie.Need-same-length-2
 same-length-2 c = search needs
 
+same-length-3 : tie.Need-same-length-3
+same-length-3 c = search needs
+
 returns-2 : tie.Need-returns-2
 returns-2 c =
     let s = c .before .before in
     let f = s .before .before .before in
-    let o = f .before .before in
-    let i = o .before in
+    let o = f .before .before .before .before in
+    let i = o .before .before in
     let b = i .before in
-    let k = b .before .before .before .before .before .args in
-    answer-full (k .e) (k .code) (k .header-bytes .now) (k .packet .now) (k .headers .now) (k .reply .now) _ (b .is-success .ensures)
-    (not-false (b .is-success .result) (i .if1 .left)) (o .opens .result) (o .opens .ensures) (f .if2 .taken) _ (s .sends-connect2 .ensures)
+    let k = b .before .before .before .before .before .before .args in
+    answer-full (k .e) (k .tables .now) (k .code) (k .header-bytes .now) (k .packet .now) (k .headers .now) (k .reply .now) _ (b .is-success .ensures)
+    (not-false (b .is-success .result) (i .if1 .left)) (answers (o .opens .result) _) (o .opens .ensures) (f .if2 .taken) _ (s .sends-connect2 .ensures)
 
 accepted-requires : tie.Need-accepted-requires
 accepted-requires c κs = search needs
 
-same-length-3 : tie.Need-same-length-3
-same-length-3 c = search needs
-
 same-length-4 : tie.Need-same-length-4
 same-length-4 c = search needs
+
+same-length-5 : tie.Need-same-length-5
+same-length-5 c = search needs
+
+same-length-6 : tie.Need-same-length-6
+same-length-6 c = search needs
 
 returns-3 : tie.Need-returns-3
 returns-3 c =
     let s = c .before .before .before .before in
     let f = s .before .before .before in
-    let o = f .before .before in
-    let i = o .before in
+    let o = f .before .before .before .before in
+    let i = o .before .before in
     let b = i .before in
-    let k = b .before .before .before .before .before .args in
-    answer-accepted (k .e) (k .code) (k .header-bytes .now) (k .packet .now) (k .headers .now) (k .reply .now) _ (b .is-success .ensures)
-    (not-false (b .is-success .result) (i .if1 .left)) (o .opens .result) (o .opens .ensures) (f .if2 .left) _ (s .accepted .ensures)
+    let k = b .before .before .before .before .before .before .args in
+    answer-accepted (k .e) (k .tables .now) (k .code) (k .header-bytes .now) (k .packet .now) (k .headers .now) (k .reply .now) _ (b .is-success .ensures)
+    (not-false (b .is-success .result) (i .if1 .left)) (answers (o .opens .result) _) (o .opens .ensures) (f .if2 .left) _ (s .accepted .ensures)
 
 pub connect-answer-spec : {M : Type 1} → statement M
 connect-answer-spec =
@@ -78,8 +85,10 @@ connect-answer-spec =
     slice-aggregate-sends-connect
     sends-connect-requires-2
     same-length-2
+    same-length-3
     returns-2
     accepted-requires
-    same-length-3
     same-length-4
+    same-length-5
+    same-length-6
     returns-3)

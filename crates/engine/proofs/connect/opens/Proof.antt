@@ -1,4 +1,5 @@
 -- `engine::connect::opens` meets its contract: each part is what the definition asks for. Assumes nothing.
+use mathlib.Core.Path.{_∙_}
 use Rattle.engine.specs.Connect.{answerFor}
 use borrow.Author.Needs.{needs}
 use Rattle.engine.proofs.connect.opens.Statement.{statement}
@@ -16,11 +17,23 @@ has-target-requires c κs = search needs
 opened-for-requires : tie.Need-opened-for-requires
 opened-for-requires c κs = search needs
 
+same-length : tie.Need-same-length
+same-length c = search needs
+
 returns : tie.Need-returns
 unfolding answerFor
-returns c = simp (c .opened-for .ensures, c .before .has-target .ensures, c .before .before .first-id .ensures, c .before .before .before .srm-after .ensures)
+returns c =
+    let o = c .before .before in
+    let t = o .before .before in
+    o .opened-for .ensures ∙ simp (t .has-target .ensures, t .before .first-id .ensures, t .before .before .srm-after .ensures)
 
 pub opens-spec : {M : Type 1} → statement M
 opens-spec =
     tie.close
-    (tie.spec srm-after-requires first-id-requires has-target-requires opened-for-requires returns)
+    (tie.spec
+    srm-after-requires
+    first-id-requires
+    has-target-requires
+    opened-for-requires
+    same-length
+    returns)

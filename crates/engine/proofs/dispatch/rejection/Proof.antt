@@ -1,7 +1,5 @@
 -- `engine::dispatch::rejection` meets its contract: the tests of the code are those of the definition. Assumes nothing.
-use mathlib.Core.Path.{_≡_, _∙_, sym}
-use native.Mathlib.Omega.{arith}
-use lib.ListN.{length}
+use mathlib.Core.Path.{_∙_, sym}
 use Rattle.model.specs.Dispatch.{rejection}
 use borrow.Author.Needs.{needs}
 use Rattle.engine.proofs.dispatch.rejection.Statement.{statement}
@@ -14,35 +12,21 @@ returns : tie.Need-returns
 unfolding rejection
 returns c = simp (sym (c .before .is-unauthorized .ensures) ∙ c .if1 .taken)
 
-slice-aggregate-is-open : tie.Need-slice-aggregate-is-open
-slice-aggregate-is-open c = search needs
-
-is-open-requires : tie.Need-is-open-requires
-is-open-requires c κs = let e : 64 ≡ length (c .before .before .before .before .before .args .e .peer .connections) = slice-aggregate-is-open c in
-    (omega arith, omega arith)
-
 returns-2 : tie.Need-returns-2
 unfolding rejection
-returns-2 c = let u = c .before .before .before .before .before in
-    simp (sym (u .before .is-unauthorized .ensures) ∙ u .if1 .left, c .before .before .before .before .if2 .taken, sym (c .before .is-open .ensures) ∙ c .if3 .taken)
+returns-2 c =
+    let u = c .before .before in
+    simp (sym (u .before .is-unauthorized .ensures) ∙ u .if1 .left, c .before .if2 .taken, c .if3 .taken)
 
 returns-3 : tie.Need-returns-3
 unfolding rejection
-returns-3 c = let u = c .before .before .before .before .before in
-    simp (sym (u .before .is-unauthorized .ensures) ∙ u .if1 .left, c .before .before .before .before .if2 .taken, sym (c .before .is-open .ensures) ∙ c .if3 .left)
+returns-3 c =
+    let u = c .before .before in
+    simp (sym (u .before .is-unauthorized .ensures) ∙ u .if1 .left, c .before .if2 .taken, c .if3 .left)
 
 returns-4 : tie.Need-returns-4
 unfolding rejection
 returns-4 c = simp (sym (c .before .before .is-unauthorized .ensures) ∙ c .before .if1 .left, c .if2 .left)
 
 pub rejection-spec : {M : Type 1} → statement M
-rejection-spec =
-    tie.close
-    (tie.spec
-    is-unauthorized-requires
-    returns
-    slice-aggregate-is-open
-    is-open-requires
-    returns-2
-    returns-3
-    returns-4)
+rejection-spec = tie.close (tie.spec is-unauthorized-requires returns returns-2 returns-3 returns-4)

@@ -1,22 +1,24 @@
--- `host::answers::answer` meets its contract. Each arm makes the call of its kind, and the kind is that of the call that is due. Assumes nothing.
+-- `host::answers::answer` meets its contract. Each arm makes the call of its kind, and the kind is that of the call that is due. A call that is not
+-- lent the tables leaves them. Assumes nothing.
 use borrow.Author.Needs.{needs}
 use mathlib.Core.Path.{_≡_, sym, ap, _∙_}
 use Rattle.journal.specs.Calls.{Call}
-use Rattle.model.specs.Step.{Stores, Stepped, stores}
-use Rattle.server.specs.declared.Engine.{Engine}
-use Rattle.server.specs.declared.HostRequest.{HostRequest}
+use Rattle.model.specs.Step.{Stores, Stepped, Called, called, stores}
 use Rattle.host.specs.Answers.{callFor, callBy, answered}
 use Rattle.host.specs.declared.answers.Kind.{Kind}
 use Rattle.host.specs.declared.answers.Kind.the-variants as kind
 use Rattle.host.proofs.answers.answer.Statement.{statement}
 use Rattle.host.proofs.answers.answer.Tie as tie
 
--- the stores that are lent
-abbrev lent : tie.Start → Stores
-lent a = stores (a .args .packet .now) (a .args .headers .now) (a .args .body .now) (a .args .reply .now)
+-- What the engine does with a call, at the state and the stores that are lent.
+abbrev answeredAt : tie.Start → Call → Called
+answeredAt a c =
+    answered c (a .args .e)
+    (stores (a .args .packet .now) (a .args .headers .now) (a .args .body .now) (a .args .reply .now)) (a .args .tables .now)
 
-due : (k x : Kind) (q : HostRequest) (e : Engine) (s : Stores) (m : Stepped) → callBy k ≡ callFor q → k ≡ x → m ≡ answered (callBy x) e s → m ≡ answered (callFor q) e s
-due k x q e s m h i w = w ∙ ap (λ (c : Call). answered c e s) (ap callBy (sym i) ∙ h)
+-- The kind `k` is that of the request, and an arm `x` makes its own kind's call.
+due : (a : tie.Start) (k x : Kind) (m : Called) → callBy k ≡ callFor (a .args .request) → k ≡ x → m ≡ answeredAt a (callBy x) → m ≡ answeredAt a (callFor (a .args .request))
+due a k x m h i w = w ∙ ap (answeredAt a) (ap callBy (sym i) ∙ h)
 
 kind-of-requires : tie.Need-kind-of-requires
 kind-of-requires c κs = search needs
@@ -63,90 +65,25 @@ enum-told-4 c = search needs
 body-failed-requires : tie.Need-body-failed-requires
 body-failed-requires c κs = search needs
 
-same-length : tie.Need-same-length
-same-length c = search needs
-
-same-length-2 : tie.Need-same-length-2
-same-length-2 c = search needs
-
-same-length-3 : tie.Need-same-length-3
-same-length-3 c = search needs
-
-same-length-4 : tie.Need-same-length-4
-same-length-4 c = search needs
-
 returns : tie.Need-returns
 returns c =
-    let a = c .before .before .before .before .before .before .before .before .before .before .before .before .before .before .before .before .before .before .before .before .before .before in
-    due (c .before .before .before .before .before .before .before .before .before .before .before .before .before .before .before .before .before .kind-of .result) (kind.Reply _) (a .args .request) (a .args .e) (lent a) _ (c .before .before .before .before .before .before .before .before .before .before .before .before .before .before .before .before .before .kind-of .ensures) (c .before .before .before .before .before .before .before .before .before .before .before .before .before .before .before .code .given .1) (c .before .before .before .before .before .before .before .before .reply-given .ensures)
-
-same-length-5 : tie.Need-same-length-5
-same-length-5 c = search needs
-
-same-length-6 : tie.Need-same-length-6
-same-length-6 c = search needs
-
-same-length-7 : tie.Need-same-length-7
-same-length-7 c = search needs
-
-same-length-8 : tie.Need-same-length-8
-same-length-8 c = search needs
+    due (c .before .before .before .before .before .before .before .before .before .before .before) (c .before .before .before .before .before .before .before .before .before .before .kind-of .result) (kind.Reply _) _ (c .before .before .before .before .before .before .before .before .before .before .kind-of .ensures) (c .before .before .before .before .before .before .before .before .code .given .1) (c .reply-given .ensures)
 
 returns-2 : tie.Need-returns-2
 returns-2 c =
-    let a = c .before .before .before .before .before .before .before .before .before .before .before .before .before .before .before .before .before .before .before .before in
-    due (c .before .before .before .before .before .before .before .before .before .before .before .before .before .before .before .kind-of .result) (kind.Acknowledge) (a .args .request) (a .args .e) (lent a) _ (c .before .before .before .before .before .before .before .before .before .before .before .before .before .before .before .kind-of .ensures) (c .before .before .before .before .before .before .before .before .before .before .before .before .before .enum-told .given .1) (c .before .before .before .before .before .before .before .before .abort-acknowledged .ensures)
-
-same-length-9 : tie.Need-same-length-9
-same-length-9 c = search needs
-
-same-length-10 : tie.Need-same-length-10
-same-length-10 c = search needs
-
-same-length-11 : tie.Need-same-length-11
-same-length-11 c = search needs
-
-same-length-12 : tie.Need-same-length-12
-same-length-12 c = search needs
+    due (c .before .before .before .before .before .before .before .before) (c .before .before .before .before .before .before .before .kind-of .result) (kind.Acknowledge) _ (c .before .before .before .before .before .before .before .kind-of .ensures) (c .before .before .before .before .before .enum-told .given .1) (ap (λ (m : Stepped). called m (c .before .before .before .before .before .before .before .before .args .tables .now)) (c .abort-acknowledged .ensures))
 
 returns-3 : tie.Need-returns-3
 returns-3 c =
-    let a = c .before .before .before .before .before .before .before .before .before .before .before .before .before .before .before .before .before .before .before .before .before in
-    due (c .before .before .before .before .before .before .before .before .before .before .before .before .before .before .before .before .kind-of .result) (kind.NoPassword) (a .args .request) (a .args .e) (lent a) _ (c .before .before .before .before .before .before .before .before .before .before .before .before .before .before .before .before .kind-of .ensures) (c .before .before .before .before .before .before .before .before .before .before .before .before .before .before .enum-told2 .given .1) (c .before .before .before .before .before .before .before .before .password-given .ensures)
-
-same-length-13 : tie.Need-same-length-13
-same-length-13 c = search needs
-
-same-length-14 : tie.Need-same-length-14
-same-length-14 c = search needs
-
-same-length-15 : tie.Need-same-length-15
-same-length-15 c = search needs
-
-same-length-16 : tie.Need-same-length-16
-same-length-16 c = search needs
+    due (c .before .before .before .before .before .before .before .before .before) (c .before .before .before .before .before .before .before .before .kind-of .result) (kind.NoPassword) _ (c .before .before .before .before .before .before .before .before .kind-of .ensures) (c .before .before .before .before .before .before .enum-told2 .given .1) (ap (λ (m : Stepped). called m (c .before .before .before .before .before .before .before .before .before .args .tables .now)) (c .password-given .ensures))
 
 returns-4 : tie.Need-returns-4
 returns-4 c =
-    let a = c .before .before .before .before .before .before .before .before .before .before .before .before .before .before .before .before .before .before .before .before .before .before in
-    due (c .before .before .before .before .before .before .before .before .before .before .before .before .before .before .before .before .before .kind-of .result) (kind.NoCredentials) (a .args .request) (a .args .e) (lent a) _ (c .before .before .before .before .before .before .before .before .before .before .before .before .before .before .before .before .before .kind-of .ensures) (c .before .before .before .before .before .before .before .before .before .before .before .before .before .before .before .enum-told3 .given .1) (c .before .before .before .before .before .before .before .before .credentials-given .ensures)
-
-same-length-17 : tie.Need-same-length-17
-same-length-17 c = search needs
-
-same-length-18 : tie.Need-same-length-18
-same-length-18 c = search needs
-
-same-length-19 : tie.Need-same-length-19
-same-length-19 c = search needs
-
-same-length-20 : tie.Need-same-length-20
-same-length-20 c = search needs
+    due (c .before .before .before .before .before .before .before .before .before .before) (c .before .before .before .before .before .before .before .before .before .kind-of .result) (kind.NoCredentials) _ (c .before .before .before .before .before .before .before .before .before .kind-of .ensures) (c .before .before .before .before .before .before .before .enum-told3 .given .1) (ap (λ (m : Stepped). called m (c .before .before .before .before .before .before .before .before .before .before .args .tables .now)) (c .credentials-given .ensures))
 
 returns-5 : tie.Need-returns-5
 returns-5 c =
-    let a = c .before .before .before .before .before .before .before .before .before .before .before .before .before .before .before .before .before .before .before .before in
-    due (c .before .before .before .before .before .before .before .before .before .before .before .before .before .before .before .kind-of .result) (kind.Never) (a .args .request) (a .args .e) (lent a) _ (c .before .before .before .before .before .before .before .before .before .before .before .before .before .before .before .kind-of .ensures) (c .before .before .before .before .before .before .before .before .before .before .before .before .before .enum-told4 .given .1) (c .before .before .before .before .before .before .before .before .body-failed .ensures)
+    due (c .before .before .before .before .before .before .before .before) (c .before .before .before .before .before .before .before .kind-of .result) (kind.Never) _ (c .before .before .before .before .before .before .before .kind-of .ensures) (c .before .before .before .before .before .enum-told4 .given .1) (ap (λ (m : Stepped). called m (c .before .before .before .before .before .before .before .before .args .tables .now)) (c .body-failed .ensures))
 
 pub answer-spec : {M : Type 1} → statement M
 answer-spec =
@@ -167,28 +104,8 @@ answer-spec =
     credentials-given-requires
     enum-told-4
     body-failed-requires
-    same-length
-    same-length-2
-    same-length-3
-    same-length-4
     returns
-    same-length-5
-    same-length-6
-    same-length-7
-    same-length-8
     returns-2
-    same-length-9
-    same-length-10
-    same-length-11
-    same-length-12
     returns-3
-    same-length-13
-    same-length-14
-    same-length-15
-    same-length-16
     returns-4
-    same-length-17
-    same-length-18
-    same-length-19
-    same-length-20
     returns-5)

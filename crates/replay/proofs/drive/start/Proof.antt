@@ -1,4 +1,4 @@
--- replay::drive::start meets its contract. Lending keeps a store's length. Assumes nothing.
+-- `replay::drive::start` meets its contract. Lending keeps a store's length. Assumes nothing.
 use borrow.Author.Needs.{needs}
 use native.Mathlib.Omega.{arith}
 use Rattle.replay.proofs.drive.start.Statement.{statement}
@@ -17,16 +17,19 @@ start-requires : tie.Need-start-requires
 start-requires c κs = search needs
 
 same-length : tie.Need-same-length
-same-length c = let k = c .before .before .before .before .before .before .before in let h = k .before .before .before .before .before .before .before .before .before .before .before .before .before .before in omega (arith, k .packet2 .given, h .packet .given)
+same-length c = omega (arith, c .before .before .before .before .before .before .before .before .before .before .before .before .before .before .before .before .before .before .before .before .before .before .before .before .tables .given)
 
 same-length-2 : tie.Need-same-length-2
-same-length-2 c = search needs
+same-length-2 c = omega (arith, c .before .before .before .before .before .before .before .packet2 .given, c .before .before .before .before .before .before .before .before .before .before .before .before .before .before .before .before .before .before .before .before .before .before .packet .given)
 
 same-length-3 : tie.Need-same-length-3
-same-length-3 c = search needs
+same-length-3 c = omega (arith, c .before .before .before .before .before .headers2 .given, c .before .before .before .before .before .before .before .before .before .before .before .before .before .before .before .before .before .before .before .before .headers .given)
 
 same-length-4 : tie.Need-same-length-4
 same-length-4 c = search needs
+
+same-length-5 : tie.Need-same-length-5
+same-length-5 c = search needs
 
 returns : tie.Need-returns
 returns c = search needs
@@ -43,4 +46,5 @@ start-spec =
     same-length-2
     same-length-3
     same-length-4
+    same-length-5
     returns)
