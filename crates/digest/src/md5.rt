@@ -1,5 +1,5 @@
-// MD5 (RFC 1321), and OBEX's request digest, which IrOBEX 1.5 mandates (section 3.6.3). MD5 is not collision resistant: nothing but what
-// the standard requires may use this module.
+// MD5 (RFC 1321), and OBEX's request digest, which IrOBEX 1.5 mandates (section 3.6.3). MD5 is not collision resistant: beside what the
+// standard requires only a check that finds damage may use this module, as the archive's blocks do, and never a seal.
 ghost use mathlib.Core.Path.{_≡_};
 ghost use mathlib.Core.List.{_++_};
 ghost use Prim.Native.Nat.{_+_, _-_, _*_, _/_, _%_, _^_, _<_, _≤_, min, max};

@@ -8,6 +8,7 @@ use native.Mathlib.Omega.{arith}
 use lib.ListN.{length, getD, take, drop, length-drop}
 use lib.Seq.{length-take-le, getD-take, getD-drop}
 use lib.Dec.{eqb, ltb}
+use lib.Bits.{bitOr, bitXor, or-add-and, or-comm, xor-add-and, xor-self, and-le-l, and-le-r}
 use borrow.Author.Tests.{ne-eqb, eqb-true, eqb-false, lt-ltb, ltb-true, ltb-false}
 use Rattle.base.specs.Pick.{pick}
 use Rattle.digest.specs.Md5.{octets16, numbers16, requestDigest}
@@ -274,6 +275,39 @@ octets-by a b p q r s false y true f g e =
 pub octets-same : (a b : Octets16) → a .first < 2 ^ 64 → a .second < 2 ^ 64 → b .first < 2 ^ 64 → b .second < 2 ^ 64
     → same (octets16 a) (octets16 b) ≡ (eqb (a .first) (b .first) && eqb (a .second) (b .second))
 octets-same a b p q r s = octets-by a b p q r s (eqb (a .first) (b .first)) (eqb (a .second) (b .second)) (same (octets16 a) (octets16 b)) refl refl refl
+
+-- numbers of which no bit differs are equal: what two numbers have in common is at most each of them, and here it is half of their sum
+xor-none : (a b : ℕ) → bitXor a b ≡ 0 → a ≡ b
+xor-none a b e =
+    let sum = xor-add-and a b in
+    let left = and-le-l a b in
+    let right = and-le-r a b in
+    omega arith
+
+-- no bit of either number is set if none of the two together is
+or-none-l : (a b : ℕ) → bitOr a b ≡ 0 → a ≡ 0
+or-none-l a b e =
+    let sum = or-add-and a b in
+    let right = and-le-r a b in
+    omega arith
+
+or-none-r : (a b : ℕ) → bitOr a b ≡ 0 → b ≡ 0
+or-none-r a b e = or-none-l b a (or-comm b a ∙ e)
+
+-- the differences of two pairs of numbers, taken together, are none exactly if both pairs are equal
+pub differ-none : (a b c d : ℕ) → eqb (bitOr (bitXor a b) (bitXor c d)) 0 ≡ (eqb a b && eqb c d)
+differ-none a b c d = by (eqb a b) (eqb c d) (eqb (bitOr (bitXor a b) (bitXor c d)) 0) refl refl refl
+  where
+    by : (x y z : Bool) → eqb a b ≡ x → eqb c d ≡ y → eqb (bitOr (bitXor a b) (bitXor c d)) 0 ≡ z → z ≡ (x && y)
+    by true true true p q r = refl
+    by true true false p q r =
+        absurd (eqb-false (bitOr (bitXor a b) (bitXor c d)) 0 r (rw (eqb-true a b p, eqb-true c d q, xor-self b, xor-self d)))
+    by true false false p q r = refl
+    by true false true p q r =
+        absurd (eqb-false c d q (xor-none c d (or-none-r (bitXor a b) (bitXor c d) (eqb-true (bitOr (bitXor a b) (bitXor c d)) 0 r))))
+    by false y false p q r = refl
+    by false y true p q r =
+        absurd (eqb-false a b p (xor-none a b (or-none-l (bitXor a b) (bitXor c d) (eqb-true (bitOr (bitXor a b) (bitXor c d)) 0 r))))
 
 -- a digest's value has the digest's bytes
 pub octets-request : (n p : List ℕ) → octets16 (numbers16 (requestDigest n p)) ≡ requestDigest n p

@@ -189,14 +189,12 @@ pub fn read_challenge(v: &[u8]) -> DigestChallenge
     }
 }
 
-// Tells whether `a` and `b` are the same sixteen bytes.
+// Tells whether `a` and `b` are the same sixteen bytes. As in the source the comparison does not stop at the first difference, so that its
+// time does not tell a client how much of a digest was right.
 fn same_octets(a: Octets16, b: Octets16) -> bool
     ensures { λ r. ⌜ r ≡ same (octets16 a) (octets16 b) ⌝ }
 {
-    if a.first != b.first {
-        return false;
-    }
-    a.second == b.second
+    ((a.first ^ b.first) | (a.second ^ b.second)) == 0
 }
 
 // Tells whether a response that names `named` answers the challenge with `nonce`, as it does if it names that nonce or none.
