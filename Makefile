@@ -4,7 +4,7 @@
 help:
 	@echo 'command        what it does                                                            needs                  about'
 	@echo 'make run       proves the bench and plays a session through the engine, line by line   Rattle (rt)            9 minutes, then at once'
-	@echo 'make test      the gate: proves all from nothing, refuses wrong programs, runs all     Rattle                 29 minutes'
+	@echo 'make test      the gate: proves all from nothing, refuses wrong programs, runs all     Rattle                 30 minutes'
 	@echo 'make check     what needs no prover: trace, edits, contracts, stored sessions          python3                5 seconds'
 	@echo 'make serve     a server of the files in a folder: DIR=./served PORT=6500               Rattle, socat          10 minutes, then at once'
 	@echo 'make interop   stock clients put and get files at that server                          Rattle, root, Debian   11 minutes, then 1'
