@@ -805,14 +805,14 @@ fn verify(challenge: &[u8], response: &[u8], password: &[u8]) {
     };
     let DigestResponse::Response {
         digest,
-        user: _,
+        user,
         nonce: named,
     } = auth::read_response(response)
     else {
         put(b"unreadable");
         return;
     };
-    if auth::verify(nonce, digest, named, password) {
+    if auth::verify(nonce, digest, user, named, false, password) {
         put(b"true");
     } else {
         put(b"false");

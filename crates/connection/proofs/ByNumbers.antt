@@ -12,10 +12,11 @@ use Rattle.base.specs.Pick.{pick}
 use Rattle.digest.specs.Md5.{octets16, numbers16}
 use Rattle.digest.proofs.Octets.{are-bytes, octets-numbers}
 use Rattle.packet.specs.Tags.{Tag, Tags, unreadable, tagList, tags, lastValue}
-use Rattle.packet.specs.Auth.{Response, named16, responseFrom, responseIn, responseOf, verified}
+use Rattle.packet.specs.Auth.{Response, named16, responseFrom, responseIn, responseOf, matches, verified}
 use Rattle.packet.specs.AuthRead.{namedOf, bytesNamed, responseRead, readResponse}
 use Rattle.packet.proofs.HeaderBytes.{Octets}
 use Rattle.packet.proofs.TagWrites.{read-write}
+use Rattle.packet.proofs.AuthLaws.{filled-user}
 use Rattle.connection.specs.declared.peer.Challenge.{Challenge}
 use Rattle.connection.specs.declared.peer.Challenge.the-variants.{Stored, Absent}
 use Rattle.connection.specs.declared.peer.Peer.{Peer}
@@ -83,19 +84,20 @@ same-named (some l) g = ap some (same-bytes l g)
 
 -- ---- the check of a password, by the response's bytes
 
-abbrev pub checkBy : Challenge → Option Response → Option (List ℕ) → Bool
-checkBy Absent r p = false
-checkBy (Stored n) none p = false
-checkBy (Stored n) (some r) none = false
-checkBy (Stored n) (some r) (some p) = verified (octets16 n) r p
+abbrev pub checkBy : Challenge → Option Response → Bool → Option (List ℕ) → Bool
+checkBy Absent r d p = false
+checkBy (Stored n) none d p = false
+checkBy (Stored n) (some r) d none = false
+checkBy (Stored n) (some r) d (some p) = verified d (octets16 n) r p
 
-pub check-by : (ch : Challenge) (v : List ℕ) (p : Option (List ℕ)) → Octets v → checkOf ch (readResponse v) p ≡ checkBy ch (responseOf v) p
-unfolding readResponse verified
-check-by Absent v p o = refl
-check-by (Stored n) v p o = go p (responseOf v) refl
+pub check-by : (ch : Challenge) (v : List ℕ) (d : Bool) (p : Option (List ℕ)) → Octets v → checkOf ch (readResponse v) d p ≡ checkBy ch (responseOf v) d p
+unfolding readResponse verified matches
+check-by Absent v d p o = refl
+check-by (Stored n) v d p o = go p (responseOf v) refl
   where
-    go : (p : Option (List ℕ)) (r : Option Response) → responseOf v ≡ r → checkOf (Stored n) (responseRead r (lastValue v 1)) p ≡ checkBy (Stored n) r p
+    go : (p : Option (List ℕ)) (r : Option Response) → responseOf v ≡ r
+        → checkOf (Stored n) (responseRead r (lastValue v 1)) d p ≡ checkBy (Stored n) r d p
     go none none e = refl
     go (some p) none e = refl
     go none (some r) e = refl
-    go (some p) (some r) e = let w = whole v r o e in rw (same-bytes (r .digest) (w .0), same-named (r .nonce) (w .1))
+    go (some p) (some r) e = let w = whole v r o e in rw (filled-user v r e, same-bytes (r .digest) (w .0), same-named (r .nonce) (w .1))

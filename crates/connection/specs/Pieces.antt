@@ -103,12 +103,13 @@ cutAt Missing s = endOf (headerAt s 0)
 
 -- ---- the check of a password
 
--- The check of a password (verify_client): without a stored challenge, a readable response or a password it fails.
-abbrev pub checkOf : Challenge → DigestResponse → Option (List ℕ) → Bool
-checkOf Absent r p = false
-checkOf (Stored n) response.Unreadable p = false
-checkOf (Stored n) (response.Response d u m) none = false
-checkOf (Stored n) (response.Response d u m) (some p) = verifies n d m p
+-- The check of a password (verify_client): without a stored challenge, a readable response or a password it fails, and without a user id if
+-- the server `demands` one.
+abbrev pub checkOf : Challenge → DigestResponse → Bool → Option (List ℕ) → Bool
+checkOf Absent r demands p = false
+checkOf (Stored n) response.Unreadable demands p = false
+checkOf (Stored n) (response.Response d u m) demands none = false
+checkOf (Stored n) (response.Response d u m) demands (some p) = verifies n d u m demands p
 
 -- ---- the bytes
 

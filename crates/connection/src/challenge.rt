@@ -107,21 +107,23 @@ pub fn nonce_for(packet: &[u8], from: usize, has_credentials: bool) -> Named
     Named::Nonce(nonce)
 }
 
-// Tells whether the password is right for the stored challenge and the client's response (the source's verify_client).
+// Tells whether the password is right for the stored challenge and the client's response (the source's verify_client). If the server
+// `demands` a user id, a response without one fails (docs/PROTOCOL.md#digest).
 pub fn verify_client(
     stored: Challenge,
     found: DigestResponse,
+    demands: bool,
     has_password: bool,
     password: &[u8],
 ) -> bool
-    ensures { λ r. ⌜ r ≡ checkOf stored found (given «has_password» (now (password .entry))) ⌝ }
+    ensures { λ r. ⌜ r ≡ checkOf stored found demands (given «has_password» (now (password .entry))) ⌝ }
 {
     let Challenge::Stored(nonce) = stored else {
         return false;
     };
     let DigestResponse::Response {
         digest,
-        user: _,
+        user,
         nonce: named,
     } = found
     else {
@@ -130,5 +132,5 @@ pub fn verify_client(
     if !has_password {
         return false;
     }
-    verify(nonce, digest, named, password)
+    verify(nonce, digest, user, named, demands, password)
 }

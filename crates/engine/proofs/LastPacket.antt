@@ -40,7 +40,7 @@ use Rattle.connection.proofs.Challenges.{first-in-bytes}
 use Rattle.connection.proofs.ByNumbers.{checkBy, check-by}
 use Rattle.model.specs.Step.{Stores, stepped, after}
 use Rattle.model.specs.Guard.{guarded}
-use Rattle.model.specs.Connect.{passwordAnswer, checks}
+use Rattle.model.specs.Connect.{passwordAnswer, demandsUser, checks}
 use Rattle.model.specs.Request.{clientResponse, lastHeaders, lastPacket}
 use Rattle.engine.specs.Step.{asksPlan, tookBy}
 use Rattle.engine.specs.Connect.{passwordPlan}
@@ -128,40 +128,41 @@ given-missing id q e = ap (λ (v : Option (List ℕ)). isGiven v) (first-value i
 
 -- ---- the password's check
 
-same-check : (ch : Challenge) (r : Option Response) (p : Option (List ℕ)) → checkBy ch r p ≡ checks ch r p
-same-check Absent r p = refl
-same-check (Stored n) none p = refl
-same-check (Stored n) (some r) none = refl
-same-check (Stored n) (some r) (some p) = refl
+same-check : (ch : Challenge) (r : Option Response) (d : Bool) (p : Option (List ℕ)) → checkBy ch r d p ≡ checks ch r d p
+same-check Absent r d p = refl
+same-check (Stored n) none d p = refl
+same-check (Stored n) (some r) d none = refl
+same-check (Stored n) (some r) d (some p) = refl
 
 octets-drop : (n : ℕ) (l : List ℕ) → Octets l → Octets (drop n l)
 octets-drop n l o k = rw (getD-drop n l k 0) (o (n + k))
 
-pub right-missing : (ch : Challenge) (q : List ℕ) (p : Option (List ℕ)) → firstIn 0x4E q (lastFrom q) ≡ place.Missing
-    → false ≡ checks ch (responseIn (first 0x4E (headersIn (requestOf q)))) p
-right-missing ch q p e = simp (sym (first-value 0x4E q place.Missing e)) (go ch)
+pub right-missing : (ch : Challenge) (q : List ℕ) (d : Bool) (p : Option (List ℕ)) → firstIn 0x4E q (lastFrom q) ≡ place.Missing
+    → false ≡ checks ch (responseIn (first 0x4E (headersIn (requestOf q)))) d p
+right-missing ch q d p e = simp (sym (first-value 0x4E q place.Missing e)) (go ch)
   where
-    go : (ch : Challenge) → false ≡ checks ch none p
+    go : (ch : Challenge) → false ≡ checks ch none d p
     go Absent = refl
     go (Stored n) = refl
 
-pub right-at : (ch : Challenge) (q : List ℕ) (p : Option (List ℕ)) (a b : ℕ) → Octets q → firstIn 0x4E q (lastFrom q) ≡ place.At a b
-    → checkOf ch (readResponse (part q a b)) p ≡ checks ch (responseIn (first 0x4E (headersIn (requestOf q)))) p
-right-at ch q p a b o e =
-    check-by ch (part q a b) p (octets-take (drop a q) (b - a) (octets-drop a q o)) ∙ same-check ch (responseOf (part q a b)) p
-    ∙ ap (λ (v : Option (List ℕ)). checks ch (responseIn v) p) (first-value 0x4E q (place.At a b) e)
+pub right-at : (ch : Challenge) (q : List ℕ) (d : Bool) (p : Option (List ℕ)) (a b : ℕ) → Octets q → firstIn 0x4E q (lastFrom q) ≡ place.At a b
+    → checkOf ch (readResponse (part q a b)) d p ≡ checks ch (responseIn (first 0x4E (headersIn (requestOf q)))) d p
+right-at ch q d p a b o e =
+    check-by ch (part q a b) d p (octets-take (drop a q) (b - a) (octets-drop a q o)) ∙ same-check ch (responseOf (part q a b)) d p
+    ∙ ap (λ (v : Option (List ℕ)). checks ch (responseIn v) d p) (first-value 0x4E q (place.At a b) e)
 
 pub found-last : (id : ℕ) (q : List ℕ) (n : ℕ) (f v : Found) → n ≡ lastFrom q → f ≡ firstIn id q n → f ≡ v → firstIn id q (lastFrom q) ≡ v
 found-last id q n f v h k e = ap (λ (m : ℕ). firstIn id q m) (sym h) ∙ sym k ∙ e
 
-pub password-call : (e : Engine) (s : Stores) (r : CallResult) (x : Plan) (t : Bool) (p : Option (List ℕ)) → Goes kind.PasswordGiven e s → r ≡ tookBy x → x ≡ passwordPlan e t
-    → t ≡ checks (e .peer .challenge) (responseIn (first 0x4E (headersIn (requestOf (take (e .length) (s .packet)))))) p
+pub password-call : (e : Engine) (s : Stores) (r : CallResult) (x : Plan) (t d : Bool) (p : Option (List ℕ)) → Goes kind.PasswordGiven e s → r ≡ tookBy x → x ≡ passwordPlan e t
+    → d ≡ demandsUser (e .settings) → t ≡ checks (e .peer .challenge) (responseIn (first 0x4E (headersIn (requestOf (take (e .length) (s .packet)))))) d p
     → stepped r s ≡ guarded kind.PasswordGiven e s (after 0 (passwordAnswer e p s))
 unfolding passwordPlan passwordAnswer asksPlan clientResponse lastHeaders lastPacket
-password-call e s r x t p g h k c =
-    ap (λ (y : CallResult). stepped y s) (h ∙ ap (λ (y : Plan). tookBy y) k) ∙ by t c ∙ sym (g .whole (after 0 (passwordAnswer e p s)))
+password-call e s r x t d p g h k i c =
+    ap (λ (y : CallResult). stepped y s) (h ∙ ap (λ (y : Plan). tookBy y) k) ∙ by t (c ∙ ap (λ (y : Bool). checks (e .peer .challenge) (responseIn (first 0x4E (headersIn (requestOf (take (e .length) (s .packet)))))) y p) i)
+    ∙ sym (g .whole (after 0 (passwordAnswer e p s)))
   where
-    by : (t : Bool) → t ≡ checks (e .peer .challenge) (responseIn (first 0x4E (headersIn (requestOf (take (e .length) (s .packet)))))) p
+    by : (t : Bool) → t ≡ checks (e .peer .challenge) (responseIn (first 0x4E (headersIn (requestOf (take (e .length) (s .packet)))))) (demandsUser (e .settings)) p
         → stepped (tookBy (passwordPlan e t)) s ≡ after 0 (passwordAnswer e p s)
     by true c = simp (sym c)
     by false c = simp (sym c)

@@ -6,6 +6,7 @@ ghost use Rattle.packet.specs.AuthWrite.{given};
 ghost use Rattle.connection.specs.Pieces.{credentialsOf};
 use crate::connect::connect_answer;
 use crate::connect::connect_with_credentials;
+use crate::connect::demands_user;
 use crate::connect::handle_disconnect;
 use crate::connect::password_plan;
 use crate::connect::send_challenge;
@@ -383,7 +384,8 @@ pub fn password_given(
     let length = e.length;
     let peer = e.peer;
     let stored = peer.challenge;
-    let right = is_right(stored, &packet[..length], has_password, password);
+    let demands = demands_user(e.settings);
+    let right = is_right(stored, &packet[..length], demands, has_password, password);
     took(password_plan(e, right))
 }
 

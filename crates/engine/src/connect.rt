@@ -18,7 +18,7 @@ ghost use Rattle.digest.specs.Md5.{octets16};
 ghost use Rattle.connection.specs.Reply.{fieldsOf, sendBytes, sending, sentInto};
 ghost use Rattle.connection.specs.ConnectReply.{challengeHeader};
 ghost use Rattle.model.specs.Step.{limitOf};
-ghost use Rattle.model.specs.Connect.{optionsOf, realmOf};
+ghost use Rattle.model.specs.Connect.{demandsUser, optionsOf, realmOf};
 ghost use Rattle.model.specs.Guard.{soundOperation, longRealm};
 use crate::guard::refuse;
 use crate::guard::same_await;
@@ -357,6 +357,16 @@ pub(crate) fn handle_connect(e: Engine, p: &[u8]) -> Plan
 {
     let limit = connect_limit(p) as u16;
     limited_plan(e, limited(e.peer, limit), client_response(p))
+}
+
+// Tells whether a response must bring a user id: the settings say that one is required, and that a response without one fails.
+pub(crate) fn demands_user(settings: Settings) -> bool
+    ensures { λ r. ⌜ r ≡ demandsUser settings ⌝ }
+{
+    if !settings.user_id_enforced {
+        return false;
+    }
+    settings.user_id_required
 }
 
 // If the password was right, asks the host whether it accepts the Connect. Otherwise asks it for a nonce, to challenge the client again.

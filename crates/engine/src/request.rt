@@ -67,9 +67,16 @@ pub(crate) fn is_enabling(q: &[u8]) -> bool
     v.enable
 }
 
-// Whether the password is right for the stored challenge and the first AuthenticateResponse of packet `q`.
-pub(crate) fn is_right(stored: Challenge, q: &[u8], has_password: bool, password: &[u8]) -> bool
-    ensures { λ r. ⌜ r ≡ checks stored (responseIn (first 0x4E (headersIn (requestOf (now (q .entry))))))
+// Whether the password is right for the stored challenge and the first AuthenticateResponse of packet `q`, which must bring a user id if the
+// server `demands` one.
+pub(crate) fn is_right(
+    stored: Challenge,
+    q: &[u8],
+    demands: bool,
+    has_password: bool,
+    password: &[u8],
+) -> bool
+    ensures { λ r. ⌜ r ≡ checks stored (responseIn (first 0x4E (headersIn (requestOf (now (q .entry)))))) demands
         (given «has_password» (now (password .entry))) ⌝ }
 {
     let Found::At { start, end } = first_in(q, last_from(q), AUTHENTICATE_RESPONSE) else {
@@ -78,6 +85,7 @@ pub(crate) fn is_right(stored: Challenge, q: &[u8], has_password: bool, password
     verify_client(
         stored,
         read_response(&q[start..end]),
+        demands,
         has_password,
         password,
     )

@@ -32,6 +32,8 @@ pub record Settings : Type 0 where
   pub limit : ℕ
   pub srm : Bool
   pub authentication : Bool
+  -- Whether a response must bring a user id.
+  pub demandsUser : Bool
 
 -- What Connect and Disconnect change: whether the password was given, the nonce of the challenge that was sent, the open ids, the id
 -- counter, and the session's SRM.
@@ -326,11 +328,11 @@ takenAt (gathering o k) j b = j
 takenAt draining j b = j
 
 -- The check of a response against the challenge: without a challenge, a readable response or a password it fails.
-abbrev pub passesWith : Option (List ℕ) → Option Response → Option (List ℕ) → Bool
-passesWith none r p = false
-passesWith (some n) none p = false
-passesWith (some n) (some r) none = false
-passesWith (some n) (some r) (some p) = verified n r p
+abbrev pub passesWith : Bool → Option (List ℕ) → Option Response → Option (List ℕ) → Bool
+passesWith demands none r p = false
+passesWith demands (some n) none p = false
+passesWith demands (some n) (some r) none = false
+passesWith demands (some n) (some r) (some p) = verified demands n r p
 
 -- The response that an AuthenticateResponse header carries.
 abbrev pub responseIn : Option (List ℕ) → Option Response
@@ -344,7 +346,8 @@ headersOf (some r) = r .headers
 
 -- The password is right: the check of the last packet's first AuthenticateResponse against the challenge.
 unfoldable pub passes : Journal → Option (List ℕ) → Bool
-passes j p = passesWith (j .standing .challenge) (responseIn (first header-id.authenticateResponse (headersOf (j .last)))) p
+passes j p =
+    passesWith (j .settings .demandsUser) (j .standing .challenge) (responseIn (first header-id.authenticateResponse (headersOf (j .last)))) p
 
 -- A right password is given from now on, and uses the challenge up.
 abbrev pub passwordChecked : Standing → Bool → Standing

@@ -26,7 +26,7 @@ use Rattle.connection.specs.declared.peer.Peer.{Peer}
 use Rattle.model.specs.Step.{Stores, withHeaders, doneTabled, asks, sent, sends, sendsConnect}
 use Rattle.model.specs.Request.{lastPacket, lastHeaders, clientResponse}
 use Rattle.model.specs.Calls.{sendsLinked}
-use Rattle.model.specs.Connect.{srmAsked, connectSends, frontFor, credentialsFor, connectChallenged, connectOpened, connectAnswer, checks, passwordAnswer, nonceAnswer}
+use Rattle.model.specs.Connect.{srmAsked, connectSends, frontFor, credentialsFor, connectChallenged, connectOpened, connectAnswer, demandsUser, checks, passwordAnswer, nonceAnswer}
 use Rattle.model.specs.Theorem.{settingsOf}
 use Rattle.server.specs.declared.Operation.the-variants.{Nothing, Connecting}
 use Rattle.connection.specs.declared.peer.ConnectionId.{ConnectionId}
@@ -61,11 +61,11 @@ module _ (ts : List ℕ) (e : Engine) (s : Stores) (p : Peer) (j : Journal) (w :
 -- ---- an answer about the last packet
 
 -- the check of the password
-checks-are : (c : Challenge) (r : Option Response) (p : Option (List ℕ)) → passesWith (challengeBytes c) r p ≡ checks c r p
-checks-are Absent r p = refl
-checks-are (Stored n) none p = refl
-checks-are (Stored n) (some r) none = refl
-checks-are (Stored n) (some r) (some p) = refl
+checks-are : (c : Challenge) (r : Option Response) (d : Bool) (p : Option (List ℕ)) → passesWith d (challengeBytes c) r p ≡ checks c r d p
+checks-are Absent r d p = refl
+checks-are (Stored n) none d p = refl
+checks-are (Stored n) (some r) d none = refl
+checks-are (Stored n) (some r) d (some p) = refl
 
 module _ (ts : List ℕ) (e : Engine) (s : Stores) (j : Journal) (o : Opcode) (w : AskedBy ts (e .settings) (e .peer) o (e .length) s j) where
   headers-are : w .request .headers ≡ lastHeaders e s
@@ -157,13 +157,14 @@ module _ (ts : List ℕ) (e : Engine) (s : Stores) (j : Journal) (o : Opcode) (w
 
   -- ---- the password and the nonce
 
-  passes-is : (p : Option (List ℕ)) → passes j p ≡ checks (e .peer .challenge) (clientResponse e s) p
+  passes-is : (p : Option (List ℕ)) → passes j p ≡ checks (e .peer .challenge) (clientResponse e s) (demandsUser (e .settings)) p
   unfolding passes clientResponse
   passes-is p =
-      ap₂ (λ (x : Standing) (y : Option Packet). passesWith (x .challenge) (responseIn (first 0x4E (headersOf y))) p)
+      ap₂ (λ (x : Standing) (y : Option Packet). passesWith (j .settings .demandsUser) (x .challenge) (responseIn (first 0x4E (headersOf y))) p)
       (w .held .fixed .standing) (w .last)
-      ∙ ap (λ (y : List Header). passesWith (challengeBytes (e .peer .challenge)) (responseIn (first 0x4E y)) p) headers-are
-      ∙ checks-are (e .peer .challenge) _ p
+      ∙ ap₂ (λ (d : Bool) (y : List Header). passesWith d (challengeBytes (e .peer .challenge)) (responseIn (first 0x4E y)) p)
+      (ap (λ (x : JournalSettings). x .demandsUser) (w .held .fixed .settings)) headers-are
+      ∙ checks-are (e .peer .challenge) _ _ p
 
   pub password-told : o ≡ op.Connect → (p : Option (List ℕ))
       → Told ts (passwordAnswer e p s) (unchanged (stands j (passwordChecked (j .standing) (passes j p))))
@@ -171,7 +172,7 @@ module _ (ts : List ℕ) (e : Engine) (s : Stores) (j : Journal) (o : Opcode) (w
   password-told c p =
       subst (λ (x : Standing). Told ts (passwordAnswer e p s) (unchanged (stands j x)))
       (sym (ap₂ (λ (x : Standing) (t : Bool). passwordChecked x t) (w .held .fixed .standing) (passes-is p)))
-      (go (checks (e .peer .challenge) (clientResponse e s) p))
+      (go (checks (e .peer .challenge) (clientResponse e s) (demandsUser (e .settings)) p))
     where
       still-asked : (q : Peer) (x : Standing) → x ≡ standingOf q ts → AskedBy ts (e .settings) q op.Connect (e .length) s (stands j x)
       still-asked q x i = subst (λ (y : Opcode). AskedBy ts (e .settings) q y (e .length) s (stands j x)) c (asked-stands q x i)

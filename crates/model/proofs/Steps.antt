@@ -40,7 +40,7 @@ use Rattle.model.specs.Step.{Stores, withReply, withHeaders, withGathere
 use Rattle.model.specs.Request.{lastPacket, lastHeaders, clientResponse, userPlace}
 use Rattle.model.specs.Operation.{nothingGathered, gathers, putBody, putContinues, putPacket, getContinues, getPacket, headersRequest, headersPacket}
 use Rattle.model.specs.Object.{sendsMade, sendsPacket, sendsNext}
-use Rattle.model.specs.Connect.{verifies, connectPacket, connectSends, frontFor, credentialsFor, connectChallenged, connectOpened, connectAnswer, checks, passwordAnswer, nonceAnswer, srmAsked}
+use Rattle.model.specs.Connect.{verifies, connectPacket, connectSends, frontFor, credentialsFor, connectChallenged, connectOpened, connectAnswer, demandsUser, checks, passwordAnswer, nonceAnswer, srmAsked}
 use Rattle.model.specs.Dispatch.{Rejection, admits, rejects, rejection, knownIn, drains, dispatches, admittedAs, dispatch, interrupts, inside, busy, readAs}
 use Rattle.model.specs.Guard.{soundGathered, soundOutgoing, soundOperation, sameAwait}
 use Rattle.model.specs.Calls.{replyAnswer}
@@ -300,7 +300,7 @@ module _ (e : Engine) (s : Stores) (h : Base e s) where
   pub password-fine : (p : Option (List ℕ)) → Fine e (passwordAnswer e p s)
   unfolding passwordAnswer
   password-fine p =
-      fine-pick e (checks (e .peer .challenge) (clientResponse e s) p) _ _
+      fine-pick e (checks (e .peer .challenge) (clientResponse e s) (demandsUser (e .settings)) p) _ _
       (fine-asks e s h (verifiedPeer (e .peer)) await.Connect (request.Connect (e .length)) s (verified-fits (e .peer) (h .peer)) (h .room) refl refl)
       (fine-asks e s h (e .peer) await.Nonce request.Nonce s (h .peer) (h .room) refl refl)
 

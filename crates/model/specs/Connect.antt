@@ -93,19 +93,23 @@ connectAnswer e code hs s t =
     pick (isSuccess code) (connectOpened e t (openedFor (e .peer) t srm answer target) code (frontFor (e .peer) t answer target) hs s)
     (doneTabled (sendsConnect e (e .peer) code hs s) t)
 
--- Whether the client is verified: a challenge is stored, the response can be read, and its digest is that of the password (the source's
--- verify_client).
-abbrev pub checks : Challenge → Option Response → Option (List ℕ) → Bool
-checks Absent r p = false
-checks (Stored n) none p = false
-checks (Stored n) (some r) none = false
-checks (Stored n) (some r) (some p) = verified (octets16 n) r p
+-- Whether a response must bring a user id: the settings say that one is required, and that a response without one fails.
+abbrev pub demandsUser : Settings → Bool
+demandsUser st = st .«user_id_enforced» && st .«user_id_required»
+
+-- Whether the client is verified: a challenge is stored, the response can be read and brings a user id if the server `demands` one, and its
+-- digest is that of the password (the source's verify_client).
+abbrev pub checks : Challenge → Option Response → Bool → Option (List ℕ) → Bool
+checks Absent r demands p = false
+checks (Stored n) none demands p = false
+checks (Stored n) (some r) demands none = false
+checks (Stored n) (some r) demands (some p) = verified demands (octets16 n) r p
 
 -- The host's answer to the request for a password. If the client is verified, the host is asked about the Connect; otherwise for a nonce,
 -- to challenge the client again.
 unfoldable pub passwordAnswer : Engine → Option (List ℕ) → Stores → Done
 passwordAnswer e p s =
-    pick (checks (e .peer .challenge) (clientResponse e s) p)
+    pick (checks (e .peer .challenge) (clientResponse e s) (demandsUser (e .settings)) p)
     (asks e (verifiedPeer (e .peer)) Nothing await.Connect (request.Connect (e .length)) s)
     (asks e (e .peer) Nothing await.Nonce request.Nonce s)
 

@@ -3,6 +3,7 @@
 use Prim.Native.Nat.{ℕ, _≤_}
 use mathlib.Core.Path.{_≡_}
 use mathlib.Core.List.{List, [], _∷_}
+use mathlib.Core.Bool.{_&&_}
 use lib.ListN.{length}
 use Rattle.journal.specs.Calls.{Call, refused}
 use Rattle.journal.specs.Journal.{Settings as JournalSettings, journalRecords, fresh, packets, Marked, keptAfter}
@@ -13,7 +14,13 @@ use Rattle.server.specs.declared.Settings.{Settings}
 
 -- The settings that the journal keeps.
 abbrev pub settingsOf : Settings → JournalSettings
-settingsOf st = record { limit = st .«max_object_size»; srm = st .«srm_supported»; authentication = st .authentication }
+settingsOf st =
+    record {
+      limit = st .«max_object_size»;
+      srm = st .«srm_supported»;
+      authentication = st .authentication;
+      demandsUser = st .«user_id_enforced» && st .«user_id_required»;
+    }
 
 -- The one premise of the records theorem: kept headers stay within 65,535 bytes.
 abbrev pub Kept : List Marked → Type 0

@@ -9,7 +9,7 @@ use lib.ListN.{length, getD, take, drop, length-drop}
 use lib.Seq.{length-take-le, getD-take, getD-drop}
 use lib.Dec.{eqb, ltb}
 use lib.Bits.{bitOr, bitXor, or-add-and, or-comm, xor-add-and, xor-self, and-le-l, and-le-r}
-use borrow.Author.Tests.{ne-eqb, eqb-true, eqb-false, lt-ltb, ltb-true, ltb-false}
+use borrow.Author.Tests.{ne-eqb, eqb-true, eqb-false, lt-ltb, le-ltb, ltb-true, ltb-false}
 use Rattle.base.specs.Pick.{pick}
 use Rattle.digest.specs.Md5.{octets16, numbers16, requestDigest}
 use Rattle.digest.specs.declared.md5.Octets16.{Octets16}
@@ -23,8 +23,8 @@ use Rattle.packet.specs.declared.auth.DigestResponse.the-variants as res
 use Rattle.packet.specs.declared.auth.DigestChallenge.{DigestChallenge}
 use Rattle.packet.specs.declared.auth.DigestChallenge.the-variants as challenge
 use Rattle.packet.specs.Tags.{Tag, Tags, unreadable, tagList, push, tags, counts, lastValue, bytesAt, lastBytes, lastOf}
-use Rattle.packet.specs.Auth.{Response, Challenge, responseEnd, named16, responseFrom, responseIn, responseOf, challengeEnd, challengeFrom, challengeIn, challengeOf, realmPlace, userIdRequired, readOnly, same}
-use Rattle.packet.specs.AuthRead.{namedOf, responseRead, readResponse, challengeRead, readChallenge, sixteenOr, allSixteen, sixteenIn, sixteenAt, tagZero, optionsAt}
+use Rattle.packet.specs.Auth.{Response, Challenge, responseEnd, named16, responseFrom, responseIn, responseOf, challengeEnd, challengeFrom, challengeIn, challengeOf, realmPlace, userIdRequired, readOnly, same, matches, hasUser, verified}
+use Rattle.packet.specs.AuthRead.{namedOf, responseRead, readResponse, challengeRead, readChallenge, sixteenOr, allSixteen, sixteenIn, sixteenAt, tagZero, optionsAt, isFilled}
 use Rattle.packet.proofs.SameBytes.{same-self, same-equal}
 use Rattle.packet.proofs.TagLaws.{Here, value-length}
 use Rattle.packet.proofs.TagWrites.{Within, last-within, last-under-bytes}
@@ -181,6 +181,25 @@ user-in (tagList ts) a e =
 pub user-place : (v : List ℕ) (a : Response) → responseOf v ≡ some a → bytesAt v (lastValue v 1) ≡ a .user
 unfolding responseOf
 user-place v a e = last-bytes v 1 ∙ sym (user-in (tags v) a e)
+
+filled-bytes : (v : List ℕ) (f : Found) → Within v f → isFilled f ≡ hasUser (bytesAt v f)
+filled-bytes v place.Missing w = refl
+filled-bytes v (place.At b e) w =
+    let l : length (take (e - b) (drop b v)) ≡ e - b = length-take-le (e - b) (drop b v) (omega (arith, length-drop b v, w .0, w .1)) in
+    sym (ap (λ (m : ℕ). ltb 0 m) l ∙ filled-by (ltb b e) refl)
+  where
+    filled-by : (x : Bool) → ltb b e ≡ x → ltb 0 (e - b) ≡ x
+    filled-by true p = lt-ltb 0 (e - b) (let h = ltb-true b e p in omega arith)
+    filled-by false p = le-ltb 0 (e - b) (let h = ltb-false b e p in omega arith)
+
+-- the user id's place is filled exactly if the response has a user id that is not empty
+pub filled-user : (v : List ℕ) (a : Response) → responseOf v ≡ some a → isFilled (lastValue v 1) ≡ hasUser (a .user)
+filled-user v a e = filled-bytes v (lastValue v 1) (within v 1) ∙ ap hasUser (user-place v a e)
+
+-- if no user id is demanded, the check is the source's
+pub verified-off : (n : List ℕ) (r : Response) (p : List ℕ) → verified false n r p ≡ matches n r p
+unfolding verified
+verified-off n r p = refl
 
 -- ---- the challenge
 

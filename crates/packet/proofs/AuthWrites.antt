@@ -1,7 +1,7 @@
 -- The writers of digest authentication: what each of their steps leaves in the store, and that what is written reads back.
 -- Assumes nothing.
 use mathlib.Core.Path.{_≡_, refl, sym, ap, _∙_}
-use mathlib.Core.Bool.{Bool, true, false, _&&_}
+use mathlib.Core.Bool.{Bool, true, false, not, _&&_, _||_}
 use mathlib.Core.List.{List, [], _∷_, _++_, append-nil, append-assoc}
 use mathlib.Core.Option.{Option, none, some}
 use Prim.Native.Nat.{ℕ, suc, _+_, _≤_, _<_, _^_}
@@ -18,7 +18,7 @@ use Rattle.packet.specs.declared.auth.DigestResponse.{DigestResponse}
 use Rattle.packet.specs.declared.auth.DigestResponse.the-variants.{Response, Unreadable}
 use Rattle.packet.specs.declared.tlv.Wrote.{Wrote}
 use Rattle.packet.specs.Tags.{writeTag, writeTags, putTag, putting}
-use Rattle.packet.specs.Auth.{optionalTag, realmTag, userTag, challengeTags, answerTags, responseTags, responseFrom, responseOf, challengeFrom, challengeOf, userIdRequired, readOnly, verified}
+use Rattle.packet.specs.Auth.{optionalTag, realmTag, userTag, challengeTags, answerTags, responseTags, responseFrom, responseOf, challengeFrom, challengeOf, userIdRequired, readOnly, matches, hasUser}
 use Rattle.packet.specs.Placed.{laid}
 use Rattle.packet.specs.Flags.{flagBits}
 use Rattle.packet.specs.AuthRead.{readResponse, verifies}
@@ -26,7 +26,7 @@ use Rattle.packet.specs.AuthWrite.{given, overlong}
 use Rattle.packet.proofs.SameBytes.{same-self}
 use Rattle.packet.proofs.LowBits.{flags-read}
 use Rattle.packet.proofs.TagWrites.{write-read}
-use Rattle.packet.proofs.AuthLaws.{octets-request, length-request}
+use Rattle.packet.proofs.AuthLaws.{octets-request, length-request, filled-user}
 use Rattle.packet.proofs.Laid.{length-laid, laid-append, laid-nothing, three-laid, put-laid}
 
 -- ---- a tag that may be there
@@ -167,14 +167,15 @@ unfolding userIdRequired readOnly
 options-back a b = flags-read a b
 
 -- what a reader's answer is worth for a nonce and a password
-abbrev pub accepts : Octets16 → List ℕ → DigestResponse → Bool
-accepts n p Unreadable = false
-accepts n p (Response d user named) = verifies n d named p
+abbrev pub accepts : Octets16 → Bool → List ℕ → DigestResponse → Bool
+accepts n demands p Unreadable = false
+accepts n demands p (Response d user named) = verifies n d user named demands p
 
--- an answer to a nonce is right for that nonce and password
-pub accepted : (n : Octets16) (p : List ℕ) (user : Option (List ℕ)) → n .first < 2 ^ 64 → n .second < 2 ^ 64
-    → accepts n p (readResponse (writeTags (responseTags (octets16 n) user p))) ≡ true
-unfolding readResponse verified
-accepted n p user f s =
+-- an answer to a nonce is right for that nonce and password, with a user id if one is demanded
+pub accepted : (n : Octets16) (demands : Bool) (p : List ℕ) (user : Option (List ℕ)) → n .first < 2 ^ 64 → n .second < 2 ^ 64
+    → (not demands || hasUser user) ≡ true → accepts n demands p (readResponse (writeTags (responseTags (octets16 n) user p))) ≡ true
+unfolding readResponse matches
+accepted n demands p user f s h =
     let o = octets16 n in
-    rw (response-back o p user (length-octets16 n), numbers-octets n f s, octets-request o p, same-self o, same-self (requestDigest o p))
+    let b = response-back o p user (length-octets16 n) in
+    rw (b, filled-user (writeTags (responseTags o user p)) _ b, h, numbers-octets n f s, octets-request o p, same-self o, same-self (requestDigest o p))

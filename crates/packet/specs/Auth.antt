@@ -2,10 +2,10 @@
 -- repeated tag the last holds; unknown tags are ignored.
 use Prim.Native.Nat.{ℕ, _+_, _/_, _%_}
 use mathlib.Core.List.{List, [], _∷_, _++_}
-use mathlib.Core.Bool.{Bool, true, false, _&&_}
+use mathlib.Core.Bool.{Bool, true, false, not, _&&_, _||_}
 use mathlib.Core.Option.{Option, none, some}
 use lib.ListN.{length, getD}
-use lib.Dec.{eqb}
+use lib.Dec.{eqb, ltb}
 use Rattle.base.specs.Pick.{pick}
 use Rattle.digest.specs.Md5.{requestDigest}
 use Rattle.packet.specs.declared.tlv.Found.{Found}
@@ -105,9 +105,19 @@ abbrev pub answers : List ℕ → Option (List ℕ) → Bool
 answers nonce none = true
 answers nonce (some n) = same n nonce
 
--- The response `r` is right for the challenge with this nonce and for the password.
-unfoldable pub verified : List ℕ → Response → List ℕ → Bool
-verified nonce r password = answers nonce (r .nonce) && same (requestDigest nonce password) (r .digest)
+-- The response `r` matches the challenge with this nonce and the password: this is the source's whole check.
+unfoldable pub matches : List ℕ → Response → List ℕ → Bool
+matches nonce r password = answers nonce (r .nonce) && same (requestDigest nonce password) (r .digest)
+
+-- A user id is there and is not empty.
+abbrev pub hasUser : Option (List ℕ) → Bool
+hasUser none = false
+hasUser (some u) = ltb 0 (length u)
+
+-- The response `r` is right for the challenge with this nonce and for the password. If the server demands a user id, a response without one
+-- is wrong, whatever its digest (docs/PROTOCOL.md#digest).
+unfoldable pub verified : Bool → List ℕ → Response → List ℕ → Bool
+verified demands nonce r password = (not demands || hasUser (r .user)) && matches nonce r password
 
 -- ---- what is written
 

@@ -18,7 +18,7 @@ use Rattle.packet.specs.declared.auth.DigestResponse.the-variants as res
 use Rattle.packet.specs.declared.auth.DigestChallenge.{DigestChallenge}
 use Rattle.packet.specs.declared.auth.DigestChallenge.the-variants as challenge
 use Rattle.packet.specs.Tags.{Tag, Tags, unreadable, tagList, tags, lastValue}
-use Rattle.packet.specs.Auth.{Response, Challenge, responseOf, challengeOf, realmPlace, userIdRequired, readOnly, verified}
+use Rattle.packet.specs.Auth.{Response, Challenge, responseOf, challengeOf, realmPlace, userIdRequired, readOnly, matches}
 
 -- ---- the response
 
@@ -84,6 +84,12 @@ optionsAt v (place.At b e) = pick (ltb b e) (getD v b 0) 0
 
 -- ---- the check
 
--- The check of a response by numbers: the nonce that it names, if it names one, and its digest.
-abbrev pub verifies : Octets16 → Octets16 → Named → List ℕ → Bool
-verifies n d named password = verified (octets16 n) (record { digest = octets16 d; user = none; nonce = bytesNamed named }) password
+-- A value was found and is not empty.
+abbrev pub isFilled : Found → Bool
+isFilled place.Missing = false
+isFilled (place.At b e) = ltb b e
+
+-- The check of a response by numbers: its digest, the place of its user id, and the nonce that it names, if it names one.
+abbrev pub verifies : Octets16 → Octets16 → Found → Named → Bool → List ℕ → Bool
+verifies n d user named demands password =
+    (not demands || isFilled user) && matches (octets16 n) (record { digest = octets16 d; user = none; nonce = bytesNamed named }) password

@@ -2,7 +2,7 @@
 // without sending it: the challenger sends a random nonce, and the responder answers with MD5(nonce ":" password). Places are relative to
 // the payload of the header.
 ghost use mathlib.Core.Path.{_≡_};
-ghost use mathlib.Core.Bool.{false, _&&_};
+ghost use mathlib.Core.Bool.{false, not, _&&_, _||_};
 ghost use mathlib.Core.List.{_∷_};
 ghost use Prim.Native.Nat.{_+_, _≤_, _<_, _^_};
 ghost use lib.ListN.{length};
@@ -15,7 +15,7 @@ ghost use Rattle.packet.specs.Auth.{realmPlace, same, answers, realmTag,
 ghost use Rattle.packet.specs.Placed.{laid};
 ghost use Rattle.packet.specs.Flags.{flagBits};
 ghost use Rattle.packet.specs.AuthWrite.{given, overlong, writeChallenge, writeDigestResponse};
-ghost use Rattle.packet.specs.AuthRead.{bytesNamed, sixteenOr, sixteenIn, sixteenAt, tagZero, optionsAt, readResponse, readChallenge, verifies};
+ghost use Rattle.packet.specs.AuthRead.{bytesNamed, sixteenOr, sixteenIn, sixteenAt, tagZero, optionsAt, readResponse, readChallenge, isFilled, verifies};
 use crate::flags::flag_bits;
 use crate::limits::MAX_TAG_VALUE;
 use crate::store::room;
@@ -207,10 +207,41 @@ fn answers_nonce(nonce: Octets16, named: Named) -> bool
     }
 }
 
-// Checks a response with `digest`, which names `named`, against the challenge's `nonce` and the expected `password`.
-pub fn verify(nonce: Octets16, digest: Octets16, named: Named, password: &[u8]) -> bool
-    ensures { λ r. ⌜ r ≡ verifies nonce digest named (now (password .entry)) ⌝ }
+// Tells whether a value was found and is not empty.
+fn is_filled(found: Found) -> bool
+    ensures { λ r. ⌜ r ≡ isFilled found ⌝ }
 {
+    match found {
+        Found::At { start, end } => start < end,
+        Found::Missing => false,
+    }
+}
+
+// Tells whether a response whose user id stands at `user` may pass: if the server `demands` a user id, one must be there and not empty.
+fn brings_user(demands: bool, user: Found) -> bool
+    ensures { λ r. ⌜ r ≡ (not demands || isFilled user) ⌝ }
+{
+    if !demands {
+        return true;
+    }
+    is_filled(user)
+}
+
+// Checks a response with `digest`, which has its user id at `user` and names `named`, against the challenge's `nonce` and the expected
+// `password`. If the server `demands` a user id, a response without one fails, whatever its digest (docs/PROTOCOL.md#digest).
+pub fn verify(
+    nonce: Octets16,
+    digest: Octets16,
+    user: Found,
+    named: Named,
+    demands: bool,
+    password: &[u8],
+) -> bool
+    ensures { λ r. ⌜ r ≡ verifies nonce digest user named demands (now (password .entry)) ⌝ }
+{
+    if !brings_user(demands, user) {
+        return false;
+    }
     if !answers_nonce(nonce, named) {
         return false;
     }

@@ -21,6 +21,7 @@ pub(crate) fn settings_of(o: Options) -> Settings {
         authentication: o.authentication,
         user_id_required: o.user_id_required,
         read_only: o.read_only,
+        user_id_enforced: o.user_id_enforced,
     }
 }
 

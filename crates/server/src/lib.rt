@@ -22,6 +22,8 @@ pub struct Settings {
     pub user_id_required: bool,
     // Whether the server's challenges say that access is read only.
     pub read_only: bool,
+    // Whether a response without a user id fails if the challenges say that one is required. The source lets such a response pass.
+    pub user_id_enforced: bool,
 }
 
 // The source's settings, but for the Put limit: the host chooses `max_object_size`, since it must lend a body store of that length.
@@ -37,6 +39,7 @@ pub fn default_settings(max_object_size: u32) -> Settings
         authentication: false,
         user_id_required: false,
         read_only: false,
+        user_id_enforced: false,
     }
 }
 

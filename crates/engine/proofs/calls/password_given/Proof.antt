@@ -41,11 +41,14 @@ returns c =
 enum-told : tie.Need-enum-told
 enum-told c = search needs
 
+demands-user-requires : tie.Need-demands-user-requires
+demands-user-requires c κs = search needs
+
 slice-reshare-prefix-is-right : tie.Need-slice-reshare-prefix-is-right
-slice-reshare-prefix-is-right c = goes (c .before) .last .inside
+slice-reshare-prefix-is-right c = goes (c .before .before) .last .inside
 
 slice-aggregate-is-right : tie.Need-slice-aggregate-is-right
-slice-aggregate-is-right c = goes (c .before .before) .last .count
+slice-aggregate-is-right c = goes (c .before .before .before) .last .count
 
 is-right-requires : tie.Need-is-right-requires
 is-right-requires c κs = search needs
@@ -63,8 +66,10 @@ returns-2 : tie.Need-returns-2
 unfolding passwordGivenStep
 returns-2 c =
     let r = c .before .before in
-    let z = r .before .before .before in
-    password-call (start (passed z) .args .e) (lent (passed z)) _ _ _ _ (goes z) (c .took .ensures) (c .before .password-plan .ensures) (r .is-right .ensures)
+    let d = r .before .before in
+    let z = d .before .before in
+    password-call (start (passed z) .args .e) (lent (passed z)) _ _ _ _ _ (goes z) (c .took .ensures) (c .before .password-plan .ensures)
+    (d .demands-user .ensures) (r .is-right .ensures)
 
 pub password-given-spec : {M : Type 1} → statement M
 password-given-spec =
@@ -75,6 +80,7 @@ password-given-spec =
     refuse-requires
     returns
     enum-told
+    demands-user-requires
     slice-reshare-prefix-is-right
     slice-aggregate-is-right
     is-right-requires

@@ -33,7 +33,7 @@ returns c =
     let f = c .before .before in
     let l = f .before in
     let k = l .before .before .before .args in
-    right-missing (k .stored) (k .q .now) _ (found-last 0x4E _ _ _ _ (l .last-from .ensures) (f .first-in .ensures) (c .enum-told .given .1))
+    right-missing (k .stored) (k .q .now) _ _ (found-last 0x4E _ _ _ _ (l .last-from .ensures) (f .first-in .ensures) (c .enum-told .given .1))
 
 sub-read-response : tie.Need-sub-read-response
 sub-read-response c = here c .0
@@ -58,8 +58,8 @@ returns-2 c =
     let o = l .before .before in
     let k = o .before .args in
     c .verify-client .ensures
-    ∙ ap (λ (x : DigestResponse). checkOf (k .stored) x (given (k .has-password) (k .password .now))) (c .before .read-response .ensures)
-    ∙ right-at (k .stored) (k .q .now) _ _ _ (λ i. omega (arith, o .shared-slice-known .given i))
+    ∙ ap (λ (x : DigestResponse). checkOf (k .stored) x (k .demands) (given (k .has-password) (k .password .now))) (c .before .read-response .ensures)
+    ∙ right-at (k .stored) (k .q .now) _ _ _ _ (λ i. omega (arith, o .shared-slice-known .given i))
     (found-last 0x4E _ _ _ _ (l .last-from .ensures) (f .first-in .ensures) (t .start .given .1))
 
 pub is-right-spec : {M : Type 1} → statement M
