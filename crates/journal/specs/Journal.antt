@@ -16,7 +16,7 @@ use Rattle.packet.specs.ResponseCodes as response
 use Rattle.packet.specs.Modes as modes
 use Rattle.packet.specs.FirstByte.{sameOpcode}
 use Rattle.packet.specs.Codes.{isSuccess, sentCode}
-use Rattle.packet.specs.Header.{Header, readHeaders, first, allBytes}
+use Rattle.packet.specs.Header.{Header, readHeaders, first, present, allBytes}
 use Rattle.packet.specs.Packet.{Request, requestOf}
 use Rattle.packet.specs.Auth.{Response, responseOf, verified}
 use Rattle.packet.specs.declared.opcode.Opcode.{Opcode}
@@ -171,15 +171,10 @@ turnedAway j r = unchanged (after j (some r) (pick (j .standing .srm && not (r .
 abbrev pub dropped : Journal → Request → Entry
 dropped j r = unchanged (after j (some r) nothing)
 
--- A header is there.
-abbrev pub isThere : Option (List ℕ) → Bool
-isThere none = false
-isThere (some v) = true
-
 -- A Connect is stopped (docs/PROTOCOL.md#eight-wrong): a password is required, too many of the last checks were wrong, and the Connect
 -- carries an AuthenticateResponse, whether that can be read or not.
 unfoldable pub isStopped : Settings → Standing → Request → Bool
-isStopped st s r = st .authentication && (tooMany (s .checks) && isThere (first header-id.authenticateResponse (r .headers)))
+isStopped st s r = st .authentication && (tooMany (s .checks) && present (first header-id.authenticateResponse (r .headers)))
 
 -- A standing with one check more.
 abbrev pub withCheck : Standing → Check → Standing
