@@ -149,9 +149,9 @@ same-fits : (p : Peer) (next : ℕ) (srm auth : Bool) (ch : Challenge) (w : ℕ)
 unfolding peerWith
 same-fits p next srm auth ch w f = record { count = f .count; least = f .least; most = f .most }
 
-pub checked-fits : (p : Peer) (wrong : Bool) → PeerFits p → PeerFits (checkedPeer p wrong)
-checked-fits p wrong f =
-    same-fits p (p .«next_connection_id») (p .«srm_enabled») (p .authenticated) (p .challenge) (shifted (p .window) wrong) f
+pub checked-fits : (p : Peer) (b : Bool) → PeerFits p → PeerFits (checkedPeer p b)
+checked-fits p b f =
+    same-fits p (p .«next_connection_id») (p .«srm_enabled») (p .authenticated) (p .challenge) (shifted (p .window) b) f
 
 pub verified-fits : (p : Peer) → PeerFits p → PeerFits (verifiedPeer p)
 verified-fits p f = same-fits p (p .«next_connection_id») (p .«srm_enabled») true Absent (p .window) f

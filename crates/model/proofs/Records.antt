@@ -8,6 +8,7 @@ use mathlib.Core.Bool.{false}
 use native.Mathlib.Omega.{arith}
 use Rattle.journal.specs.Record.{Record}
 use Rattle.journal.specs.Calls.{Call, bytesOffered, streamEnded, replyTaken, replyGiven, objectGiven, bodyGiven, bodyFailed, abortAcknowledged, passwordGiven, nonceGiven, credentialsGiven, Verdict}
+use Rattle.journal.specs.Checks.{windowOf}
 use Rattle.journal.specs.Journal.{Journal, fresh, journalStep, journalRecords, Marked, fedReads, packets}
 use Rattle.journal.specs.PutForm.{Exactly}
 use Rattle.connection.specs.Peer.{peerWith}
@@ -102,10 +103,10 @@ module _ (st : Settings) (s : State) (h : Started st s) where
   start-waits = sym (ap (λ (e : Engine). waitsOf (e .awaits) (e .operation)) (h .fresh))
 
   start-coupled : Coupled (s .tables) (s .engine) (s .stores) (fresh (settingsOf st))
-  unfolding started engineWith peerWith
+  unfolding started engineWith peerWith windowOf
   start-coupled =
       subst (λ (e : Engine). Coupled (s .tables) e (s .stores) (fresh (settingsOf st))) (sym (h .fresh))
-      (record { fixed = record { settings = refl; standing = refl; ended = refl }; begun = refl; opened = refl })
+      (record { fixed = record { settings = refl; past = []; standing = refl; window = refl; ended = refl }; begun = refl; opened = refl })
 
 -- each call is refused exactly where it is due to be
 pub refusals : Refusals
