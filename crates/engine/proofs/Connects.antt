@@ -18,17 +18,17 @@ use Rattle.packet.specs.declared.tlv.Found.the-variants as place
 use Rattle.packet.proofs.HeaderLaws.{first-agrees}
 use Rattle.packet.proofs.AuthLaws.{within}
 use Rattle.packet.proofs.TagWrites.{Within}
-use Rattle.journal.specs.Journal.{headersOf as headersIn, responseIn}
+use Rattle.journal.specs.Journal.{headersOf as headersIn}
 use Rattle.model.specs.Request.{userIn, placedAt}
-use Rattle.engine.specs.Connect.{answeredAs, answeredBy, Below}
-use Rattle.engine.specs.declared.connect.Answered.the-variants.{Missing, User}
+use Rattle.engine.specs.Connect.{answeredRead, answeredAs, answeredBy, Below}
+use Rattle.engine.specs.declared.connect.Answered.the-variants.{Missing, Unreadable, User}
 
 -- what is read, by cases
-unread : (x : Option Response) (u w : Found) → responseRead x u ≡ response.Unreadable → answeredAs x w ≡ Missing
+unread : (x : Option Response) (u w : Found) → responseRead x u ≡ response.Unreadable → answeredRead x w ≡ Unreadable
 unread none u w h = refl
 unread (some r) u w h = absurd (let z : _≡_ {A = ℕ} 0 1 = cc in omega arith)
 
-read : (x : Option Response) (u v : Found) (d : Octets16) (n : Named) (a : ℕ) → responseRead x u ≡ response.Response d v n → answeredAs x (placedAt a u) ≡ User (placedAt a v)
+read : (x : Option Response) (u v : Found) (d : Octets16) (n : Named) (a : ℕ) → responseRead x u ≡ response.Response d v n → answeredRead x (placedAt a u) ≡ User (placedAt a v)
 read none u v d n a h = absurd (let z : _≡_ {A = ℕ} 0 1 = cc in omega arith)
 read (some r) u v d n a h = let k : u ≡ v = cc in ap (λ (f : Found). User (placedAt a f)) k
 
@@ -47,13 +47,13 @@ user-below s n d u m h = go (responseOf s) h
     go (some r) w l = let k : lastValue s 1 ≡ u = cc in rw k at (below s n (lastValue s 1) (within s 1) l)
 
 module _ (q : List ℕ) (k : readHeaders q 7 ≡ some (headersIn (requestOf q))) where
-  by-place : (f : Found) → firstPlace 0x4E q 7 ≡ f → answeredBy q ≡ answeredAs (responseIn (bytesAt q f)) (userIn q f)
+  by-place : (f : Found) → firstPlace 0x4E q 7 ≡ f → answeredBy q ≡ answeredAs (bytesAt q f) (userIn q f)
   by-place f h = rw (← first-agrees 0x4E q 7 (headersIn (requestOf q)) k, h)
 
   pub not-answered : firstPlace 0x4E q 7 ≡ place.Missing → Missing ≡ answeredBy q
   not-answered h = sym (by-place place.Missing h)
 
-  pub answer-unread : (a b : ℕ) → firstPlace 0x4E q 7 ≡ place.At a b → readResponse (part q a b) ≡ response.Unreadable → Missing ≡ answeredBy q
+  pub answer-unread : (a b : ℕ) → firstPlace 0x4E q 7 ≡ place.At a b → readResponse (part q a b) ≡ response.Unreadable → Unreadable ≡ answeredBy q
   unfolding readResponse
   answer-unread a b h r = sym (by-place (place.At a b) h ∙ unread (responseOf (part q a b)) _ _ r)
 

@@ -40,7 +40,7 @@ use Rattle.connection.proofs.Challenges.{first-in-bytes}
 use Rattle.connection.proofs.ByNumbers.{checkBy, check-by}
 use Rattle.model.specs.Step.{Stores, stepped, after}
 use Rattle.model.specs.Guard.{guarded}
-use Rattle.model.specs.Connect.{passwordAnswer, checks}
+use Rattle.model.specs.Connect.{passwordAnswered, passwordAnswer, checks}
 use Rattle.model.specs.Request.{clientResponse, lastHeaders, lastPacket}
 use Rattle.engine.specs.Step.{asksPlan, tookBy}
 use Rattle.engine.specs.Connect.{passwordPlan}
@@ -157,7 +157,7 @@ found-last id q n f v h k e = ap (λ (m : ℕ). firstIn id q m) (sym h) ∙ sym 
 pub password-call : (e : Engine) (s : Stores) (r : CallResult) (x : Plan) (t : Bool) (p : Option (List ℕ)) → Goes kind.PasswordGiven e s → r ≡ tookBy x → x ≡ passwordPlan e t
     → t ≡ checks (e .peer .challenge) (responseIn (first 0x4E (headersIn (requestOf (take (e .length) (s .packet)))))) p
     → stepped r s ≡ guarded kind.PasswordGiven e s (after 0 (passwordAnswer e p s))
-unfolding passwordPlan passwordAnswer asksPlan clientResponse lastHeaders lastPacket
+unfolding passwordPlan passwordAnswer passwordAnswered asksPlan clientResponse lastHeaders lastPacket
 password-call e s r x t p g h k c =
     ap (λ (y : CallResult). stepped y s) (h ∙ ap (λ (y : Plan). tookBy y) k) ∙ by t c ∙ sym (g .whole (after 0 (passwordAnswer e p s)))
   where

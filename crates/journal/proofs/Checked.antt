@@ -1,12 +1,12 @@
 -- The window's set bits are the wrong checks among the last 64 of the history, and after at most 57 stops a Connect comes to a check again.
 -- Assumes nothing.
-use mathlib.Core.Path.{_≡_, refl, sym, ap, _∙_}
+use mathlib.Core.Path.{_≡_, refl, sym, ap, _∙_, subst}
 use mathlib.Core.Bool.{Bool, true, false, true≢false}
 use mathlib.Core.List.{List, [], _∷_, _++_}
-use Prim.Native.Nat.{ℕ, zero, suc, _+_, _*_, _/_, _%_, _^_, _<_, _≤_}
+use Prim.Native.Nat.{ℕ, zero, suc, _+_, _-_, _*_, _/_, _%_, _^_, _<_, _≤_}
 use native.Mathlib.Nat.{pow-suc, mod-one, zero-mod}
 use native.Mathlib.Omega.{arith}
-use borrow.Author.Tests.{lt-leb}
+use borrow.Author.Tests.{lt-leb, leb-true, leb-false}
 use lib.Arith.{mod-mul}
 use lib.Count.{ones, ones-step}
 use lib.Dec.{leb}
@@ -78,3 +78,21 @@ passes-after h = lt-leb 8 (wrongs (take 64 (replicate 57 stop ++ h))) (omega (ar
 -- so no history that keeps the rule has 58 in a row
 pub at-most-57 : (h : List Check) → Ruled (replicate 58 stop ++ h) → ⊥
 at-most-57 h r = true≢false (sym (r .0) ∙ passes-after h)
+
+replicate-more : (n m : ℕ) (h : List Check) → replicate (n + m) stop ++ h ≡ replicate n stop ++ (replicate m stop ++ h)
+replicate-more zero m h = let e : 0 + m ≡ m = omega arith in ap (λ (k : ℕ). replicate k stop ++ h) e
+replicate-more (suc n) m h =
+    let e : suc n + m ≡ suc (n + m) = omega arith in
+    ap (λ (k : ℕ). replicate k stop ++ h) e ∙ ap (λ (l : List Check). stop ∷ l) (replicate-more n m h)
+
+-- the same by number: of the latest checks of such a history at most 57 are stops
+pub few-stops : (n : ℕ) (h : List Check) → Ruled (replicate n stop ++ h) → n ≤ 57
+few-stops n h r = go (leb n 57) refl
+  where
+    go : (t : Bool) → leb n 57 ≡ t → n ≤ 57
+    go true e = leb-true _ _ e
+    go false e =
+        let l : 57 < n = leb-false _ _ e in
+        let k : 58 + (n - 58) ≡ n = omega arith in
+        absurd (at-most-57 (replicate (n - 58) stop ++ h)
+        (subst Ruled (ap (λ (m : ℕ). replicate m stop ++ h) (sym k) ∙ replicate-more 58 (n - 58) h) r))

@@ -397,6 +397,11 @@ journalFed j c goes b = pick (j .ended) (unchanged j) (journalCall j c b)
 unfoldable pub journalStep : Journal → Fed → Entry
 journalStep j f = journalFed j (f .call) (f .verdict) (f .reply)
 
+-- The journal after a list of calls.
+abbrev pub journalAfter : Journal → List Fed → Journal
+journalAfter j [] = j
+journalAfter j (f ∷ fs) = journalAfter (journalStep j f .next) fs
+
 -- The records that a list of calls must hand over.
 abbrev pub journalRecords : Journal → List Fed → List Record
 journalRecords j [] = []
