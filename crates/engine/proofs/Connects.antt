@@ -1,10 +1,13 @@
 -- The client's response by its place in a Connect packet. Assumes nothing.
 use mathlib.Core.Path.{_≡_, refl, sym, ap, _∙_}
-use mathlib.Core.List.{List}
+use mathlib.Core.List.{List, [], _∷_}
+use mathlib.Core.Bool.{true}
 use mathlib.Core.Option.{Option, none, some}
 use Prim.Native.Nat.{ℕ, _+_, _^_, _<_}
 use native.Mathlib.Omega.{arith}
 use lib.ListN.{length}
+use denote.Enum.Declared.{tagOf}
+use types.Run.{OneOf, miss}
 use Rattle.digest.specs.declared.md5.Octets16.{Octets16}
 use Rattle.packet.specs.Header.{readHeaders, firstPlace, part}
 use Rattle.packet.specs.Packet.{requestOf}
@@ -20,7 +23,17 @@ use Rattle.packet.proofs.AuthLaws.{within}
 use Rattle.packet.proofs.TagWrites.{Within}
 use Rattle.journal.specs.Journal.{headersOf as headersIn}
 use Rattle.model.specs.Request.{userIn, placedAt}
-use Rattle.engine.specs.Connect.{answeredRead, answeredAs, answeredBy, Below}
+use Rattle.connection.specs.declared.peer.Peer.{Peer}
+use Rattle.connection.specs.declared.peer.Challenge.{Challenge}
+use Rattle.connection.specs.declared.peer.Challenge.the-variants.{Stored, Absent}
+use Rattle.server.specs.declared.Engine.{Engine}
+use Rattle.server.specs.declared.Operation.the-variants.{Nothing}
+use Rattle.server.specs.declared.Await.the-variants as await
+use Rattle.server.specs.declared.HostRequest.the-variants as request
+use Rattle.engine.specs.Step.{asksPlan}
+use Rattle.engine.specs.Connect.{answeredRead, answeredAs, answeredBy, verifiesPlan, carries, Below}
+use Rattle.engine.specs.declared.connect.Answered.{Answered}
+use Rattle.engine.proofs.connect.Answered.{the-type}
 use Rattle.engine.specs.declared.connect.Answered.the-variants.{Missing, Unreadable, User}
 
 -- what is read, by cases
@@ -61,3 +74,16 @@ module _ (q : List ℕ) (k : readHeaders q 7 ≡ some (headersIn (requestOf q)))
       → readResponse (part q a b) ≡ response.Response d u n → User (placedAt a u) ≡ answeredBy q
   unfolding readResponse
   answer-read a b d u n h r = sym (by-place (place.At a b) h ∙ read (responseOf (part q a b)) _ u d n a r)
+
+-- a response that is not missing is carried, and one that cannot be read leads to a challenge as none does
+pub is-carried : (a : Answered) → OneOf (1 ∷ 2 ∷ []) (tagOf the-type a) → carries a ≡ true
+is-carried Missing k = absurd (miss (1 ∷ 2 ∷ []) 0 tt k)
+is-carried Unreadable k = refl
+is-carried (User u) k = refl
+
+pub not-read : (e : Engine) (p : Peer) (c : Challenge) (a : Answered) → OneOf (0 ∷ 1 ∷ []) (tagOf the-type a)
+    → verifiesPlan e p c a ≡ asksPlan e p Nothing await.Nonce request.Nonce
+not-read e p Absent a k = refl
+not-read e p (Stored n) Missing k = refl
+not-read e p (Stored n) Unreadable k = refl
+not-read e p (Stored n) (User u) k = absurd (miss (0 ∷ 1 ∷ []) 2 tt k)

@@ -38,10 +38,7 @@ pub(crate) enum ShortReply {
     // Continue with the grant of Single Response Mode (SRM).
     Grant,
     // The first byte and Connect's fields with the engine's own limit, and no headers.
-    Fields {
-        byte: u8,
-        limit: u16,
-    },
+    Fields { byte: u8, limit: u16 },
 }
 
 // What a call leads to, decided without the stores: the next state, what the call answers, and a short reply if one is due.
