@@ -7,6 +7,7 @@ use crate::hex;
 use crate::leaf::parse_headers;
 use crate::lines::Stop;
 use crate::show::rewritten;
+use crate::stops::first_stop;
 
 /// How many differing sessions are shown, and how much of a line of theirs.
 const SHOWN: usize = 5;
@@ -56,12 +57,12 @@ impl<R: BufRead> Sessions<R> {
         }
     }
 
-    /// The lines that are compared: what the engine did, without what it was given, and
-    /// nothing after the end and its state.
-    fn events(&self) -> Vec<&[u8]> {
+    /// The lines that are compared, of the first `count`: what the engine did, without what
+    /// it was given, and nothing after the end and its state.
+    fn events(&self, count: usize) -> Vec<&[u8]> {
         let mut events = Vec::new();
         let mut ended = false;
-        for line in lines(&self.text) {
+        for line in lines(&self.text).take(count) {
             if is_given(line) {
                 continue;
             }
@@ -99,7 +100,7 @@ pub fn run(original: &str, port: &str, output: &mut impl Write) -> Result<(), St
     let mut original = Sessions::new(BufReader::with_capacity(1 << 18, Ahead::open(original)));
     let mut port = Sessions::new(BufReader::with_capacity(1 << 18, Ahead::open(port)));
     let mut findings = Vec::new();
-    let (mut compared, mut different) = (0, 0);
+    let (mut compared, mut different, mut cut) = (0, 0, 0);
 
     loop {
         let more = (original.advance()?, port.advance()?);
@@ -107,7 +108,9 @@ pub fn run(original: &str, port: &str, output: &mut impl Write) -> Result<(), St
             break;
         }
         compared += 1;
-        if let Some(finding) = difference(&original, &port) {
+        let stop = first_stop(&lines(&original.text).collect::<Vec<_>>());
+        cut += usize::from(stop.is_some());
+        if let Some(finding) = difference(&original, &port, stop) {
             different += 1;
             keep(&mut findings, finding);
         }
@@ -119,6 +122,7 @@ pub fn run(original: &str, port: &str, output: &mut impl Write) -> Result<(), St
     for finding in &findings {
         show(finding, output)?;
     }
+    writeln!(output, "cut {cut}")?;
     writeln!(output, "compared {compared} different {different}")?;
     match different {
         0 => Ok(()),
@@ -126,10 +130,18 @@ pub fn run(original: &str, port: &str, output: &mut impl Write) -> Result<(), St
     }
 }
 
-/// Where two sessions part, if they do. An end of the original without a number is a
-/// finding too.
-fn difference<R: BufRead>(original: &Sessions<R>, port: &Sessions<R>) -> Option<Finding> {
-    let (expected, found) = (original.events(), port.events());
+/// Where two sessions part, if they do, up to the line `stop` of the original, if there is
+/// one. An end of the original without a number is a finding too.
+fn difference<R: BufRead>(
+    original: &Sessions<R>,
+    port: &Sessions<R>,
+    stop: Option<usize>,
+) -> Option<Finding> {
+    let expected = original.events(stop.unwrap_or(usize::MAX));
+    let mut found = port.events(usize::MAX);
+    if stop.is_some() {
+        found.truncate(expected.len());
+    }
     let place = (0..expected.len().max(found.len())).find(|place| {
         let (expected, found) = (expected.get(*place), found.get(*place));
         !expected.zip(found).is_some_and(|(e, f)| same(e, f))

@@ -24,6 +24,7 @@ mod rules;
 mod script;
 mod sessions;
 mod show;
+mod stops;
 mod text;
 
 use lines::{answer_each, Stop};

@@ -1,6 +1,6 @@
 -- What Connect and Disconnect change is what the journal's standing says: each operation on a `Peer` is one on its `Standing`, and keeps
 -- the bounds of its counts. Assumes nothing.
-use mathlib.Core.Path.{_≡_, refl, ap}
+use mathlib.Core.Path.{_≡_, refl, ap, _∙_}
 use mathlib.Core.List.{List, [], _∷_, _++_}
 use mathlib.Core.Bool.{Bool, true, false}
 use mathlib.Core.Option.{Option, none, some}
@@ -10,16 +10,19 @@ use native.Mathlib.Numerals.{add-one}
 use lib.ListN.{length, length-take, length-set, take, drop, set}
 use lib.Seq.{take-append-seam, take-suc-set, length-take-le}
 use lib.Dec.{leb, ltb}
+use lib.Count.{ones}
 use borrow.Author.Tests.{leb-false, ltb-false}
 use Rattle.base.specs.Bytes.{be32}
 use Rattle.digest.specs.Md5.{octets16}
 use Rattle.digest.specs.declared.md5.Octets16.{Octets16}
 use Rattle.journal.specs.Ids.{member, without}
-use Rattle.journal.specs.Journal.{Standing, openId, opensFor, leaves, disconnected, passwordChecked, challenged}
+use Rattle.journal.specs.Checks.{Check, right, wrong, stop, isWrong, mostWrong, tooMany, shifted, windowOf}
+use Rattle.journal.specs.Journal.{Standing, withCheck, openId, opensFor, leaves, disconnected, passwordChecked, challenged}
 use Rattle.connection.specs.declared.peer.Challenge.{Challenge}
 use Rattle.connection.specs.declared.peer.Challenge.the-variants.{Stored, Absent}
 use Rattle.connection.specs.declared.peer.Peer.{Peer}
-use Rattle.connection.specs.Peer.{peerWith, idsOf, Linked, freshPeer, atLeast255, limited, verifiedPeer, challengedPeer, opened, searched, openedFor, leftPeer, leftLinked, disconnectedPeer}
+use Rattle.connection.specs.Peer.{peerWith, idsOf, Linked, freshPeer, atLeast255, limited, checkedPeer, verifiedPeer, challengedPeer, opened, searched, openedFor, leftPeer, leftLinked, disconnectedPeer}
+use Rattle.journal.proofs.Checked.{counts}
 use Rattle.connection.proofs.Front.{front-length}
 use Rattle.connection.proofs.Closing.{without-shorter}
 
@@ -27,15 +30,16 @@ abbrev pub challengeBytes : Challenge → Option (List ℕ)
 challengeBytes Absent = none
 challengeBytes (Stored n) = some (octets16 n)
 
--- the standing of a peer, whose open ids stand in the table store `t`
-abbrev pub standingOf : Peer → List ℕ → Standing
-standingOf p t =
+-- the standing of a peer, whose open ids stand in the table store `t`, after the checks `h`; of these the peer has the window alone
+abbrev pub standingOf : Peer → List ℕ → List Check → Standing
+standingOf p t h =
     record {
       authenticated = p .authenticated;
       challenge = challengeBytes (p .challenge);
       ids = idsOf p t;
       next = p .«next_connection_id»;
       srm = p .«srm_enabled»;
+      checks = h;
     }
 
 -- the bounds of a peer's counts
@@ -46,35 +50,84 @@ pub record PeerFits (p : Peer) : Type 0 where
 
 -- ---- the operations
 
-pub limited-standing : (p : Peer) (t : List ℕ) (n : ℕ) → standingOf (limited p n) t ≡ standingOf p t
+pub limited-standing : (p : Peer) (t : List ℕ) (h : List Check) (n : ℕ) → standingOf (limited p n) t h ≡ standingOf p t h
 unfolding peerWith
-limited-standing p t n = refl
+limited-standing p t h n = refl
 
-pub verified-standing : (p : Peer) (t : List ℕ) → standingOf (verifiedPeer p) t ≡ passwordChecked (standingOf p t) true
+-- a check more, which in the window is a bit, and nothing else
+pub stopped-standing : (p : Peer) (t : List ℕ) (h : List Check)
+    → standingOf (checkedPeer p false) t (stop ∷ h) ≡ withCheck (standingOf p t h) stop
 unfolding peerWith
-verified-standing p t = refl
+stopped-standing p t h = refl
 
-pub challenged-standing : (p : Peer) (t : List ℕ) (n : Octets16)
-    → standingOf (challengedPeer p n) t ≡ challenged (standingOf p t) (octets16 n)
+pub wrong-standing : (p : Peer) (t : List ℕ) (h : List Check)
+    → standingOf (checkedPeer p true) t (wrong ∷ h) ≡ passwordChecked (standingOf p t h) false
 unfolding peerWith
-challenged-standing p t n = refl
+wrong-standing p t h = refl
+
+pub verified-standing : (p : Peer) (t : List ℕ) (h : List Check)
+    → standingOf (verifiedPeer (checkedPeer p false)) t (right ∷ h) ≡ passwordChecked (standingOf p t h) true
+unfolding peerWith
+verified-standing p t h = refl
+
+pub challenged-standing : (p : Peer) (t : List ℕ) (h : List Check) (n : Octets16)
+    → standingOf (challengedPeer p n) t h ≡ challenged (standingOf p t h) (octets16 n)
+unfolding peerWith
+challenged-standing p t h n = refl
 
 -- the standing of a peer and the table store beside it
-abbrev pub standingIn : Linked → Standing
-standingIn l = standingOf (l .peer) (l .tables)
+abbrev pub standingIn : Linked → List Check → Standing
+standingIn l h = standingOf (l .peer) (l .tables) h
 
-left-standing : (p : Peer) (t ids : List ℕ) → standingIn (leftLinked p t ids) ≡ leaves (standingOf p t) ids
+left-standing : (p : Peer) (t ids : List ℕ) (h : List Check) → standingIn (leftLinked p t ids) h ≡ leaves (standingOf p t h) ids
 unfolding peerWith
-left-standing p t [] = refl
-left-standing p t (i ∷ is) =
-    ap (λ (l : List ℕ). record { authenticated = p .authenticated; challenge = challengeBytes (p .challenge); ids = l; next = p .«next_connection_id»; srm = p .«srm_enabled» })
+left-standing p t [] h = refl
+left-standing p t (i ∷ is) h =
+    ap (λ (l : List ℕ). record { authenticated = p .authenticated; challenge = challengeBytes (p .challenge); ids = l; next = p .«next_connection_id»; srm = p .«srm_enabled»; checks = h })
     (take-append-seam (i ∷ is) (drop (length (i ∷ is)) t))
 
-pub disconnected-standing : (p : Peer) (t : List ℕ) (v : Option (List ℕ))
-    → standingIn (disconnectedPeer p t v) ≡ disconnected (standingOf p t) v
+pub disconnected-standing : (p : Peer) (t : List ℕ) (h : List Check) (v : Option (List ℕ))
+    → standingIn (disconnectedPeer p t v) h ≡ disconnected (standingOf p t h) v
 unfolding disconnectedPeer
-disconnected-standing p t none = left-standing p t []
-disconnected-standing p t (some v) = left-standing p t (without (be32 v 0) (idsOf p t))
+disconnected-standing p t h none = left-standing p t [] h
+disconnected-standing p t h (some v) = left-standing p t (without (be32 v 0) (idsOf p t)) h
+
+-- ---- the window
+
+-- the window is that of the checks `h`
+abbrev pub Windowed : Peer → List Check → Type 0
+Windowed p h = p .window ≡ windowOf h
+
+pub limited-window : (p : Peer) (n : ℕ) → limited p n .window ≡ p .window
+unfolding peerWith
+limited-window p n = refl
+
+pub challenged-window : (p : Peer) (n : Octets16) → challengedPeer p n .window ≡ p .window
+unfolding peerWith
+challenged-window p n = refl
+
+pub disconnected-window : (p : Peer) (t : List ℕ) (v : Option (List ℕ)) → disconnectedPeer p t v .peer .window ≡ p .window
+unfolding disconnectedPeer peerWith
+disconnected-window p t none = refl
+disconnected-window p t (some v) = go (without (be32 v 0) (idsOf p t))
+  where
+    go : (ids : List ℕ) → leftPeer p ids .window ≡ p .window
+    go [] = refl
+    go (i ∷ is) = refl
+
+-- one check more in the window is one more in the history
+pub checked-window : (p : Peer) (h : List Check) (c : Check) → Windowed p h → Windowed (checkedPeer p (isWrong c)) (c ∷ h)
+unfolding peerWith windowOf
+checked-window p h c e = ap (λ (w : ℕ). shifted w (isWrong c)) e
+
+pub verified-window : (p : Peer) (h : List Check) → Windowed p h → Windowed (verifiedPeer (checkedPeer p false)) (right ∷ h)
+unfolding peerWith windowOf
+verified-window p h e = ap (λ (w : ℕ). shifted w false) e
+
+-- by the window, too many are wrong if they are so in the history
+pub too-many : (p : Peer) (h : List Check) → Windowed p h → leb mostWrong (ones (p .window)) ≡ tooMany h
+unfolding tooMany
+too-many p h e = ap (λ (w : ℕ). leb mostWrong (ones w)) e ∙ ap (leb mostWrong) (counts h)
 
 -- ---- the bounds are kept
 
@@ -91,16 +144,20 @@ limited-fits p n h f = record { count = f .count; least = go (ltb n 255) refl .0
     go false e = rw e (ltb-false _ _ e, h)
 
 -- the ids and the peer's limit are as they were
-same-fits : (p : Peer) (next : ℕ) (srm auth : Bool) (ch : Challenge) → PeerFits p
-    → PeerFits (peerWith (p .count) next (p .«remote_max_packet_length») srm auth ch)
+same-fits : (p : Peer) (next : ℕ) (srm auth : Bool) (ch : Challenge) (w : ℕ) → PeerFits p
+    → PeerFits (peerWith (p .count) next (p .«remote_max_packet_length») srm auth ch w)
 unfolding peerWith
-same-fits p next srm auth ch f = record { count = f .count; least = f .least; most = f .most }
+same-fits p next srm auth ch w f = record { count = f .count; least = f .least; most = f .most }
+
+pub checked-fits : (p : Peer) (b : Bool) → PeerFits p → PeerFits (checkedPeer p b)
+checked-fits p b f =
+    same-fits p (p .«next_connection_id») (p .«srm_enabled») (p .authenticated) (p .challenge) (shifted (p .window) b) f
 
 pub verified-fits : (p : Peer) → PeerFits p → PeerFits (verifiedPeer p)
-verified-fits p f = same-fits p (p .«next_connection_id») (p .«srm_enabled») true Absent f
+verified-fits p f = same-fits p (p .«next_connection_id») (p .«srm_enabled») true Absent (p .window) f
 
 pub challenged-fits : (p : Peer) (n : Octets16) → PeerFits p → PeerFits (challengedPeer p n)
-challenged-fits p n f = same-fits p (p .«next_connection_id») (p .«srm_enabled») false (Stored n) f
+challenged-fits p n f = same-fits p (p .«next_connection_id») (p .«srm_enabled») false (Stored n) (p .window) f
 
 left-fits : (p : Peer) (ids : List ℕ) → PeerFits p → length ids ≤ 64 → PeerFits (leftPeer p ids)
 unfolding peerWith
@@ -125,13 +182,14 @@ disconnected-length p t (some v) f h = front-length (without (be32 v 0) (idsOf p
 
 -- ---- an id is opened
 
--- what opening gives, for a peer, its table store and the standing that the journal says; none is a 65th id
-abbrev OpensAs : Peer → List ℕ → Standing → Option Linked → Type 0
-OpensAs p t s none = s ≡ standingOf p t
-OpensAs p t s (some q) = (standingIn q ≡ s) × PeerFits (q .peer) × (length (q .tables) ≡ length t)
+-- what opening gives, for a peer, its table store, the checks and the standing that the journal says; none is a 65th id
+abbrev OpensAs : Peer → List ℕ → List Check → Standing → Option Linked → Type 0
+OpensAs p t h s none = s ≡ standingOf p t h
+OpensAs p t h s (some q) =
+    (standingIn q h ≡ s) × PeerFits (q .peer) × (length (q .tables) ≡ length t) × (q .peer .window ≡ p .window)
 
-module _ (p : Peer) (t : List ℕ) (srm : Bool) (f : PeerFits p) (room : 64 ≤ length t) where
-  opened-as : (id next : ℕ) → OpensAs p t (openId (standingOf p t) srm id next) (opened p t srm id next)
+module _ (p : Peer) (t : List ℕ) (past : List Check) (srm : Bool) (f : PeerFits p) (room : 64 ≤ length t) where
+  opened-as : (id next : ℕ) → OpensAs p t past (openId (standingOf p t past) srm id next) (opened p t srm id next)
   unfolding opened openId peerWith
   opened-as id next = go (member id (idsOf p t)) (leb 64 (p .count)) refl refl
     where
@@ -141,21 +199,23 @@ module _ (p : Peer) (t : List ℕ) (srm : Bool) (f : PeerFits p) (room : 64 ≤ 
       added : p .count < 64 → take (p .count + 1) (set t (p .count) id) ≡ idsOf p t ++ (id ∷ [])
       added h = rw (add-one (p .count)) (take-suc-set t (p .count) id (omega (arith, f)))
 
-      go : (x u : Bool) → member id (idsOf p t) ≡ x → leb 64 (p .count) ≡ u → OpensAs p t (openId (standingOf p t) srm id next) (opened p t srm id next)
-      go true u m e = rw m (refl, same-fits p (p .«next_connection_id») srm (p .authenticated) (p .challenge) f, refl)
+      go : (x u : Bool) → member id (idsOf p t) ≡ x → leb 64 (p .count) ≡ u
+          → OpensAs p t past (openId (standingOf p t past) srm id next) (opened p t srm id next)
+      go true u m e = rw m (refl, same-fits p (p .«next_connection_id») srm (p .authenticated) (p .challenge) (p .window) f, refl, refl)
       go false true m e = rw (m, size, e) refl
       go false false m e =
           let h : p .count < 64 = leb-false _ _ e in
           rw (m, size, e, added h)
-          (refl, record { count = omega arith; least = f .least; most = f .most }, length-set t (p .count) id)
+          (refl, record { count = omega arith; least = f .least; most = f .most }, length-set t (p .count) id, refl)
 
-  opens-as : (a v : Option (List ℕ)) → OpensAs p t (opensFor (standingOf p t) srm a v) (openedFor p t srm a v)
+  opens-as : (a v : Option (List ℕ)) → OpensAs p t past (opensFor (standingOf p t past) srm a v) (openedFor p t srm a v)
   unfolding peerWith
   opens-as (some i) v = opened-as (be32 i 0) (p .«next_connection_id»)
   opens-as none (some v) = opened-as (searched p t) ((searched p t + 1) % 2 ^ 32)
-  opens-as none none = (refl, same-fits p (p .«next_connection_id») srm (p .authenticated) (p .challenge) f, refl)
+  opens-as none none = (refl, same-fits p (p .«next_connection_id») srm (p .authenticated) (p .challenge) (p .window) f, refl, refl)
 
-  pub opened-standing : (q : Linked) (a v : Option (List ℕ)) → openedFor p t srm a v ≡ some q → standingIn q ≡ opensFor (standingOf p t) srm a v
+  pub opened-standing : (q : Linked) (a v : Option (List ℕ)) → openedFor p t srm a v ≡ some q
+      → standingIn q past ≡ opensFor (standingOf p t past) srm a v
   opened-standing q a v e = (rw e at (opens-as a v)) .0
 
   pub opened-fits : (q : Linked) (a v : Option (List ℕ)) → openedFor p t srm a v ≡ some q → PeerFits (q .peer)
@@ -165,5 +225,8 @@ module _ (p : Peer) (t : List ℕ) (srm : Bool) (f : PeerFits p) (room : 64 ≤ 
   pub opened-length : (q : Linked) (a v : Option (List ℕ)) → openedFor p t srm a v ≡ some q → length (q .tables) ≡ length t
   opened-length q a v e = (rw e at (opens-as a v)) .2
 
-  pub full-standing : (a v : Option (List ℕ)) → openedFor p t srm a v ≡ none → opensFor (standingOf p t) srm a v ≡ standingOf p t
+  pub opened-window : (q : Linked) (a v : Option (List ℕ)) → openedFor p t srm a v ≡ some q → q .peer .window ≡ p .window
+  opened-window q a v e = (rw e at (opens-as a v)) .3
+
+  pub full-standing : (a v : Option (List ℕ)) → openedFor p t srm a v ≡ none → opensFor (standingOf p t past) srm a v ≡ standingOf p t past
   full-standing a v e = rw e at (opens-as a v)

@@ -6,9 +6,10 @@ ghost use Prim.Native.Nat.{_+_, _%_, _^_, _≤_, _<_};
 ghost use lib.ListN.{length, take};
 ghost use Rattle.packet.specs.Limits.{maxConnections};
 ghost use Rattle.journal.specs.Ids.{member, taken, without, newId};
-ghost use Rattle.connection.specs.Peer.{atLeast255, limited as limitedPeer, authenticatedPeer, verifiedPeer, challengedPeer, srmPeer};
+ghost use Rattle.connection.specs.Peer.{atLeast255, limited as limitedPeer, authenticatedPeer, checkedPeer, verifiedPeer, challengedPeer, srmPeer};
 ghost use Rattle.connection.specs.Peer.{addedPeer, opened as openedPeer, opens, openingOf, answers, answerBy, clearedPeer, linked, disconnectedBy};
 ghost use Rattle.connection.specs.Reply.{front};
+use crate::checks::pushed;
 use digest::md5::Octets16;
 use packet::limits::MAX_CONNECTIONS;
 use packet::limits::MIN_PACKET;
@@ -26,6 +27,8 @@ pub enum Challenge {
 // to the calls that look at them, so that a state of few bytes goes from call to call.
 pub struct Peer {
     pub count: usize,
+    // The last 64 checks of passwords, a set bit for each wrong one, the latest the lowest bit.
+    pub window: u64,
     // The counter from which the search for a new id counts up.
     pub next_connection_id: u32,
     // The largest packet that the peer can receive.
@@ -159,12 +162,22 @@ fn with_authentication(peer: Peer, authenticated: bool, challenge: Challenge) ->
 {
     Peer {
         count: peer.count,
+        window: peer.window,
         next_connection_id: peer.next_connection_id,
         remote_max_packet_length: peer.remote_max_packet_length,
         srm_enabled: peer.srm_enabled,
         authenticated,
         challenge,
     }
+}
+
+// Returns the peer with one check more in its window; the rest stays.
+pub fn with_check(peer: Peer, wrong: bool) -> Peer
+    ensures { λ r. ⌜ r ≡ checkedPeer peer wrong ⌝ }
+{
+    let mut r = peer;
+    r.window = pushed(peer.window, wrong);
+    r
 }
 
 // Marks the peer as authenticated: the password was right, and the challenge is used up.
@@ -258,7 +271,7 @@ pub fn opened_for(
     }
 }
 
-// Clears all connections, SRM, authentication and the peer's limit; the counter and the challenge stay.
+// Clears all connections, SRM, authentication and the peer's limit; the counter, the challenge and the window stay.
 fn cleared(peer: Peer) -> Peer
     ensures { λ r. ⌜ r ≡ clearedPeer peer ⌝ }
 {

@@ -12,7 +12,8 @@ use lib.ListN.{length}
 use Rattle.packet.specs.Flags.{flagBits}
 use Rattle.packet.specs.AuthWrite.{given, overlong}
 use Rattle.model.specs.Guard.{longRealm}
-use Rattle.model.specs.Connect.{bit, optionsOf, realmOf}
+use Rattle.journal.specs.Checks.{bit}
+use Rattle.model.specs.Connect.{optionsOf, realmOf}
 use Rattle.server.specs.declared.Settings.{Settings}
 
 pub options-are : (st : Settings) → flagBits (st .«user_id_required») (st .«read_only») ≡ optionsOf st

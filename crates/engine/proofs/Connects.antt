@@ -1,10 +1,13 @@
 -- The client's response by its place in a Connect packet. Assumes nothing.
 use mathlib.Core.Path.{_≡_, refl, sym, ap, _∙_}
-use mathlib.Core.List.{List}
+use mathlib.Core.List.{List, [], _∷_}
+use mathlib.Core.Bool.{true}
 use mathlib.Core.Option.{Option, none, some}
 use Prim.Native.Nat.{ℕ, _+_, _^_, _<_}
 use native.Mathlib.Omega.{arith}
 use lib.ListN.{length}
+use denote.Enum.Declared.{tagOf}
+use types.Run.{OneOf, miss}
 use Rattle.digest.specs.declared.md5.Octets16.{Octets16}
 use Rattle.packet.specs.Header.{readHeaders, firstPlace, part}
 use Rattle.packet.specs.Packet.{requestOf}
@@ -18,17 +21,27 @@ use Rattle.packet.specs.declared.tlv.Found.the-variants as place
 use Rattle.packet.proofs.HeaderLaws.{first-agrees}
 use Rattle.packet.proofs.AuthLaws.{within}
 use Rattle.packet.proofs.TagWrites.{Within}
-use Rattle.journal.specs.Journal.{headersOf as headersIn, responseIn}
+use Rattle.journal.specs.Journal.{headersOf as headersIn}
 use Rattle.model.specs.Request.{userIn, placedAt}
-use Rattle.engine.specs.Connect.{answeredAs, answeredBy, Below}
-use Rattle.engine.specs.declared.connect.Answered.the-variants.{Missing, User}
+use Rattle.connection.specs.declared.peer.Peer.{Peer}
+use Rattle.connection.specs.declared.peer.Challenge.{Challenge}
+use Rattle.connection.specs.declared.peer.Challenge.the-variants.{Stored, Absent}
+use Rattle.server.specs.declared.Engine.{Engine}
+use Rattle.server.specs.declared.Operation.the-variants.{Nothing}
+use Rattle.server.specs.declared.Await.the-variants as await
+use Rattle.server.specs.declared.HostRequest.the-variants as request
+use Rattle.engine.specs.Step.{asksPlan}
+use Rattle.engine.specs.Connect.{answeredRead, answeredAs, answeredBy, verifiesPlan, carries, Below}
+use Rattle.engine.specs.declared.connect.Answered.{Answered}
+use Rattle.engine.proofs.connect.Answered.{the-type}
+use Rattle.engine.specs.declared.connect.Answered.the-variants.{Missing, Unreadable, User}
 
 -- what is read, by cases
-unread : (x : Option Response) (u w : Found) → responseRead x u ≡ response.Unreadable → answeredAs x w ≡ Missing
+unread : (x : Option Response) (u w : Found) → responseRead x u ≡ response.Unreadable → answeredRead x w ≡ Unreadable
 unread none u w h = refl
 unread (some r) u w h = absurd (let z : _≡_ {A = ℕ} 0 1 = cc in omega arith)
 
-read : (x : Option Response) (u v : Found) (d : Octets16) (n : Named) (a : ℕ) → responseRead x u ≡ response.Response d v n → answeredAs x (placedAt a u) ≡ User (placedAt a v)
+read : (x : Option Response) (u v : Found) (d : Octets16) (n : Named) (a : ℕ) → responseRead x u ≡ response.Response d v n → answeredRead x (placedAt a u) ≡ User (placedAt a v)
 read none u v d n a h = absurd (let z : _≡_ {A = ℕ} 0 1 = cc in omega arith)
 read (some r) u v d n a h = let k : u ≡ v = cc in ap (λ (f : Found). User (placedAt a f)) k
 
@@ -47,13 +60,13 @@ user-below s n d u m h = go (responseOf s) h
     go (some r) w l = let k : lastValue s 1 ≡ u = cc in rw k at (below s n (lastValue s 1) (within s 1) l)
 
 module _ (q : List ℕ) (k : readHeaders q 7 ≡ some (headersIn (requestOf q))) where
-  by-place : (f : Found) → firstPlace 0x4E q 7 ≡ f → answeredBy q ≡ answeredAs (responseIn (bytesAt q f)) (userIn q f)
+  by-place : (f : Found) → firstPlace 0x4E q 7 ≡ f → answeredBy q ≡ answeredAs (bytesAt q f) (userIn q f)
   by-place f h = rw (← first-agrees 0x4E q 7 (headersIn (requestOf q)) k, h)
 
   pub not-answered : firstPlace 0x4E q 7 ≡ place.Missing → Missing ≡ answeredBy q
   not-answered h = sym (by-place place.Missing h)
 
-  pub answer-unread : (a b : ℕ) → firstPlace 0x4E q 7 ≡ place.At a b → readResponse (part q a b) ≡ response.Unreadable → Missing ≡ answeredBy q
+  pub answer-unread : (a b : ℕ) → firstPlace 0x4E q 7 ≡ place.At a b → readResponse (part q a b) ≡ response.Unreadable → Unreadable ≡ answeredBy q
   unfolding readResponse
   answer-unread a b h r = sym (by-place (place.At a b) h ∙ unread (responseOf (part q a b)) _ _ r)
 
@@ -61,3 +74,16 @@ module _ (q : List ℕ) (k : readHeaders q 7 ≡ some (headersIn (requestOf q)))
       → readResponse (part q a b) ≡ response.Response d u n → User (placedAt a u) ≡ answeredBy q
   unfolding readResponse
   answer-read a b d u n h r = sym (by-place (place.At a b) h ∙ read (responseOf (part q a b)) _ u d n a r)
+
+-- a response that is not missing is carried, and one that cannot be read leads to a challenge as none does
+pub is-carried : (a : Answered) → OneOf (1 ∷ 2 ∷ []) (tagOf the-type a) → carries a ≡ true
+is-carried Missing k = absurd (miss (1 ∷ 2 ∷ []) 0 tt k)
+is-carried Unreadable k = refl
+is-carried (User u) k = refl
+
+pub not-read : (e : Engine) (p : Peer) (c : Challenge) (a : Answered) → OneOf (0 ∷ 1 ∷ []) (tagOf the-type a)
+    → verifiesPlan e p c a ≡ asksPlan e p Nothing await.Nonce request.Nonce
+not-read e p Absent a k = refl
+not-read e p (Stored n) Missing k = refl
+not-read e p (Stored n) Unreadable k = refl
+not-read e p (Stored n) (User u) k = absurd (miss (0 ∷ 1 ∷ []) 2 tt k)

@@ -40,7 +40,7 @@ use Rattle.connection.proofs.Challenges.{first-in-bytes}
 use Rattle.connection.proofs.ByNumbers.{checkBy, check-by}
 use Rattle.model.specs.Step.{Stores, stepped, after}
 use Rattle.model.specs.Guard.{guarded}
-use Rattle.model.specs.Connect.{passwordAnswer, demandsUser, checks}
+use Rattle.model.specs.Connect.{passwordAnswered, passwordAnswer, checks, demandsUser}
 use Rattle.model.specs.Request.{clientResponse, lastHeaders, lastPacket}
 use Rattle.engine.specs.Step.{asksPlan, tookBy}
 use Rattle.engine.specs.Connect.{passwordPlan}
@@ -157,7 +157,7 @@ found-last id q n f v h k e = ap (λ (m : ℕ). firstIn id q m) (sym h) ∙ sym 
 pub password-call : (e : Engine) (s : Stores) (r : CallResult) (x : Plan) (t d : Bool) (p : Option (List ℕ)) → Goes kind.PasswordGiven e s → r ≡ tookBy x → x ≡ passwordPlan e t
     → d ≡ demandsUser (e .settings) → t ≡ checks (e .peer .challenge) (responseIn (first 0x4E (headersIn (requestOf (take (e .length) (s .packet)))))) d p
     → stepped r s ≡ guarded kind.PasswordGiven e s (after 0 (passwordAnswer e p s))
-unfolding passwordPlan passwordAnswer asksPlan clientResponse lastHeaders lastPacket
+unfolding passwordPlan passwordAnswer passwordAnswered asksPlan clientResponse lastHeaders lastPacket
 password-call e s r x t d p g h k i c =
     ap (λ (y : CallResult). stepped y s) (h ∙ ap (λ (y : Plan). tookBy y) k) ∙ by t (c ∙ ap (λ (y : Bool). checks (e .peer .challenge) (responseIn (first 0x4E (headersIn (requestOf (take (e .length) (s .packet)))))) y p) i)
     ∙ sym (g .whole (after 0 (passwordAnswer e p s)))

@@ -1,6 +1,6 @@
 -- Carrying out a plan is the model's step. Assumes nothing.
 use mathlib.Core.Path.{_≡_, refl}
-use mathlib.Core.Bool.{Bool, true, false}
+use mathlib.Core.Bool.{Bool, true, false, true≢false, false≢true}
 use mathlib.Core.List.{[]}
 use Prim.Native.Nat.{ℕ}
 use Rattle.base.specs.Pick.{pick}
@@ -10,8 +10,9 @@ use Rattle.connection.specs.declared.peer.Peer.{Peer}
 use Rattle.incoming.specs.Gather.{Gathering}
 use Rattle.incoming.specs.declared.survey.Survey.{Survey}
 use Rattle.model.specs.Step.{Stores, Done, withGathered, wants, asks, ends, replies, continues}
+use Rattle.model.specs.Connect.{repliesFields}
 use Rattle.model.specs.Operation.{putContinues, putGathered, getContinues, getGathered, headersGathered}
-use Rattle.engine.specs.Step.{planned, wantsPlan, asksPlan, endsPlan, codePlan, continuePlan}
+use Rattle.engine.specs.Step.{planned, wantsPlan, asksPlan, endsPlan, codePlan, fieldsPlan, continuePlan}
 use Rattle.engine.specs.Operation.{putContinuePlan, putPlan, getContinuePlan, getPlan, headersPlan}
 use Rattle.server.specs.declared.Operation.{Operation}
 use Rattle.server.specs.declared.Operation.the-variants.{Nothing, Putting, Getting, Gathering as GatheringOp}
@@ -43,6 +44,10 @@ pub code-planned : (e : Engine) (p : Peer) (a : Await) (b : ℕ) (s : Stores) �
 unfolding codePlan packetBytes
 code-planned e p a b s = record { is = refl }
 
+pub fields-planned : (e : Engine) (p : Peer) (code : ℕ) (s : Stores) → Carries (fieldsPlan e p code) s (repliesFields e p code s)
+unfolding fieldsPlan packetBytes
+fields-planned e p code s = record { is = refl }
+
 pub continue-planned : (e : Engine) (o : Operation) (grant : Bool) (s : Stores) → Carries (continuePlan e o grant) s (continues e o grant s)
 unfolding continuePlan packetBytes
 continue-planned e o true s = record { is = refl }
@@ -52,6 +57,13 @@ continue-planned e o false s = record { is = refl }
 pub pick-planned : (t : Bool) {p q : Plan} {s : Stores} {d f : Done} → Carries p s d → Carries q s f → Carries (pick t p q) s (pick t d f)
 pick-planned true a b = a
 pick-planned false a b = b
+
+-- by a test that is said in two ways
+pub pick-planned-as : (t u : Bool) {p q : Plan} {s : Stores} {d f : Done} → t ≡ u → Carries p s d → Carries q s f → Carries (pick t p q) s (pick u d f)
+pick-planned-as true true e a b = a
+pick-planned-as true false e a b = absurd (true≢false e)
+pick-planned-as false true e a b = absurd (false≢true e)
+pick-planned-as false false e a b = b
 
 -- ---- a gathered packet
 

@@ -5,10 +5,14 @@ use mathlib.Core.List.{List, []}
 use mathlib.Core.Option.{Option, none, some}
 use Prim.Native.Nat.{ℕ}
 use lib.ListN.{take}
+use lib.Count.{ones}
+use lib.Dec.{leb}
 use Rattle.base.specs.Pick.{pick}
 use Rattle.packet.specs.Codes.{sentCode}
 use Rattle.packet.specs.FirstByte.{sameOpcode}
-use Rattle.packet.specs.Auth.{Response}
+use Rattle.packet.specs.Auth.{Response, responseOf}
+use Rattle.packet.specs.declared.tlv.Found.{Found}
+use Rattle.digest.specs.declared.md5.Octets16.{Octets16}
 use Rattle.packet.specs.Header.{first}
 use Rattle.packet.specs.Packet.{Request as Packet, requestOf, connectLimit, packetBytes}
 use Rattle.packet.specs.declared.opcode.Opcode.{Opcode}
@@ -16,10 +20,11 @@ use Rattle.packet.specs.declared.opcode.Opcode.the-variants as op
 use Rattle.incoming.specs.Survey.{surveyOf}
 use Rattle.incoming.specs.declared.gather.Gathered.{Gathered}
 use Rattle.incoming.specs.declared.gather.Keep.the-variants as keep
-use Rattle.connection.specs.Peer.{limited}
+use Rattle.connection.specs.Peer.{isGiven, limited, checkedPeer}
 use Rattle.connection.specs.declared.peer.Challenge.{Challenge}
 use Rattle.connection.specs.declared.peer.Challenge.the-variants.{Stored, Absent}
 use Rattle.connection.specs.declared.peer.Peer.{Peer}
+use Rattle.journal.specs.Checks.{mostWrong}
 use Rattle.journal.specs.Journal.{responseIn, headersOf as headersIn}
 use Rattle.model.specs.Step.{Stores, Done, engineWith, wants, asks, ends, replies, repliesCode}
 use Rattle.model.specs.Request.{lastPacket, lastHeaders, clientResponse, userPlace}
@@ -28,7 +33,7 @@ use Rattle.model.specs.Operation.{nothingGathered, gathers, putPacket, getPacke
 use Rattle.model.specs.Dispatch.{Rejection, admits, rejects, rejection, knownIn, drains, rejected, dispatches, admittedAs, dispatch, interrupts, inside, busy, readAs, lengthOf, packetDone}
 use Rattle.engine.specs.Dispatch.{headingOf, askRoute, codeRoute, admissionOf, rejectedRoute, putRoute, getRoute, headersRoute, dispatchRoute, admittedRoute, openRoute, interruptsRoute, insideRoute, headingRoute, routeAs, packetRoute, simplePlan, acts}
 use Rattle.engine.specs.Operation.{keepOf, kindPlan, actsGathered}
-use Rattle.engine.specs.Connect.{answeredAs, verifiesPlan, limitedPlan, connectPlan}
+use Rattle.engine.specs.Connect.{answeredRead, answeredAs, verifiesPlan, carries, stopsBy, limitedPlan, connectPlan}
 use Rattle.server.specs.declared.Operation.{Operation}
 use Rattle.server.specs.declared.Operation.the-variants.{Nothing, Putting, Getting, Sending, Gathering as GatheringOp, Connecting, Draining}
 use Rattle.server.specs.declared.Await.{Await}
@@ -43,7 +48,7 @@ use Rattle.engine.specs.declared.operation.GatherKind.{GatherKind}
 use Rattle.engine.specs.declared.operation.GatherKind.the-variants as kind
 use Rattle.engine.specs.declared.dispatch.Route.{Route}
 use Rattle.engine.specs.declared.dispatch.Route.the-variants.{Plain, Connect, Gather, Send}
-use Rattle.engine.proofs.Plans.{Carries, pick-planned, wants-planned, asks-planned, ends-planned, code-planned, put-planned, get-planned, headers-planned}
+use Rattle.engine.proofs.Plans.{Carries, pick-planned, pick-planned-as, wants-planned, asks-planned, ends-planned, code-planned, fields-planned, put-planned, get-planned, headers-planned}
 
 -- acting on the way, with the packet, is this step
 pub record Acts (x : Route) (e : Engine) (q : List ℕ) (s : Stores) (d : Done) : Type 0 where
@@ -82,19 +87,36 @@ module _ (e : Engine) (q : List ℕ) (s : Stores) where
 -- ---- a Connect
 
 module _ (e : Engine) (s : Stores) where
-  verifies-planned : (p : Peer) (c : Challenge) (r : Option Response) → Carries (verifiesPlan e p c (answeredAs r (userPlace e s))) s (verifies e p c r s)
-  verifies-planned p Absent r = asks-planned e p Nothing await.Nonce request.Nonce s
+  read-planned : (p : Peer) (n : Octets16) (r : Option Response)
+      → Carries (verifiesPlan e p (Stored n) (answeredRead r (userPlace e s))) s (verifies e p (Stored n) r s)
+  read-planned p n none = asks-planned e p Nothing await.Nonce request.Nonce s
+  read-planned p n (some r) = asks-planned e p Nothing await.Password (request.Password (userPlace e s)) s
+
+  verifies-planned : (p : Peer) (c : Challenge) (v : Option (List ℕ))
+      → Carries (verifiesPlan e p c (answeredAs v (userPlace e s))) s (verifies e p c (responseIn v) s)
+  verifies-planned p Absent v = asks-planned e p Nothing await.Nonce request.Nonce s
   verifies-planned p (Stored n) none = asks-planned e p Nothing await.Nonce request.Nonce s
-  verifies-planned p (Stored n) (some r) = asks-planned e p Nothing await.Password (request.Password (userPlace e s)) s
+  verifies-planned p (Stored n) (some v) = read-planned p n (responseOf v)
+
+  -- a response is carried if its header is there
+  carries-read : (r : Option Response) (u : Found) → carries (answeredRead r u) ≡ true
+  carries-read none u = refl
+  carries-read (some r) u = refl
+
+  carries-given : (v : Option (List ℕ)) (u : Found) → carries (answeredAs v u) ≡ isGiven v
+  carries-given none u = refl
+  carries-given (some v) u = carries-read (responseOf v) u
 
   connect-acts : Acts Connect e (lastPacket e s) s (connectPacket e s)
-  unfolding connectPlan limitedPlan connectPacket clientResponse lastHeaders userPlace
+  unfolding connectPlan limitedPlan stopsBy connectPacket clientResponse lastHeaders userPlace
   connect-acts =
       let p = limited (e .peer) (connectLimit (lastPacket e s)) in
+      let v = first 0x4E (headersIn (requestOf (lastPacket e s))) in
       record {
         is =
             pick-planned (e .settings .authentication)
-            (verifies-planned p (p .challenge) (responseIn (first 0x4E (headersIn (requestOf (lastPacket e s))))))
+            (pick-planned-as _ _ (ap (λ (t : Bool). leb mostWrong (ones (p .window)) && t) (carries-given v (userPlace e s)))
+            (fields-planned e (checkedPeer p false) 0x53 s) (verifies-planned p (p .challenge) v))
             (asks-planned e p Nothing await.Connect (request.Connect (e .length)) s)
             .is;
       }

@@ -1,9 +1,11 @@
 -- Connect from its packet to its reply, and Disconnect, by the stores that they touch: the design level between model/specs/Connect and the code.
 use Prim.Native.Nat.{ℕ, _+_, _^_, _≤_, _<_}
 use mathlib.Core.List.{List, []}
-use mathlib.Core.Bool.{Bool, _||_}
+use mathlib.Core.Bool.{Bool, true, false, _&&_, _||_}
 use mathlib.Core.Option.{Option, none, some}
 use lib.ListN.{length, take}
+use lib.Count.{ones}
+use lib.Dec.{leb}
 use Rattle.base.specs.Pick.{pick}
 use Rattle.packet.specs.Codes.{isSuccess}
 use Rattle.packet.specs.Header.{Header, first, firstPlace, allBytes}
@@ -13,18 +15,19 @@ use Rattle.packet.specs.declared.auth.DigestChallenge.the-variants as challenge
 use Rattle.journal.specs.Calls.{Credentials}
 use Rattle.incoming.specs.Survey.{surveyOf}
 use Rattle.connection.specs.Reply.{fieldsOf, front}
-use Rattle.connection.specs.Peer.{Linked, linked, idIn, isGiven, Answers, answerBy, disconnectedPeer, verifiedPeer, limited}
+use Rattle.connection.specs.Peer.{Linked, linked, idIn, isGiven, Answers, answerBy, disconnectedPeer, checkedPeer, verifiedPeer, limited}
 use Rattle.connection.specs.ConnectReply.{connectHeaders}
 use Rattle.connection.specs.Pieces.{headersFrom, answeredIn, idGiven}
 use Rattle.connection.specs.declared.peer.Peer.{Peer}
 use Rattle.connection.specs.declared.peer.Answer.{Answer}
 use Rattle.connection.specs.declared.peer.ConnectionId.{ConnectionId}
-use Rattle.journal.specs.Journal.{headersOf as headersIn, responseIn}
+use Rattle.journal.specs.Checks.{mostWrong}
+use Rattle.journal.specs.Journal.{headersOf as headersIn}
 use Rattle.model.specs.Step.{Stores, Stepped, stepped, stores}
 use Rattle.model.specs.Connect.{srmAsked}
 use Rattle.model.specs.Request.{realmIn, userIn}
 use Rattle.model.specs.Guard.{longUser, sameAwait}
-use Rattle.engine.specs.Step.{asksPlan, Written, written, tookBy, repliesBy}
+use Rattle.engine.specs.Step.{asksPlan, fieldsPlan, Written, written, tookBy, repliesBy}
 use Rattle.engine.specs.Guard.{refusedWith}
 use Rattle.server.specs.declared.Operation.{Operation}
 use Rattle.server.specs.declared.Operation.the-variants.{Nothing, Putting, Getting, Sending, Gathering as GatheringOp, Connecting, Draining}
@@ -35,23 +38,29 @@ use Rattle.server.specs.declared.HostRequest.the-variants as request
 use Rattle.server.specs.declared.CallResult.{CallResult}
 use Rattle.connection.specs.declared.reply.Sent.the-variants as sent
 use Rattle.engine.specs.declared.step.Plan.{Plan}
-use Rattle.packet.specs.Auth.{Response}
+use Rattle.packet.specs.ResponseCodes as response
+use Rattle.packet.specs.Auth.{Response, responseOf}
 use Rattle.packet.specs.declared.tlv.Found.{Found}
 use Rattle.packet.specs.declared.tlv.Found.the-variants as place
 use Rattle.connection.specs.declared.peer.Challenge.{Challenge}
 use Rattle.connection.specs.declared.peer.Challenge.the-variants.{Stored, Absent}
 use Rattle.engine.specs.declared.connect.Answered.{Answered}
-use Rattle.engine.specs.declared.connect.Answered.the-variants.{Missing, User}
+use Rattle.engine.specs.declared.connect.Answered.the-variants.{Missing, Unreadable, User}
 use Rattle.engine.specs.declared.dispatch.Route.the-variants.{Connect}
 
--- The client's response is missing unless it can be read; `u` is the place of its user id.
-abbrev pub answeredAs : Option Response → Found → Answered
+-- The client's response can be read or not; `u` is the place of its user id.
+abbrev pub answeredRead : Option Response → Found → Answered
+answeredRead none u = Unreadable
+answeredRead (some r) u = User u
+
+-- The header of the client's response is there or not.
+abbrev pub answeredAs : Option (List ℕ) → Found → Answered
 answeredAs none u = Missing
-answeredAs (some r) u = User u
+answeredAs (some v) u = answeredRead (responseOf v) u
 
 -- The engine takes the first AuthenticateResponse of packet `q` as the client's response.
 abbrev pub answeredBy : List ℕ → Answered
-answeredBy q = answeredAs (responseIn (first 0x4E (headersIn (requestOf q)))) (userIn q (firstPlace 0x4E q 7))
+answeredBy q = answeredAs (first 0x4E (headersIn (requestOf q))) (userIn q (firstPlace 0x4E q 7))
 
 -- A place that is moved on by `n` stays below the largest number of 64 bits.
 abbrev pub Below : ℕ → Found → Type 0
@@ -62,23 +71,37 @@ Below n (place.At a b) = (a ≤ b) × (n + b < 2 ^ 64)
 abbrev pub verifiesPlan : Engine → Peer → Challenge → Answered → Plan
 verifiesPlan e p Absent a = asksPlan e p Nothing await.Nonce request.Nonce
 verifiesPlan e p (Stored n) Missing = asksPlan e p Nothing await.Nonce request.Nonce
+verifiesPlan e p (Stored n) Unreadable = asksPlan e p Nothing await.Nonce request.Nonce
 verifiesPlan e p (Stored n) (User u) = asksPlan e p Nothing await.Password (request.Password u)
 
--- Once the peer's limit is set, the engine checks the client if the settings require a password, and otherwise asks the host about the Connect.
+-- A Connect carries a response, readable or not.
+abbrev pub carries : Answered → Bool
+carries Missing = false
+carries Unreadable = true
+carries (User u) = true
+
+-- The engine stops a Connect that carries a response if the window has eight wrong checks or more (docs/PROTOCOL.md#eight-wrong).
+unfoldable pub stopsBy : ℕ → Answered → Bool
+stopsBy window a = leb mostWrong (ones window) && carries a
+
+-- Once the peer's limit is set, the engine stops the Connect or checks the client if the settings require a password, and otherwise asks the
+-- host about the Connect.
 unfoldable pub limitedPlan : Engine → Peer → Answered → Plan
 limitedPlan e p a =
-    pick (e .settings .authentication) (verifiesPlan e p (p .challenge) a)
+    pick (e .settings .authentication)
+    (pick (stopsBy (p .window) a) (fieldsPlan e (checkedPeer p false) response.serviceUnavailable) (verifiesPlan e p (p .challenge) a))
     (asksPlan e p Nothing await.Connect (request.Connect (e .length)))
 
 -- The engine sets the peer's limit before it looks at the password (docs/PROTOCOL.md#connect).
 unfoldable pub connectPlan : Engine → List ℕ → Plan
 connectPlan e q = limitedPlan e (limited (e .peer) (connectLimit q)) (answeredBy q)
 
--- If the password is right, the engine asks the host about the Connect. Otherwise it asks for a nonce, to challenge the client again.
+-- If the password is right, the engine asks the host about the Connect. Otherwise it asks for a nonce, to challenge the client again. The
+-- window gets the check's bit either way.
 unfoldable pub passwordPlan : Engine → Bool → Plan
 passwordPlan e right =
-    pick right (asksPlan e (verifiedPeer (e .peer)) Nothing await.Connect (request.Connect (e .length)))
-    (asksPlan e (e .peer) Nothing await.Nonce request.Nonce)
+    pick right (asksPlan e (verifiedPeer (checkedPeer (e .peer) false)) Nothing await.Connect (request.Connect (e .length)))
+    (asksPlan e (checkedPeer (e .peer) true) Nothing await.Nonce request.Nonce)
 
 -- A call that answers a Connect returns `took` and leaves these bytes in the header and reply stores.
 pub record Answering : Type 0 where

@@ -2,7 +2,7 @@
 use Prim.Native.Nat.{ℕ}
 use mathlib.Core.List.{List, [], _∷_}
 use mathlib.Core.Bool.{Bool, false, true}
-use Rattle.connection.specs.Reply.{Sending as Replying, sendBytes, sentInto, front}
+use Rattle.connection.specs.Reply.{Sending as Replying, fieldsOf, sendBytes, sentInto, front}
 use Rattle.connection.specs.declared.peer.Peer.{Peer}
 use Rattle.connection.specs.declared.reply.Sent.{Sent}
 use Rattle.connection.specs.declared.reply.Sent.the-variants as sent
@@ -15,7 +15,8 @@ use Rattle.server.specs.declared.Engine.{Engine}
 use Rattle.server.specs.declared.Outcome.the-variants as outcome
 use Rattle.server.specs.declared.CallResult.{CallResult}
 use Rattle.engine.specs.declared.step.Plan.{Plan}
-use Rattle.engine.specs.declared.step.ShortReply.the-variants.{Silent, Byte, Grant}
+use Rattle.engine.specs.declared.step.ShortReply.the-variants.{Silent, Byte, Grant, Fields}
+use Rattle.packet.specs.Codes.{sentCode}
 use Rattle.packet.specs.Packet.{packetBytes}
 use Rattle.server.specs.declared.Await.{Await}
 use Rattle.server.specs.declared.End.{End}
@@ -28,6 +29,7 @@ abbrev pub smallBytes : ShortReply → List ℕ
 smallBytes Silent = []
 smallBytes (Byte b) = packetBytes b [] []
 smallBytes Grant = packetBytes 0x90 [] (0x97 ∷ 0x01 ∷ [])
+smallBytes (Fields b limit) = packetBytes b (fieldsOf limit) []
 
 -- The engine carries a plan out: it writes the short reply to the front of the reply store.
 abbrev pub planned : Plan → Stores → Done
@@ -51,6 +53,11 @@ endsPlan e p x = plan (engineWith (e .settings) p Nothing await.Nothing 0 (e .le
 -- The engine replies with a first byte and no headers.
 unfoldable pub codePlan : Engine → Peer → Await → ℕ → Plan
 codePlan e p a b = plan (engineWith (e .settings) p Nothing a 0 (e .length)) (outcome.Reply 3) (Byte b)
+
+-- The engine replies with a code, Connect's fields and no headers.
+unfoldable pub fieldsPlan : Engine → Peer → ℕ → Plan
+fieldsPlan e p code =
+    plan (engineWith (e .settings) p Nothing await.Taken 0 (e .length)) (outcome.Reply 7) (Fields (sentCode code) (e .settings .«max_packet_length»))
 
 abbrev pub continueLength : Bool → ℕ
 continueLength true = 5

@@ -10,7 +10,7 @@ ghost use Rattle.packet.specs.AuthWrite.{given, overlong};
 ghost use Rattle.connection.specs.Pieces.{answeredIn, credentialsOf};
 ghost use Rattle.model.specs.Request.{realmIn, placedAt};
 ghost use Rattle.engine.specs.Step.{written};
-ghost use Rattle.engine.specs.Connect.{answering, accepting, headersOf, srmAskedBy, connectReplies, acceptedHeaders, answerFor, challengedBy, acceptedBy, Below, answeredBy, verifiesPlan, limitedPlan, connectPlan, passwordPlan, repliedLink, credentialsBy};
+ghost use Rattle.engine.specs.Connect.{answering, accepting, headersOf, srmAskedBy, connectReplies, acceptedHeaders, answerFor, challengedBy, acceptedBy, Below, answeredBy, verifiesPlan, stopsBy, limitedPlan, connectPlan, passwordPlan, repliedLink, credentialsBy};
 ghost use Rattle.connection.specs.Peer.{linked, answers};
 ghost use Rattle.packet.specs.Packet.{requestOf};
 ghost use Rattle.journal.specs.Journal.{headersOf as headersIn};
@@ -28,6 +28,7 @@ use crate::request::is_enabling;
 use crate::request::last_from;
 use crate::step::Plan;
 use crate::step::asks;
+use crate::step::fields;
 use crate::step::sends_connect;
 use crate::step::sent_plan;
 use crate::step::took;
@@ -35,6 +36,7 @@ use crate::step::wide16;
 use base::copy_into;
 use connection::challenge;
 use connection::challenge::answered_challenge;
+use connection::checks::too_many;
 use connection::connect_reply::challenge_reply;
 use connection::connect_reply::connect_reply;
 use connection::peer::Answer;
@@ -45,6 +47,7 @@ use connection::peer::disconnected;
 use connection::peer::limited;
 use connection::peer::opened_for;
 use connection::peer::verified;
+use connection::peer::with_check;
 use connection::reply::Sent;
 use digest::md5::Octets16;
 use packet::auth::DigestChallenge;
@@ -261,9 +264,10 @@ pub(crate) fn connect_answer(
     )
 }
 
-// The client's response to the server's challenge: missing or unreadable, or readable, with the place of its user id in the packet.
+// The client's response to the server's challenge: missing, unreadable, or readable, with the place of its user id in the packet.
 pub(crate) enum Answered {
     Missing,
+    Unreadable,
     User(Found),
 }
 
@@ -295,7 +299,7 @@ fn client_response(p: &[u8]) -> Answered
         nonce: _,
     } = read_response(&p[start..end])
     else {
-        return Answered::Missing;
+        return Answered::Unreadable;
     };
     Answered::User(placed(start, user))
 }
@@ -315,13 +319,6 @@ fn verifies(e: Engine, peer: Peer, challenge: Challenge, a: Answered) -> Plan
         );
     };
     match a {
-        Answered::Missing => asks(
-            e,
-            peer,
-            Operation::Nothing,
-            Await::Nonce,
-            HostRequest::Nonce,
-        ),
         Answered::User(user_id) => asks(
             e,
             peer,
@@ -329,15 +326,36 @@ fn verifies(e: Engine, peer: Peer, challenge: Challenge, a: Answered) -> Plan
             Await::Password,
             HostRequest::Password { user_id },
         ),
+        _ => asks(
+            e,
+            peer,
+            Operation::Nothing,
+            Await::Nonce,
+            HostRequest::Nonce,
+        ),
     }
 }
 
-// Goes on after the client's packet limit is set: checks the client if the settings ask for a password, else asks the host whether it
-// accepts the Connect.
+// Tells whether a Connect is stopped: eight or more of the last 64 checks were wrong, and it carries a response, readable or not
+// (docs/PROTOCOL.md#eight-wrong).
+fn is_stopped(window: u64, a: Answered) -> bool
+    ensures { λ r. ⌜ r ≡ stopsBy window a ⌝ }
+{
+    match a {
+        Answered::Missing => false,
+        _ => too_many(window),
+    }
+}
+
+// Goes on after the client's packet limit is set: stops the Connect or checks the client if the settings ask for a password, else asks the
+// host whether it accepts the Connect.
 fn limited_plan(e: Engine, peer: Peer, a: Answered) -> Plan
     ensures { λ r. ⌜ r ≡ limitedPlan e peer a ⌝ }
 {
     if e.settings.authentication {
+        if is_stopped(peer.window, a) {
+            return fields(e, with_check(peer, false), SERVICE_UNAVAILABLE);
+        }
         let challenge = peer.challenge;
         return verifies(e, peer, challenge, a);
     }
@@ -350,7 +368,7 @@ fn limited_plan(e: Engine, peer: Peer, a: Answered) -> Plan
     )
 }
 
-// Handles a Connect packet: sets the client's packet limit before the password is looked at, as the source does.
+// Handles a Connect packet: sets the client's packet limit before the window and the password are looked at, as the source does.
 pub(crate) fn handle_connect(e: Engine, p: &[u8]) -> Plan
     requires { ⌜ readHeaders (now p) 7 ≡ some (headersIn (requestOf (now p))) ⌝ }
     ensures { λ r. ⌜ r ≡ connectPlan e (now (p .entry)) ⌝ }
@@ -370,13 +388,14 @@ pub(crate) fn demands_user(settings: Settings) -> bool
 }
 
 // If the password was right, asks the host whether it accepts the Connect. Otherwise asks it for a nonce, to challenge the client again.
+// Either way the check joins the window.
 pub(crate) fn password_plan(e: Engine, right: bool) -> Plan
     ensures { λ r. ⌜ r ≡ passwordPlan e right ⌝ }
 {
     if right {
         return asks(
             e,
-            verified(e.peer),
+            verified(with_check(e.peer, false)),
             Operation::Nothing,
             Await::Connect,
             HostRequest::Connect { length: e.length },
@@ -384,7 +403,7 @@ pub(crate) fn password_plan(e: Engine, right: bool) -> Plan
     }
     asks(
         e,
-        e.peer,
+        with_check(e.peer, true),
         Operation::Nothing,
         Await::Nonce,
         HostRequest::Nonce,

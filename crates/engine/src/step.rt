@@ -2,7 +2,7 @@
 ghost use mathlib.Core.List.{[]};
 ghost use mathlib.Core.Path.{_≡_};
 ghost use Rattle.model.specs.Step.{engineWith};
-ghost use Rattle.engine.specs.Step.{wantsPlan, asksPlan, endsPlan, codePlan, continuePlan, smallBytes, tookBy, written, carried, sentPlan, repliesBy};
+ghost use Rattle.engine.specs.Step.{wantsPlan, asksPlan, endsPlan, codePlan, fieldsPlan, continuePlan, smallBytes, tookBy, written, carried, sentPlan, repliesBy};
 ghost use lib.Dec.{eqb};
 ghost use Rattle.base.specs.Pick.{pick};
 ghost use Rattle.connection.specs.Peer.{freshPeer};
@@ -13,12 +13,14 @@ ghost use Rattle.connection.specs.Reply.{fieldsOf, front};
 use connection::peer::Challenge;
 use connection::peer::Peer;
 use connection::reply::Sent;
+use connection::reply::put_connect_prefix;
 use connection::reply::put_continue;
 use connection::reply::put_reply_code;
 use connection::reply::send;
 use connection::reply::send_connect;
 use packet::limits::MIN_PACKET;
 use packet::response::CONTINUE_BYTE;
+use packet::response::to_byte;
 use server::Await;
 use server::CallResult;
 use server::End;
@@ -35,6 +37,8 @@ pub(crate) enum ShortReply {
     Byte(u8),
     // Continue with the grant of Single Response Mode (SRM).
     Grant,
+    // The first byte and Connect's fields with the engine's own limit, and no headers.
+    Fields { byte: u8, limit: u16 },
 }
 
 // What a call leads to, decided without the stores: the next state, what the call answers, and a short reply if one is due.
@@ -71,6 +75,7 @@ fn fresh_peer() -> Peer
 {
     Peer {
         count: 0,
+        window: 0,
         next_connection_id: 1,
         remote_max_packet_length: MIN_PACKET,
         srm_enabled: false,
@@ -153,6 +158,27 @@ pub(crate) fn code(e: Engine, peer: Peer, awaits: Await, byte: u8) -> Plan
     }
 }
 
+// The engine replies with a code, Connect's fields and no headers.
+pub(crate) fn fields(e: Engine, peer: Peer, code: u8) -> Plan
+    ensures { λ r. ⌜ r ≡ fieldsPlan e peer code ⌝ }
+{
+    Plan {
+        engine: engine_with(
+            e.settings,
+            peer,
+            Operation::Nothing,
+            Await::Taken,
+            0,
+            e.length,
+        ),
+        outcome: Outcome::Reply { length: 7 },
+        small: ShortReply::Fields {
+            byte: to_byte(code),
+            limit: e.settings.max_packet_length,
+        },
+    }
+}
+
 // The engine says Continue, with SRM if `grant` is set, and the operation goes on.
 pub(crate) fn continues(e: Engine, operation: Operation, grant: bool) -> Plan
     ensures { λ r. ⌜ r ≡ continuePlan e operation grant ⌝ }
@@ -174,7 +200,7 @@ pub(crate) fn continues(e: Engine, operation: Operation, grant: bool) -> Plan
 
 // Writes a short reply to the front of the reply store.
 pub(crate) fn write_short_reply(small: ShortReply, reply: &mut [u8])
-    requires { ⌜ 5 ≤ length (now reply) ⌝ }
+    requires { ⌜ 7 ≤ length (now reply) ⌝ }
     ensures { λ r. ⌜ now (reply .exit) ≡ front (smallBytes small) (now (reply .entry)) ⌝ }
 {
     match small {
@@ -184,6 +210,9 @@ pub(crate) fn write_short_reply(small: ShortReply, reply: &mut [u8])
         }
         ShortReply::Grant => {
             put_continue(reply, true);
+        }
+        ShortReply::Fields { byte, limit } => {
+            put_connect_prefix(reply, byte, 7, limit);
         }
     }
 }
@@ -203,7 +232,7 @@ pub(crate) fn took(p: Plan) -> CallResult
 
 // Carries out a plan: writes its short reply and returns the rest.
 pub(crate) fn carry_out(p: Plan, reply: &mut [u8]) -> CallResult
-    requires { ⌜ 5 ≤ length (now reply) ⌝ }
+    requires { ⌜ 7 ≤ length (now reply) ⌝ }
     ensures { λ r. ⌜ written r (now (reply .exit)) ≡ carried p (now (reply .entry)) ⌝ }
 {
     let small = p.small;

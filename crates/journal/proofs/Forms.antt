@@ -16,7 +16,8 @@ use Rattle.packet.specs.declared.opcode.Opcode.{Opcode}
 use Rattle.packet.specs.declared.opcode.Opcode.the-variants.{Connect, Disconnect, Put, Get, SetPath, Action, Session, Abort, UserDefined}
 use Rattle.journal.specs.Record.{Record, bare, joined, sizeOf, carriedBy, keptByGet}
 use Rattle.journal.specs.Calls.{Call, bytesOffered, streamEnded, replyTaken, replyGiven, objectGiven, bodyGiven, bodyFailed, abortAcknowledged, passwordGiven, nonceGiven, credentialsGiven, Verdict, goes, refused, Fed}
-use Rattle.journal.specs.Journal.{Opened, nothing, putting, getting, sending, gathering, draining, busy, Journal, fresh, Entry, unchanged, begin, after, opens, stands, end, admitted, asksSrm, putRead, gatherRead, turnedAway, dropped, firstRead, stopped, requestRead, packetRead, journalPacket, Read, more, whole, short, readUp, bytesRead, replyTo, replyLast, replied, objectSent, takenAt, passwordChecked, challenged, passes, journalCall, journalFed, journalStep, journalRecords, Marked, readIn, callReads, fedReads, packets}
+use Rattle.journal.specs.Checks.{stop}
+use Rattle.journal.specs.Journal.{Opened, nothing, putting, getting, sending, gathering, draining, busy, Journal, fresh, Entry, unchanged, begin, after, opens, stands, end, admitted, asksSrm, isStopped, withCheck, connectRead, putRead, gatherRead, turnedAway, dropped, firstRead, stopped, requestRead, packetRead, journalPacket, Read, more, whole, short, readUp, bytesRead, replyTo, replyLast, replied, objectSent, takenAt, passwordChecked, challenged, passes, journalCall, journalFed, journalStep, journalRecords, Marked, readIn, callReads, fedReads, packets}
 use Rattle.journal.specs.PutForm.{readablePut, isFinal, carriedIn, admits, Form, Apart}
 use Rattle.journal.specs.Claim.{PutForms}
 use Rattle.journal.proofs.Scan.{run, forms, past, forms-sound, forms-complete}
@@ -159,10 +160,16 @@ module _ (j : Journal) (fs : List Fed) (h : j .ended ≡ false) (ih : (d : Journ
     opens-or : (r : Request) (x y : Entry) → Goal at x [] → Goal at y [] → Goal at (pick (admitted (j .settings) (j .standing) r) x y) []
     opens-or r x y a b = either-way (admitted (j .settings) (j .standing) r) x y a b
 
+    -- a Connect, stopped or not, opens nothing
+    connects : (r : Request) → Goal at (connectRead (opens j nothing) r) []
+    connects r =
+        sooner (omega arith)
+        (ih (after (stands j (pick (isStopped (j .settings) (j .standing) r) (withCheck (j .standing) stop) (j .standing))) (some r) nothing) h (i + 1) 0 (i + 1) (omega arith))
+
     -- no Put, with nothing open
     first-other : (o : Opcode) (r : Request) → sameOpcode o Put ≡ false → Goal at (firstRead o (opens j nothing) r) []
     unfolding firstRead
-    first-other Connect r e = drops r
+    first-other Connect r e = connects r
     first-other Disconnect r e = drops r
     first-other Put r e = absurd (false≢true (sym e ∙ put-put))
     first-other Get r e = opens-or r _ _ (calm (some r) (getting (keptByGet (r .headers))) refl) (turns-away r)

@@ -16,7 +16,7 @@ use Rattle.packet.specs.ResponseCodes as response
 use Rattle.packet.specs.Modes as modes
 use Rattle.packet.specs.FirstByte.{sameOpcode}
 use Rattle.packet.specs.Codes.{isSuccess, sentCode}
-use Rattle.packet.specs.Header.{Header, readHeaders, first, allBytes}
+use Rattle.packet.specs.Header.{Header, readHeaders, first, present, allBytes}
 use Rattle.packet.specs.Packet.{Request, requestOf}
 use Rattle.packet.specs.Auth.{Response, responseOf, verified}
 use Rattle.packet.specs.declared.opcode.Opcode.{Opcode}
@@ -24,6 +24,7 @@ use Rattle.packet.specs.declared.opcode.Opcode.the-variants.{Connect, Disconnec
 use Rattle.journal.specs.Record.{Record, joined, sizeOf, carriedBy, keptByGet}
 use Rattle.journal.specs.Ids.{member, without, newId}
 use Rattle.journal.specs.Calls.{Call, bytesOffered, streamEnded, replyTaken, replyGiven, objectGiven, bodyGiven, bodyFailed, abortAcknowledged, passwordGiven, nonceGiven, credentialsGiven, Verdict, goes, refused, Fed}
+use Rattle.journal.specs.Checks.{Check, right, wrong, stop, tooMany}
 
 -- ---- what the journal keeps
 
@@ -36,13 +37,14 @@ pub record Settings : Type 0 where
   pub demandsUser : Bool
 
 -- What Connect and Disconnect change: whether the password was given, the nonce of the challenge that was sent, the open ids, the id
--- counter, and the session's SRM.
+-- counter, and the session's SRM; and the checks of passwords since the start, the latest first, which nothing clears.
 pub record Standing : Type 0 where
   pub authenticated : Bool
   pub challenge : Option (List ℕ)
   pub ids : List ℕ
   pub next : ℕ
   pub srm : Bool
+  pub checks : List Check
 
 -- What is open: nothing; a Put, with what it carried so far and its SRM; a Get, with its kept headers; a Get whose object is sent; an
 -- Action, Session or user-defined operation, with its kept headers; or an operation that was turned away and is drained.
@@ -80,7 +82,7 @@ fresh st =
       begun = [];
       last = none;
       opened = nothing;
-      standing = record { authenticated = false; challenge = none; ids = []; next = 1; srm = false };
+      standing = record { authenticated = false; challenge = none; ids = []; next = 1; srm = false; checks = [] };
       ended = false;
     }
 
@@ -171,10 +173,24 @@ turnedAway j r = unchanged (after j (some r) (pick (j .standing .srm && not (r .
 abbrev pub dropped : Journal → Request → Entry
 dropped j r = unchanged (after j (some r) nothing)
 
+-- A Connect is stopped (docs/PROTOCOL.md#eight-wrong): a password is required, too many of the last checks were wrong, and the Connect
+-- carries an AuthenticateResponse, whether that can be read or not.
+unfoldable pub isStopped : Settings → Standing → Request → Bool
+isStopped st s r = st .authentication && (tooMany (s .checks) && present (first header-id.authenticateResponse (r .headers)))
+
+-- A standing with one check more.
+abbrev pub withCheck : Standing → Check → Standing
+withCheck s c =
+    record { authenticated = s .authenticated; challenge = s .challenge; ids = s .ids; next = s .next; srm = s .srm; checks = c ∷ s .checks }
+
+-- A Connect is read: if it is stopped, that joins the checks, and nothing else changes.
+abbrev pub connectRead : Journal → Request → Entry
+connectRead j r = dropped (stands j (pick (isStopped (j .settings) (j .standing) r) (withCheck (j .standing) stop) (j .standing))) r
+
 -- A packet is read with nothing open. Connect, Disconnect and SetPath act by the host's answers; any other opens an operation if it is
 -- admitted.
 unfoldable pub firstRead : Opcode → Journal → Request → Entry
-firstRead Connect j r = dropped j r
+firstRead Connect j r = connectRead j r
 firstRead Disconnect j r = dropped j r
 firstRead SetPath j r = dropped j r
 firstRead Abort j r = dropped j r
@@ -244,7 +260,7 @@ bytesRead j short = unchanged (end j)
 
 -- A standing with other ids, counter and SRM.
 abbrev pub withIds : Standing → List ℕ → ℕ → Bool → Standing
-withIds s ids next srm = record { authenticated = s .authenticated; challenge = s .challenge; ids = ids; next = next; srm = srm }
+withIds s ids next srm = record { authenticated = s .authenticated; challenge = s .challenge; ids = ids; next = next; srm = srm; checks = s .checks }
 
 -- The id is opened if it is not open yet, with the counter `next`. A 65th leaves all as it was, SRM too.
 unfoldable pub openId : Standing → Bool → ℕ → ℕ → Standing
@@ -269,9 +285,9 @@ unfoldable pub connected : Settings → Standing → List Header → ℕ → Lis
 connected st s request code answer =
     pick (isSuccess code) (opensFor s (s .srm || asksSrm st request) (first header-id.connectionId answer) (first header-id.target request)) s
 
--- All that Connect set is cleared, but not the counter and the challenge.
+-- All that Connect set is cleared, but not the counter, the challenge and the checks.
 abbrev pub cleared : Standing → Standing
-cleared s = record { authenticated = false; challenge = s .challenge; ids = []; next = s .next; srm = false }
+cleared s = record { authenticated = false; challenge = s .challenge; ids = []; next = s .next; srm = false; checks = s .checks }
 
 -- A Disconnect leaves these ids open; if none is left, all is cleared.
 abbrev pub leaves : Standing → List ℕ → Standing
@@ -349,14 +365,15 @@ unfoldable pub passes : Journal → Option (List ℕ) → Bool
 passes j p =
     passesWith (j .settings .demandsUser) (j .standing .challenge) (responseIn (first header-id.authenticateResponse (headersOf (j .last)))) p
 
--- A right password is given from now on, and uses the challenge up.
+-- A password was checked, which joins the checks. A right one is given from now on, and uses the challenge up.
 abbrev pub passwordChecked : Standing → Bool → Standing
-passwordChecked s true = record { authenticated = true; challenge = none; ids = s .ids; next = s .next; srm = s .srm }
-passwordChecked s false = s
+passwordChecked s true =
+    record { authenticated = true; challenge = none; ids = s .ids; next = s .next; srm = s .srm; checks = right ∷ s .checks }
+passwordChecked s false = withCheck s wrong
 
 -- A new challenge is sent: the password is given no longer.
 abbrev pub challenged : Standing → List ℕ → Standing
-challenged s n = record { authenticated = false; challenge = some n; ids = s .ids; next = s .next; srm = s .srm }
+challenged s n = record { authenticated = false; challenge = some n; ids = s .ids; next = s .next; srm = s .srm; checks = s .checks }
 
 -- ---- a call
 
@@ -382,6 +399,11 @@ journalFed j c goes b = pick (j .ended) (unchanged j) (journalCall j c b)
 -- The step of a call as it is fed.
 unfoldable pub journalStep : Journal → Fed → Entry
 journalStep j f = journalFed j (f .call) (f .verdict) (f .reply)
+
+-- The journal after a list of calls.
+abbrev pub journalAfter : Journal → List Fed → Journal
+journalAfter j [] = j
+journalAfter j (f ∷ fs) = journalAfter (journalStep j f .next) fs
 
 -- The records that a list of calls must hand over.
 abbrev pub journalRecords : Journal → List Fed → List Record

@@ -2,6 +2,7 @@
 pub mod Record
 pub mod Ids
 pub mod Calls
+pub mod Checks
 pub mod Journal
 pub mod PutForm
 pub mod Claim

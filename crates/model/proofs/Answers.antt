@@ -1,6 +1,6 @@
 -- The host's answers to Connect, Disconnect and the rest: what the engine makes of them is what the journal does. Assumes nothing.
 use mathlib.Core.Path.{_≡_, refl, sym, ap, ap₂, _∙_, subst}
-use mathlib.Core.List.{List, []}
+use mathlib.Core.List.{List, [], _∷_}
 use mathlib.Core.Bool.{Bool, true, false, _||_}
 use mathlib.Core.Option.{Option, none, some}
 use Prim.Native.Nat.{ℕ, _≤_}
@@ -15,10 +15,11 @@ use Rattle.packet.specs.Auth.{Challenge as PeerChallenge, Response}
 use Rattle.packet.specs.declared.opcode.Opcode.{Opcode}
 use Rattle.packet.specs.declared.opcode.Opcode.the-variants as op
 use Rattle.journal.specs.Calls.{Credentials}
+use Rattle.journal.specs.Checks.{Check, right, wrong}
 use Rattle.journal.specs.Journal.{Settings as JournalSettings, Standing, Opened, Journal, unchanged, stands, asksSrm, opensFor, connected, disconnected, replyTo, replyLast, replied, passesWith, responseIn, passes, headersOf, passwordChecked, challenged, listOf}
 use Rattle.incoming.specs.Survey.{surveyOf}
 use Rattle.connection.specs.Reply.{fieldsOf, sendBytes, front}
-use Rattle.connection.specs.Peer.{Linked, verifiedPeer, challengedPeer, openedFor, disconnectedPeer}
+use Rattle.connection.specs.Peer.{Linked, checkedPeer, verifiedPeer, challengedPeer, openedFor, disconnectedPeer}
 use Rattle.connection.specs.ConnectReply.{answeredChallenge}
 use Rattle.connection.specs.declared.peer.Challenge.{Challenge}
 use Rattle.connection.specs.declared.peer.Challenge.the-variants.{Stored, Absent}
@@ -26,7 +27,7 @@ use Rattle.connection.specs.declared.peer.Peer.{Peer}
 use Rattle.model.specs.Step.{Stores, withHeaders, doneTabled, asks, sent, sends, sendsConnect}
 use Rattle.model.specs.Request.{lastPacket, lastHeaders, clientResponse}
 use Rattle.model.specs.Calls.{sendsLinked}
-use Rattle.model.specs.Connect.{srmAsked, connectSends, frontFor, credentialsFor, connectChallenged, connectOpened, connectAnswer, demandsUser, checks, passwordAnswer, nonceAnswer}
+use Rattle.model.specs.Connect.{srmAsked, connectSends, frontFor, credentialsFor, connectChallenged, connectOpened, connectAnswer, checks, passwordAnswered, passwordAnswer, nonceAnswer, demandsUser}
 use Rattle.model.specs.Theorem.{settingsOf}
 use Rattle.server.specs.declared.Operation.the-variants.{Nothing, Connecting}
 use Rattle.connection.specs.declared.peer.ConnectionId.{ConnectionId}
@@ -35,7 +36,7 @@ use Rattle.server.specs.declared.End.the-variants as why
 use Rattle.server.specs.declared.Engine.{Engine}
 use Rattle.server.specs.declared.HostRequest.the-variants as request
 use Rattle.server.specs.declared.Outcome.the-variants as outcome
-use Rattle.connection.proofs.Standings.{PeerFits, challengeBytes, standingOf, verified-standing, challenged-standing, disconnected-standing, opened-standing, full-standing}
+use Rattle.connection.proofs.Standings.{PeerFits, challengeBytes, standingOf, verified-standing, wrong-standing, challenged-standing, disconnected-standing, opened-standing, full-standing, Windowed, challenged-window, disconnected-window, checked-window, verified-window, opened-window}
 use Rattle.model.proofs.Coupling.{Held, AskedBy, Told, ToldTabled, told-done, told-ends, told-replies}
 
 -- ---- a reply that is sent, or is too long
@@ -73,16 +74,26 @@ module _ (ts : List ℕ) (e : Engine) (s : Stores) (j : Journal) (o : Opcode) (w
   headers-are = w .headers
 
   -- the journal with another standing, over a table store `u`
-  held-stands : (u : List ℕ) (z : Stores) (p : Peer) (x : Standing) → x ≡ standingOf p u → Held u (e .settings) p Nothing z [] (stands j x)
-  held-stands u z p x i =
+  held-stands : (u : List ℕ) (z : Stores) (p : Peer) (x : Standing) (h : List Check) → x ≡ standingOf p u h → Windowed p h
+      → Held u (e .settings) p Nothing z [] (stands j x)
+  held-stands u z p x h i k =
       record {
-        fixed = record { settings = w .held .fixed .settings; standing = i; ended = w .held .fixed .ended };
+        fixed = record { settings = w .held .fixed .settings; past = h; standing = i; window = k; ended = w .held .fixed .ended };
         begun = w .held .begun;
         opened = w .held .opened;
       }
 
-  asked-stands : (p : Peer) (x : Standing) → x ≡ standingOf p ts → AskedBy ts (e .settings) p o (e .length) s (stands j x)
-  asked-stands p x i = record { held = held-stands ts s p x i; request = w .request; last = w .last; opcode = w .opcode; headers = w .headers }
+  asked-stands : (p : Peer) (x : Standing) (h : List Check) → x ≡ standingOf p ts h → Windowed p h
+      → AskedBy ts (e .settings) p o (e .length) s (stands j x)
+  asked-stands p x h i k =
+      record { held = held-stands ts s p x h i k; request = w .request; last = w .last; opcode = w .opcode; headers = w .headers }
+
+  -- the checks of passwords up to here, and the engine's standing after them
+  abbrev past : List Check
+  past = w .held .fixed .past
+
+  abbrev stood : Standing
+  stood = standingOf (e .peer) ts past
 
   -- what the journal does on a reply
   replied-to : (code : ℕ) (hs : List ℕ) → replied (j .opened) j code hs ≡ replyTo o j (w .request) code hs
@@ -100,7 +111,7 @@ module _ (ts : List ℕ) (e : Engine) (s : Stores) (j : Journal) (o : Opcode) (w
 
   connected-is : (code : ℕ) (answer : List Header)
       → connected (j .settings) (j .standing) (w .request .headers) code answer
-      ≡ pick (isSuccess code) (opensFor (standingOf (e .peer) ts) srm (first 0xCB answer) target) (standingOf (e .peer) ts)
+      ≡ pick (isSuccess code) (opensFor stood srm (first 0xCB answer) target) stood
   unfolding connected asksSrm surveyOf
   connected-is code answer =
       ap (λ (x : JournalSettings). connected x (j .standing) (w .request .headers) code answer) (w .held .fixed .settings)
@@ -111,20 +122,21 @@ module _ (ts : List ℕ) (e : Engine) (s : Stores) (j : Journal) (o : Opcode) (w
     abbrev named : Option (List ℕ)
     named = first 0xCB (listOf (readHeaders hs 0))
 
-    challenged-told : (u : List ℕ) (p : Peer) (x : Standing) (g : ConnectionId) (c : Option PeerChallenge) → x ≡ standingOf p u
+    challenged-told : (u : List ℕ) (p : Peer) (x : Standing) (g : ConnectionId) (c : Option PeerChallenge) → x ≡ standingOf p u past → Windowed p past
         → Told u (connectChallenged e p code g hs c s) (unchanged (stands j x))
-    challenged-told u p x g none i = connect-sends-told u e s p (stands j x) (held-stands u s p x i) code g _ none
-    challenged-told u p x g (some c) i =
+    challenged-told u p x g none i k = connect-sends-told u e s p (stands j x) (held-stands u s p x past i k) code g _ none
+    challenged-told u p x g (some c) i k =
         told-done u e p (Connecting code g (length hs)) await.Credentials (outcome.Request (credentialsFor (lastPacket e s) c))
         (withHeaders s (front hs (s .headers))) (stands j x) []
-        (held-stands u (withHeaders s (front hs (s .headers))) p x i) refl
+        (held-stands u (withHeaders s (front hs (s .headers))) p x past i k) refl
 
     opened-told : (a : Option (List ℕ)) (g : ConnectionId) (p : Option Linked) → openedFor (e .peer) ts srm a target ≡ p
-        → ToldTabled (connectOpened e ts p code g hs s) (unchanged (stands j (opensFor (standingOf (e .peer) ts) srm a target)))
+        → ToldTabled (connectOpened e ts p code g hs s) (unchanged (stands j (opensFor stood srm a target)))
     opened-told a g none i =
-        sends-connect-told ts e s (e .peer) (stands j _) (held-stands ts s (e .peer) _ (full-standing (e .peer) ts srm f room a target i)) 0x53 []
+        sends-connect-told ts e s (e .peer) (stands j _) (held-stands ts s (e .peer) _ past (full-standing (e .peer) ts past srm f room a target i) (w .held .fixed .window)) 0x53 []
     opened-told a g (some q) i =
-        challenged-told (q .tables) (q .peer) _ g (answeredChallenge (lastHeaders e s)) (sym (opened-standing (e .peer) ts srm f room q a target i))
+        challenged-told (q .tables) (q .peer) _ g (answeredChallenge (lastHeaders e s)) (sym (opened-standing (e .peer) ts past srm f room q a target i))
+        (opened-window (e .peer) ts past srm f room q a target i ∙ w .held .fixed .window)
 
     pub connect-told : o ≡ op.Connect → ToldTabled (connectAnswer e code hs s ts) (unchanged (replied (j .opened) j code hs))
     unfolding connectAnswer
@@ -135,10 +147,10 @@ module _ (ts : List ℕ) (e : Engine) (s : Stores) (j : Journal) (o : Opcode) (w
       where
         go : (t : Bool)
             → ToldTabled (pick t (connectOpened e ts (openedFor (e .peer) ts srm named target) code (frontFor (e .peer) ts named target) hs s) (doneTabled (sendsConnect e (e .peer) code hs s) ts))
-            (unchanged (stands j (pick t (opensFor (standingOf (e .peer) ts) srm named target) (standingOf (e .peer) ts))))
+            (unchanged (stands j (pick t (opensFor stood srm named target) stood)))
         go true = opened-told named (frontFor (e .peer) ts named target) (openedFor (e .peer) ts srm named target) refl
         go false =
-            sends-connect-told ts e s (e .peer) (stands j (standingOf (e .peer) ts)) (held-stands ts s (e .peer) (standingOf (e .peer) ts) refl) code hs
+            sends-connect-told ts e s (e .peer) (stands j stood) (held-stands ts s (e .peer) stood past refl (w .held .fixed .window)) code hs
 
     -- ---- Disconnect
 
@@ -150,9 +162,10 @@ module _ (ts : List ℕ) (e : Engine) (s : Stores) (j : Journal) (o : Opcode) (w
         subst (λ (x : Journal). ToldTabled (sendsLinked e left code hs s) (unchanged x))
         (sym (replied-to code hs ∙ ap (λ (x : Opcode). replyTo x j (w .request) code hs) c))
         (sends-told (left .tables) e s (left .peer) (stands j (disconnected (j .standing) (first 0xCB (w .request .headers))))
-        (held-stands (left .tables) s (left .peer) _
+        (held-stands (left .tables) s (left .peer) _ past
         (ap₂ (λ (x : Standing) (y : List Header). disconnected x (first 0xCB y)) (w .held .fixed .standing) headers-are
-        ∙ sym (disconnected-standing (e .peer) ts (first 0xCB (lastHeaders e s)))))
+        ∙ sym (disconnected-standing (e .peer) ts past (first 0xCB (lastHeaders e s))))
+        (disconnected-window (e .peer) ts (first 0xCB (lastHeaders e s)) ∙ w .held .fixed .window))
         code hs)
 
   -- ---- the password and the nonce
@@ -168,30 +181,36 @@ module _ (ts : List ℕ) (e : Engine) (s : Stores) (j : Journal) (o : Opcode) (w
 
   pub password-told : o ≡ op.Connect → (p : Option (List ℕ))
       → Told ts (passwordAnswer e p s) (unchanged (stands j (passwordChecked (j .standing) (passes j p))))
-  unfolding passwordAnswer
+  unfolding passwordAnswer passwordAnswered
   password-told c p =
       subst (λ (x : Standing). Told ts (passwordAnswer e p s) (unchanged (stands j x)))
       (sym (ap₂ (λ (x : Standing) (t : Bool). passwordChecked x t) (w .held .fixed .standing) (passes-is p)))
       (go (checks (e .peer .challenge) (clientResponse e s) (demandsUser (e .settings)) p))
     where
-      still-asked : (q : Peer) (x : Standing) → x ≡ standingOf q ts → AskedBy ts (e .settings) q op.Connect (e .length) s (stands j x)
-      still-asked q x i = subst (λ (y : Opcode). AskedBy ts (e .settings) q y (e .length) s (stands j x)) c (asked-stands q x i)
+      still-asked : (q : Peer) (x : Standing) (h : List Check) → x ≡ standingOf q ts h → Windowed q h
+          → AskedBy ts (e .settings) q op.Connect (e .length) s (stands j x)
+      still-asked q x h i k = subst (λ (y : Opcode). AskedBy ts (e .settings) q y (e .length) s (stands j x)) c (asked-stands q x h i k)
 
       go : (t : Bool)
           → Told ts
-          (pick t (asks e (verifiedPeer (e .peer)) Nothing await.Connect (request.Connect (e .length)) s) (asks e (e .peer) Nothing await.Nonce request.Nonce s))
-          (unchanged (stands j (passwordChecked (standingOf (e .peer) ts) t)))
+          (pick t (asks e (verifiedPeer (checkedPeer (e .peer) false)) Nothing await.Connect (request.Connect (e .length)) s) (asks e (checkedPeer (e .peer) true) Nothing await.Nonce request.Nonce s))
+          (unchanged (stands j (passwordChecked stood t)))
       go true =
-          told-done ts e (verifiedPeer (e .peer)) Nothing await.Connect (outcome.Request (request.Connect (e .length))) s (stands j _) []
-          (still-asked (verifiedPeer (e .peer)) _ (sym (verified-standing (e .peer) ts))) refl
+          told-done ts e (verifiedPeer (checkedPeer (e .peer) false)) Nothing await.Connect (outcome.Request (request.Connect (e .length))) s (stands j _) []
+          (still-asked (verifiedPeer (checkedPeer (e .peer) false)) _ (right ∷ past) (sym (verified-standing (e .peer) ts past))
+          (verified-window (e .peer) past (w .held .fixed .window)))
+          refl
       go false =
-          told-done ts e (e .peer) Nothing await.Nonce (outcome.Request request.Nonce) s (stands j _) []
-          (still-asked (e .peer) (standingOf (e .peer) ts) refl) refl
+          told-done ts e (checkedPeer (e .peer) true) Nothing await.Nonce (outcome.Request request.Nonce) s (stands j _) []
+          (still-asked (checkedPeer (e .peer) true) _ (wrong ∷ past) (sym (wrong-standing (e .peer) ts past))
+          (checked-window (e .peer) past wrong (w .held .fixed .window)))
+          refl
 
   pub nonce-told : (n : Octets16) (l : List ℕ) → Told ts (nonceAnswer e n l s) (unchanged (stands j (challenged (j .standing) (octets16 n))))
   unfolding nonceAnswer
   nonce-told n l =
       sends-connect-told ts e s (challengedPeer (e .peer) n) (stands j (challenged (j .standing) (octets16 n)))
-      (held-stands ts s (challengedPeer (e .peer) n) _
-      (ap (λ (x : Standing). challenged x (octets16 n)) (w .held .fixed .standing) ∙ sym (challenged-standing (e .peer) ts n)))
+      (held-stands ts s (challengedPeer (e .peer) n) _ past
+      (ap (λ (x : Standing). challenged x (octets16 n)) (w .held .fixed .standing) ∙ sym (challenged-standing (e .peer) ts past n))
+      (challenged-window (e .peer) n ∙ w .held .fixed .window))
       0x41 _

@@ -15,8 +15,9 @@ use Rattle.model.specs.Calls.{startStep}
 use Rattle.model.specs.Runs.{State, stateOf, handed, records, Started}
 use Rattle.model.specs.Refusals.{bytes, verdictOf, returned, feedOf}
 use Rattle.model.specs.Theorem.{settingsOf}
-use Rattle.model.specs.Contracts.{state, Ran, none, call, ContractsUphold}
+use Rattle.model.specs.Contracts.{state, Ran, none, call, Accepted, ContractsUphold}
 use Rattle.server.specs.declared.Settings.{Settings}
+use Rattle.server.specs.declared.CallResult.{CallResult}
 use Rattle.server.specs.declared.Outcome.the-variants as outcome
 use Rattle.model.proofs.Fit.{or-left, or-right}
 use Rattle.model.proofs.Records.{records-theorem, refusals}
@@ -45,11 +46,15 @@ start-accepted st l s u = go (shortTables u || short (st .«max_object_size») s
     go false true h k e = let z : _≡_ {A = ℕ} 0 1 = (let w = simp (h, k) at e in cc) in absurd (omega arith)
     go false false h k e = simp (h, k) (record { fresh = refl; realm = k; tables = or-left _ _ h; room = or-right (shortTables u) _ h })
 
+pub accepted-started : (st : Settings) (l : List ℕ) (s t : Stores) (u : List ℕ) (r : CallResult) → Accepted st l s r t u
+    → Started st (state l r t u)
+accepted-started st l s t u r a =
+    subst (λ (m : Stepped). Started st (stateOf l (called m u))) (sym (a .says))
+    (start-accepted st l s u (ap (λ (m : Stepped). m .took .outcome) (sym (a .says)) ∙ a .accepted))
+
 pub contracts-uphold : ContractsUphold
 contracts-uphold st l s t u r cs vs ls a o h =
-    let w : Started st (state l r t u) =
-    subst (λ (m : Stepped). Started st (stateOf l (called m u))) (sym (a .says))
-    (start-accepted st l s u (ap (λ (m : Stepped). m .took .outcome) (sym (a .says)) ∙ a .accepted)) in
+    let w = accepted-started st l s t u r a in
     record {
       refusals = ran-returned h ∙ refusals st (state l r t u) w cs o;
       journal = λ k. ran-records h ∙ records-theorem st (state l r t u) w cs o k .journal;

@@ -14,6 +14,7 @@ use Rattle.packet.specs.Packet.{Request as Packet, requestOf, packetBytes}
 use Rattle.packet.specs.declared.opcode.Opcode.{Opcode}
 use Rattle.packet.specs.declared.opcode.Opcode.the-variants as op
 use Rattle.journal.specs.Record.{Record}
+use Rattle.journal.specs.Checks.{Check, tooMany}
 use Rattle.journal.specs.Journal.{Opened, nothing, putting, getting, sending, gathering, draining, Journal, Entry, unchanged, opens, replyTo, replyLast, takenAt, headersOf as headersIn}
 use Rattle.incoming.specs.Gather.{gathering as gatheringOf}
 use Rattle.incoming.specs.declared.gather.Gathered.{Gathered}
@@ -31,7 +32,7 @@ use Rattle.server.specs.declared.End.{End}
 use Rattle.server.specs.declared.Engine.{Engine}
 use Rattle.server.specs.declared.Outcome.{Outcome}
 use Rattle.server.specs.declared.Outcome.the-variants as outcome
-use Rattle.connection.proofs.Standings.{standingOf}
+use Rattle.connection.proofs.Standings.{standingOf, Windowed}
 use Rattle.incoming.proofs.Gathers.{PutAgrees, KeptAgrees}
 
 -- ---- what is open
@@ -64,10 +65,13 @@ OpenedAt limit (Draining c) h b x = x ≡ draining
 
 -- ---- the coupling
 
--- settings and standing are the journal's, and it has not ended; the open ids stand in the table store `ts`
+-- settings and standing are the journal's, and it has not ended; the open ids stand in the table store `ts`, and the checks of passwords
+-- that the journal keeps are those of the window
 pub record Fixed (ts : List ℕ) (st : Settings) (p : Peer) (j : Journal) : Type 0 where
   pub settings : j .settings ≡ settingsOf st
-  pub standing : j .standing ≡ standingOf p ts
+  pub past : List Check
+  pub standing : j .standing ≡ standingOf p ts past
+  pub window : Windowed p past
   pub ended : j .ended ≡ false
 
 -- and so are what is open and the bytes of a packet begun
@@ -98,7 +102,7 @@ CoupledAt ts await.Disconnect o st p b n s j = AskedBy ts st p op.Disconnect n s
 CoupledAt ts await.Get o st p b n s j = Held ts st p o s [] j
 CoupledAt ts await.Reply o st p b n s j = Held ts st p Nothing s [] j × Still j
 CoupledAt ts await.Acknowledgement o st p b n s j = Held ts st p Nothing s [] j
-CoupledAt ts await.Password o st p b n s j = AskedBy ts st p op.Connect n s j
+CoupledAt ts await.Password o st p b n s j = AskedBy ts st p op.Connect n s j × (tooMany (j .standing .checks) ≡ false)
 CoupledAt ts await.Nonce o st p b n s j = AskedBy ts st p op.Connect n s j
 CoupledAt ts await.Credentials o st p b n s j = Held ts st p Nothing s [] j
 CoupledAt ts await.Body o st p b n s j = Held ts st p o s [] j
@@ -181,6 +185,6 @@ module _ (ts : List ℕ) (e : Engine) (p : Peer) (z : Stores) (j : Journal) wher
         f .ended,
         subst (λ (x : Journal). Held ts (e .settings) p Nothing (withReply z y) [] x)
             (sym (ap (λ (u : Opened). takenAt u j (getD y 0 0)) w ∙ ap (λ (t : Bool). pick t j (opens j nothing)) b))
-            (record { fixed = record { settings = f .settings; standing = f .standing; ended = f .ended }; begun = k; opened = refl }),
+            (record { fixed = record { settings = f .settings; past = f .past; standing = f .standing; window = f .window; ended = f .ended }; begun = k; opened = refl }),
       )
       g

@@ -1,34 +1,40 @@
 -- A packet between operations: what the engine makes of it is what the journal does. Assumes nothing.
 use mathlib.Core.Path.{_≡_, refl, sym, ap, ap₂, _∙_, subst}
-use mathlib.Core.List.{List, []}
-use mathlib.Core.Bool.{Bool, true, false, _&&_, _||_, not, and-false, true≢false}
+use mathlib.Core.List.{List, [], _∷_}
+use mathlib.Core.Bool.{Bool, true, false, _&&_, _||_, not, and-false, and-true, true≢false}
 use mathlib.Core.Option.{Option, none, some}
 use Prim.Native.Nat.{ℕ, _≤_}
 use native.Mathlib.Omega.{arith}
 use lib.ListN.{length, take}
+use lib.Count.{ones}
+use lib.Dec.{leb}
 use Rattle.base.specs.Pick.{pick}
 use Rattle.packet.specs.FirstByte.{sameOpcode}
-use Rattle.packet.specs.Header.{first, allBytes}
-use Rattle.packet.specs.Packet.{Request as Packet, requestOf, connectLimit, backup, noCreate}
+use Rattle.packet.specs.Codes.{sentCode}
+use Rattle.packet.specs.Header.{Header, first, allBytes}
+use Rattle.packet.specs.Packet.{Request as Packet, requestOf, connectLimit, packetBytes, backup, noCreate}
 use Rattle.packet.specs.Auth.{Response}
 use Rattle.packet.specs.declared.opcode.Opcode.{Opcode}
 use Rattle.packet.specs.declared.opcode.Opcode.the-variants as op
 use Rattle.journal.specs.Record.{bare, carriedBy}
 use Rattle.journal.specs.Ids.{member}
-use Rattle.journal.specs.Journal.{Standing, nothing, draining, Journal, Entry, unchanged, after, unauthorized, notOpen, admitted, asksSrm, putRead, gatherRead, turnedAway, dropped, firstRead, headersOf as headersIn}
+use Rattle.journal.specs.Checks.{Check, stop, mostWrong, tooMany}
+use Rattle.journal.specs.Journal.{Settings as JournalSettings, Standing, nothing, draining, Journal, Entry, unchanged, after, stands, unauthorized, notOpen, admitted, asksSrm, isStopped, withCheck, connectRead, putRead, gatherRead, turnedAway, dropped, firstRead, responseIn, headersOf as headersIn}
 use Rattle.incoming.specs.Survey.{idOf, present, surveyOf}
 use Rattle.incoming.specs.Gather.{gathering as gatheringOf}
 use Rattle.incoming.specs.declared.survey.Survey.{Survey}
-use Rattle.connection.specs.Peer.{idsOf, limited}
+use Rattle.connection.specs.Reply.{fieldsOf}
+use Rattle.connection.specs.Peer.{idsOf, limited, checkedPeer}
 use Rattle.connection.specs.declared.peer.Challenge.{Challenge}
 use Rattle.connection.specs.declared.peer.Challenge.the-variants.{Stored, Absent}
 use Rattle.connection.specs.declared.peer.Peer.{Peer}
 use Rattle.model.specs.Step.{Stores, Done, wants, asks, repliesCode, limitOf}
 use Rattle.model.specs.Operation.{putPacket, headersPacket, nothingGathered}
-use Rattle.model.specs.Request.{lastPacket, clientResponse, userPlace}
-use Rattle.model.specs.Connect.{verifies, connectPacket}
+use Rattle.model.specs.Request.{lastPacket, lastHeaders, clientResponse, userPlace}
+use Rattle.model.specs.Connect.{verifies, stops, repliesFields, connectPacket}
 use Rattle.model.specs.Dispatch.{Rejection, admits, rejects, rejection, knownIn, drains, rejected, confirms, dispatches, admittedAs, dispatch}
 use Rattle.model.specs.Runs.{handedBy}
+use Rattle.model.specs.Theorem.{settingsOf}
 use Rattle.server.specs.declared.Operation.the-variants.{Nothing, Draining}
 use Rattle.server.specs.declared.Await.{Await}
 use Rattle.server.specs.declared.Await.the-variants as await
@@ -36,10 +42,10 @@ use Rattle.server.specs.declared.Engine.{Engine}
 use Rattle.server.specs.declared.HostRequest.{HostRequest}
 use Rattle.server.specs.declared.HostRequest.the-variants as request
 use Rattle.server.specs.declared.Outcome.the-variants as outcome
-use Rattle.connection.proofs.Standings.{standingOf, limited-standing}
+use Rattle.connection.proofs.Standings.{standingOf, limited-standing, stopped-standing, Windowed, limited-window, checked-window, too-many}
 use Rattle.incoming.proofs.Gathers.{KeptAgrees, put-begins, carried-headers, kept-headers, kept-begins}
 use Rattle.model.proofs.Fit.{Base}
-use Rattle.model.proofs.Coupling.{Plain, Fixed, AskedBy, CoupledAt, Told, told-pick, told-done, told-wants, told-code}
+use Rattle.model.proofs.Coupling.{Plain, Fixed, AskedBy, CoupledAt, Told, told-pick, told-done, told-wants, told-replies, told-code}
 use Rattle.model.proofs.Gathers.{held-after, still-after, put-packet, get-packet, headers-packet}
 
 -- ---- admission
@@ -117,14 +123,18 @@ module _ (ts : List ℕ) (e : Engine) (s : Stores) (j : Journal) (f : Fixed ts (
   -- ---- Connect
 
   module _ (last : requestOf (take (e .length) (s .packet)) ≡ some r) where
+    -- a peer that stands as the engine's
+    abbrev SameStanding : Peer → Type 0
+    SameStanding p = (standingOf p ts (f .past) ≡ standingOf (e .peer) ts (f .past)) × (p .window ≡ e .peer .window)
+
     -- the host is asked about this packet
-    asks-told : (o : Opcode) (p : Peer) (a : Await) (q : HostRequest) → r .opcode ≡ o → standingOf p ts ≡ standingOf (e .peer) ts
+    asks-told : (o : Opcode) (p : Peer) (a : Await) (q : HostRequest) → r .opcode ≡ o → SameStanding p
         → (AskedBy ts (e .settings) p o (e .length) s (after j (some r) nothing) → CoupledAt ts a Nothing (e .settings) p 0 (e .length) s (after j (some r) nothing))
         → handedBy q s ≡ [] → Told ts (asks e p Nothing a q s) (dropped j r)
     asks-told o p a q i k w g =
         told-done ts e p Nothing a (outcome.Request q) s (after j (some r) nothing) []
         (w (record {
-          held = record { fixed = record { settings = f .settings; standing = f .standing ∙ sym k; ended = f .ended }; begun = refl; opened = refl };
+          held = record { fixed = record { settings = f .settings; past = f .past; standing = f .standing ∙ sym (k .0); window = k .1 ∙ f .window; ended = f .ended }; begun = refl; opened = refl };
           request = r;
           last = refl;
           opcode = i;
@@ -132,22 +142,76 @@ module _ (ts : List ℕ) (e : Engine) (s : Stores) (j : Journal) (f : Fixed ts (
         }))
         g
 
-    connect-told : r .opcode ≡ op.Connect → Told ts (connectPacket e s) (dropped j r)
+    -- the peer with the limit that this packet names
+    abbrev named : Peer
+    named = limited (e .peer) (connectLimit (lastPacket e s))
+
+    named-same : SameStanding named
+    named-same = (limited-standing (e .peer) ts (f .past) (connectLimit (lastPacket e s)), limited-window (e .peer) (connectLimit (lastPacket e s)))
+
+    named-window : Windowed named (f .past)
+    named-window = named-same .1 ∙ f .window
+
+    headers-are : r .headers ≡ lastHeaders e s
+    unfolding lastHeaders lastPacket
+    headers-are = sym (ap headersIn last)
+
+    -- stopped by the engine or not, as by the journal
+    stopped-is : isStopped (j .settings) (j .standing) r ≡ (e .settings .authentication && stops named (lastHeaders e s))
+    unfolding isStopped
+    stopped-is =
+        ap₂ (λ (x : JournalSettings) (y : Standing). isStopped x y r) (f .settings) (f .standing)
+        ∙ ap₂ (λ (t : Bool) (y : List Header). e .settings .authentication && (t && present (first 0x4E y))) (sym (too-many named (f .past) named-window)) headers-are
+
+    checks-are : j .standing .checks ≡ f .past
+    checks-are = ap (λ (x : Standing). x .checks) (f .standing)
+
+    -- a Connect whose response can be read and that is not stopped comes to a check with not too many wrong ones before it
+    comes-to-check : (x : Response) → clientResponse e s ≡ some x → stops named (lastHeaders e s) ≡ false → tooMany (j .standing .checks) ≡ false
+    unfolding clientResponse
+    comes-to-check x c n = ap tooMany checks-are ∙ sym (too-many named (f .past) named-window) ∙ go (first 0x4E (lastHeaders e s)) c n
+      where
+        go : (v : Option (List ℕ)) → responseIn v ≡ some x → (leb mostWrong (ones (named .window)) && present v) ≡ false
+            → leb mostWrong (ones (named .window)) ≡ false
+        go none c n = absurd (let z : _≡_ {A = ℕ} 0 1 = cc in omega arith)
+        go (some v) c n = sym (and-true (leb mostWrong (ones (named .window)))) ∙ n
+
+    verifies-told : r .opcode ≡ op.Connect → stops named (lastHeaders e s) ≡ false → (c : Challenge) (x : Option Response) → clientResponse e s ≡ x
+        → Told ts (verifies e named c x s) (dropped j r)
+    verifies-told i n Absent x k = asks-told op.Connect named await.Nonce request.Nonce i named-same (λ x. x) refl
+    verifies-told i n (Stored d) none k = asks-told op.Connect named await.Nonce request.Nonce i named-same (λ x. x) refl
+    verifies-told i n (Stored d) (some x) k =
+        asks-told op.Connect named await.Password (request.Password (userPlace e s)) i named-same (λ y. (y, comes-to-check x k n)) refl
+
+    stop-told : Told ts (repliesFields e (checkedPeer named false) 0x53 s) (dropped (stands j (withCheck (j .standing) stop)) r)
+    stop-told =
+        told-replies ts e (checkedPeer named false) s (after (stands j (withCheck (j .standing) stop)) (some r) nothing) Nothing
+        (packetBytes (sentCode 0x53) (fieldsOf (e .settings .«max_packet_length»)) []) refl
+        (record {
+          fixed = record {
+            settings = f .settings;
+            past = stop ∷ f .past;
+            standing = ap (λ (x : Standing). withCheck x stop) (f .standing ∙ sym (named-same .0)) ∙ sym (stopped-standing named ts (f .past));
+            window = checked-window named (f .past) stop named-window;
+            ended = f .ended;
+          };
+          begun = refl;
+          opened = refl;
+        })
+
+    connect-told : r .opcode ≡ op.Connect → Told ts (connectPacket e s) (connectRead j r)
     unfolding connectPacket
     connect-told i =
-        told-pick ts (e .settings .authentication) _ _ _ (λ m. go (p .challenge) (clientResponse e s))
-        (λ m. asks-told op.Connect p await.Connect (request.Connect (e .length)) i same (λ x. x) refl)
+        subst (λ (t : Bool). Told ts (connectPacket e s) (dropped (stands j (pick t (withCheck (j .standing) stop) (j .standing))) r)) (sym stopped-is)
+        (go (e .settings .authentication) (stops named (lastHeaders e s)) refl)
       where
-        p : Peer
-        p = limited (e .peer) (connectLimit (lastPacket e s))
-
-        same : standingOf p ts ≡ standingOf (e .peer) ts
-        same = limited-standing (e .peer) ts (connectLimit (lastPacket e s))
-
-        go : (c : Challenge) (x : Option Response) → Told ts (verifies e p c x s) (dropped j r)
-        go Absent x = asks-told op.Connect p await.Nonce request.Nonce i same (λ x. x) refl
-        go (Stored n) none = asks-told op.Connect p await.Nonce request.Nonce i same (λ x. x) refl
-        go (Stored n) (some x) = asks-told op.Connect p await.Password (request.Password (userPlace e s)) i same (λ x. x) refl
+        go : (t u : Bool) → stops named (lastHeaders e s) ≡ u
+            → Told ts
+            (pick t (pick u (repliesFields e (checkedPeer named false) 0x53 s) (verifies e named (named .challenge) (clientResponse e s) s)) (asks e named Nothing await.Connect (request.Connect (e .length)) s))
+            (dropped (stands j (pick (t && u) (withCheck (j .standing) stop) (j .standing))) r)
+        go true true n = stop-told
+        go true false n = verifies-told i n (named .challenge) (clientResponse e s) refl
+        go false u n = asks-told op.Connect named await.Connect (request.Connect (e .length)) i named-same (λ x. x) refl
 
     -- ---- nothing is open
 
@@ -208,15 +272,15 @@ module _ (ts : List ℕ) (e : Engine) (s : Stores) (j : Journal) (f : Fixed ts (
       pub dispatch-told : (o : Opcode) → r .opcode ≡ o → sameOpcode o op.Abort ≡ false → Told ts (dispatch e r v known s) (firstRead o j r)
       unfolding dispatch firstRead sameOpcode
       dispatch-told op.Connect i n =
-          subst (λ (t : Bool). Told ts (pick t (connectPacket e s) (admittedAs (rejection e (r .opcode) v known) e r v s)) (dropped j r))
+          subst (λ (t : Bool). Told ts (pick t (connectPacket e s) (admittedAs (rejection e (r .opcode) v known) e r v s)) (connectRead j r))
           (sym (ap (λ (x : Opcode). sameOpcode x op.Connect) i)) (connect-told i)
       dispatch-told op.Abort i n = absurd (true≢false n)
       dispatch-told op.Disconnect i n =
           dropped-first op.Disconnect i refl refl
-          (asks-told op.Disconnect (e .peer) await.Disconnect (request.Disconnect (e .length)) i refl (λ x. x) refl)
+          (asks-told op.Disconnect (e .peer) await.Disconnect (request.Disconnect (e .length)) i (refl, refl) (λ x. x) refl)
       dispatch-told op.SetPath i n =
           dropped-first op.SetPath i refl refl
-          (asks-told op.SetPath (e .peer) await.Reply (request.SetPath (e .length) (backup (r .bytes)) (noCreate (r .bytes))) i refl
+          (asks-told op.SetPath (e .peer) await.Reply (request.SetPath (e .length) (backup (r .bytes)) (noCreate (r .bytes))) i (refl, refl)
           (λ x. (x .held, still-after ts e s j f r op.SetPath nothing i (λ a b y z. refl))) refl)
       dispatch-told op.Put i n = drained-first op.Put _ i refl refl (first-put i)
       dispatch-told op.Get i n =

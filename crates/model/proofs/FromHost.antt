@@ -95,7 +95,7 @@ module _ (w : Waits) (s : State) (h : Seated s) (k : w ≡ waitsOf (s .engine .a
         entered (replyGiven code hs) j _ (y .fixed .ended)
         (subst (λ (u : Opened). Told ts (sends e (e .peer) code hs st) (unchanged (replied u j code hs))) (sym (g .is))
         (sends-told ts e st (e .peer) (opens j nothing)
-        (record { fixed = record { settings = y .fixed .settings; standing = y .fixed .standing; ended = y .fixed .ended }; begun = y .begun; opened = refl }) code hs))
+        (record { fixed = record { settings = y .fixed .settings; past = y .fixed .past; standing = y .fixed .standing; window = y .fixed .window; ended = y .fixed .ended }; begun = y .begun; opened = refl }) code hs))
     plain-reply false i o j x =
         let y = coupled-at w s h k await.Reply j (o i) x in
         entered (replyGiven code hs) j _ (y .0 .fixed .ended)
@@ -153,7 +153,7 @@ module _ (w : Waits) (s : State) (h : Seated s) (k : w ≡ waitsOf (s .engine .a
         let g = get-open at j (y .opened) in
         entered (objectGiven hs has) j _ (y .fixed .ended)
         (subst (λ (u : Opened). Told ts (sendsNext e (objectOf (length hs) confirm has) srm wait z) (unchanged (objectSent u j))) (sym (g .is))
-        (next-told ts e z (opens j sending) (record { settings = y .fixed .settings; standing = y .fixed .standing; ended = y .fixed .ended }) (y .begun) refl
+        (next-told ts e z (opens j sending) (record { settings = y .fixed .settings; past = y .fixed .past; standing = y .fixed .standing; window = y .fixed .window; ended = y .fixed .ended }) (y .begun) refl
         (object-base l) (objectOf (length hs) confirm has) srm wait (omega arith) l))
 
     object-at : (at : e .awaits ≡ await.Get) → IsGetting (e .operation)
@@ -237,7 +237,7 @@ module _ (w : Waits) (s : State) (h : Seated s) (k : w ≡ waitsOf (s .engine .a
       agrees w s h k (passwordGiven p)
       (λ r. agree-goes w s h k (passwordGiven p) 0 _ (password-fine e st (h .sits .base) p)
       (λ j x u. let y = coupled-at w s h k await.Password j (same-await (e .awaits) await.Password r) x in
-      entered (passwordGiven p) j _ (y .held .fixed .ended) (password-told ts e st j op.Connect y refl p)))
+      entered (passwordGiven p) j _ (y .0 .held .fixed .ended) (password-told ts e st j op.Connect (y .0) refl p)))
 
   -- the realm is not too long, since it was not at the start
   pub nonce-agrees : (n : Octets16) → Agrees w s (nonceGiven n)

@@ -108,7 +108,7 @@ module _ (w : Waits) (s : State) (h : Seated s) (k : w ≡ waitsOf (s .engine .a
         record {
           given = refl;
           after = subst (λ (y : Await). CoupledAt ts y (e .operation) (e .settings) (e .peer) n (e .length) z (begin j q)) (sym at)
-              (record { fixed = record { settings = x .fixed .settings; standing = x .fixed .standing; ended = x .fixed .ended }; begun = g .bytes; opened = x .opened });
+              (record { fixed = record { settings = x .fixed .settings; past = x .fixed .past; standing = x .fixed .standing; window = x .fixed .window; ended = x .fixed .ended }; begun = g .bytes; opened = x .opened });
         }
 
     -- a packet is whole
@@ -128,7 +128,7 @@ module _ (w : Waits) (s : State) (h : Seated s) (k : w ≡ waitsOf (s .engine .a
     unfolding engineWith packetDone journalPacket keptAfter
     whole-told q (a, g, l) j x y =
         subst (λ (p : List ℕ). Told ts (packetDone e n z ts) (packetRead (requestOf p) j)) (sym (g .bytes))
-        (read-told ts (lengthOf e n) z j (record { settings = x .fixed .settings; standing = x .fixed .standing; ended = x .fixed .ended })
+        (read-told ts (lengthOf e n) z j (record { settings = x .fixed .settings; past = x .fixed .past; standing = x .fixed .standing; window = x .fixed .window; ended = x .fixed .ended })
         (whole-base q (a, g, l)) (subst Octets (g .bytes) (g .octets)) (x .opened) (h .sits .counts)
         (take n (f .packet)) (requestOf (take n (f .packet))) refl
         (subst (λ (p : List ℕ). length (keptRead (j .opened) (requestOf p)) ≤ 65535) (g .bytes) (y .0)))

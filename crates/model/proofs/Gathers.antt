@@ -55,7 +55,7 @@ module _ (ts : List ℕ) (e : Engine) (s : Stores) (j : Journal) (f : Fixed ts (
   -- the journal after the packet, with something open
   pub held-after : (o : Operation) (x : Opened) (z : Stores) → OpenedAt (limitOf e) o (z .headers) (z .body) x
       → Held ts (e .settings) (e .peer) o z [] (after j (some r) x)
-  held-after o x z w = record { fixed = record { settings = f .settings; standing = f .standing; ended = f .ended }; begun = refl; opened = w }
+  held-after o x z w = record { fixed = record { settings = f .settings; past = f .past; standing = f .standing; window = f .window; ended = f .ended }; begun = refl; opened = w }
 
   pub still-after : (o : Opcode) (x : Opened) → r .opcode ≡ o → Plain o → Still (after j (some r) x)
   still-after o x i p code hs = ap (λ (u : Opcode). replyTo u (after j (some r) x) r code hs) i ∙ p (after j (some r) x) r code hs

@@ -1,6 +1,7 @@
 -- Theorems over the definitions of specs/. `Cases`: the table. The rest proves the records theorem (`Records`): what holds of the engine
 -- alone (`Fit`, `Steps`), how it stands to the journal (`Coupling`), packets (`Gathers`, `Dispatch`, `Packets`) and the host's answers
--- (`Answers`), and the calls (`Moments`, `FromPeer`, `FromHost`).
+-- (`Answers`), and the calls (`Moments`, `FromPeer`, `FromHost`). `Contracts`: the same over contracts. `EightWrong`: the count of wrong
+-- passwords.
 pub mod Cases
 pub mod Fit
 pub mod Steps
@@ -14,3 +15,4 @@ pub mod FromPeer
 pub mod FromHost
 pub mod Records
 pub mod Contracts
+pub mod EightWrong

@@ -103,7 +103,7 @@ module _ (ts : List ℕ) (e : Engine) (s : Stores) (j : Journal) (f : Fixed ts (
         let z = outgoing-within o q c in
         subst (λ (y : Opened). Told ts (inside (Sending o q srm wait) e r v (knownIn e ts v) s) (requestRead y j r)) (sym w)
         (goes-on op.Get _ _ [] (nil-short (sameOpcode (r .opcode) op.Get))
-        (λ l i. next-told ts e s (after j (some r) sending) (record { settings = f .settings; standing = f .standing; ended = f .ended }) refl refl h o srm
+        (λ l i. next-told ts e s (after j (some r) sending) (record { settings = f .settings; past = f .past; standing = f .standing; window = f .window; ended = f .ended }) refl refl h o srm
         (v .wait) (z .sent) (z .total)))
       where
         nil-short : (t : Bool) → length (pick {A = List ℕ} t [] []) ≤ 65535
@@ -133,7 +133,7 @@ module _ (ts : List ℕ) (e : Engine) (s : Stores) (j : Journal) (f : Fixed ts (
       go true = told-ends ts e (e .peer) s (end j) why.Unreadable
       go false =
           told-code ts e (e .peer) s (after j none nothing) _
-          (record { fixed = record { settings = f .settings; standing = f .standing; ended = f .ended }; begun = refl; opened = refl })
+          (record { fixed = record { settings = f .settings; past = f .past; standing = f .standing; window = f .window; ended = f .ended }; begun = refl; opened = refl })
   read-told o w c q (some r) i k = go (sameOpcode (r .opcode) op.Abort) refl
     where
       short : length (allBytes (r .headers)) ≤ 65535

@@ -8,6 +8,7 @@ use mathlib.Core.Bool.{false}
 use native.Mathlib.Omega.{arith}
 use Rattle.journal.specs.Record.{Record}
 use Rattle.journal.specs.Calls.{Call, bytesOffered, streamEnded, replyTaken, replyGiven, objectGiven, bodyGiven, bodyFailed, abortAcknowledged, passwordGiven, nonceGiven, credentialsGiven, Verdict}
+use Rattle.journal.specs.Checks.{windowOf}
 use Rattle.journal.specs.Journal.{Journal, fresh, journalStep, journalRecords, Marked, fedReads, packets}
 use Rattle.journal.specs.PutForm.{Exactly}
 use Rattle.connection.specs.Peer.{peerWith}
@@ -29,7 +30,7 @@ use Rattle.model.proofs.FromHost.{reply-agrees, object-agrees, body-agr
 
 -- ---- a call
 
-step-agrees : (w : Waits) (s : State) → Seated s → w ≡ waitsOf (s .engine .awaits) (s .engine .operation) → (c : Call) → Octet c
+pub step-agrees : (w : Waits) (s : State) → Seated s → w ≡ waitsOf (s .engine .awaits) (s .engine .operation) → (c : Call) → Octet c
     → Agrees w s c
 step-agrees w s h k (bytesOffered i) o = bytes-agree w s h k i o
 step-agrees w s h k streamEnded o = end-agrees w s h k
@@ -61,7 +62,7 @@ run-unmoved (c ∷ cs) w s h k o =
       run-unmoved cs (told w (stepOf s c .took .outcome)) (nextState s c) (a .seated) (a .waits) (o .1),
     )
 
-kept-both : (l m : List Marked) → Kept (l ++ m) → Kept l × Kept m
+pub kept-both : (l m : List Marked) → Kept (l ++ m) → Kept l × Kept m
 kept-both [] m k = (tt, k)
 kept-both (x ∷ l) m k = let b = kept-both l m (k .1) in ((k .0, b .0), b .1)
 
@@ -82,7 +83,7 @@ run-entered (c ∷ cs) w s j h k x o p =
 -- ---- from an accepted start
 
 module _ (st : Settings) (s : State) (h : Started st s) where
-  start-seated : Seated s
+  pub start-seated : Seated s
   unfolding started engineWith
   start-seated =
       record {
@@ -97,15 +98,15 @@ module _ (st : Settings) (s : State) (h : Started st s) where
         realm = subst (λ (e : Engine). longRealm (e .settings) (s .realm) ≡ false) (sym (h .fresh)) (h .realm);
       }
 
-  start-waits : bytes ≡ waitsOf (s .engine .awaits) (s .engine .operation)
+  pub start-waits : bytes ≡ waitsOf (s .engine .awaits) (s .engine .operation)
   unfolding started engineWith
   start-waits = sym (ap (λ (e : Engine). waitsOf (e .awaits) (e .operation)) (h .fresh))
 
-  start-coupled : Coupled (s .tables) (s .engine) (s .stores) (fresh (settingsOf st))
-  unfolding started engineWith peerWith
+  pub start-coupled : Coupled (s .tables) (s .engine) (s .stores) (fresh (settingsOf st))
+  unfolding started engineWith peerWith windowOf
   start-coupled =
       subst (λ (e : Engine). Coupled (s .tables) e (s .stores) (fresh (settingsOf st))) (sym (h .fresh))
-      (record { fixed = record { settings = refl; standing = refl; ended = refl }; begun = refl; opened = refl })
+      (record { fixed = record { settings = refl; past = []; standing = refl; window = refl; ended = refl }; begun = refl; opened = refl })
 
 -- each call is refused exactly where it is due to be
 pub refusals : Refusals

@@ -30,7 +30,7 @@ use Rattle.outgoing.specs.declared.object.Chunk.{Chunk}
 use Rattle.outgoing.specs.declared.object.Next.{Next}
 use Rattle.outgoing.specs.declared.object.Next.the-variants as next
 use Rattle.connection.specs.Reply.{fieldsOf, sendBytes, front}
-use Rattle.connection.specs.Peer.{Linked, limited, verifiedPeer, challengedPeer, openedFor, disconnectedPeer}
+use Rattle.connection.specs.Peer.{Linked, limited, checkedPeer, verifiedPeer, challengedPeer, openedFor, disconnectedPeer}
 use Rattle.connection.specs.ConnectReply.{answeredChallenge}
 use Rattle.connection.specs.declared.peer.Challenge.{Challenge}
 use Rattle.connection.specs.declared.peer.Challenge.the-variants.{Stored, Absent}
@@ -40,7 +40,7 @@ use Rattle.model.specs.Step.{Stores, withReply, withHeaders, withGathere
 use Rattle.model.specs.Request.{lastPacket, lastHeaders, clientResponse, userPlace}
 use Rattle.model.specs.Operation.{nothingGathered, gathers, putBody, putContinues, putPacket, getContinues, getPacket, headersRequest, headersPacket}
 use Rattle.model.specs.Object.{sendsMade, sendsPacket, sendsNext}
-use Rattle.model.specs.Connect.{verifies, connectPacket, connectSends, frontFor, credentialsFor, connectChallenged, connectOpened, connectAnswer, demandsUser, checks, passwordAnswer, nonceAnswer, srmAsked}
+use Rattle.model.specs.Connect.{verifies, connectPacket, connectSends, frontFor, credentialsFor, connectChallenged, connectOpened, connectAnswer, stops, repliesFields, checks, passwordAnswered, passwordAnswer, nonceAnswer, srmAsked, demandsUser}
 use Rattle.model.specs.Dispatch.{Rejection, admits, rejects, rejection, knownIn, drains, dispatches, admittedAs, dispatch, interrupts, inside, busy, readAs}
 use Rattle.model.specs.Guard.{soundGathered, soundOutgoing, soundOperation, sameAwait}
 use Rattle.model.specs.Calls.{replyAnswer}
@@ -55,7 +55,7 @@ use Rattle.server.specs.declared.Engine.{Engine}
 use Rattle.server.specs.declared.HostRequest.{HostRequest}
 use Rattle.server.specs.declared.HostRequest.the-variants as request
 use Rattle.server.specs.declared.Outcome.the-variants as outcome
-use Rattle.connection.proofs.Standings.{PeerFits, limited-fits, verified-fits, challenged-fits, disconnected-fits, disconnected-length, opened-fits, opened-length}
+use Rattle.connection.proofs.Standings.{PeerFits, limited-fits, checked-fits, verified-fits, challenged-fits, disconnected-fits, disconnected-length, opened-fits, opened-length}
 use Rattle.incoming.proofs.Frames.{Octets}
 use Rattle.incoming.proofs.Gathers.{gather-lengths}
 use Rattle.outgoing.proofs.Sent.{SendsFrom, next-sends}
@@ -245,12 +245,20 @@ module _ (e : Engine) (s : Stores) (h : Base e s) where
   verifies-fine p (Stored n) none f = fine-asks e s h p await.Nonce request.Nonce s f (h .room) refl refl
   verifies-fine p (Stored n) (some r) f = fine-asks e s h p await.Password (request.Password (userPlace e s)) s f (h .room) refl refl
 
+  fields-fine : (p : Peer) (code : ℕ) → PeerFits p → Fine e (repliesFields e p code s)
+  unfolding packetBytes
+  fields-fine p code f =
+      fine-replies e s h p Nothing await.Taken (packetBytes (sentCode code) (fieldsOf (e .settings .«max_packet_length»)) []) s f (h .room) refl refl refl
+      (omega arith)
+
   connect-fine : Octets (lastPacket e s) → Fine e (connectPacket e s)
   unfolding connectPacket
   connect-fine o =
       let p = limited (e .peer) (connectLimit (lastPacket e s)) in
       let f = limited-fits (e .peer) (connectLimit (lastPacket e s)) (limit-small (lastPacket e s) o) (h .peer) in
-      fine-pick e (e .settings .authentication) _ _ (verifies-fine p (p .challenge) (clientResponse e s) f)
+      fine-pick e (e .settings .authentication) _ _
+      (fine-pick e (stops p (lastHeaders e s)) _ _ (fields-fine (checkedPeer p false) 0x53 (checked-fits p false f))
+      (verifies-fine p (p .challenge) (clientResponse e s) f))
       (fine-asks e s h p await.Connect (request.Connect (e .length)) s f (h .room) refl refl)
 
   pub connect-sends-fine : (p : Peer) (code : ℕ) (f : ConnectionId) (answer : List Header) (c : Option Credentials) → PeerFits p
@@ -282,7 +290,7 @@ module _ (e : Engine) (s : Stores) (h : Base e s) where
         let srm = e .peer .«srm_enabled» || srmAsked e (surveyOf (some (lastHeaders e s))) in
         tabled-pick e t (isSuccess code) _ _
         (connect-opened-fine (openedFor (e .peer) t srm answer target) code (frontFor (e .peer) t answer target) hs
-        (λ q i. (opened-fits (e .peer) t srm (h .peer) room q answer target i, opened-length (e .peer) t srm (h .peer) room q answer target i)) l)
+        (λ q i. (opened-fits (e .peer) t [] srm (h .peer) room q answer target i, opened-length (e .peer) t [] srm (h .peer) room q answer target i)) l)
         (record { done = sends-connect-fine (e .peer) code hs (h .peer); tables = refl })
 
     pub reply-fine : (code : ℕ) (hs : List ℕ) → length hs ≤ 65535 → FineTabled e t (replyAnswer e code hs s t)
@@ -298,11 +306,12 @@ module _ (e : Engine) (s : Stores) (h : Base e s) where
         (record { done = sends-fine (e .peer) code hs (h .peer); tables = refl }))
 
   pub password-fine : (p : Option (List ℕ)) → Fine e (passwordAnswer e p s)
-  unfolding passwordAnswer
+  unfolding passwordAnswer passwordAnswered
   password-fine p =
       fine-pick e (checks (e .peer .challenge) (clientResponse e s) (demandsUser (e .settings)) p) _ _
-      (fine-asks e s h (verifiedPeer (e .peer)) await.Connect (request.Connect (e .length)) s (verified-fits (e .peer) (h .peer)) (h .room) refl refl)
-      (fine-asks e s h (e .peer) await.Nonce request.Nonce s (h .peer) (h .room) refl refl)
+      (fine-asks e s h (verifiedPeer (checkedPeer (e .peer) false)) await.Connect (request.Connect (e .length)) s
+      (verified-fits (checkedPeer (e .peer) false) (checked-fits (e .peer) false (h .peer))) (h .room) refl refl)
+      (fine-asks e s h (checkedPeer (e .peer) true) await.Nonce request.Nonce s (checked-fits (e .peer) true (h .peer)) (h .room) refl refl)
 
   pub nonce-fine : (n : Octets16) (l : List ℕ) → Fine e (nonceAnswer e n l s)
   unfolding nonceAnswer

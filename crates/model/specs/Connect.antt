@@ -4,21 +4,24 @@ use mathlib.Core.List.{List, [], _∷_}
 use mathlib.Core.Bool.{Bool, true, false, _&&_, _||_}
 use mathlib.Core.Option.{Option, none, some}
 use lib.ListN.{length}
+use lib.Count.{ones}
+use lib.Dec.{leb}
 use Rattle.base.specs.Pick.{pick}
 use Rattle.digest.specs.Md5.{octets16, numbers16}
 use Rattle.digest.specs.declared.md5.Octets16.{Octets16}
 use Rattle.packet.specs.HeaderIds as header-id
 use Rattle.packet.specs.ResponseCodes as response
-use Rattle.packet.specs.Codes.{isSuccess}
+use Rattle.packet.specs.Codes.{isSuccess, sentCode}
 use Rattle.packet.specs.Header.{Header, readHeaders, first, firstPlace, bytesOf, allBytes}
-use Rattle.packet.specs.Packet.{connectLimit}
+use Rattle.packet.specs.Packet.{connectLimit, packetBytes}
 use Rattle.packet.specs.Auth.{Challenge as PeerChallenge, Response, verified, userIdRequired, readOnly}
 use Rattle.journal.specs.Calls.{Credentials}
+use Rattle.journal.specs.Checks.{bit, mostWrong}
 use Rattle.journal.specs.Journal.{listOf}
 use Rattle.incoming.specs.Survey.{surveyOf}
 use Rattle.incoming.specs.declared.survey.Survey.{Survey}
-use Rattle.connection.specs.Reply.{front}
-use Rattle.connection.specs.Peer.{Linked, limited, verifiedPeer, challengedPeer, searched, openedFor}
+use Rattle.connection.specs.Reply.{fieldsOf, front}
+use Rattle.connection.specs.Peer.{Linked, isGiven, limited, checkedPeer, verifiedPeer, challengedPeer, searched, openedFor}
 use Rattle.connection.specs.ConnectReply.{answeredChallenge, connectHeaders, challengeHeader}
 use Rattle.connection.specs.Pieces.{idGiven}
 use Rattle.connection.specs.declared.peer.Challenge.{Challenge}
@@ -32,7 +35,7 @@ use Rattle.server.specs.declared.Await.the-variants as await
 use Rattle.server.specs.declared.Engine.{Engine}
 use Rattle.server.specs.declared.HostRequest.{HostRequest}
 use Rattle.server.specs.declared.HostRequest.the-variants as request
-use Rattle.model.specs.Step.{Stores, withHeaders, Done, DoneTabled, doneTabled, asks, sent, sendsConnect, after}
+use Rattle.model.specs.Step.{Stores, withHeaders, Done, DoneTabled, doneTabled, asks, replies, sent, sendsConnect, after}
 use Rattle.model.specs.Request.{lastPacket, lastHeaders, clientResponse, userPlace, realmIn}
 
 -- If a challenge is stored and the client's response can be read, the host is asked for the password; otherwise for a nonce, to challenge
@@ -42,11 +45,24 @@ verifies e p Absent r s = asks e p Nothing await.Nonce request.Nonce s
 verifies e p (Stored n) none s = asks e p Nothing await.Nonce request.Nonce s
 verifies e p (Stored n) (some r) s = asks e p Nothing await.Password (request.Password (userPlace e s)) s
 
--- A Connect packet. The client's packet limit is set before the password is looked at (docs/PROTOCOL.md#connect).
+-- Whether a Connect with these headers is stopped: eight or more of the last 64 checks were wrong, and the Connect carries an
+-- AuthenticateResponse, whether that can be read or not (docs/PROTOCOL.md#eight-wrong).
+abbrev pub stops : Peer → List Header → Bool
+stops p hs = leb mostWrong (ones (p .window)) && isGiven (first header-id.authenticateResponse hs)
+
+-- A reply of a code and no headers, with Connect's fields: seven bytes, which every peer can take.
+abbrev pub repliesFields : Engine → Peer → ℕ → Stores → Done
+repliesFields e p code s =
+    replies e p Nothing await.Taken (packetBytes (sentCode code) (fieldsOf (e .settings .«max_packet_length»)) []) s
+
+-- A Connect packet. The client's packet limit is set before anything else is looked at; then comes the test for too many wrong passwords,
+-- and then the password (docs/PROTOCOL.md#connect).
 unfoldable pub connectPacket : Engine → Stores → Done
 connectPacket e s =
     let p = limited (e .peer) (connectLimit (lastPacket e s)) in
-    pick (e .settings .authentication) (verifies e p (p .challenge) (clientResponse e s) s)
+    pick (e .settings .authentication)
+    (pick (stops p (lastHeaders e s)) (repliesFields e (checkedPeer p false) response.serviceUnavailable s)
+    (verifies e p (p .challenge) (clientResponse e s) s))
     (asks e p Nothing await.Connect (request.Connect (e .length)) s)
 
 -- Whether the client asks for Single Response Mode (SRM) and the settings support it.
@@ -105,19 +121,18 @@ checks (Stored n) none demands p = false
 checks (Stored n) (some r) demands none = false
 checks (Stored n) (some r) demands (some p) = verified demands (octets16 n) r p
 
--- The host's answer to the request for a password. If the client is verified, the host is asked about the Connect; otherwise for a nonce,
--- to challenge the client again.
+-- What follows the check of a password, by what it said. If the client is verified, the host is asked about the Connect; otherwise for a
+-- nonce, to challenge the client again. Either way the window has one check more (docs/PROTOCOL.md#eight-wrong).
+unfoldable pub passwordAnswered : Engine → Bool → Stores → Done
+passwordAnswered e right s =
+    pick right (asks e (verifiedPeer (checkedPeer (e .peer) false)) Nothing await.Connect (request.Connect (e .length)) s)
+    (asks e (checkedPeer (e .peer) true) Nothing await.Nonce request.Nonce s)
+
+-- The host's answer to the request for a password.
 unfoldable pub passwordAnswer : Engine → Option (List ℕ) → Stores → Done
-passwordAnswer e p s =
-    pick (checks (e .peer .challenge) (clientResponse e s) (demandsUser (e .settings)) p)
-    (asks e (verifiedPeer (e .peer)) Nothing await.Connect (request.Connect (e .length)) s)
-    (asks e (e .peer) Nothing await.Nonce request.Nonce s)
+passwordAnswer e p s = passwordAnswered e (checks (e .peer .challenge) (clientResponse e s) (demandsUser (e .settings)) p) s
 
 -- The options of the server's challenges: bit 0 says that a user id is required, bit 1 that access is read only.
-abbrev pub bit : Bool → ℕ
-bit false = 0
-bit true = 1
-
 abbrev pub optionsOf : Settings → ℕ
 optionsOf st = bit (st .«user_id_required») + 2 * bit (st .«read_only»)
 

@@ -22,6 +22,7 @@ pub enum Command {
     Taken,
     Acknowledge,
     Show,
+    Inspect,
     // A line that tells what the original did, or no command.
     Other,
 }
@@ -121,6 +122,9 @@ fn own_command_of(w: &[u8]) -> Command {
     }
     if same(w, b"show") {
         return Command::Show;
+    }
+    if same(w, b"inspect") {
+        return Command::Inspect;
     }
     Command::Other
 }

@@ -12,6 +12,7 @@ use command::Command;
 use command::command_of;
 use command::decode;
 use command::default_options;
+use connection::peer::Peer;
 use drive::call_engine;
 use drive::settings_of;
 use engine::calls;
@@ -30,9 +31,10 @@ use server::Operation;
 use server::Outcome;
 use show::outcome_line;
 use show::put_line;
+use show::shown_line;
 use show::state_line;
-use show::stores_line;
 use state::Replay;
+use state::Shown;
 use state::after_call;
 use state::begun;
 use state::settled;
@@ -41,8 +43,8 @@ use state::with_input;
 use state::with_lines;
 use state::with_output;
 use state::with_realm;
+use state::with_shown;
 use state::with_taken;
-use state::without_show;
 
 // ---- a line
 
@@ -158,9 +160,10 @@ fn shows_state(call: Call, took: CallResult) -> bool {
     }
 }
 
-// Prints the stores if that is due.
-fn print_stores<'a>(
+// Prints what a line without a call shows, if that is due.
+fn print_shown<'a>(
     s: Replay,
+    peer: Peer,
     tables: &[u64],
     packet: &'a [u8],
     headers: &'a [u8],
@@ -168,9 +171,10 @@ fn print_stores<'a>(
     reply: &'a [u8],
     out: &mut [u8],
 ) -> Replay {
-    let shown = stores_line(s.lent, s.show);
-    let n = put_line(out, s.n, shown, tables, packet, headers, body, reply);
-    without_show(with_output(s, n))
+    let shown = s.shown;
+    let line = shown_line(s.lent, shown, peer);
+    let n = put_line(out, s.n, line, tables, packet, headers, body, reply);
+    with_shown(with_output(s, n), Shown::Nothing)
 }
 
 // The two lines after a call: what it returned, and the state if one stands after it.
@@ -277,7 +281,9 @@ fn play(
                 write(out, s.n);
                 return;
             }
-            s = print_stores(s, tables, packet, headers, body, reply, out);
+            let e = took.engine;
+            let peer = e.peer;
+            s = print_shown(s, peer, tables, packet, headers, body, reply, out);
         }
         left -= 1;
     }

@@ -2,6 +2,7 @@
 // whose place a value stands. Which form and which values is decided without a store, so that the output store is lent few times.
 ghost use Prim.Native.Nat.{_≤_};
 use crate::state::Lent;
+use crate::state::Shown;
 use connection::peer::Challenge;
 use connection::peer::Peer;
 use digest::md5::Octets16;
@@ -29,6 +30,8 @@ use server::refusal_number;
 pub struct Values {
     // %o, sixteen bytes in hexadecimal.
     octets: Octets16,
+    // %w, sixteen hexadecimal digits.
+    window: u64,
     // %i, eight hexadecimal digits; %x, the last two of them.
     id: u32,
     // %p, %h and %r: a part of the packet, header and reply store. %c is the byte of the packet store at its start. %P and %H: the length
@@ -212,6 +215,7 @@ fn word_of(letter: u8, v: Values, charset: u8) -> Word {
         b'c' => digits_of(base::wide(charset) as u64, 15),
         b'i' => digits_of(wide32(v.id), 12),
         b'o' => Word::Octets { octets, from: 0 },
+        b'w' => digits_of(v.window, 8),
         b'l' => Word::Ids,
         _ => Word::Nothing,
     }
@@ -346,13 +350,15 @@ pub(crate) fn put_line<'a>(
         refused %1\n\
         state remote_max=%1 srm=%2 authenticated=%3 ids=%l next=%i challenge=%o\n\
         state remote_max=%1 srm=%2 authenticated=%3 ids=%l next=%i challenge=none\n\
-        stores %P %H %B %R\n";
+        stores %P %H %B %R\n\
+        own window=%w\n";
     put_form_of(out, n, forms, line, tables, packet, headers, body, reply)
 }
 
 fn no_values(longest: usize) -> Values {
     Values {
         octets: no_octets(),
+        window: 0,
         id: 0,
         start: 0,
         end: 0,
@@ -532,12 +538,9 @@ pub(crate) fn state_line(p: Peer, shows: bool) -> Line {
     with_challenge(v, challenge)
 }
 
-// The line of the stores as far as they are lent, or none if `shows` is false.
-pub(crate) fn stores_line(lent: Lent, shows: bool) -> Line {
+// The line of the stores as far as they are lent.
+fn stores_line(lent: Lent) -> Line {
     let mut v = no_values(0);
-    if !shows {
-        return no_line(v);
-    }
     v.start = lent.packet;
     v.end = lent.headers;
     v.from = lent.body;
@@ -545,5 +548,24 @@ pub(crate) fn stores_line(lent: Lent, shows: bool) -> Line {
     Line {
         form: 21,
         values: v,
+    }
+}
+
+// The line of what only the port's state has: the window over the last 64 checks of passwords.
+fn own_line(p: Peer) -> Line {
+    let mut v = no_values(0);
+    v.window = p.window;
+    Line {
+        form: 22,
+        values: v,
+    }
+}
+
+// The line that is to be shown, or none.
+pub(crate) fn shown_line(lent: Lent, shown: Shown, p: Peer) -> Line {
+    match shown {
+        Shown::Stores => stores_line(lent),
+        Shown::Own => own_line(p),
+        Shown::Nothing => no_line(no_values(0)),
     }
 }

@@ -33,6 +33,13 @@ pub struct Lines {
     pub end: usize,
 }
 
+// What a line prints that makes no call: the stores, or what of the state no transcript of the original has.
+pub enum Shown {
+    Nothing,
+    Stores,
+    Own,
+}
+
 pub struct Replay {
     // The call that is due with the lengths of its two byte strings, or none if the next line is due.
     pub due: Decoded,
@@ -47,8 +54,8 @@ pub struct Replay {
     pub longest: usize,
     // Whether replies wait for `taken` and Aborts for `acknowledge`.
     pub hold: bool,
-    // Whether the stores are to be printed.
-    pub show: bool,
+    // What is to be printed.
+    pub shown: Shown,
     // Whether standard input has ended.
     pub over: bool,
 }
@@ -91,7 +98,7 @@ pub(crate) fn begun() -> Replay {
         n: 0,
         longest: 512,
         hold: false,
-        show: false,
+        shown: Shown::Nothing,
         over: false,
     }
 }
@@ -113,13 +120,6 @@ pub(crate) fn with_lines(s: Replay, at: usize, end: usize) -> Replay {
 pub(crate) fn with_input(s: Replay, end: usize, over: bool) -> Replay {
     let mut r = with_lines(s, 0, end);
     r.over = over;
-    r
-}
-
-// The state once the stores are printed if that was due.
-pub(crate) fn without_show(s: Replay) -> Replay {
-    let mut r = s;
-    r.show = false;
     r
 }
 
@@ -184,9 +184,10 @@ fn with_hold(s: Replay) -> Replay {
     r
 }
 
-fn with_show(s: Replay) -> Replay {
+// The state with what is to be printed.
+pub(crate) fn with_shown(s: Replay, shown: Shown) -> Replay {
     let mut r = s;
-    r.show = true;
+    r.shown = shown;
     r
 }
 
@@ -277,7 +278,8 @@ fn settled_alone(s: Replay, c: Command, w: &[u8]) -> Replay {
         Command::Longest => with_longest(s, number(w)),
         Command::Stores => with_lent(s, w),
         Command::Hold => with_hold(s),
-        Command::Show => with_show(s),
+        Command::Show => with_shown(s, Shown::Stores),
+        Command::Inspect => with_shown(s, Shown::Own),
         _ => s,
     }
 }

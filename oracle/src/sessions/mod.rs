@@ -98,6 +98,8 @@ struct Draft {
     length: usize,
     connects: usize,
     large: bool,
+    /// Whether it is one with eight wrong passwords and more.
+    wrong: bool,
 
     // What the engine is thought to hold.
     limit: usize,
@@ -128,6 +130,8 @@ impl Draft {
             length: 0,
             connects: 0,
             large: false,
+            // By numbers of its own, so that all other sessions stay as they are.
+            wrong: Random::new(!seed, session).one_in(200),
             limit: 255,
             ids: Vec::new(),
             next_id: 1,
@@ -142,7 +146,10 @@ impl Draft {
 
     /// The script of the session.
     fn session(mut self) -> String {
-        if self.random.one_in(500) {
+        if self.wrong {
+            self.wrong_passwords();
+            self.break_off();
+        } else if self.random.one_in(500) {
             self.large_session();
         } else {
             match self.random.below(24) {

@@ -54,8 +54,8 @@ write-requires c κs = search needs
 returns : tie.Need-returns Inv-loop μ-loop
 returns c = search needs
 
-print-stores-requires : tie.Need-print-stores-requires Inv-loop μ-loop
-print-stores-requires c κs = search needs
+print-shown-requires : tie.Need-print-shown-requires Inv-loop μ-loop
+print-shown-requires c κs = search needs
 
 sub-left : tie.Need-sub-left Inv-loop μ-loop
 sub-left c = search needs
@@ -90,7 +90,7 @@ play-spec =
     take-line-requires
     write-requires
     returns
-    print-stores-requires
+    print-shown-requires
     sub-left
     loop-less
     loop-again
