@@ -16,7 +16,7 @@ use Rattle.packet.specs.ResponseCodes as response
 use Rattle.packet.specs.Modes as modes
 use Rattle.packet.specs.FirstByte.{sameOpcode}
 use Rattle.packet.specs.Codes.{isSuccess, sentCode}
-use Rattle.packet.specs.Header.{Header, readHeaders, first, allBytes}
+use Rattle.packet.specs.Header.{Header, readHeaders, first, present, allBytes}
 use Rattle.packet.specs.Packet.{Request, requestOf}
 use Rattle.packet.specs.Auth.{Response, responseOf, verified}
 use Rattle.packet.specs.declared.opcode.Opcode.{Opcode}
@@ -200,14 +200,9 @@ firstRead (UserDefined x) j r =
 abbrev pub stopped : Journal → Entry
 stopped j = unchanged (end j)
 
--- A header was found.
-abbrev pub isThere : Option (List ℕ) → Bool
-isThere none = false
-isThere (some v) = true
-
 -- The request is a Put packet without a Name, so it may trail a Put that was too long.
 unfoldable pub trails : Request → Bool
-trails r = sameOpcode (r .opcode) Put && not (isThere (first header-id.name (r .headers)))
+trails r = sameOpcode (r .opcode) Put && not (present (first header-id.name (r .headers)))
 
 -- A packet that can be read, by what is open. Packets that trail a Put are refused up to a final one, and any other is read as with nothing
 -- open. A drain goes on under any opcode, up to a final packet.

@@ -13,7 +13,8 @@ use Rattle.server.specs.declared.Settings.{Settings}
 
 -- The settings that the journal keeps.
 abbrev pub settingsOf : Settings → JournalSettings
-settingsOf st = record { limit = st .«max_object_size»; srm = st .«srm_supported»; authentication = st .authentication }
+settingsOf st =
+    record { limit = st .«max_object_size»; srm = st .«srm_supported»; authentication = st .authentication; refuses = st .«refuse_trailing» }
 
 -- The one premise of the records theorem: kept headers stay within 65,535 bytes.
 abbrev pub Kept : List Marked → Type 0

@@ -15,4 +15,5 @@ defaultSettings limit =
       authentication = false;
       «user_id_required» = false;
       «read_only» = false;
+      «refuse_trailing» = false;
     }

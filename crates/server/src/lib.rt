@@ -22,6 +22,8 @@ pub struct Settings {
     pub user_id_required: bool,
     // Whether the server's challenges say that access is read only.
     pub read_only: bool,
+    // Whether the packets that trail a Put that was too long are refused with it (docs/PROTOCOL.md#trailing).
+    pub refuse_trailing: bool,
 }
 
 // The source's settings, but for the Put limit: the host chooses `max_object_size`, since it must lend a body store of that length.
@@ -37,6 +39,7 @@ pub fn default_settings(max_object_size: u32) -> Settings
         authentication: false,
         user_id_required: false,
         read_only: false,
+        refuse_trailing: false,
     }
 }
 
@@ -44,6 +47,8 @@ pub fn default_settings(max_object_size: u32) -> Settings
 pub enum Operation {
     // No operation is open.
     Nothing,
+    // No operation is open, and the engine refuses the packets that trail a Put that was too long.
+    Trailing,
     // A Put whose packets the engine gathers. `srm` says whether SRM is on for this operation.
     Putting {
         gathered: incoming::gather::Gathered,
