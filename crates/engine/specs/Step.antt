@@ -52,6 +52,10 @@ endsPlan e p x = plan (engineWith (e .settings) p Nothing await.Nothing 0 (e .le
 unfoldable pub codePlan : Engine → Peer → Await → ℕ → Plan
 codePlan e p a b = plan (engineWith (e .settings) p Nothing a 0 (e .length)) (outcome.Reply 3) (Byte b)
 
+-- The engine replies with a first byte and no headers, and `o` is open afterwards.
+unfoldable pub codeKeepingPlan : Engine → Operation → ℕ → Plan
+codeKeepingPlan e o b = plan (engineWith (e .settings) (e .peer) o await.Taken 0 (e .length)) (outcome.Reply 3) (Byte b)
+
 abbrev pub continueLength : Bool → ℕ
 continueLength true = 5
 continueLength false = 3
