@@ -136,12 +136,13 @@ continuedRoute h o r = pick (sameOpcode (h .opcode) o) r interruptsRoute
 abbrev pub drainingRoute : Heading → ℕ → Route
 drainingRoute h code = pick (h .«is_final») (codeRoute code) (Plain (brief.Drain code))
 
--- What trails a Put that was too long gets 0x4D, up to a final packet; any other packet goes its way as with nothing open.
+-- What trails a Put that was too long gets 0x4D, and a final packet is the last of it.
+abbrev pub trailedRoute : Bool → Route
+trailedRoute final = pick final (codeRoute response.requestedEntityTooLarge) (keepRoute response.requestedEntityTooLarge)
+
+-- While the engine refuses what trails a Put, any other packet goes its way as with nothing open.
 abbrev pub trailingRoute : Engine → Heading → Route
-trailingRoute e h =
-    pick (h .trails)
-    (pick (h .«is_final») (codeRoute response.requestedEntityTooLarge) (keepRoute response.requestedEntityTooLarge))
-    (openRoute e h)
+trailingRoute e h = pick (h .trails) (trailedRoute (h .«is_final»)) (openRoute e h)
 
 -- The engine refuses what trails a Put that was too long.
 abbrev pub isTrailing : Operation → Bool

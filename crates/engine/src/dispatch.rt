@@ -3,7 +3,7 @@
 ghost use mathlib.Core.Path.{_≡_};
 ghost use Prim.Native.Nat.{_≤_, ℕ};
 ghost use Rattle.model.specs.Dispatch.{rejection as rejectionOf, knownIn, drains as drainsOf, confirms as confirmsOf, busy as busyWith, unknownByte, lengthOf, packetDone};
-ghost use Rattle.engine.specs.Dispatch.{admissionOf, unauthorizedFor, codeRoute, keepRoute, askRoute, drainedBy, rejectedRoute, putRoute, getRoute, sendRoute, headersRoute, dispatchRoute, openRoute, interruptsRoute, continuedRoute, drainingRoute, trailingRoute, trailedBy, insideRoute, headingRoute, unreadableRoute, simplePlan, packetRoute, acts, withTaken, moreTook};
+ghost use Rattle.engine.specs.Dispatch.{admissionOf, unauthorizedFor, codeRoute, keepRoute, askRoute, drainedBy, rejectedRoute, putRoute, getRoute, sendRoute, headersRoute, dispatchRoute, openRoute, interruptsRoute, continuedRoute, drainingRoute, trailedRoute, trailingRoute, trailedBy, insideRoute, headingRoute, unreadableRoute, simplePlan, packetRoute, acts, withTaken, moreTook};
 ghost use mathlib.Core.Bool.{true};
 ghost use mathlib.Core.List.{List};
 ghost use lib.ListN.{length};
@@ -345,16 +345,23 @@ fn draining(h: Heading, code: u8) -> Route
     Route::Plain(Simple::Drain { code })
 }
 
-// The way of a packet while the engine refuses what trails a Put that was too long (docs/PROTOCOL.md#trailing). What trails gets 0x4D too,
-// up to a final packet. Any other packet is judged as with nothing open.
+// The way of a packet that trails a Put that was too long: it gets 0x4D as the Put did, and a final one is the last of them.
+fn trailed(is_final: bool) -> Route
+    ensures { λ r. ⌜ r ≡ trailedRoute «is_final» ⌝ }
+{
+    if is_final {
+        return reply_code(response::REQUESTED_ENTITY_TOO_LARGE);
+    }
+    keep_code(response::REQUESTED_ENTITY_TOO_LARGE)
+}
+
+// The way of a packet while the engine refuses what trails a Put that was too long (docs/PROTOCOL.md#trailing). A packet that does not
+// trail is judged as with nothing open.
 fn trailing(e: Engine, h: Heading) -> Route
     ensures { λ r. ⌜ r ≡ trailingRoute e h ⌝ }
 {
     if h.trails {
-        if h.is_final {
-            return reply_code(response::REQUESTED_ENTITY_TOO_LARGE);
-        }
-        return keep_code(response::REQUESTED_ENTITY_TOO_LARGE);
+        return trailed(h.is_final);
     }
     open_route(e, h)
 }

@@ -157,10 +157,11 @@ pub(crate) fn code(e: Engine, peer: Peer, awaits: Await, byte: u8) -> Plan
 pub(crate) fn code_keeping(e: Engine, operation: Operation, byte: u8) -> Plan
     ensures { λ r. ⌜ r ≡ codeKeepingPlan e operation byte ⌝ }
 {
+    let small = ShortReply::Byte(byte);
     Plan {
         engine: engine_with(e.settings, e.peer, operation, Await::Taken, 0, e.length),
         outcome: Outcome::Reply { length: 3 },
-        small: ShortReply::Byte(byte),
+        small,
     }
 }
 

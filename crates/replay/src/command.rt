@@ -37,6 +37,7 @@ pub struct Options {
     pub authentication: bool,
     pub user_id_required: bool,
     pub read_only: bool,
+    pub refuse_trailing: bool,
     // Whether the stores are filled with zeros.
     pub clear: bool,
 }
@@ -77,6 +78,7 @@ enum Key {
     Charset,
     UserIdRequired,
     ReadOnly,
+    RefuseTrailing,
     Clear,
     Other,
 }
@@ -150,6 +152,9 @@ fn key_of(w: &[u8]) -> Key {
     if same(w, b"read_only") {
         return Key::ReadOnly;
     }
+    if same(w, b"refuse_trailing") {
+        return Key::RefuseTrailing;
+    }
     if same(w, b"clear") {
         return Key::Clear;
     }
@@ -168,6 +173,7 @@ pub(crate) fn default_options() -> Options {
         authentication: false,
         user_id_required: false,
         read_only: false,
+        refuse_trailing: false,
         clear: false,
     }
 }
@@ -200,6 +206,7 @@ fn with_option(o: Options, key: Key, w: &[u8], realm: usize) -> Options {
         Key::Charset => r.charset = byte_of(w),
         Key::UserIdRequired => r.user_id_required = is_set(w),
         Key::ReadOnly => r.read_only = is_set(w),
+        Key::RefuseTrailing => r.refuse_trailing = is_set(w),
         Key::Clear => r.clear = is_set(w),
         Key::Other => {}
     }

@@ -21,6 +21,7 @@ pub(crate) fn settings_of(o: Options) -> Settings {
         authentication: o.authentication,
         user_id_required: o.user_id_required,
         read_only: o.read_only,
+        refuse_trailing: o.refuse_trailing,
     }
 }
 
