@@ -39,7 +39,7 @@ use Rattle.engine.specs.Guard.{refusedWith}
 use Rattle.engine.specs.Request.{lastFrom}
 use Rattle.engine.specs.Connect.{Answering, answering, Accepting, accepting, among, leaving, headersOf, srmAskedBy, connectReplies, acceptedHeaders, answerFor, challengedBy, openedIn, acceptedBy, repliedLink, credentialsBy}
 use Rattle.server.specs.declared.Operation.{Operation}
-use Rattle.server.specs.declared.Operation.the-variants.{Nothing, Putting, Getting, Sending, Gathering as GatheringOp, Connecting, Draining}
+use Rattle.server.specs.declared.Operation.the-variants.{Nothing, Trailing, Putting, Getting, Sending, Gathering as GatheringOp, Connecting, Draining}
 use Rattle.server.specs.declared.Await.the-variants as await
 use Rattle.server.specs.declared.CallKind.the-variants as kind
 use Rattle.server.specs.declared.Refusal.the-variants as refusal
@@ -258,20 +258,22 @@ good-reply code hs t h k = reply-headers-fit code hs (sym h ∙ k)
 -- ---- a call for credentials
 
 -- no Connect waits for them
-pub credentials-other : (o : Operation) (e : Engine) (c : Option Credentials) (q h y : List ℕ) → OneOf (0 ∷ 1 ∷ 2 ∷ 3 ∷ 4 ∷ 6 ∷ []) (tagOf the-type o)
+pub credentials-other : (o : Operation) (e : Engine) (c : Option Credentials) (q h y : List ℕ) → OneOf (0 ∷ 1 ∷ 2 ∷ 3 ∷ 4 ∷ 5 ∷ 7 ∷ []) (tagOf the-type o)
     → written (refusedWith refusal.WrongMoment e) y ≡ credentialsBy o e c q h y
 credentials-other Nothing e c q h y k = refl
+credentials-other Trailing e c q h y k = refl
 credentials-other (Putting g srm) e c q h y k = refl
 credentials-other (Getting g srm confirm wait) e c q h y k = refl
 credentials-other (Sending o x srm wait) e c q h y k = refl
 credentials-other (GatheringOp o g) e c q h y k = refl
 credentials-other (Draining code) e c q h y k = refl
-credentials-other (Connecting code f n) e c q h y k = absurd (miss (0 ∷ 1 ∷ 2 ∷ 3 ∷ 4 ∷ 6 ∷ []) 5 tt k)
+credentials-other (Connecting code f n) e c q h y k = absurd (miss (0 ∷ 1 ∷ 2 ∷ 3 ∷ 4 ∷ 5 ∷ 7 ∷ []) 6 tt k)
 
 -- what the call gives by the last packet and two stores is the model's
 module _ (e : Engine) (c : Option Credentials) (s : Stores) where
   credentials-is : (o : Operation) → within (credentialsBy o e c (lastPacket e s) (s .headers) (s .reply)) s ≡ credentialsWith o e c s
   credentials-is Nothing = refl
+  credentials-is Trailing = refl
   credentials-is (Putting g srm) = refl
   credentials-is (Getting g srm confirm wait) = refl
   credentials-is (Sending o x srm wait) = refl

@@ -1,15 +1,30 @@
 -- The way of a packet by what reading it gives, and a gathered packet as a plan. Assumes nothing.
 use mathlib.Core.Path.{_≡_, refl, sym, ap, _∙_, subst}
-use mathlib.Core.Bool.{Bool, true, false, true≢false, false≢true}
-use mathlib.Core.List.{List}
+use mathlib.Core.Bool.{Bool, true, false, _&&_, not, true≢false, false≢true}
+use mathlib.Core.List.{List, [], _∷_}
 use mathlib.Core.Option.{Option, none, some}
 use Prim.Native.Nat.{ℕ}
 use native.Mathlib.Omega.{arith}
 use lib.ListN.{length, getD, take}
-use Rattle.packet.specs.FirstByte.{firstByte}
-use Rattle.packet.specs.Header.{Header, readHeaders}
-use Rattle.packet.specs.Packet.{Request as Packet, requestWith, requestOf, backup, noCreate}
-use Rattle.packet.specs.PacketRead.{packetHead}
+use lib.Dec.{ltb}
+use Rattle.base.specs.Pick.{pick}
+use Rattle.packet.specs.FirstByte.{firstByte, sameOpcode}
+use Rattle.packet.specs.Header.{Header, readHeaders, first, present, firstPlace}
+use Rattle.packet.specs.Tags.{bytesAt}
+use Rattle.packet.specs.Packet.{Request as Packet, requestWith, requestOf, prefixOf, backup, noCreate}
+use Rattle.packet.specs.PacketRead.{headBy, packetHead}
+use Rattle.packet.specs.declared.opcode.FirstByte.{FirstByte}
+use Rattle.packet.specs.declared.opcode.FirstByte.the-variants.{Known, Unknown}
+use Rattle.packet.specs.declared.opcode.Opcode.the-variants as op
+use Rattle.packet.specs.declared.tlv.Found.{Found}
+use Rattle.packet.specs.declared.tlv.Found.the-variants as place
+use Rattle.packet.proofs.OpcodeLaws.{same-equal}
+use Rattle.packet.proofs.HeaderLaws.{first-agrees}
+use denote.Enum.Declared.{tagOf}
+use types.Run.{OneOf, miss}
+use Rattle.server.proofs.Operation.{the-type}
+use Rattle.server.specs.declared.Operation.{Operation}
+use Rattle.server.specs.declared.Operation.the-variants.{Nothing, Trailing, Putting, Getting, Sending, Gathering as GatheringOp, Connecting, Draining}
 use Rattle.packet.proofs.PacketLaws.{requestHead, request-head}
 use Rattle.packet.specs.declared.opcode.Opcode.{Opcode}
 use Rattle.packet.specs.declared.packet.Head.{Head}
@@ -23,12 +38,12 @@ use Rattle.incoming.specs.declared.gather.Gathered.{Gathered}
 use Rattle.incoming.specs.declared.gather.Keep.{Keep}
 use Rattle.journal.specs.Journal.{headersOf as headersIn}
 use Rattle.model.specs.Step.{Stores, stores, Done, Stepped, stepped, ends, after, limitOf}
-use Rattle.model.specs.Dispatch.{knownIn, lengthOf, packetDone, unknownByte}
+use Rattle.model.specs.Dispatch.{knownIn, trails, lengthOf, packetDone, unknownByte}
 use Rattle.model.specs.Calls.{framedAs, withPacket, offers, bytesOfferedStep}
 use Rattle.model.specs.Operation.{gathers}
 use Rattle.model.specs.Guard.{soundOperation}
 use Rattle.engine.specs.Step.{planned, endsPlan, Written, carried, tookBy}
-use Rattle.engine.specs.Dispatch.{unreadableRoute, headingRoute, routeAs, packetRoute, acts, withTaken}
+use Rattle.engine.specs.Dispatch.{isTrailing, isMissing, trailedBy, unreadableRoute, headingRoute, routeAs, packetRoute, acts, withTaken}
 use Rattle.engine.specs.Operation.{keepOf, fromOf, kindPlan, actsGathered}
 use Rattle.server.specs.declared.CallKind.the-variants as kind
 use Rattle.server.specs.declared.End.the-variants as end
@@ -40,6 +55,17 @@ use Rattle.engine.specs.declared.dispatch.Route.{Route}
 use Rattle.engine.proofs.Guards.{GoesLent}
 use Rattle.engine.proofs.Ready.{Ready, ready}
 use Rattle.engine.proofs.Routes.{packet-acts}
+
+-- nothing that trails is refused in any other operation
+pub not-trailing : (o : Operation) → OneOf (0 ∷ 2 ∷ 3 ∷ 4 ∷ 5 ∷ 6 ∷ 7 ∷ []) (tagOf the-type o) → isTrailing o ≡ false
+not-trailing Nothing k = refl
+not-trailing (Putting g srm) k = refl
+not-trailing (Getting g srm confirm wait) k = refl
+not-trailing (Sending o c srm wait) k = refl
+not-trailing (GatheringOp o g) k = refl
+not-trailing (Connecting c f n) k = refl
+not-trailing (Draining code) k = refl
+not-trailing Trailing k = absurd (miss (0 ∷ 2 ∷ 3 ∷ 4 ∷ 5 ∷ 6 ∷ 7 ∷ []) 1 tt k)
 
 -- a packet that is no request goes the way of the unreadable
 no-request : (e : Engine) (q t : List ℕ) → requestOf q ≡ none
@@ -56,10 +82,39 @@ module _ (e : Engine) (q t : List ℕ) (o : Opcode) (final : Bool) (from : ℕ) 
   request-is : requestOf q ≡ requestWith o final q (readHeaders q from)
   request-is = request-head q ∙ ap (λ (x : Head). requestHead x q) known
 
+  from-head : from ≡ prefixOf o
+  unfolding packetHead
+  from-head = go (firstByte (getD q 0 0)) known
+    where
+      by : (c : Opcode) (f u : Bool) → pick u head.Unreadable (head.Known c f (prefixOf c)) ≡ head.Known o final from → from ≡ prefixOf o
+      by c f true k = let z : _≡_ {A = ℕ} 0 1 = cc in absurd (omega arith)
+      by c f false k = let a : prefixOf c ≡ from = cc in let b : c ≡ o = cc in sym a ∙ ap prefixOf b
+
+      go : (b : FirstByte) → headBy b q ≡ head.Known o final from → from ≡ prefixOf o
+      go Unknown k = let z : _≡_ {A = ℕ} 0 1 = cc in absurd (omega arith)
+      go (Known c f) k = by c f (ltb (length q) (prefixOf c)) k
+
+  -- a Name is found in the packet if the request has one
+  trailed-way : (p : Operation) (hs : List Header) → readHeaders q from ≡ some hs
+      → trailedBy p o q ≡ (isTrailing p && trails (record { opcode = o; final = final; bytes = q; headers = hs }))
+  unfolding trails
+  trailed-way p hs k = ap (λ (u : Bool). isTrailing p && u) (go (sameOpcode o op.Put) refl)
+    where
+      missing : (x : Found) → isMissing x ≡ not (present (bytesAt q x))
+      missing place.Missing = refl
+      missing (place.At a b) = refl
+
+      go : (u : Bool) → sameOpcode o op.Put ≡ u → (u && isMissing (firstPlace 0x01 q 3)) ≡ (u && not (present (first 0x01 hs)))
+      go false i = refl
+      go true i =
+          let a : from ≡ 3 = from-head ∙ ap prefixOf (same-equal o op.Put i) in
+          let b : readHeaders q 3 ≡ some hs = ap (readHeaders q) (sym a) ∙ k in
+          missing (firstPlace 0x01 q 3) ∙ ap (λ (v : Option (List ℕ)). not (present v)) (first-agrees 0x01 q 3 hs b)
+
   abbrev Heading-way : Type 0
   Heading-way =
       packetRoute e q t
-      ≡ headingRoute e (record { survey = surveyOf (readHeaders q from); opcode = o; backup = backup q; «no_create» = noCreate q; «is_final» = final; known = knownIn e t (surveyOf (readHeaders q from)) })
+      ≡ headingRoute e (record { survey = surveyOf (readHeaders q from); opcode = o; backup = backup q; «no_create» = noCreate q; «is_final» = final; known = knownIn e t (surveyOf (readHeaders q from)); trails = trailedBy (e .operation) o q })
 
   pub unreadable-way : surveyOf (readHeaders q from) .readable ≡ false
       → packetRoute e q t ≡ unreadableRoute (e .operation) (unknownByte (firstByte (getD q 0 0)))
@@ -77,7 +132,9 @@ module _ (e : Engine) (q t : List ℕ) (o : Opcode) (final : Bool) (from : ℕ) 
     where
       go : (hs : Option (List Header)) → readHeaders q from ≡ hs → surveyOf hs .readable ≡ true → Heading-way
       go none k w = absurd (false≢true w)
-      go (some hs) k w = ap (λ (x : Option Packet). routeAs x e q t) (request-is ∙ ap (requestWith o final q) k) ∙ rw k refl
+      go (some hs) k w =
+          ap (λ (x : Option Packet). routeAs x e q t) (request-is ∙ ap (requestWith o final q) k)
+          ∙ rw (k, trailed-way (e .operation) hs k) refl
 
 -- what `gather` gives, in the words of the model
 pub gathered-way : (e : Engine) (k : GatherKind) (q : List ℕ) (hs : List Header) (g : Gathered) (s : Stores) (from limit : ℕ) (keep : Keep) (x : Gathering)

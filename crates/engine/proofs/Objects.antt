@@ -26,7 +26,7 @@ use Rattle.engine.specs.Step.{Written, within, carried}
 use Rattle.engine.specs.Object.{packetPlan, packetSent}
 use Rattle.server.specs.declared.Settings.{Settings}
 use Rattle.server.specs.declared.Operation.{Operation}
-use Rattle.server.specs.declared.Operation.the-variants.{Nothing, Putting, Getting, Sending, Gathering as GatheringOp, Connecting, Draining}
+use Rattle.server.specs.declared.Operation.the-variants.{Nothing, Trailing, Putting, Getting, Sending, Gathering as GatheringOp, Connecting, Draining}
 use Rattle.server.specs.declared.Await.the-variants as await
 use Rattle.server.specs.declared.Engine.{Engine}
 use Rattle.server.specs.declared.Outcome.the-variants as outcome
@@ -57,14 +57,15 @@ packet-call e s srm wait w m h =
 -- ---- body bytes
 
 -- nothing is sent
-pub body-other : (o : Operation) (e : Engine) (d : List ℕ) (s : Stores) → OneOf (0 ∷ 1 ∷ 2 ∷ 4 ∷ 5 ∷ 6 ∷ []) (tagOf the-type o) → refuse refusal.WrongMoment e s ≡ bodyFor o e d s
+pub body-other : (o : Operation) (e : Engine) (d : List ℕ) (s : Stores) → OneOf (0 ∷ 1 ∷ 2 ∷ 3 ∷ 5 ∷ 6 ∷ 7 ∷ []) (tagOf the-type o) → refuse refusal.WrongMoment e s ≡ bodyFor o e d s
 body-other Nothing e d s k = refl
+body-other Trailing e d s k = refl
 body-other (Putting g srm) e d s k = refl
 body-other (Getting g srm confirm wait) e d s k = refl
 body-other (GatheringOp o g) e d s k = refl
 body-other (Connecting code f n) e d s k = refl
 body-other (Draining code) e d s k = refl
-body-other (Sending o c srm wait) e d s k = absurd (miss (0 ∷ 1 ∷ 2 ∷ 4 ∷ 5 ∷ 6 ∷ []) 3 tt k)
+body-other (Sending o c srm wait) e d s k = absurd (miss (0 ∷ 1 ∷ 2 ∷ 3 ∷ 5 ∷ 6 ∷ 7 ∷ []) 4 tt k)
 
 module _ (p : Operation) (o : Outgoing) (c : Chunk) (srm wait : Bool) (is : p ≡ Sending o c srm wait) where
   pub sending-bounds : (limit : ℕ) → soundOperation limit p ≡ true → OutgoingFits o c
@@ -84,15 +85,16 @@ module _ (p : Operation) (o : Outgoing) (c : Chunk) (srm wait : Bool) (is : p �
 pub store-front : (hs y : List ℕ) → length hs ≤ length y → paste y 0 hs (length hs) ≡ front hs y
 store-front hs y h = front-paste [] y hs (omega arith)
 
-pub object-other : (o : Operation) (e : Engine) (hs : List ℕ) (has : Bool) (s : Stores) → OneOf (0 ∷ 1 ∷ 3 ∷ 4 ∷ 5 ∷ 6 ∷ []) (tagOf the-type o)
+pub object-other : (o : Operation) (e : Engine) (hs : List ℕ) (has : Bool) (s : Stores) → OneOf (0 ∷ 1 ∷ 2 ∷ 4 ∷ 5 ∷ 6 ∷ 7 ∷ []) (tagOf the-type o)
     → refuse refusal.WrongMoment e s ≡ objectFor o e hs has s
 object-other Nothing e hs has s k = refl
+object-other Trailing e hs has s k = refl
 object-other (Putting g srm) e hs has s k = refl
 object-other (Sending o c srm wait) e hs has s k = refl
 object-other (GatheringOp o g) e hs has s k = refl
 object-other (Connecting code f n) e hs has s k = refl
 object-other (Draining code) e hs has s k = refl
-object-other (Getting g srm confirm wait) e hs has s k = absurd (miss (0 ∷ 1 ∷ 3 ∷ 4 ∷ 5 ∷ 6 ∷ []) 2 tt k)
+object-other (Getting g srm confirm wait) e hs has s k = absurd (miss (0 ∷ 1 ∷ 2 ∷ 4 ∷ 5 ∷ 6 ∷ 7 ∷ []) 3 tt k)
 
 -- good header bytes are not too long
 pub good-length : (hs : List ℕ) (t : Bool) → t ≡ badHeaders hs → t ≡ false → length hs ≤ 65535

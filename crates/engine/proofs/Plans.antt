@@ -12,7 +12,7 @@ use Rattle.incoming.specs.declared.survey.Survey.{Survey}
 use Rattle.model.specs.Step.{Stores, Done, withGathered, wants, asks, ends, replies, continues}
 use Rattle.model.specs.Connect.{repliesFields}
 use Rattle.model.specs.Operation.{putContinues, putGathered, getContinues, getGathered, headersGathered}
-use Rattle.engine.specs.Step.{planned, wantsPlan, asksPlan, endsPlan, codePlan, fieldsPlan, continuePlan}
+use Rattle.engine.specs.Step.{planned, wantsPlan, asksPlan, endsPlan, codePlan, codeKeepingPlan, continuePlan, fieldsPlan}
 use Rattle.engine.specs.Operation.{putContinuePlan, putPlan, getContinuePlan, getPlan, headersPlan}
 use Rattle.server.specs.declared.Operation.{Operation}
 use Rattle.server.specs.declared.Operation.the-variants.{Nothing, Putting, Getting, Gathering as GatheringOp}
@@ -48,6 +48,10 @@ pub fields-planned : (e : Engine) (p : Peer) (code : ℕ) (s : Stores) → Carri
 unfolding fieldsPlan packetBytes
 fields-planned e p code s = record { is = refl }
 
+pub code-keeping-planned : (e : Engine) (o : Operation) (b : ℕ) (s : Stores) → Carries (codeKeepingPlan e o b) s (replies e (e .peer) o await.Taken (packetBytes b [] []) s)
+unfolding codeKeepingPlan packetBytes
+code-keeping-planned e o b s = record { is = refl }
+
 pub continue-planned : (e : Engine) (o : Operation) (grant : Bool) (s : Stores) → Carries (continuePlan e o grant) s (continues e o grant s)
 unfolding continuePlan packetBytes
 continue-planned e o true s = record { is = refl }
@@ -79,7 +83,7 @@ put-planned e r v srm confirm g s =
 
     go : (srm : Bool) → Carries (putContinuePlan e (g .got) srm confirm (v .additional)) t (putContinues e (g .got) srm confirm (v .additional) t)
     go true = pick-planned (v .additional) (continue-planned e (Putting (g .got) true) false t) (wants-planned e (e .peer) (Putting (g .got) true) t)
-    go false = pick-planned (g .got .over) (code-planned e (e .peer) await.Taken 0xCD t) (continue-planned e (Putting (g .got) confirm) confirm t)
+    go false = pick-planned (g .got .over) (code-keeping-planned e _ 0xCD t) (continue-planned e (Putting (g .got) confirm) confirm t)
 
 pub get-planned : (e : Engine) (r : Packet) (v : Survey) (srm confirm : Bool) (g : Gathering) (s : Stores)
     → Carries (getPlan e (g .got) (r .final) (v .wait) srm confirm) (withGathered s g) (getGathered e r v srm confirm g s)

@@ -27,7 +27,7 @@ use Rattle.model.specs.Dispatch.{rejection, busy}
 use Rattle.engine.specs.Dispatch.{headingOf, admissionOf, drainedBy, rejectedRoute, dispatchRoute, admittedRoute, openRoute, insideRoute, headingRoute, routeAs, packetRoute}
 use Rattle.engine.specs.Operation.{fromOf}
 use Rattle.server.specs.declared.Operation.{Operation}
-use Rattle.server.specs.declared.Operation.the-variants.{Nothing, Putting, Getting, Sending, Gathering as GatheringOp, Connecting, Draining}
+use Rattle.server.specs.declared.Operation.the-variants.{Nothing, Trailing, Putting, Getting, Sending, Gathering as GatheringOp, Connecting, Draining}
 use Rattle.server.specs.declared.Engine.{Engine}
 use Rattle.engine.specs.declared.dispatch.Route.{Route}
 use Rattle.engine.specs.declared.dispatch.Route.the-variants.{Plain, Connect, Gather, Send}
@@ -73,14 +73,14 @@ module _ (e : Engine) (q : List ℕ) (hs : List Header) where
   ready-pick true x y a b = a refl
   ready-pick false x y a b = b
 
-module _ (e : Engine) (q : List ℕ) (r : Packet) (known : Bool) where
-  rejected-ready : (code : ℕ) → Ready (rejectedRoute e (headingOf r known) code) e q (r .headers)
-  rejected-ready code = ready-pick e q (r .headers) (drainedBy e (headingOf r known)) _ _ (λ _. tt) tt
+module _ (e : Engine) (q : List ℕ) (r : Packet) (known trails : Bool) where
+  rejected-ready : (code : ℕ) → Ready (rejectedRoute e (headingOf r known trails) code) e q (r .headers)
+  rejected-ready code = ready-pick e q (r .headers) (drainedBy e (headingOf r known trails)) _ _ (λ _. tt) tt
 
   fresh : soundGathered (limitOf e) nothingGathered ≡ true
   fresh = le-leb 0 (limitOf e) (omega arith)
 
-  dispatch-ready : (o : Opcode) → readHeaders q (prefixOf o) ≡ some (r .headers) → Ready (dispatchRoute o e (headingOf r known)) e q (r .headers)
+  dispatch-ready : (o : Opcode) → readHeaders q (prefixOf o) ≡ some (r .headers) → Ready (dispatchRoute o e (headingOf r known trails)) e q (r .headers)
   dispatch-ready op.Connect k = k
   dispatch-ready op.Abort k = tt
   dispatch-ready op.Disconnect k = tt
@@ -96,18 +96,20 @@ module _ (e : Engine) (q : List ℕ) (r : Packet) (known : Bool) where
     from-open : (o : Opcode) → sameOpcode (r .opcode) o ≡ true → readHeaders q (prefixOf o) ≡ some (r .headers)
     from-open o h = subst (λ (x : Opcode). readHeaders q (prefixOf x) ≡ some (r .headers)) (same-equal (r .opcode) o h) k
 
-    admitted-ready : (x : Admission) → Ready (admittedRoute x e (headingOf r known)) e q (r .headers)
+    admitted-ready : (x : Admission) → Ready (admittedRoute x e (headingOf r known trails)) e q (r .headers)
     admitted-ready Admits = dispatch-ready (r .opcode) k
     admitted-ready (Rejects code) = rejected-ready code
 
-    open-ready : Ready (openRoute e (headingOf r known)) e q (r .headers)
+    open-ready : Ready (openRoute e (headingOf r known trails)) e q (r .headers)
     unfolding openRoute
     open-ready =
         ready-pick e q (r .headers) (sameOpcode (r .opcode) op.Connect) _ _ (from-open op.Connect)
         (admitted-ready (admissionOf (rejection e (r .opcode) (surveyOf (some (r .headers))) known)))
 
-    inside-ready : (o : Operation) → soundOperation (limitOf e) o ≡ true → Ready (insideRoute o e (headingOf r known)) e q (r .headers)
+    inside-ready : (o : Operation) → soundOperation (limitOf e) o ≡ true → Ready (insideRoute o e (headingOf r known trails)) e q (r .headers)
     inside-ready Nothing s = open-ready
+    inside-ready Trailing s =
+        ready-pick e q (r .headers) trails _ _ (λ _. ready-pick e q (r .headers) (r .final) _ _ (λ _. tt) tt) open-ready
     inside-ready (Putting g srm) s = ready-pick e q (r .headers) (sameOpcode (r .opcode) op.Put) _ _ (λ h. (from-open op.Put h, s)) tt
     inside-ready (Getting g srm confirm wait) s = ready-pick e q (r .headers) (sameOpcode (r .opcode) op.Get) _ _ (λ h. (from-open op.Get h, s)) tt
     inside-ready (Sending o c srm wait) s = ready-pick e q (r .headers) (sameOpcode (r .opcode) op.Get) _ _ (λ h. (c, s)) tt
@@ -115,7 +117,7 @@ module _ (e : Engine) (q : List ℕ) (r : Packet) (known : Bool) where
     inside-ready (Connecting c f n) s = tt
     inside-ready (Draining code) s = ready-pick e q (r .headers) (r .final) _ _ (λ _. tt) tt
 
-    heading-ready : soundOperation (limitOf e) (e .operation) ≡ true → Ready (headingRoute e (headingOf r known)) e q (r .headers)
+    heading-ready : soundOperation (limitOf e) (e .operation) ≡ true → Ready (headingRoute e (headingOf r known trails)) e q (r .headers)
     unfolding headingRoute
     heading-ready s = ready-pick e q (r .headers) (sameOpcode (r .opcode) op.Abort) _ _ (λ _. tt) (inside-ready (e .operation) s)
 
@@ -125,4 +127,4 @@ ready e q t s = go (requestOf q) refl
   where
     go : (x : Option Packet) → requestOf q ≡ x → Ready (routeAs x e q t) e q (headersIn x)
     go none h = ready-pick e q (headersIn none) (busy (e .operation)) _ _ (λ _. tt) tt
-    go (some r) h = heading-ready e q r _ (parts q r h .headers) s
+    go (some r) h = heading-ready e q r _ _ (parts q r h .headers) s

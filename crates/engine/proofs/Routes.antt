@@ -1,5 +1,5 @@
 -- Acting on the way that a packet goes is the model's step. Assumes nothing.
-use mathlib.Core.Path.{_≡_, refl, ap, _∙_}
+use mathlib.Core.Path.{_≡_, refl, sym, ap, _∙_}
 use mathlib.Core.Bool.{Bool, true, false, _&&_, not}
 use mathlib.Core.List.{List, []}
 use mathlib.Core.Option.{Option, none, some}
@@ -30,12 +30,12 @@ use Rattle.model.specs.Step.{Stores, Done, engineWith, wants, asks, ends, repli
 use Rattle.model.specs.Request.{lastPacket, lastHeaders, clientResponse, userPlace}
 use Rattle.model.specs.Connect.{verifies, connectPacket}
 use Rattle.model.specs.Operation.{nothingGathered, gathers, putPacket, getPacket, headersPacket}
-use Rattle.model.specs.Dispatch.{Rejection, admits, rejects, rejection, knownIn, drains, rejected, dispatches, admittedAs, dispatch, interrupts, inside, busy, readAs, lengthOf, packetDone}
-use Rattle.engine.specs.Dispatch.{headingOf, askRoute, codeRoute, admissionOf, rejectedRoute, putRoute, getRoute, headersRoute, dispatchRoute, admittedRoute, openRoute, interruptsRoute, insideRoute, headingRoute, routeAs, packetRoute, simplePlan, acts}
+use Rattle.model.specs.Dispatch.{Rejection, admits, rejects, rejection, knownIn, drains, rejected, dispatches, admittedAs, dispatch, interrupts, trails, inside, busy, readAs, lengthOf, packetDone}
+use Rattle.engine.specs.Dispatch.{headingOf, askRoute, codeRoute, keepRoute, isTrailing, admissionOf, rejectedRoute, putRoute, getRoute, headersRoute, dispatchRoute, admittedRoute, openRoute, interruptsRoute, insideRoute, headingRoute, routeAs, packetRoute, simplePlan, acts}
 use Rattle.engine.specs.Operation.{keepOf, kindPlan, actsGathered}
 use Rattle.engine.specs.Connect.{answeredRead, answeredAs, verifiesPlan, carries, stopsBy, limitedPlan, connectPlan}
 use Rattle.server.specs.declared.Operation.{Operation}
-use Rattle.server.specs.declared.Operation.the-variants.{Nothing, Putting, Getting, Sending, Gathering as GatheringOp, Connecting, Draining}
+use Rattle.server.specs.declared.Operation.the-variants.{Nothing, Trailing, Putting, Getting, Sending, Gathering as GatheringOp, Connecting, Draining}
 use Rattle.server.specs.declared.Await.{Await}
 use Rattle.server.specs.declared.Await.the-variants as await
 use Rattle.server.specs.declared.End.{End}
@@ -48,7 +48,7 @@ use Rattle.engine.specs.declared.operation.GatherKind.{GatherKind}
 use Rattle.engine.specs.declared.operation.GatherKind.the-variants as kind
 use Rattle.engine.specs.declared.dispatch.Route.{Route}
 use Rattle.engine.specs.declared.dispatch.Route.the-variants.{Plain, Connect, Gather, Send}
-use Rattle.engine.proofs.Plans.{Carries, pick-planned, pick-planned-as, wants-planned, asks-planned, ends-planned, code-planned, fields-planned, put-planned, get-planned, headers-planned}
+use Rattle.engine.proofs.Plans.{Carries, pick-planned, wants-planned, asks-planned, ends-planned, code-planned, code-keeping-planned, put-planned, get-planned, headers-planned, pick-planned-as, fields-planned}
 
 -- acting on the way, with the packet, is this step
 pub record Acts (x : Route) (e : Engine) (q : List ℕ) (s : Stores) (d : Done) : Type 0 where
@@ -80,6 +80,11 @@ module _ (e : Engine) (q : List ℕ) (s : Stores) where
 
   code-acts : (code : ℕ) → Acts (codeRoute code) e q s (repliesCode e (e .peer) Nothing code s)
   code-acts code = byte-acts await.Taken (sentCode code)
+
+  keep-acts : (o : Operation) → e .operation ≡ o → (code : ℕ) → Acts (keepRoute code) e q s (repliesCode e (e .peer) o code s)
+  unfolding simplePlan
+  keep-acts o i code =
+      record { is = code-keeping-planned e (e .operation) (sentCode code) s .is ∙ ap (λ (u : Operation). repliesCode e (e .peer) u code s) i }
 
   interrupts-acts : Acts interruptsRoute e q s (interrupts e s)
   interrupts-acts = byte-acts await.Last (sentCode 0x40)
@@ -123,33 +128,33 @@ module _ (e : Engine) (s : Stores) where
 
 -- ---- a packet that can be read
 
-module _ (e : Engine) (r : Packet) (s : Stores) (open-id : Bool) (known : requestOf (lastPacket e s) ≡ some r) where
+module _ (e : Engine) (r : Packet) (s : Stores) (open-id trailed : Bool) (known : requestOf (lastPacket e s) ≡ some r) where
   -- the packet's headers are the request's
   known-acts : (k : GatherKind) (g : Gathered) (final asked srm confirm : Bool)
       → acts (Gather k g final asked srm confirm) e (lastPacket e s) s ≡ actsGathered e k final asked srm confirm (gathers e (keepOf k) (r .headers) g s) s
   known-acts k g final asked srm confirm =
       ap (λ (x : Option Packet). actsGathered e k final asked srm confirm (gathers e (keepOf k) (headersIn x) g s) s) known
 
-  put-acts : (g : Gathered) (srm confirm : Bool) → Acts (putRoute (headingOf r open-id) g srm confirm) e (lastPacket e s) s (putPacket e r (surveyOf (some (r .headers))) srm confirm g s)
+  put-acts : (g : Gathered) (srm confirm : Bool) → Acts (putRoute (headingOf r open-id trailed) g srm confirm) e (lastPacket e s) s (putPacket e r (surveyOf (some (r .headers))) srm confirm g s)
   unfolding putPacket kindPlan
   put-acts g srm confirm =
       record { is = known-acts kind.Put g _ _ srm confirm ∙ put-planned e r (surveyOf (some (r .headers))) srm confirm (gathers e keep.Put (r .headers) g s) s .is }
 
-  get-acts : (g : Gathered) (srm confirm : Bool) → Acts (getRoute (headingOf r open-id) g srm confirm) e (lastPacket e s) s (getPacket e r (surveyOf (some (r .headers))) srm confirm g s)
+  get-acts : (g : Gathered) (srm confirm : Bool) → Acts (getRoute (headingOf r open-id trailed) g srm confirm) e (lastPacket e s) s (getPacket e r (surveyOf (some (r .headers))) srm confirm g s)
   unfolding getPacket kindPlan
   get-acts g srm confirm =
       record { is = known-acts kind.Get g _ _ srm confirm ∙ get-planned e r (surveyOf (some (r .headers))) srm confirm (gathers e keep.Get (r .headers) g s) s .is }
 
-  headers-acts : (o : Opcode) (g : Gathered) → Acts (headersRoute (headingOf r open-id) o g) e (lastPacket e s) s (headersPacket e r o g s)
+  headers-acts : (o : Opcode) (g : Gathered) → Acts (headersRoute (headingOf r open-id trailed) o g) e (lastPacket e s) s (headersPacket e r o g s)
   unfolding headersPacket kindPlan
   headers-acts o g =
       record { is = known-acts (kind.Headers o) g (r .final) false false false ∙ headers-planned e r o (gathers e keep.All (r .headers) g s) s .is }
 
-  rejected-acts : (code : ℕ) → Acts (rejectedRoute e (headingOf r open-id) code) e (lastPacket e s) s (rejected e r code s)
+  rejected-acts : (code : ℕ) → Acts (rejectedRoute e (headingOf r open-id trailed) code) e (lastPacket e s) s (rejected e r code s)
   rejected-acts code =
       pick-acts (e .peer .«srm_enabled» && (drains (r .opcode) && not (r .final))) (drain-acts e (lastPacket e s) s code) (code-acts e (lastPacket e s) s code)
 
-  dispatches-acts : (o : Opcode) → Acts (dispatchRoute o e (headingOf r open-id)) e (lastPacket e s) s (dispatches o e r (surveyOf (some (r .headers))) s)
+  dispatches-acts : (o : Opcode) → Acts (dispatchRoute o e (headingOf r open-id trailed)) e (lastPacket e s) s (dispatches o e r (surveyOf (some (r .headers))) s)
   dispatches-acts op.Connect = connect-acts e s
   dispatches-acts op.Abort = ask-acts e (lastPacket e s) s await.Acknowledgement _
   dispatches-acts op.Disconnect = ask-acts e (lastPacket e s) s await.Disconnect _
@@ -160,26 +165,35 @@ module _ (e : Engine) (r : Packet) (s : Stores) (open-id : Bool) (known : reques
   dispatches-acts op.Session = headers-acts op.Session nothingGathered
   dispatches-acts (op.UserDefined x) = headers-acts (op.UserDefined x) nothingGathered
 
-  admitted-acts : (x : Rejection) → Acts (admittedRoute (admissionOf x) e (headingOf r open-id)) e (lastPacket e s) s (admittedAs x e r (surveyOf (some (r .headers))) s)
+  admitted-acts : (x : Rejection) → Acts (admittedRoute (admissionOf x) e (headingOf r open-id trailed)) e (lastPacket e s) s (admittedAs x e r (surveyOf (some (r .headers))) s)
   admitted-acts admits = dispatches-acts (r .opcode)
   admitted-acts (rejects code) = rejected-acts code
 
-  open-acts : Acts (openRoute e (headingOf r open-id)) e (lastPacket e s) s (dispatch e r (surveyOf (some (r .headers))) open-id s)
+  open-acts : Acts (openRoute e (headingOf r open-id trailed)) e (lastPacket e s) s (dispatch e r (surveyOf (some (r .headers))) open-id s)
   unfolding openRoute dispatch
   open-acts = pick-acts (sameOpcode (r .opcode) op.Connect) (connect-acts e s) (admitted-acts (rejection e (r .opcode) (surveyOf (some (r .headers))) open-id))
 
-  inside-acts : (o : Operation) → Acts (insideRoute o e (headingOf r open-id)) e (lastPacket e s) s (inside o e r (surveyOf (some (r .headers))) open-id s)
-  inside-acts Nothing = open-acts
-  inside-acts (Putting g srm) = pick-acts (sameOpcode (r .opcode) op.Put) (put-acts g srm false) (interrupts-acts e (lastPacket e s) s)
-  inside-acts (Getting g srm confirm wait) = pick-acts (sameOpcode (r .opcode) op.Get) (get-acts g srm confirm) (interrupts-acts e (lastPacket e s) s)
-  inside-acts (Sending o c srm wait) =
+  -- what trails a Put, up to a final packet
+  trailed-acts : e .operation ≡ Trailing → (t : Bool)
+      → Acts (pick t (codeRoute 0x4D) (keepRoute 0x4D)) e (lastPacket e s) s (repliesCode e (e .peer) (pick t Nothing Trailing) 0x4D s)
+  trailed-acts i true = code-acts e (lastPacket e s) s 0x4D
+  trailed-acts i false = keep-acts e (lastPacket e s) s Trailing i 0x4D
+
+  inside-acts : (o : Operation) → e .operation ≡ o → trailed ≡ (isTrailing o && trails r)
+      → Acts (insideRoute o e (headingOf r open-id trailed)) e (lastPacket e s) s (inside o e r (surveyOf (some (r .headers))) open-id s)
+  inside-acts Nothing i j = open-acts
+  inside-acts Trailing i j =
+      rw (sym j) (pick-acts trailed (trailed-acts i (r .final)) open-acts)
+  inside-acts (Putting g srm) i j = pick-acts (sameOpcode (r .opcode) op.Put) (put-acts g srm false) (interrupts-acts e (lastPacket e s) s)
+  inside-acts (Getting g srm confirm wait) i j = pick-acts (sameOpcode (r .opcode) op.Get) (get-acts g srm confirm) (interrupts-acts e (lastPacket e s) s)
+  inside-acts (Sending o c srm wait) i j =
       pick-acts (sameOpcode (r .opcode) op.Get)
       {x = Send o srm (surveyOf (some (r .headers)) .wait)}
       (record { is = refl })
       (interrupts-acts e (lastPacket e s) s)
-  inside-acts (GatheringOp o g) = pick-acts (sameOpcode (r .opcode) o) (headers-acts o g) (interrupts-acts e (lastPacket e s) s)
-  inside-acts (Connecting c f n) = interrupts-acts e (lastPacket e s) s
-  inside-acts (Draining code) = pick-acts (r .final) (code-acts e (lastPacket e s) s code) (drain-acts e (lastPacket e s) s code)
+  inside-acts (GatheringOp o g) i j = pick-acts (sameOpcode (r .opcode) o) (headers-acts o g) (interrupts-acts e (lastPacket e s) s)
+  inside-acts (Connecting c f n) i j = interrupts-acts e (lastPacket e s) s
+  inside-acts (Draining code) i j = pick-acts (r .final) (code-acts e (lastPacket e s) s code) (drain-acts e (lastPacket e s) s code)
 
 -- ---- any packet
 
@@ -189,11 +203,11 @@ module _ (e : Engine) (s : Stores) (t : List ℕ) where
   unfolding headingRoute
   heading-acts r h =
       pick-acts (sameOpcode (r .opcode) op.Abort) (ask-acts e (lastPacket e s) s await.Acknowledgement _)
-      (inside-acts e r s (knownIn e t (surveyOf (some (r .headers)))) h (e .operation))
+      (inside-acts e r s (knownIn e t (surveyOf (some (r .headers)))) (isTrailing (e .operation) && trails r) h (e .operation) refl refl)
 
   read-acts : (x : Option Packet) → requestOf (lastPacket e s) ≡ x
       → Acts (routeAs x e (lastPacket e s) t) e (lastPacket e s) s (readAs x e (lastPacket e s) s t)
-  read-acts none h = pick-acts (busy (e .operation)) (end-acts e (lastPacket e s) s end.Unreadable) (code-acts e (lastPacket e s) s _)
+  read-acts none h = pick-acts (busy (e .operation)) (end-acts e (lastPacket e s) s end.Unreadable) (keep-acts e (lastPacket e s) s (e .operation) refl _)
   read-acts (some r) h = heading-acts r h
 
 pub packet-acts : (e : Engine) (n : ℕ) (s : Stores) (t : List ℕ)

@@ -13,7 +13,7 @@ use Rattle.model.specs.Calls.{replyTakenStep}
 use Rattle.engine.specs.Step.{planned, Written, within, carried}
 use Rattle.engine.specs.Object.{PlanMade, planMade, objectPlan, goesTurn, turnOf, turnActs}
 use Rattle.server.specs.declared.Operation.{Operation}
-use Rattle.server.specs.declared.Operation.the-variants.{Nothing, Putting, Getting, Sending, Gathering as GatheringOp, Connecting, Draining}
+use Rattle.server.specs.declared.Operation.the-variants.{Nothing, Trailing, Putting, Getting, Sending, Gathering as GatheringOp, Connecting, Draining}
 use Rattle.server.specs.declared.CallKind.the-variants as kind
 use Rattle.server.specs.declared.End.the-variants as end
 use Rattle.server.specs.declared.Await.the-variants as await
@@ -38,6 +38,7 @@ ready-pick false x y a b = b
 goes-ready : (limit : ℕ) (o : Operation) → soundOperation limit o ≡ true → TurnReady (goesTurn o)
 goes-ready limit (Sending o c srm wait) s = ready-pick (srm && not wait) _ _ (outgoing-within o c s .total) tt
 goes-ready limit Nothing s = tt
+goes-ready limit Trailing s = tt
 goes-ready limit (Putting g srm) s = tt
 goes-ready limit (Getting g srm confirm wait) s = tt
 goes-ready limit (GatheringOp o g) s = tt
@@ -55,6 +56,7 @@ module _ (e : Engine) (s : Stores) where
   goes-acts : (o : Operation) → turnActs (goesTurn o) e s ≡ goesOn o e s
   goes-acts (Sending o c srm wait) = acts-pick (srm && not wait) (Send o srm wait) Wait
   goes-acts Nothing = refl
+  goes-acts Trailing = refl
   goes-acts (Putting g srm) = refl
   goes-acts (Getting g srm confirm wait) = refl
   goes-acts (GatheringOp o g) = refl

@@ -30,7 +30,7 @@ use Rattle.model.specs.Guard.{longUser, sameAwait}
 use Rattle.engine.specs.Step.{asksPlan, fieldsPlan, Written, written, tookBy, repliesBy}
 use Rattle.engine.specs.Guard.{refusedWith}
 use Rattle.server.specs.declared.Operation.{Operation}
-use Rattle.server.specs.declared.Operation.the-variants.{Nothing, Putting, Getting, Sending, Gathering as GatheringOp, Connecting, Draining}
+use Rattle.server.specs.declared.Operation.the-variants.{Nothing, Trailing, Putting, Getting, Sending, Gathering as GatheringOp, Connecting, Draining}
 use Rattle.server.specs.declared.Await.the-variants as await
 use Rattle.server.specs.declared.Refusal.the-variants as refusal
 use Rattle.server.specs.declared.Engine.{Engine}
@@ -184,6 +184,7 @@ abbrev pub credentialsBy : Operation → Engine → Option Credentials → List 
 credentialsBy (Connecting code f n) e c q h y =
     pick (longUser c) (written (refusedWith refusal.BadAnswer e) y) (connectReplies e (e .peer) code (acceptedHeaders e f q (take n h) c) y)
 credentialsBy Nothing e c q h y = written (refusedWith refusal.WrongMoment e) y
+credentialsBy Trailing e c q h y = written (refusedWith refusal.WrongMoment e) y
 credentialsBy (Putting g srm) e c q h y = written (refusedWith refusal.WrongMoment e) y
 credentialsBy (Getting g srm confirm wait) e c q h y = written (refusedWith refusal.WrongMoment e) y
 credentialsBy (Sending o k srm wait) e c q h y = written (refusedWith refusal.WrongMoment e) y

@@ -1,14 +1,18 @@
 -- Which way a packet goes, decided without the stores, and what acting on it does: the design level between model/specs/Dispatch and the code.
 use Prim.Native.Nat.{ℕ}
 use mathlib.Core.List.{List}
-use mathlib.Core.Bool.{Bool, false, _&&_, not}
+use mathlib.Core.Bool.{Bool, true, false, _&&_, not}
 use mathlib.Core.Option.{Option, none, some}
 use lib.ListN.{getD}
 use Rattle.base.specs.Pick.{pick}
+use Rattle.packet.specs.HeaderIds as header-id
+use Rattle.packet.specs.ResponseCodes as response
 use Rattle.packet.specs.FirstByte.{firstByte, sameOpcode}
 use Rattle.packet.specs.Codes.{sentCode}
-use Rattle.packet.specs.Header.{first}
+use Rattle.packet.specs.Header.{first, firstPlace}
 use Rattle.packet.specs.Packet.{Request as Packet, requestOf, backup, noCreate}
+use Rattle.packet.specs.declared.tlv.Found.{Found}
+use Rattle.packet.specs.declared.tlv.Found.the-variants as place
 use Rattle.packet.specs.declared.opcode.Opcode.{Opcode}
 use Rattle.packet.specs.declared.opcode.Opcode.the-variants as op
 use Rattle.incoming.specs.Survey.{surveyOf}
@@ -18,10 +22,10 @@ use Rattle.journal.specs.Journal.{headersOf as headersIn}
 use Rattle.model.specs.Step.{Stores, Done, engineWith}
 use Rattle.model.specs.Operation.{nothingGathered, gathers}
 use Rattle.model.specs.Object.{sendsNext}
-use Rattle.model.specs.Dispatch.{Rejection, admits, rejects, rejection, knownIn, drains, confirms, unknownByte, busy}
-use Rattle.engine.specs.Step.{planned, wantsPlan, asksPlan, endsPlan, codePlan}
+use Rattle.model.specs.Dispatch.{Rejection, admits, rejects, rejection, knownIn, drains, confirms, trails, unknownByte, busy}
+use Rattle.engine.specs.Step.{planned, wantsPlan, asksPlan, endsPlan, codePlan, codeKeepingPlan}
 use Rattle.server.specs.declared.Operation.{Operation}
-use Rattle.server.specs.declared.Operation.the-variants.{Nothing, Putting, Getting, Sending, Gathering as GatheringOp, Connecting, Draining}
+use Rattle.server.specs.declared.Operation.the-variants.{Nothing, Trailing, Putting, Getting, Sending, Gathering as GatheringOp, Connecting, Draining}
 use Rattle.server.specs.declared.Await.{Await}
 use Rattle.server.specs.declared.Await.the-variants as await
 use Rattle.server.specs.declared.End.the-variants as end
@@ -43,8 +47,10 @@ use Rattle.server.specs.declared.Outcome.the-variants as outcome
 use Rattle.server.specs.declared.CallResult.{CallResult}
 use Rattle.engine.specs.declared.object.Turn.the-variants.{Send, End}
 
-abbrev pub headingOf : Packet → Bool → Heading
-headingOf r known =
+-- The parts of a request that decide its way; `known` says that it names an open ConnectionID, `trails` that it is refused with the Put that
+-- it trails.
+abbrev pub headingOf : Packet → Bool → Bool → Heading
+headingOf r known trails =
     record {
       survey = surveyOf (some (r .headers));
       opcode = r .opcode;
@@ -52,6 +58,7 @@ headingOf r known =
       «no_create» = noCreate (r .bytes);
       «is_final» = r .final;
       known = known;
+      trails = trails;
     }
 
 -- The engine asks the host.
@@ -61,6 +68,10 @@ askRoute a r = Plain (brief.Ask a r)
 -- The engine replies with a code alone.
 abbrev pub codeRoute : ℕ → Route
 codeRoute code = Plain (brief.Code await.Taken (sentCode code))
+
+-- The engine replies with a code alone, and what is open stays.
+abbrev pub keepRoute : ℕ → Route
+keepRoute code = Plain (brief.Keep (sentCode code))
 
 -- The engine turns a packet away if a password is required and not given. A Disconnect may not be refused.
 abbrev pub unauthorizedFor : Engine → Opcode → Bool
@@ -125,9 +136,39 @@ continuedRoute h o r = pick (sameOpcode (h .opcode) o) r interruptsRoute
 abbrev pub drainingRoute : Heading → ℕ → Route
 drainingRoute h code = pick (h .«is_final») (codeRoute code) (Plain (brief.Drain code))
 
+-- What trails a Put that was too long gets 0x4D, and a final packet is the last of it.
+abbrev pub trailedRoute : Bool → Route
+trailedRoute final = pick final (codeRoute response.requestedEntityTooLarge) (keepRoute response.requestedEntityTooLarge)
+
+-- While the engine refuses what trails a Put, any other packet goes its way as with nothing open.
+abbrev pub trailingRoute : Engine → Heading → Route
+trailingRoute e h = pick (h .trails) (trailedRoute (h .«is_final»)) (openRoute e h)
+
+-- The engine refuses what trails a Put that was too long.
+abbrev pub isTrailing : Operation → Bool
+isTrailing Trailing = true
+isTrailing Nothing = false
+isTrailing (Putting g srm) = false
+isTrailing (Getting g srm confirm wait) = false
+isTrailing (Sending o c srm wait) = false
+isTrailing (GatheringOp o g) = false
+isTrailing (Connecting c f n) = false
+isTrailing (Draining code) = false
+
+-- No place was found.
+abbrev pub isMissing : Found → Bool
+isMissing place.Missing = true
+isMissing (place.At from to) = false
+
+-- The engine refuses what trails a Put, and packet `q` of this opcode does: it is a Put packet, whose headers start at place 3, without a
+-- Name.
+abbrev pub trailedBy : Operation → Opcode → List ℕ → Bool
+trailedBy o c q = isTrailing o && (sameOpcode c op.Put && isMissing (firstPlace header-id.name q 3))
+
 -- The engine decides by the operation that is open.
 abbrev pub insideRoute : Operation → Engine → Heading → Route
 insideRoute Nothing e h = openRoute e h
+insideRoute Trailing e h = trailingRoute e h
 insideRoute (Putting g srm) e h = continuedRoute h op.Put (putRoute h g srm false)
 insideRoute (Getting g srm confirm wait) e h = continuedRoute h op.Get (getRoute h g srm confirm)
 insideRoute (Sending o c srm wait) e h = continuedRoute h op.Get (sendRoute h o srm)
@@ -141,14 +182,15 @@ headingRoute e h =
     pick (sameOpcode (h .opcode) op.Abort) (askRoute await.Acknowledgement (request.Abort (e .length)))
     (insideRoute (e .operation) e h)
 
--- An unreadable packet ends the engine inside an operation. Otherwise it gets 0x51 if its first byte is `unknown`, else 0x40.
+-- An unreadable packet ends the engine inside an operation. Otherwise it gets 0x51 if its first byte is `unknown`, else 0x40, and what is
+-- open stays.
 abbrev pub unreadableRoute : Operation → Bool → Route
-unreadableRoute o unknown = pick (busy o) (Plain (brief.End end.Unreadable)) (codeRoute (pick unknown 0x51 0x40))
+unreadableRoute o unknown = pick (busy o) (Plain (brief.End end.Unreadable)) (keepRoute (pick unknown 0x51 0x40))
 
 -- The engine decides by whether packet `q` reads as a request.
 abbrev pub routeAs : Option Packet → Engine → List ℕ → List ℕ → Route
 routeAs none e q t = unreadableRoute (e .operation) (unknownByte (firstByte (getD q 0 0)))
-routeAs (some r) e q t = headingRoute e (headingOf r (knownIn e t (surveyOf (some (r .headers)))))
+routeAs (some r) e q t = headingRoute e (headingOf r (knownIn e t (surveyOf (some (r .headers)))) (isTrailing (e .operation) && trails r))
 
 -- This is the way of a whole packet, if the open ids stand in the table store `t`.
 unfoldable pub packetRoute : Engine → List ℕ → List ℕ → Route
@@ -157,6 +199,7 @@ packetRoute e q t = routeAs (requestOf q) e q t
 unfoldable pub simplePlan : Engine → Simple → Plan
 simplePlan e (brief.Ask a r) = asksPlan e (e .peer) Nothing a r
 simplePlan e (brief.Code a b) = codePlan e (e .peer) a b
+simplePlan e (brief.Keep b) = codeKeepingPlan e (e .operation) b
 simplePlan e (brief.Drain code) = wantsPlan e (e .peer) (Draining code)
 simplePlan e (brief.End n) = endsPlan e (e .peer) n
 

@@ -10,7 +10,7 @@ use Rattle.outgoing.specs.declared.object.Next.the-variants as next
 use Rattle.model.specs.Step.{Stores, engineWith, Done, wants, ends}
 use Rattle.engine.specs.Step.{plan, asksPlan, codePlan, Written, carried}
 use Rattle.server.specs.declared.Operation.{Operation}
-use Rattle.server.specs.declared.Operation.the-variants.{Nothing, Sending, Putting, Getting, Gathering as GatheringOp, Connecting, Draining}
+use Rattle.server.specs.declared.Operation.the-variants.{Nothing, Trailing, Sending, Putting, Getting, Gathering as GatheringOp, Connecting, Draining}
 use Rattle.server.specs.declared.Await.the-variants as await
 use Rattle.server.specs.declared.End.the-variants as end
 use Rattle.server.specs.declared.Engine.{Engine}
@@ -64,6 +64,7 @@ followsTurn o srm wait = pick (srm && not wait) (Send o srm wait) Wait
 abbrev pub goesTurn : Operation → Turn
 goesTurn (Sending o c srm wait) = followsTurn o srm wait
 goesTurn Nothing = Wait
+goesTurn Trailing = Wait
 goesTurn (Putting g srm) = Wait
 goesTurn (Getting g srm confirm wait) = Wait
 goesTurn (GatheringOp o g) = Wait

@@ -5,14 +5,14 @@ use Rattle.base.specs.Pick.{pick}
 use Rattle.packet.specs.declared.opcode.Opcode.{Opcode}
 use Rattle.incoming.specs.declared.gather.Gathered.{Gathered}
 use Rattle.model.specs.Step.{Stores, Done, withGathered}
-use Rattle.model.specs.Operation.{headersRequest, putBody}
+use Rattle.model.specs.Operation.{headersRequest, overrun, putBody}
 use Rattle.server.specs.declared.Operation.the-variants.{Nothing, Putting, Getting, Gathering as GatheringOp}
 use Rattle.server.specs.declared.Await.the-variants as await
 use Rattle.server.specs.declared.End.the-variants as end
 use Rattle.server.specs.declared.Engine.{Engine}
 use Rattle.server.specs.declared.HostRequest.the-variants as request
 use Rattle.engine.specs.declared.step.Plan.{Plan}
-use Rattle.engine.specs.Step.{planned, wantsPlan, asksPlan, endsPlan, codePlan, continuePlan}
+use Rattle.engine.specs.Step.{planned, wantsPlan, asksPlan, endsPlan, codePlan, codeKeepingPlan, continuePlan}
 use Rattle.packet.specs.Header.{first}
 use Rattle.packet.specs.Packet.{prefixOf}
 use Rattle.incoming.specs.Gather.{Gathering}
@@ -26,7 +26,7 @@ abbrev pub putContinuePlan : Engine → Gathered → Bool → Bool → Bool → 
 putContinuePlan e g true confirm additional =
     pick additional (continuePlan e (Putting g true) false) (wantsPlan e (e .peer) (Putting g true))
 putContinuePlan e g false confirm additional =
-    pick (g .over) (codePlan e (e .peer) await.Taken 0xCD) (continuePlan e (Putting g confirm) confirm)
+    pick (g .over) (codeKeepingPlan e (overrun (e .settings)) 0xCD) (continuePlan e (Putting g confirm) confirm)
 
 -- After the final packet of a Put the host gets the record, unless its body is past the limit.
 abbrev pub putFinalPlan : Engine → Gathered → Plan

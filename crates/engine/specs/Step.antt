@@ -59,6 +59,10 @@ unfoldable pub fieldsPlan : Engine → Peer → ℕ → Plan
 fieldsPlan e p code =
     plan (engineWith (e .settings) p Nothing await.Taken 0 (e .length)) (outcome.Reply 7) (Fields (sentCode code) (e .settings .«max_packet_length»))
 
+-- The engine replies with a first byte and no headers, and `o` is open afterwards.
+unfoldable pub codeKeepingPlan : Engine → Operation → ℕ → Plan
+codeKeepingPlan e o b = plan (engineWith (e .settings) (e .peer) o await.Taken 0 (e .length)) (outcome.Reply 3) (Byte b)
+
 abbrev pub continueLength : Bool → ℕ
 continueLength true = 5
 continueLength false = 3

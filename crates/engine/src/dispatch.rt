@@ -3,7 +3,7 @@
 ghost use mathlib.Core.Path.{_≡_};
 ghost use Prim.Native.Nat.{_≤_, ℕ};
 ghost use Rattle.model.specs.Dispatch.{rejection as rejectionOf, knownIn, drains as drainsOf, confirms as confirmsOf, busy as busyWith, unknownByte, lengthOf, packetDone};
-ghost use Rattle.engine.specs.Dispatch.{admissionOf, unauthorizedFor, codeRoute, askRoute, drainedBy, rejectedRoute, putRoute, getRoute, sendRoute, headersRoute, dispatchRoute, openRoute, interruptsRoute, continuedRoute, drainingRoute, insideRoute, headingRoute, unreadableRoute, simplePlan, packetRoute, acts, withTaken, moreTook};
+ghost use Rattle.engine.specs.Dispatch.{admissionOf, unauthorizedFor, codeRoute, keepRoute, askRoute, drainedBy, rejectedRoute, putRoute, getRoute, sendRoute, headersRoute, dispatchRoute, openRoute, interruptsRoute, continuedRoute, drainingRoute, trailedRoute, trailingRoute, trailedBy, insideRoute, headingRoute, unreadableRoute, simplePlan, packetRoute, acts, withTaken, moreTook};
 ghost use mathlib.Core.Bool.{true};
 ghost use mathlib.Core.List.{List};
 ghost use lib.ListN.{length};
@@ -20,6 +20,7 @@ use crate::step::Plan;
 use crate::step::asks;
 use crate::step::carry_out;
 use crate::step::code;
+use crate::step::code_keeping;
 use crate::step::ends;
 use crate::step::engine_with;
 use crate::step::wants;
@@ -28,6 +29,8 @@ use incoming::gather::Gathered;
 use incoming::survey::Survey;
 use incoming::survey::survey_headers;
 use outgoing::object::Outgoing;
+use packet::header::first_header;
+use packet::header_id::NAME;
 use packet::opcode::FirstByte;
 use packet::opcode::Opcode;
 use packet::opcode::from_byte;
@@ -36,6 +39,7 @@ use packet::packet::Head;
 use packet::packet::packet_head;
 use packet::packet::set_path_flags;
 use packet::response;
+use packet::tlv::Found;
 use server::Await;
 use server::CallResult;
 use server::End;
@@ -54,6 +58,8 @@ pub(crate) struct Heading {
     pub is_final: bool,
     // The packet names a ConnectionID, and it is open.
     pub known: bool,
+    // The engine refuses what trails a Put that was too long, and the packet does.
+    pub trails: bool,
 }
 
 // A step that needs no more of the packet than its heading.
@@ -62,6 +68,8 @@ pub(crate) enum Simple {
     Ask { awaits: Await, request: HostRequest },
     // The engine replies with a first byte and no headers, and no operation stays open.
     Code { awaits: Await, byte: u8 },
+    // The engine replies with a first byte and no headers, and what is open stays.
+    Keep { byte: u8 },
     // The engine reads on to the final packet of an operation that it has turned away, then replies with `code`.
     Drain { code: u8 },
     End(End),
@@ -141,6 +149,15 @@ fn reply_code(code: u8) -> Route
 {
     Route::Plain(Simple::Code {
         awaits: Await::Taken,
+        byte: response::to_byte(code),
+    })
+}
+
+// The way of a packet that gets `code` and leaves what is open.
+fn keep_code(code: u8) -> Route
+    ensures { λ r. ⌜ r ≡ keepRoute code ⌝ }
+{
+    Route::Plain(Simple::Keep {
         byte: response::to_byte(code),
     })
 }
@@ -328,6 +345,27 @@ fn draining(h: Heading, code: u8) -> Route
     Route::Plain(Simple::Drain { code })
 }
 
+// The way of a packet that trails a Put that was too long: it gets 0x4D as the Put did, and a final one is the last of them.
+fn trailed(is_final: bool) -> Route
+    ensures { λ r. ⌜ r ≡ trailedRoute «is_final» ⌝ }
+{
+    if is_final {
+        return reply_code(response::REQUESTED_ENTITY_TOO_LARGE);
+    }
+    keep_code(response::REQUESTED_ENTITY_TOO_LARGE)
+}
+
+// The way of a packet while the engine refuses what trails a Put that was too long (docs/PROTOCOL.md#trailing). A packet that does not
+// trail is judged as with nothing open.
+fn trailing(e: Engine, h: Heading) -> Route
+    ensures { λ r. ⌜ r ≡ trailingRoute e h ⌝ }
+{
+    if h.trails {
+        return trailed(h.is_final);
+    }
+    open_route(e, h)
+}
+
 // The way of a packet by what is open.
 fn inside(e: Engine, h: Heading) -> Route
     ensures { λ r. ⌜ r ≡ insideRoute (e .operation) e h ⌝ }
@@ -335,6 +373,7 @@ fn inside(e: Engine, h: Heading) -> Route
     let operation = e.operation;
     match operation {
         Operation::Nothing => open_route(e, h),
+        Operation::Trailing => trailing(e, h),
         Operation::Putting { gathered, srm } => next_request(
             h,
             Opcode::Put,
@@ -386,6 +425,7 @@ fn is_busy(operation: Operation) -> bool
 {
     match operation {
         Operation::Nothing => false,
+        Operation::Trailing => false,
         Operation::Putting {
             gathered: _,
             srm: _,
@@ -416,7 +456,7 @@ fn is_busy(operation: Operation) -> bool
 }
 
 // The way of a packet that cannot be read. Inside an operation the engine ends with `Unreadable`; otherwise it replies with 0x51 if the
-// first byte names no opcode, else with 0x40.
+// first byte names no opcode, else with 0x40, and refuses what trails a Put as before.
 pub(crate) fn unreadable(e: Engine, unknown: bool) -> Route
     ensures { λ r. ⌜ r ≡ unreadableRoute (e .operation) unknown ⌝ }
 {
@@ -425,9 +465,9 @@ pub(crate) fn unreadable(e: Engine, unknown: bool) -> Route
         return Route::Plain(Simple::End(End::Unreadable));
     }
     if unknown {
-        return reply_code(response::NOT_IMPLEMENTED);
+        return keep_code(response::NOT_IMPLEMENTED);
     }
-    reply_code(response::BAD_REQUEST)
+    keep_code(response::BAD_REQUEST)
 }
 
 // Whether the first byte names no opcode.
@@ -454,6 +494,24 @@ fn is_known(e: Engine, v: Survey, tables: &[u64]) -> bool
     false
 }
 
+// Whether the packet trails a Put that was too long, and the engine refuses what does: a Put packet without a Name. Only such a packet is
+// read for its Name.
+fn is_trailed(e: Engine, opcode: Opcode, p: &[u8]) -> bool
+    ensures { λ r. ⌜ r ≡ trailedBy (e .operation) opcode (now (p .entry)) ⌝ }
+{
+    let operation = e.operation;
+    let Operation::Trailing = operation else {
+        return false;
+    };
+    if same(opcode, Opcode::Put) {
+        let Found::At { start: _, end: _ } = first_header(p, 3, NAME) else {
+            return true;
+        };
+        return false;
+    }
+    false
+}
+
 // Reads a whole packet, in one pass over its headers, and returns its way.
 pub(crate) fn route_packet(e: Engine, p: &[u8], tables: &[u64]) -> Route
     requires { ⌜ (1 ≤ length (now p)) × (e .peer .count ≤ 64) × (64 ≤ length (now tables)) ⌝ }
@@ -473,6 +531,7 @@ pub(crate) fn route_packet(e: Engine, p: &[u8], tables: &[u64]) -> Route
     }
     let flags = set_path_flags(p);
     let known = is_known(e, survey, tables);
+    let trails = is_trailed(e, opcode, p);
     heading_route(
         e,
         Heading {
@@ -482,6 +541,7 @@ pub(crate) fn route_packet(e: Engine, p: &[u8], tables: &[u64]) -> Route
             no_create: flags.no_create,
             is_final,
             known,
+            trails,
         },
     )
 }
@@ -493,6 +553,10 @@ pub(crate) fn simple_plan(e: Engine, brief: Simple) -> Plan
     match brief {
         Simple::Ask { awaits, request } => asks(e, e.peer, Operation::Nothing, awaits, request),
         Simple::Code { awaits, byte } => code(e, e.peer, awaits, byte),
+        Simple::Keep { byte } => {
+            let operation = e.operation;
+            code_keeping(e, operation, byte)
+        }
         Simple::Drain { code } => wants(e, e.peer, Operation::Draining { code }),
         Simple::End(end) => ends(e, e.peer, end),
     }

@@ -153,6 +153,7 @@ fn sound_operation(limit: u32, operation: Operation) -> bool
 {
     match operation {
         Operation::Nothing => true,
+        Operation::Trailing => true,
         Operation::Putting { gathered, srm: _ } => sound_gathered(limit, gathered),
         Operation::Getting {
             gathered,

@@ -176,6 +176,7 @@ fn goes_on(operation: Operation) -> Turn
             wait,
         } => follows(outgoing, srm, wait),
         Operation::Nothing => Turn::Wait,
+        Operation::Trailing => Turn::Wait,
         Operation::Putting {
             gathered: _,
             srm: _,

@@ -2,7 +2,7 @@
 // `handle_get`, `handle_headers_only`).
 ghost use mathlib.Core.Path.{_≡_};
 ghost use Prim.Native.Nat.{_≤_, ℕ};
-ghost use Rattle.model.specs.Operation.{nothingGathered, gathers, putBody, headersRequest};
+ghost use Rattle.model.specs.Operation.{nothingGathered, gathers, overrun as overrunOf, putBody, headersRequest};
 ghost use Rattle.engine.specs.Operation.{keepOf, kindPlan, fromOf, actsGathered, putContinuePlan, putFinalPlan, putPlan, getPlan, headersPlan};
 ghost use mathlib.Core.Bool.{true};
 ghost use mathlib.Core.Option.{some};
@@ -18,6 +18,7 @@ use crate::guard::wide;
 use crate::step::Plan;
 use crate::step::asks;
 use crate::step::code;
+use crate::step::code_keeping;
 use crate::step::continues;
 use crate::step::ends;
 use crate::step::wants;
@@ -33,6 +34,7 @@ use server::End;
 use server::Engine;
 use server::HostRequest;
 use server::Operation;
+use server::Settings;
 
 // The kinds of operations whose packets the engine gathers.
 pub(crate) enum GatherKind {
@@ -87,6 +89,16 @@ fn put_body(g: Gathered) -> Body
     }
 }
 
+// What is open once a Put was refused before its final packet: if the setting is on, the packets that trail it are refused with it.
+fn overrun(settings: Settings) -> Operation
+    ensures { λ r. ⌜ r ≡ overrunOf settings ⌝ }
+{
+    if settings.refuse_trailing {
+        return Operation::Trailing;
+    }
+    Operation::Nothing
+}
+
 // Goes on after a Put packet that is not final. Under Single Response Mode (SRM) the engine says Continue only if the client asks for it.
 // Without SRM the client waits for this response, so a body past the limit is refused right away.
 fn put_continues(e: Engine, g: Gathered, srm: bool, confirm: bool, additional: bool) -> Plan
@@ -103,7 +115,7 @@ fn put_continues(e: Engine, g: Gathered, srm: bool, confirm: bool, additional: b
         return wants(e, e.peer, operation);
     }
     if g.over {
-        return code(e, e.peer, Await::Taken, REQUESTED_ENTITY_TOO_LARGE_BYTE);
+        return code_keeping(e, overrun(e.settings), REQUESTED_ENTITY_TOO_LARGE_BYTE);
     }
     continues(
         e,

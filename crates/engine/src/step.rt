@@ -2,7 +2,7 @@
 ghost use mathlib.Core.List.{[]};
 ghost use mathlib.Core.Path.{_≡_};
 ghost use Rattle.model.specs.Step.{engineWith};
-ghost use Rattle.engine.specs.Step.{wantsPlan, asksPlan, endsPlan, codePlan, fieldsPlan, continuePlan, smallBytes, tookBy, written, carried, sentPlan, repliesBy};
+ghost use Rattle.engine.specs.Step.{wantsPlan, asksPlan, endsPlan, codePlan, codeKeepingPlan, continuePlan, smallBytes, tookBy, written, carried, sentPlan, repliesBy, fieldsPlan};
 ghost use lib.Dec.{eqb};
 ghost use Rattle.base.specs.Pick.{pick};
 ghost use Rattle.connection.specs.Peer.{freshPeer};
@@ -176,6 +176,18 @@ pub(crate) fn fields(e: Engine, peer: Peer, code: u8) -> Plan
             byte: to_byte(code),
             limit: e.settings.max_packet_length,
         },
+    }
+}
+
+// The engine replies with a first byte and no headers, and `operation` is open afterwards.
+pub(crate) fn code_keeping(e: Engine, operation: Operation, byte: u8) -> Plan
+    ensures { λ r. ⌜ r ≡ codeKeepingPlan e operation byte ⌝ }
+{
+    let small = ShortReply::Byte(byte);
+    Plan {
+        engine: engine_with(e.settings, e.peer, operation, Await::Taken, 0, e.length),
+        outcome: Outcome::Reply { length: 3 },
+        small,
     }
 }
 

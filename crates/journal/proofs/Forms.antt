@@ -1,7 +1,7 @@
 -- The journal's records are those of the Put forms among the packets that it reads. No engine is in it. Assumes nothing.
 use mathlib.Core.Path.{_≡_, refl, sym, ap, ap₂, _∙_, subst}
 use mathlib.Core.List.{List, [], _∷_, _++_, map}
-use mathlib.Core.Bool.{Bool, true, false, _&&_, _||_, not, false≢true}
+use mathlib.Core.Bool.{Bool, true, false, _&&_, _||_, not, and-false, false≢true}
 use mathlib.Core.Option.{Option, none, some}
 use Prim.Native.Nat.{ℕ, _+_, _≤_}
 use native.Mathlib.Omega.{arith}
@@ -16,9 +16,9 @@ use Rattle.packet.specs.declared.opcode.Opcode.{Opcode}
 use Rattle.packet.specs.declared.opcode.Opcode.the-variants.{Connect, Disconnect, Put, Get, SetPath, Action, Session, Abort, UserDefined}
 use Rattle.journal.specs.Record.{Record, bare, joined, sizeOf, carriedBy, keptByGet}
 use Rattle.journal.specs.Calls.{Call, bytesOffered, streamEnded, replyTaken, replyGiven, objectGiven, bodyGiven, bodyFailed, abortAcknowledged, passwordGiven, nonceGiven, credentialsGiven, Verdict, goes, refused, Fed}
+use Rattle.journal.specs.Journal.{Opened, nothing, trailing, putting, getting, sending, gathering, draining, busy, Journal, fresh, Entry, unchanged, begin, after, opens, stands, end, admitted, asksSrm, overrun, trails, putRead, gatherRead, turnedAway, dropped, firstRead, stopped, requestRead, packetRead, journalPacket, Read, more, whole, short, readUp, bytesRead, replyTo, replyLast, replied, objectSent, takenAt, passwordChecked, challenged, passes, journalCall, journalFed, journalStep, journalRecords, Marked, readIn, callReads, fedReads, packets, isStopped, withCheck, connectRead}
+use Rattle.journal.specs.PutForm.{readablePut, isFinal, carriedIn, admits, isTrailing, trailsRequest, isTrailed, Form, Apart}
 use Rattle.journal.specs.Checks.{stop}
-use Rattle.journal.specs.Journal.{Opened, nothing, putting, getting, sending, gathering, draining, busy, Journal, fresh, Entry, unchanged, begin, after, opens, stands, end, admitted, asksSrm, isStopped, withCheck, connectRead, putRead, gatherRead, turnedAway, dropped, firstRead, stopped, requestRead, packetRead, journalPacket, Read, more, whole, short, readUp, bytesRead, replyTo, replyLast, replied, objectSent, takenAt, passwordChecked, challenged, passes, journalCall, journalFed, journalStep, journalRecords, Marked, readIn, callReads, fedReads, packets}
-use Rattle.journal.specs.PutForm.{readablePut, isFinal, carriedIn, admits, Form, Apart}
 use Rattle.journal.specs.Claim.{PutForms}
 use Rattle.journal.proofs.Scan.{run, forms, past, forms-sound, forms-complete}
 
@@ -64,6 +64,7 @@ ended-packets (f ∷ fs) j e =
 -- what an open Put carries; none where no Put is open
 abbrev carrying : Opened → Option Record
 carrying nothing = none
+carrying trailing = none
 carrying (putting c s) = some c
 carrying (getting k) = none
 carrying sending = none
@@ -161,23 +162,23 @@ module _ (j : Journal) (fs : List Fed) (h : j .ended ≡ false) (ih : (d : Journ
     opens-or r x y a b = either-way (admitted (j .settings) (j .standing) r) x y a b
 
     -- a Connect, stopped or not, opens nothing
-    connects : (r : Request) → Goal at (connectRead (opens j nothing) r) []
-    connects r =
+    connects : (u : Opened) (r : Request) → Goal at (connectRead (opens j u) r) []
+    connects u r =
         sooner (omega arith)
         (ih (after (stands j (pick (isStopped (j .settings) (j .standing) r) (withCheck (j .standing) stop) (j .standing))) (some r) nothing) h (i + 1) 0 (i + 1) (omega arith))
 
-    -- no Put, with nothing open
-    first-other : (o : Opcode) (r : Request) → sameOpcode o Put ≡ false → Goal at (firstRead o (opens j nothing) r) []
+    -- no Put, with no operation open
+    first-other : (u : Opened) (o : Opcode) (r : Request) → sameOpcode o Put ≡ false → Goal at (firstRead o (opens j u) r) []
     unfolding firstRead
-    first-other Connect r e = connects r
-    first-other Disconnect r e = drops r
-    first-other Put r e = absurd (false≢true (sym e ∙ put-put))
-    first-other Get r e = opens-or r _ _ (calm (some r) (getting (keptByGet (r .headers))) refl) (turns-away r)
-    first-other SetPath r e = drops r
-    first-other Action r e = opens-or r _ _ (gathers r Action (allBytes (r .headers))) (drops r)
-    first-other Session r e = opens-or r _ _ (gathers r Session (allBytes (r .headers))) (drops r)
-    first-other Abort r e = drops r
-    first-other (UserDefined x) r e = opens-or r _ _ (gathers r (UserDefined x) (allBytes (r .headers))) (drops r)
+    first-other u Connect r e = connects u r
+    first-other u Disconnect r e = drops r
+    first-other u Put r e = absurd (false≢true (sym e ∙ put-put))
+    first-other u Get r e = opens-or r _ _ (calm (some r) (getting (keptByGet (r .headers))) refl) (turns-away r)
+    first-other u SetPath r e = drops r
+    first-other u Action r e = opens-or r _ _ (gathers r Action (allBytes (r .headers))) (drops r)
+    first-other u Session r e = opens-or r _ _ (gathers r Session (allBytes (r .headers))) (drops r)
+    first-other u Abort r e = drops r
+    first-other u (UserDefined x) r e = opens-or r _ _ (gathers r (UserDefined x) (allBytes (r .headers))) (drops r)
 
     -- any packet, inside an operation whose requests come to no form
     inside : (o : Opened) (q : Option Request) → busy o ≡ true → ((r : Request) → Goal at (requestRead o (opens j o) r) []) → Goal at (readAt o q j) []
@@ -215,36 +216,60 @@ module _ (j : Journal) (fs : List Fed) (h : j .ended ≡ false) (ih : (d : Journ
         go false true v f g s = simp (k, e, f, g) goes-on
         go false false true f g s = simp (k, e, f, g, s) goes-on
         go false false false f g s =
-            simp (k, e, f, g, s, past limit at (n + 1) total (packets (after j (some r) nothing) fs) (leb-false _ _ g)) (drops at (omega arith) r)
+            simp (k, e, f, g, s, past limit at (n + 1) total (packets (after j (some r) (overrun (j .settings))) fs) (leb-false _ _ g))
+            (calm at (omega arith) (some r) _ (carrying-pick (j .settings .refuses) _ _ refl refl))
 
   -- the forms before the next packet are that of an open Put, or begin at p
   abbrev Here : List ℕ → Opened → ℕ → ℕ → Bool → Entry → Type 0
   Here p o at n ended x =
       Told at (x .given ++ journalRecords (x .next) fs)
       (pending limit (carrying o) at n (record { before = j; bytes = p } ∷ packets (x .next) fs)
-      ++ (pick (not (busy o) && (not ended && admits j p)) (run limit i 0 bare (record { before = j; bytes = p } ∷ packets (x .next) fs)) []
+      ++ (pick (not (busy o) && (not ended && (admits j p && not (isTrailing o && trailsRequest (requestOf p))))) (run limit i 0 bare (record { before = j; bytes = p } ∷ packets (x .next) fs)) []
       ++ forms limit (i + 1) (packets (x .next) fs)))
 
   module _ (p : List ℕ) (at n : ℕ) (place : at + n ≡ i) where
     late : at ≤ i
     late = omega arith
 
-    -- by what is open
-    with-nothing : (q : Option Request) → requestOf p ≡ q → Here p nothing at n false (readAt nothing q j)
-    unfolding readablePut admits firstRead
-    with-nothing none k = simp k (calm at late none nothing refl)
-    with-nothing (some r) k = go (sameOpcode (r .opcode) Put) (admitted (j .settings) (j .standing) r) refl refl
-      where
-        other : sameOpcode (r .opcode) Put ≡ false → Goal at (readAt nothing (some r) j) []
-        other e = either-way at late (sameOpcode (r .opcode) Abort) _ _ (drops at late r) (first-other at late (r .opcode) r e)
+    -- a request with no operation open, u being `nothing` or `trailing`, that is judged as the first of an operation
+    abbrev Judged : Opened → Request → Type 0
+    Judged u r =
+        let x = pick (sameOpcode (r .opcode) Abort) (dropped j r) (firstRead (r .opcode) (opens j u) r) in
+        Told at (x .given ++ journalRecords (x .next) fs)
+        (pick (admits j p && true) (run limit i 0 bare (record { before = j; bytes = p } ∷ packets (x .next) fs)) []
+        ++ forms limit (i + 1) (packets (x .next) fs))
 
-        go : (t a : Bool) → sameOpcode (r .opcode) Put ≡ t → admitted (j .settings) (j .standing) r ≡ a → Here p nothing at n false (readAt nothing (some r) j)
+    judged : (u : Opened) (r : Request) → requestOf p ≡ some r → Judged u r
+    unfolding readablePut admits firstRead
+    judged u r k = go (sameOpcode (r .opcode) Put) (admitted (j .settings) (j .standing) r) refl refl
+      where
+        other : sameOpcode (r .opcode) Put ≡ false → Goal at (pick (sameOpcode (r .opcode) Abort) (dropped j r) (firstRead (r .opcode) (opens j u) r)) []
+        other e = either-way at late (sameOpcode (r .opcode) Abort) _ _ (drops at late r) (first-other at late u (r .opcode) r e)
+
+        go : (t a : Bool) → sameOpcode (r .opcode) Put ≡ t → admitted (j .settings) (j .standing) r ≡ a → Judged u r
         go false true e f = simp (k, e, f) (other e)
         go false false e f = simp (k, e, f) (other e)
         go true false e f = simp (k, f, is-put (r .opcode) e, put-abort) (turns-away at late r)
         go true true e f =
-            let w = follows i 0 (omega arith) p r k e nothing bare (j .standing .srm) (j .standing .srm || asksSrm (j .settings) (r .headers)) in
+            let w = follows i 0 (omega arith) p r k e u bare (j .standing .srm) (j .standing .srm || asksSrm (j .settings) (r .headers)) in
             simp (k, f, is-put (r .opcode) e, put-put, put-abort) (simp (k, is-put (r .opcode) e, put-put) at (sooner late w))
+
+    -- by what is open
+    with-nothing : (q : Option Request) → requestOf p ≡ q → Here p nothing at n false (readAt nothing q j)
+    unfolding admits
+    with-nothing none k = simp k (calm at late none nothing refl)
+    with-nothing (some r) k = judged nothing r k
+
+    with-trailing : (q : Option Request) → requestOf p ≡ q → Here p trailing at n false (readAt trailing q j)
+    unfolding admits
+    with-trailing none k = simp k (calm at late none trailing refl)
+    with-trailing (some r) k = go (trails r) (sameOpcode (r .opcode) Abort) refl refl
+      where
+        go : (t a : Bool) → trails r ≡ t → sameOpcode (r .opcode) Abort ≡ a → Here p trailing at n false (readAt trailing (some r) j)
+        go false a e f = simp (k, e) (simp k at (judged trailing r k))
+        go true true e f = simp (k, e, f, and-false (admitted (j .settings) (j .standing) r)) (drops at late r)
+        go true false e f =
+            simp (k, e, f, and-false (admitted (j .settings) (j .standing) r)) (calm at late (some r) _ (carrying-pick (r .final) _ _ refl refl))
 
     in-a-put : (c : Record) (s : Bool) (q : Option Request) → requestOf p ≡ q → Here p (putting c s) at n false (readAt (putting c s) q j)
     unfolding readablePut
@@ -258,6 +283,7 @@ module _ (j : Journal) (fs : List Fed) (h : j .ended ≡ false) (ih : (d : Journ
 
     packet-told : (o : Opened) → Here p o at n false (readAt o (requestOf p) j)
     packet-told nothing = with-nothing (requestOf p) refl
+    packet-told trailing = with-trailing (requestOf p) refl
     packet-told (putting c s) = in-a-put c s (requestOf p) refl
     packet-told (getting k) =
         inside at late (getting k) (requestOf p) refl
@@ -286,6 +312,7 @@ module _ (j : Journal) (fs : List Fed) (h : j .ended ≡ false) (ih : (d : Journ
   ends-told = stops fs (end j) (j .settings .limit) (j .opened) at n i refl
 
   read-told : (r : Read) → After (bytesRead j r) (readIn j r)
+  unfolding isTrailed
   read-told (more q) = ih (begin j q) h at n i place
   read-told short = ends-told
   read-told (whole p) =
@@ -316,6 +343,7 @@ module _ (j : Journal) (fs : List Fed) (h : j .ended ≡ false) (ih : (d : Journ
 
   reply-told : (o : Opened) → j .opened ≡ o → (code : ℕ) (hs : List ℕ) → After (unchanged (replied o j code hs)) []
   reply-told nothing e code hs = last-told (j .last) code hs
+  reply-told trailing e code hs = same-told
   reply-told (putting c s) e code hs = same-told
   reply-told (getting k) e code hs = moved-told (getting k) nothing e refl refl
   reply-told sending e code hs = same-told
@@ -324,6 +352,7 @@ module _ (j : Journal) (fs : List Fed) (h : j .ended ≡ false) (ih : (d : Journ
 
   sent-told : (o : Opened) → j .opened ≡ o → After (unchanged (objectSent o j)) []
   sent-told nothing e = same-told
+  sent-told trailing e = same-told
   sent-told (putting c s) e = same-told
   sent-told (getting k) e = moved-told (getting k) sending e refl refl
   sent-told sending e = same-told
@@ -332,6 +361,7 @@ module _ (j : Journal) (fs : List Fed) (h : j .ended ≡ false) (ih : (d : Journ
 
   taken-told : (o : Opened) → j .opened ≡ o → (b : ℕ) → After (unchanged (takenAt o j b)) []
   taken-told nothing e b = same-told
+  taken-told trailing e b = same-told
   taken-told (putting c s) e b = same-told
   taken-told (getting k) e b = same-told
   taken-told sending e b = go (eqb b 0x90)

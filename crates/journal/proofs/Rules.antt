@@ -19,7 +19,7 @@ use Rattle.journal.specs.Record.{Record, joined, carriedBy}
 use Rattle.journal.specs.Ids.{member, without, newId}
 use Rattle.journal.specs.Calls.{Call, bytesOffered, streamEnded, replyTaken, replyGiven, objectGiven, bodyGiven, bodyFailed, abortAcknowledged, passwordGiven, nonceGiven, credentialsGiven, Verdict, goes, refused, Fed}
 use Rattle.journal.specs.Checks.{Check, right, wrong, stop, tooMany, Ruled}
-use Rattle.journal.specs.Journal.{Settings, Standing, Opened, nothing, putting, getting, sending, gathering, draining, busy, Journal, Entry, unchanged, after, opens, stands, end, admitted, asksSrm, isStopped, withCheck, putRead, firstRead, requestRead, packetRead, journalPacket, Read, more, whole, short, readUp, bytesRead, openId, opensFor, connected, leaves, disconnected, replyTo, replyLast, replied, objectSent, takenAt, passwordChecked, passes, journalCall, journalFed, journalStep, listOf}
+use Rattle.journal.specs.Journal.{Settings, Standing, Opened, nothing, trailing, putting, getting, sending, gathering, draining, busy, Journal, Entry, unchanged, after, opens, stands, end, admitted, asksSrm, isStopped, withCheck, trails, putRead, firstRead, requestRead, packetRead, journalPacket, Read, more, whole, short, readUp, bytesRead, openId, opensFor, connected, leaves, disconnected, replyTo, replyLast, replied, objectSent, takenAt, passwordChecked, passes, journalCall, journalFed, journalStep, listOf}
 
 -- the checks after an entry
 abbrev checksIn : Entry → List Check
@@ -38,6 +38,7 @@ put-same j r s n c = either-same (r .final) _ _ (j .standing .checks) refl refl
 -- a packet inside an operation
 inside-same : (o : Opened) (j : Journal) (r : Request) → busy o ≡ true → checksIn (requestRead o j r) ≡ j .standing .checks
 inside-same nothing j r b = absurd (false≢true b)
+inside-same trailing j r b = absurd (false≢true b)
 inside-same (putting c s) j r b =
     either-same (sameOpcode (r .opcode) Put) _ _ (j .standing .checks) (put-same j r s s (joined c (carriedBy (r .headers)))) refl
 inside-same (getting k) j r b = either-same (sameOpcode (r .opcode) Get) _ _ (j .standing .checks) refl refl
@@ -90,6 +91,7 @@ reply-last-same (some r) j code hs = reply-to-same (r .opcode) j r code hs
 
 replied-same : (o : Opened) (j : Journal) (code : ℕ) (hs : List ℕ) → replied o j code hs .standing .checks ≡ j .standing .checks
 replied-same nothing j code hs = reply-last-same (j .last) j code hs
+replied-same trailing j code hs = refl
 replied-same (putting c s) j code hs = refl
 replied-same (getting k) j code hs = refl
 replied-same sending j code hs = refl
@@ -98,6 +100,7 @@ replied-same draining j code hs = refl
 
 sent-same : (o : Opened) (j : Journal) → objectSent o j .standing .checks ≡ j .standing .checks
 sent-same nothing j = refl
+sent-same trailing j = refl
 sent-same (putting c s) j = refl
 sent-same (getting k) j = refl
 sent-same sending j = refl
@@ -107,6 +110,7 @@ sent-same draining j = refl
 -- a reply that is taken leaves the standing
 pub taken-standing : (o : Opened) (j : Journal) (b : ℕ) → takenAt o j b .standing ≡ j .standing
 taken-standing nothing j b = refl
+taken-standing trailing j b = refl
 taken-standing (putting c s) j b = refl
 taken-standing (getting k) j b = refl
 taken-standing sending j b = go (eqb b 0x90)
@@ -158,6 +162,7 @@ module _ (j : Journal) (k : Ruled (j .standing .checks)) where
 
   request-kept : (o : Opened) (r : Request) → Kept (requestRead o j r)
   request-kept nothing r = first-kept (r .opcode) r
+  request-kept trailing r = either-kept (trails r) _ _ k (first-kept (r .opcode) r)
   request-kept (putting c s) r = same-kept _ (inside-same (putting c s) j r refl)
   request-kept (getting h) r = same-kept _ (inside-same (getting h) j r refl)
   request-kept sending r = same-kept _ (inside-same sending j r refl)
@@ -167,7 +172,7 @@ module _ (j : Journal) (k : Ruled (j .standing .checks)) where
   packet-kept : (q : Option Request) → Kept (packetRead q j)
   packet-kept none = go (busy (j .opened))
     where
-      go : (t : Bool) → Ruled (pick t (end j) (after j none nothing) .standing .checks)
+      go : (t : Bool) → Ruled (pick t (end j) (after j none (j .opened)) .standing .checks)
       go true = k
       go false = k
   packet-kept (some r) = either-kept (sameOpcode (r .opcode) Abort) _ _ k (request-kept (j .opened) r)

@@ -12,8 +12,8 @@ use lib.Dec.{leb, eqb}
 use borrow.Author.Tests.{leb-true, le-leb, lt-leb, eqb-true, eqb-false}
 use Rattle.base.specs.Pick.{pick}
 use Rattle.journal.specs.Record.{Record, bare, joined, sizeOf}
-use Rattle.journal.specs.Journal.{Opened, nothing, putting, getting, sending, gathering, draining, busy, Marked}
-use Rattle.journal.specs.PutForm.{readablePut, isFinal, carriedIn, admits, Starts, Puts, carried, OnePut, Form, runOf, IsForm, In, Apart}
+use Rattle.journal.specs.Journal.{busy, Marked}
+use Rattle.journal.specs.PutForm.{readablePut, isFinal, carriedIn, admits, isTrailed, Starts, Puts, carried, OnePut, Form, runOf, IsForm, In, Apart}
 use Rattle.journal.specs.Claim.{OneList}
 use Rattle.journal.proofs.Laws.{joined-bare, joined-assoc, size-joined}
 
@@ -35,7 +35,8 @@ run limit at n c (p ∷ ps) =
     []
 
 abbrev pub mayBegin : Marked → Bool
-mayBegin p = not (busy (p .before .opened)) && (not (p .before .ended) && admits (p .before) (p .bytes))
+mayBegin p =
+    not (busy (p .before .opened)) && (not (p .before .ended) && (admits (p .before) (p .bytes) && not (isTrailed (p .before) (p .bytes))))
 
 abbrev pub begins : ℕ → ℕ → Marked → List Marked → List Form
 begins limit i p ps = pick (mayBegin p) (run limit i 0 bare (p ∷ ps)) []
@@ -169,18 +170,15 @@ run-complete limit at n c (p ∷ ps) f (suc k) a b s w l g = go (take k ps) refl
 -- ---- all the forms
 
 -- the test says what `Starts` says of a first packet
-may-starts : (o : Opened) (e a : Bool) → not (busy o) && (not e && a) ≡ true → (o ≡ nothing) × (e ≡ false) × (a ≡ true)
-may-starts nothing false true w = (refl, refl, refl)
-may-starts nothing false false w = absurd (false≢true w)
-may-starts nothing true a w = absurd (false≢true w)
-may-starts (putting c s) e a w = absurd (false≢true w)
-may-starts (getting k) e a w = absurd (false≢true w)
-may-starts sending e a w = absurd (false≢true w)
-may-starts (gathering o k) e a w = absurd (false≢true w)
-may-starts draining e a w = absurd (false≢true w)
+may-starts : (b e a t : Bool) → not b && (not e && (a && not t)) ≡ true → (b ≡ false) × (e ≡ false) × (a ≡ true) × (t ≡ false)
+may-starts false false true false w = (refl, refl, refl, refl)
+may-starts false false true true w = absurd (false≢true w)
+may-starts false false false t w = absurd (false≢true w)
+may-starts false true a t w = absurd (false≢true w)
+may-starts true e a t w = absurd (false≢true w)
 
 starts-may : (p : Marked) → Starts (p ∷ []) → mayBegin p ≡ true
-starts-may p w = simp (w .0, w .1, w .2)
+starts-may p w = simp (w .0, w .1, w .2, w .3)
 
 begins-in : (f : Form) (t : Bool) (l : List Form) → In f (pick t l []) → (t ≡ true) × In f l
 begins-in f true l w = (refl, w)
@@ -206,7 +204,7 @@ forms-sound limit whole (p ∷ ps) i d f w =
     go (inr k) ih = ih k
     go (inl k) ih =
         let (b, m) = begins-in f (mayBegin p) (run limit i 0 bare (p ∷ ps)) k in
-        let s : Starts (p ∷ []) = may-starts (p .before .opened) (p .before .ended) (admits (p .before) (p .bytes)) b in
+        let s : Starts (p ∷ []) = may-starts (busy (p .before .opened)) (p .before .ended) (admits (p .before) (p .bytes)) (isTrailed (p .before) (p .bytes)) b in
         let r = run-sound limit i 0 bare (p ∷ ps) f m in
         let n : f .count ≡ r .more = omega (arith, r .count) in
         let runs : runOf whole f ≡ take (r .more) (p ∷ ps) = ap₂ (λ (x y : ℕ). take x (drop y whole)) n (r .first) ∙ ap (take (r .more)) d in

@@ -28,13 +28,16 @@ use Rattle.journal.specs.Checks.{Check, right, wrong, stop, tooMany}
 
 -- ---- what the journal keeps
 
--- What the host sets at the start: the Put limit, whether Single Response Mode (SRM) is supported, whether a password is required.
+-- What the host sets at the start: the Put limit, whether Single Response Mode (SRM) is supported, whether a password is required, and
+-- whether the packets that trail a Put that was too long are refused with it.
 pub record Settings : Type 0 where
   pub limit : ℕ
   pub srm : Bool
   pub authentication : Bool
   -- Whether a response must bring a user id.
   pub demandsUser : Bool
+  -- Whether what trails a Put that was too long is refused.
+  pub refuses : Bool
 
 -- What Connect and Disconnect change: whether the password was given, the nonce of the challenge that was sent, the open ids, the id
 -- counter, and the session's SRM; and the checks of passwords since the start, the latest first, which nothing clears.
@@ -46,10 +49,12 @@ pub record Standing : Type 0 where
   pub srm : Bool
   pub checks : List Check
 
--- What is open: nothing; a Put, with what it carried so far and its SRM; a Get, with its kept headers; a Get whose object is sent; an
--- Action, Session or user-defined operation, with its kept headers; or an operation that was turned away and is drained.
+-- What is open: nothing; nothing, while the packets that trail a Put that was too long are refused (the requirements call them its tail);
+-- a Put, with what it carried so far and its SRM; a Get, with its kept headers; a Get whose object is sent; an Action, Session or
+-- user-defined operation, with its kept headers; or an operation that was turned away and is drained.
 pub data Opened : Type 0 where
   nothing : Opened
+  trailing : Opened
   putting : Record → Bool → Opened
   getting : List ℕ → Opened
   sending : Opened
@@ -59,6 +64,7 @@ pub data Opened : Type 0 where
 -- An operation is open.
 abbrev pub busy : Opened → Bool
 busy nothing = false
+busy trailing = false
 busy (putting c s) = true
 busy (getting k) = true
 busy sending = true
@@ -149,7 +155,11 @@ isEnable (some v) = eqb (getD v 0 0) modes.enable
 unfoldable pub asksSrm : Settings → List Header → Bool
 asksSrm st hs = st .srm && isEnable (first header-id.singleResponseMode hs)
 
--- ---- packets (docs/PROTOCOL.md#put, #get, #headers-only, #drain, #unreadable, #other-operation)
+-- ---- packets (docs/PROTOCOL.md#put, #trailing, #get, #headers-only, #drain, #unreadable, #other-operation)
+
+-- What is open once a Put was refused before its last packet: if the setting is on, what trails it is refused from then on.
+abbrev pub overrun : Settings → Opened
+overrun st = pick (st .refuses) trailing nothing
 
 -- A Put packet is read, and `c` is what the Put carries up to here. A final packet closes the Put, with a record if the body is within the
 -- limit. Any other closes it if the body is past the limit, unless SRM is on: without SRM the client waits for the reply, so it is refused
@@ -158,7 +168,7 @@ unfoldable pub putRead : Journal → Request → Bool → Bool → Record → En
 putRead j r srm next c =
     pick (r .final)
     (record { next = after j (some r) nothing; given = pick (leb (sizeOf c) (j .settings .limit)) (c ∷ []) [] })
-    (unchanged (after j (some r) (pick (leb (sizeOf c) (j .settings .limit) || srm) (putting c next) nothing)))
+    (unchanged (after j (some r) (pick (leb (sizeOf c) (j .settings .limit) || srm) (putting c next) (overrun (j .settings)))))
 
 -- A packet of Action, Session or a user-defined operation is read.
 abbrev pub gatherRead : Journal → Request → Opcode → List ℕ → Entry
@@ -209,9 +219,16 @@ firstRead (UserDefined x) j r =
 abbrev pub stopped : Journal → Entry
 stopped j = unchanged (end j)
 
--- A packet that can be read, by what is open. A drain goes on under any opcode, up to a final packet.
+-- The request is a Put packet without a Name, so it may trail a Put that was too long.
+unfoldable pub trails : Request → Bool
+trails r = sameOpcode (r .opcode) Put && not (present (first header-id.name (r .headers)))
+
+-- A packet that can be read, by what is open. Packets that trail a Put are refused up to a final one, and any other is read as with nothing
+-- open. A drain goes on under any opcode, up to a final packet.
 abbrev pub requestRead : Opened → Journal → Request → Entry
 requestRead nothing j r = firstRead (r .opcode) j r
+requestRead trailing j r =
+    pick (trails r) (unchanged (after j (some r) (pick (r .final) nothing trailing))) (firstRead (r .opcode) j r)
 requestRead (putting c s) j r =
     pick (sameOpcode (r .opcode) Put) (putRead j r s s (joined c (carriedBy (r .headers)))) (stopped j)
 requestRead (getting k) j r =
@@ -221,9 +238,10 @@ requestRead (gathering o k) j r =
     pick (sameOpcode (r .opcode) o) (gatherRead j r o (k ++ allBytes (r .headers))) (stopped j)
 requestRead draining j r = unchanged (after j (some r) (pick (r .final) nothing draining))
 
--- A packet is read: one that is unreadable ends the journal if anything is open; Abort, final or not, closes what is open.
+-- A packet is read: one that is unreadable ends the journal if an operation is open, and else leaves what is open; Abort, final or not,
+-- closes what is open.
 abbrev pub packetRead : Option Request → Journal → Entry
-packetRead none j = unchanged (pick (busy (j .opened)) (end j) (after j none nothing))
+packetRead none j = unchanged (pick (busy (j .opened)) (end j) (after j none (j .opened)))
 packetRead (some r) j = pick (sameOpcode (r .opcode) Abort) (dropped j r) (requestRead (j .opened) j r)
 
 -- A whole packet has come.
@@ -320,6 +338,7 @@ replyLast (some r) j code hs = replyTo (r .opcode) j r code hs
 abbrev pub replied : Opened → Journal → ℕ → List ℕ → Journal
 replied nothing j code hs = replyLast (j .last) j code hs
 replied (getting k) j code hs = opens j nothing
+replied trailing j code hs = j
 replied (putting c s) j code hs = j
 replied sending j code hs = j
 replied (gathering o k) j code hs = j
@@ -329,6 +348,7 @@ replied draining j code hs = j
 abbrev pub objectSent : Opened → Journal → Journal
 objectSent (getting k) j = opens j sending
 objectSent nothing j = j
+objectSent trailing j = j
 objectSent (putting c s) j = j
 objectSent sending j = j
 objectSent (gathering o k) j = j
@@ -338,6 +358,7 @@ objectSent draining j = j
 abbrev pub takenAt : Opened → Journal → ℕ → Journal
 takenAt sending j b = pick (eqb b (sentCode response.continue)) j (opens j nothing)
 takenAt nothing j b = j
+takenAt trailing j b = j
 takenAt (putting c s) j b = j
 takenAt (getting k) j b = j
 takenAt (gathering o k) j b = j
@@ -452,6 +473,7 @@ packets j (f ∷ fs) = fedReads j (f .call) (f .verdict) ++ packets (journalStep
 -- The kept headers of an operation once a further packet of it was read.
 abbrev pub keptWith : Opened → Request → List ℕ
 keptWith nothing r = []
+keptWith trailing r = []
 keptWith (putting c s) r = pick (sameOpcode (r .opcode) Put) (c .headers ++ carriedBy (r .headers) .headers) []
 keptWith (getting k) r = pick (sameOpcode (r .opcode) Get) (k ++ keptByGet (r .headers)) []
 keptWith sending r = []

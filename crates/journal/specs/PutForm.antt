@@ -1,10 +1,10 @@
 -- The Put form, as the requirements call it (docs/PROTOCOL.md#put-form): which consecutive packets are one Put, and the record that they
--- stand for. It names packets, and of the journal only whether anything was open or all had ended before the first, and whether that one is
--- admitted. No engine is in it.
+-- stand for. It names packets, and of the journal only whether an operation was open or all had ended before the first, whether that one is
+-- admitted, and whether it trails a Put that was too long. No engine is in it.
 use Prim.Native.Nat.{ℕ, _+_, _≤_}
 use mathlib.Core.Path.{_≡_}
 use mathlib.Core.List.{List, [], _∷_, map}
-use mathlib.Core.Bool.{Bool, true, false}
+use mathlib.Core.Bool.{Bool, true, false, _&&_}
 use mathlib.Core.Option.{Option, none, some}
 use mathlib.Core.Logic.{_⊎_}
 use lib.ListN.{length, take, drop}
@@ -12,7 +12,7 @@ use Rattle.packet.specs.FirstByte.{sameOpcode}
 use Rattle.packet.specs.Packet.{Request, requestOf}
 use Rattle.packet.specs.declared.opcode.Opcode.the-variants.{Put}
 use Rattle.journal.specs.Record.{Record, bare, joined, sizeOf, carriedBy}
-use Rattle.journal.specs.Journal.{Journal, nothing, admitted, Marked}
+use Rattle.journal.specs.Journal.{Journal, Opened, nothing, trailing, putting, getting, sending, gathering, draining, busy, admitted, trails, Marked}
 
 -- ---- what a packet is to a Put
 
@@ -52,12 +52,32 @@ admittedRequest j (some r) = admitted (j .settings) (j .standing) r
 unfoldable pub admits : Journal → List ℕ → Bool
 admits j p = admittedRequest j (requestOf p)
 
+-- Packets that trail a Put that was too long are being refused.
+abbrev pub isTrailing : Opened → Bool
+isTrailing trailing = true
+isTrailing nothing = false
+isTrailing (putting c s) = false
+isTrailing (getting k) = false
+isTrailing sending = false
+isTrailing (gathering o k) = false
+isTrailing draining = false
+
+-- The request is a Put packet without a Name.
+abbrev pub trailsRequest : Option Request → Bool
+trailsRequest none = false
+trailsRequest (some r) = trails r
+
+-- The packet trails a Put that was too long, so it is refused with it (docs/PROTOCOL.md#trailing).
+unfoldable pub isTrailed : Journal → List ℕ → Bool
+isTrailed j p = isTrailing (j .opened) && trailsRequest (requestOf p)
+
 -- ---- one Put
 
--- The first packet is admitted, with nothing open and before the end.
+-- The first packet is admitted, with no operation open and before the end, and does not trail a Put that was too long.
 abbrev pub Starts : List Marked → Type 0
 Starts [] = ⊥
-Starts (p ∷ ps) = (p .before .opened ≡ nothing) × (p .before .ended ≡ false) × (admits (p .before) (p .bytes) ≡ true)
+Starts (p ∷ ps) =
+    (busy (p .before .opened) ≡ false) × (p .before .ended ≡ false) × (admits (p .before) (p .bytes) ≡ true) × (isTrailed (p .before) (p .bytes) ≡ false)
 
 -- All are readable Put packets, and only the last has the Final bit.
 abbrev pub Puts : List Marked → Type 0

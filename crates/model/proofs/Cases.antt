@@ -25,7 +25,7 @@ use Rattle.model.specs.Request.{lastPacket, lastHeaders, clientResponse,
 use Rattle.model.specs.Operation.{putPacket, getPacket, headersPacket}
 use Rattle.model.specs.Object.{sendsNext}
 use Rattle.model.specs.Connect.{connectPacket, connectSends, connectAnswer, passwordAnswer, nonceAnswer}
-use Rattle.model.specs.Dispatch.{rejection, dispatch, packetDone}
+use Rattle.model.specs.Dispatch.{rejection, dispatch, trails, packetDone}
 use Rattle.model.specs.Guard.{short, shortTables, longRealm, sound, badHeaders, badReply}
 use Rattle.model.specs.Calls.{bytesOfferedStep, streamEndedStep, replyTakenStep, replyAnswer, replyGivenStep, objectGivenStep, bodyGivenStep, bodyFailedStep, abortAcknowledgedStep, passwordGivenStep, nonceGivenStep, credentialsGivenStep, started, startStep}
 use Rattle.model.specs.Cases.{comesOf, evaluated, table}
@@ -41,7 +41,7 @@ unfolding upToZero codes allKept sizes whole units isPair first16 paired pieces1
     firstFree frameEnd framed surveyOf keepBytes storeBytes gatherOne gatherAll fill fillPacket fullChunk nextPacket bodyGiven
     sendBytes peerWith opened disconnectedPeer challenges answeredChallenge connectHeaders challengeHeader engineWith sends
     sendsConnect lastPacket lastHeaders putPacket getPacket headersPacket sendsNext clientResponse userPlace connectPacket
-    connectSends connectAnswer passwordAnswer nonceAnswer rejection dispatch packetDone short shortTables longRealm sound bytesOfferedStep streamEndedStep replyTakenStep
+    connectSends connectAnswer passwordAnswer nonceAnswer rejection dispatch trails packetDone short shortTables longRealm sound bytesOfferedStep streamEndedStep replyTakenStep
     badHeaders badReply replyAnswer replyGivenStep objectGivenStep bodyGivenStep bodyFailedStep abortAcknowledgedStep passwordGivenStep nonceGivenStep
     credentialsGivenStep started startStep comesOf evaluated
 cases = refl

@@ -14,8 +14,8 @@ use Rattle.packet.specs.Packet.{Request as Packet, requestOf, packetBytes}
 use Rattle.packet.specs.declared.opcode.Opcode.{Opcode}
 use Rattle.packet.specs.declared.opcode.Opcode.the-variants as op
 use Rattle.journal.specs.Record.{Record}
+use Rattle.journal.specs.Journal.{Opened, nothing, trailing, putting, getting, sending, gathering, draining, Journal, Entry, unchanged, opens, replyTo, replyLast, takenAt, headersOf as headersIn}
 use Rattle.journal.specs.Checks.{Check, tooMany}
-use Rattle.journal.specs.Journal.{Opened, nothing, putting, getting, sending, gathering, draining, Journal, Entry, unchanged, opens, replyTo, replyLast, takenAt, headersOf as headersIn}
 use Rattle.incoming.specs.Gather.{gathering as gatheringOf}
 use Rattle.incoming.specs.declared.gather.Gathered.{Gathered}
 use Rattle.connection.specs.Reply.{front}
@@ -25,7 +25,7 @@ use Rattle.model.specs.Runs.{handed}
 use Rattle.model.specs.Theorem.{settingsOf}
 use Rattle.server.specs.declared.Settings.{Settings}
 use Rattle.server.specs.declared.Operation.{Operation}
-use Rattle.server.specs.declared.Operation.the-variants.{Nothing, Putting, Getting, Sending, Gathering as GatheringOp, Connecting, Draining}
+use Rattle.server.specs.declared.Operation.the-variants.{Nothing, Trailing, Putting, Getting, Sending, Gathering as GatheringOp, Connecting, Draining}
 use Rattle.server.specs.declared.Await.{Await}
 use Rattle.server.specs.declared.Await.the-variants as await
 use Rattle.server.specs.declared.End.{End}
@@ -56,6 +56,7 @@ Plain o = (j : Journal) (r : Packet) (code : ℕ) (hs : List ℕ) → replyTo o 
 -- the operation, over the header and body stores, and what the journal has open
 abbrev pub OpenedAt : ℕ → Operation → List ℕ → List ℕ → Opened → Type 0
 OpenedAt limit Nothing h b x = x ≡ nothing
+OpenedAt limit Trailing h b x = x ≡ trailing
 OpenedAt limit (Putting g srm) h b x = PutOpen limit g srm h b x
 OpenedAt limit (Getting g srm confirm wait) h b x = KeptOpen limit g getting h b x
 OpenedAt limit (Sending o c srm wait) h b x = x ≡ sending
@@ -139,6 +140,7 @@ told-done ts e p o a c z j l w g = record { given = g; after = w }
 abbrev pub quiet : Operation → Bool
 quiet (Sending o c srm wait) = false
 quiet Nothing = true
+quiet Trailing = true
 quiet (Putting g srm) = true
 quiet (Getting g srm confirm wait) = true
 quiet (GatheringOp o g) = true
@@ -148,6 +150,7 @@ quiet (Draining c) = true
 taken-still : (limit : ℕ) (o : Operation) (h b : List ℕ) (x : Opened) (j : Journal) (y : ℕ) → quiet o ≡ true → OpenedAt limit o h b x
     → takenAt x j y ≡ j
 taken-still limit Nothing h b x j y q w = ap (λ (u : Opened). takenAt u j y) w
+taken-still limit Trailing h b x j y q w = ap (λ (u : Opened). takenAt u j y) w
 taken-still limit (Putting g srm) h b x j y q w = ap (λ (u : Opened). takenAt u j y) (w .is)
 taken-still limit (Getting g srm confirm wait) h b x j y q w = ap (λ (u : Opened). takenAt u j y) (w .is)
 taken-still limit (Sending o c srm wait) h b x j y q w = absurd (let z : _≡_ {A = ℕ} 0 1 = cc in omega arith)

@@ -24,7 +24,7 @@ use Rattle.model.specs.Guard.{short, shortTables, longRealm, soundOperat
 use Rattle.model.specs.Runs.{State}
 use Rattle.model.specs.Refusals.{Waits, bytes, taking, reply, object, acknowledgement, password, nonce, credentials, nothing, reading, asked, told, verdictOf}
 use Rattle.server.specs.declared.Operation.{Operation}
-use Rattle.server.specs.declared.Operation.the-variants.{Nothing, Putting, Getting, Sending, Gathering as GatheringOp, Connecting, Draining}
+use Rattle.server.specs.declared.Operation.the-variants.{Nothing, Trailing, Putting, Getting, Sending, Gathering as GatheringOp, Connecting, Draining}
 use Rattle.connection.specs.declared.peer.ConnectionId.{ConnectionId}
 use Rattle.server.specs.declared.Await.{Await}
 use Rattle.server.specs.declared.Await.the-variants as await
@@ -117,6 +117,7 @@ pub record IsConnecting (o : Operation) : Type 0 where
 abbrev pub connecting : Operation → Bool
 connecting (Connecting c f n) = true
 connecting Nothing = false
+connecting Trailing = false
 connecting (Putting g srm) = false
 connecting (Getting g srm confirm wait) = false
 connecting (Sending o c srm wait) = false
@@ -143,6 +144,7 @@ Shape await.Nothing o = o ≡ Nothing
 abbrev pub roomOf : Operation → ℕ
 roomOf (Sending o c srm wait) = c .room
 roomOf Nothing = 0
+roomOf Trailing = 0
 roomOf (Putting g srm) = 0
 roomOf (Getting g srm confirm wait) = 0
 roomOf (GatheringOp o g) = 0
@@ -267,9 +269,14 @@ module _ (e : Engine) (s : Stores) (h : Base e s) where
       fine-done p o a (outcome.Reply (length q)) (withReply z (front q (z .reply))) f
       (room-reply (limitOf e) z (front q (z .reply)) (front-length q (z .reply) (omega (arith, r .reply))) r) k x (λ v. w) refl
 
-  pub fine-code : (p : Peer) (code : ℕ) (z : Stores) → PeerFits p → Room (limitOf e) z → Fine e (repliesCode e p Nothing code z)
+  -- a reply of a code, with the operation `o` open afterwards
+  pub fine-code-in : (p : Peer) (o : Operation) (code : ℕ) (z : Stores) → PeerFits p → Room (limitOf e) z → soundOperation (limitOf e) o ≡ true
+      → Shape await.Taken o → Fine e (repliesCode e p o code z)
   unfolding packetBytes
-  fine-code p code z f r = fine-replies p Nothing await.Taken (packetBytes (sentCode code) [] []) z f r refl refl refl (omega arith)
+  fine-code-in p o code z f r k x = fine-replies p o await.Taken (packetBytes (sentCode code) [] []) z f r k x refl (omega arith)
+
+  pub fine-code : (p : Peer) (code : ℕ) (z : Stores) → PeerFits p → Room (limitOf e) z → Fine e (repliesCode e p Nothing code z)
+  fine-code p code z f r = fine-code-in p Nothing code z f r refl refl
 
   pub fine-continues : (o : Operation) (grant : Bool) (z : Stores) → Room (limitOf e) z → soundOperation (limitOf e) o ≡ true → Shape await.Taken o
       → Fine e (continues e o grant z)

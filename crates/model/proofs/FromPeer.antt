@@ -24,7 +24,7 @@ use Rattle.model.specs.Runs.{State}
 use Rattle.model.specs.Refusals.{Waits, bad}
 use Rattle.model.specs.Theorem.{Kept}
 use Rattle.server.specs.declared.Operation.{Operation}
-use Rattle.server.specs.declared.Operation.the-variants.{Nothing, Putting, Getting, Sending, Gathering as GatheringOp, Connecting, Draining}
+use Rattle.server.specs.declared.Operation.the-variants.{Nothing, Trailing, Putting, Getting, Sending, Gathering as GatheringOp, Connecting, Draining}
 use Rattle.server.specs.declared.End.the-variants as why
 use Rattle.server.specs.declared.CallKind.the-variants as kind
 use Rattle.server.specs.declared.Await.{Await}
@@ -175,6 +175,7 @@ module _ (w : Waits) (s : State) (h : Seated s) (k : w ≡ waitsOf (s .engine .a
 
   goes-on-fine : (o : Operation) → soundOperation (limitOf e) o ≡ true → Fine e (wants e (e .peer) (e .operation) st) → Fine e (goesOn o e st)
   goes-on-fine Nothing c x = x
+  goes-on-fine Trailing c x = x
   goes-on-fine (Putting g srm) c x = x
   goes-on-fine (Getting g srm confirm wait) c x = x
   goes-on-fine (Sending o q srm wait) c x =
@@ -188,6 +189,7 @@ module _ (w : Waits) (s : State) (h : Seated s) (k : w ≡ waitsOf (s .engine .a
       → OpenedAt (limitOf e) o (st .headers) (st .body) (j .opened) → soundOperation (limitOf e) o ≡ true
       → Told ts (wants e (e .peer) (e .operation) st) (unchanged j) → Told ts (goesOn o e st) (unchanged j)
   goes-on-told j l Nothing p c x = x
+  goes-on-told j l Trailing p c x = x
   goes-on-told j l (Putting g srm) p c x = x
   goes-on-told j l (Getting g srm confirm wait) p c x = x
   goes-on-told j l (Sending o q srm wait) p c x =

@@ -16,7 +16,7 @@ use Rattle.packet.specs.Packet.{Request as Packet, packetBytes}
 use Rattle.packet.specs.declared.opcode.Opcode.{Opcode}
 use Rattle.packet.specs.declared.opcode.Opcode.the-variants as op
 use Rattle.journal.specs.Record.{Record, joined, sizeOf, carriedBy, keptByGet}
-use Rattle.journal.specs.Journal.{Settings as JournalSettings, Opened, nothing, putting, getting, sending, gathering, Journal, unchanged, after, putRead, gatherRead, replyTo, takenAt}
+use Rattle.journal.specs.Journal.{Settings as JournalSettings, Opened, nothing, trailing, putting, getting, sending, gathering, Journal, unchanged, after, putRead, gatherRead, replyTo, takenAt}
 use Rattle.incoming.specs.Gather.{Gathering, gathering as gatheringOf}
 use Rattle.incoming.specs.declared.survey.Survey.{Survey}
 use Rattle.incoming.specs.declared.gather.Keep.the-variants as keep
@@ -31,7 +31,7 @@ use Rattle.model.specs.Operation.{putBody, putGathered, putPacket, getGa
 use Rattle.model.specs.Object.{sendsMade, sendsPacket, sendsNext}
 use Rattle.model.specs.Runs.{bodyIn, handed}
 use Rattle.server.specs.declared.Operation.{Operation}
-use Rattle.server.specs.declared.Operation.the-variants.{Nothing, Putting, Getting, Sending, Gathering as GatheringOp}
+use Rattle.server.specs.declared.Operation.the-variants.{Nothing, Trailing, Putting, Getting, Sending, Gathering as GatheringOp}
 use Rattle.server.specs.declared.Await.the-variants as await
 use Rattle.server.specs.declared.Engine.{Engine}
 use Rattle.server.specs.declared.Body.the-variants as body
@@ -80,6 +80,15 @@ module _ (ts : List ℕ) (e : Engine) (s : Stores) (j : Journal) (f : Fixed ts (
     put-open : (srm : Bool) → PutOpen (limitOf e) (x .got) srm (x .headers) (x .body) (putting c srm)
     put-open srm = record { carries = c; is = refl; agrees = w }
 
+    -- 0x4D before the final packet: what trails the Put is refused for both, or for neither
+    overrun-told : (t : Bool)
+        → Told ts (repliesCode e (e .peer) (pick t Trailing Nothing) 0x4D (withGathered s x)) (unchanged (after j (some r) (pick t trailing nothing)))
+    overrun-told true =
+        told-replies ts e (e .peer) (withGathered s x) (after j (some r) trailing) Trailing (packetBytes (sentCode 0x4D) [] []) refl
+        (held-after Trailing trailing (withGathered s x) refl)
+    overrun-told false =
+        told-code ts e (e .peer) (withGathered s x) (after j (some r) nothing) 0x4D (held-after Nothing nothing (withGathered s x) refl)
+
     put-told : (v : Survey) (srm confirm t u : Bool) → r .opcode ≡ op.Put → x .got .over ≡ t → r .final ≡ u
         → Told ts (putGathered e r v srm confirm x s) (putRead j r srm (pick srm true confirm) c)
     unfolding putRead
@@ -101,7 +110,8 @@ module _ (ts : List ℕ) (e : Engine) (s : Stores) (j : Journal) (f : Fixed ts (
         (held-after (Putting (x .got) true) (putting c true) (withGathered s x) (put-open true))))
     put-told v false confirm true false o i k =
         simp (w .full, i, k, within-test true i)
-        (told-code ts e (e .peer) (withGathered s x) (after j (some r) nothing) 0x4D (held-after Nothing nothing (withGathered s x) refl))
+        (subst (λ (t : Bool). Told ts (repliesCode e (e .peer) (pick (e .settings .«refuse_trailing») Trailing Nothing) 0x4D (withGathered s x)) (unchanged (after j (some r) (pick t trailing nothing))))
+        (sym (ap (λ (u : JournalSettings). u .refuses) (f .settings))) (overrun-told (e .settings .«refuse_trailing»)))
     put-told v false confirm false false o i k =
         simp (w .full, i, k, within-test false i)
         (told-replies ts e (e .peer) (withGathered s x) (after j (some r) (putting c confirm)) (Putting (x .got) confirm) (continueBytes confirm) refl

@@ -1,7 +1,7 @@
 -- A whole packet, by what is open: what the engine makes of it is what the journal does. Assumes nothing.
 use mathlib.Core.Path.{_≡_, refl, sym, ap, subst}
 use mathlib.Core.List.{List, [], _++_}
-use mathlib.Core.Bool.{Bool, true, false}
+use mathlib.Core.Bool.{Bool, true, false, true≢false}
 use mathlib.Core.Option.{Option, none, some}
 use Prim.Native.Nat.{ℕ, _≤_}
 use native.Mathlib.Omega.{arith}
@@ -15,16 +15,16 @@ use Rattle.packet.specs.declared.opcode.Opcode.{Opcode}
 use Rattle.packet.specs.declared.opcode.Opcode.the-variants as op
 use Rattle.packet.proofs.OpcodeLaws.{same-equal}
 use Rattle.journal.specs.Record.{joined, carriedBy, keptByGet}
-use Rattle.journal.specs.Journal.{Opened, nothing, sending, draining, busy as busyOpened, Journal, Entry, unchanged, after, end, putRead, dropped, stopped, requestRead, packetRead, keptWith, keptRead}
+use Rattle.journal.specs.Journal.{Opened, nothing, trailing, sending, draining, busy as busyOpened, trails as trailsRead, firstRead, Journal, Entry, unchanged, after, end, putRead, dropped, stopped, requestRead, packetRead, keptWith, keptRead}
 use Rattle.incoming.specs.Survey.{surveyOf}
 use Rattle.incoming.specs.declared.survey.Survey.{Survey}
 use Rattle.connection.specs.Reply.{front}
 use Rattle.model.specs.Step.{Stores, withReply, Done, wants, asks, ends, repliesCode, limitOf}
 use Rattle.model.specs.Operation.{putPacket}
-use Rattle.model.specs.Dispatch.{knownIn, dispatch, interrupts, inside, busy, unknownByte, unreadable, readAs}
+use Rattle.model.specs.Dispatch.{knownIn, dispatch, interrupts, trails, trailed, inside, busy, unknownByte, unreadable, readAs}
 use Rattle.model.specs.Guard.{soundOperation}
 use Rattle.server.specs.declared.Operation.{Operation}
-use Rattle.server.specs.declared.Operation.the-variants.{Nothing, Putting, Getting, Sending, Gathering as GatheringOp, Connecting, Draining}
+use Rattle.server.specs.declared.Operation.the-variants.{Nothing, Trailing, Putting, Getting, Sending, Gathering as GatheringOp, Connecting, Draining}
 use Rattle.server.specs.declared.Await.the-variants as await
 use Rattle.server.specs.declared.End.the-variants as why
 use Rattle.server.specs.declared.Engine.{Engine}
@@ -35,7 +35,7 @@ use Rattle.incoming.proofs.Frames.{Octets}
 use Rattle.packet.proofs.HeaderBytes.{request-headers}
 use Rattle.model.proofs.Fit.{Base}
 use Rattle.model.proofs.Steps.{outgoing-within}
-use Rattle.model.proofs.Coupling.{OpenedAt, Fixed, Told, told-done, told-ends, told-wants, told-code}
+use Rattle.model.proofs.Coupling.{OpenedAt, Fixed, Told, quiet, told-done, told-ends, told-wants, told-replies, told-code}
 use Rattle.model.proofs.Gathers.{held-after, put-packet, get-packet, headers-packet, next-told}
 use Rattle.model.proofs.Dispatch.{dispatch-told}
 
@@ -43,12 +43,29 @@ use Rattle.model.proofs.Dispatch.{dispatch-told}
 
 busy-same : (limit : ℕ) (o : Operation) (h b : List ℕ) (x : Opened) → OpenedAt limit o h b x → busyOpened x ≡ busy o
 busy-same limit Nothing h b x w = ap busyOpened w
+busy-same limit Trailing h b x w = ap busyOpened w
 busy-same limit (Putting g srm) h b x w = ap busyOpened (w .is)
 busy-same limit (Getting g srm confirm wait) h b x w = ap busyOpened (w .is)
 busy-same limit (Sending o c srm wait) h b x w = ap busyOpened w
 busy-same limit (GatheringOp o g) h b x w = ap busyOpened (w .0 .is)
 busy-same limit (Connecting c f n) h b x w = absurd w
 busy-same limit (Draining c) h b x w = ap busyOpened w
+
+-- nothing is sent outside an operation
+idle-quiet : (o : Operation) → busy o ≡ false → quiet o ≡ true
+idle-quiet Nothing i = refl
+idle-quiet Trailing i = refl
+idle-quiet (Putting g srm) i = refl
+idle-quiet (Getting g srm confirm wait) i = refl
+idle-quiet (Sending o c srm wait) i = absurd (true≢false i)
+idle-quiet (GatheringOp o g) i = refl
+idle-quiet (Connecting c f n) i = refl
+idle-quiet (Draining c) i = refl
+
+-- engine and journal tell what trails a Put by the same rule
+trails-same : (r : Packet) → trails r ≡ trailsRead r
+unfolding trails trailsRead
+trails-same r = refl
 
 module _ (ts : List ℕ) (e : Engine) (s : Stores) (j : Journal) (f : Fixed ts (e .settings) (e .peer) j) (h : Base e s) where
   -- ---- a packet that can be read
@@ -81,12 +98,29 @@ module _ (ts : List ℕ) (e : Engine) (s : Stores) (j : Journal) (f : Fixed ts (
     drain-told code true = told-code ts e (e .peer) s (after j (some r) nothing) code (held-after ts e s j f r Nothing nothing s refl)
     drain-told code false = told-wants ts e (e .peer) s (after j (some r) draining) (Draining code) (held-after ts e s j f r (Draining code) draining s refl)
 
+    refused-told : (t : Bool)
+        → Told ts (repliesCode e (e .peer) (pick t Nothing Trailing) 0x4D s) (unchanged (after j (some r) (pick t nothing trailing)))
+    refused-told true = told-code ts e (e .peer) s (after j (some r) nothing) 0x4D (held-after ts e s j f r Nothing nothing s refl)
+    refused-told false =
+        told-replies ts e (e .peer) s (after j (some r) trailing) Trailing (packetBytes (sentCode 0x4D) [] []) refl
+        (held-after ts e s j f r Trailing trailing s refl)
+
+    -- what trails a Put that was too long is refused, and any other packet is judged as new
+    trails-told : (t : Bool) → sameOpcode (r .opcode) op.Abort ≡ false
+        → Told ts (pick t (trailed e r s) (dispatch e r v (knownIn e ts v) s))
+        (pick t (unchanged (after j (some r) (pick (r .final) nothing trailing))) (firstRead (r .opcode) j r))
+    trails-told true n = refused-told (r .final)
+    trails-told false n = dispatch-told ts e s j f r last h small (r .opcode) refl n
+
     -- by what is open, x for the journal
     inside-told : (o : Operation) (x : Opened) → OpenedAt (limitOf e) o (s .headers) (s .body) x → soundOperation (limitOf e) o ≡ true
         → length (keptWith x r) ≤ 65535
         → sameOpcode (r .opcode) op.Abort ≡ false → Told ts (inside o e r v (knownIn e ts v) s) (requestRead x j r)
     inside-told Nothing x w c k n =
         subst (λ (y : Opened). Told ts (dispatch e r v (knownIn e ts v) s) (requestRead y j r)) (sym w) (dispatch-told ts e s j f r last h small (r .opcode) refl n)
+    inside-told Trailing x w c k n =
+        subst (λ (y : Opened). Told ts (inside Trailing e r v (knownIn e ts v) s) (requestRead y j r)) (sym w)
+        (rw (trails-same r) (trails-told (trailsRead r) n))
     inside-told (Putting g srm) x w c k n =
         let a = w .carries in
         subst (λ (y : Opened). length (keptWith y r) ≤ 65535 → Told ts (inside (Putting g srm) e r v (knownIn e ts v) s) (requestRead y j r)) (sym (w .is))
@@ -125,15 +159,16 @@ module _ (ts : List ℕ) (e : Engine) (s : Stores) (j : Journal) (f : Fixed ts (
       → (q : List ℕ) (x : Option Packet) → requestOf (take (e .length) (s .packet)) ≡ x → length (keptRead (j .opened) x) ≤ 65535
       → Told ts (readAs x e q s ts) (packetRead x j)
   read-told o w c q none i k =
-      subst (λ (t : Bool). Told ts (unreadable e q s) (unchanged (pick t (end j) (after j none nothing)))) (sym (busy-same (limitOf e) (e .operation) (s .headers) (s .body) (j .opened) w))
-      (go (busy (e .operation)))
+      subst (λ (t : Bool). Told ts (unreadable e q s) (unchanged (pick t (end j) (after j none (j .opened))))) (sym (busy-same (limitOf e) (e .operation) (s .headers) (s .body) (j .opened) w))
+      (go (busy (e .operation)) refl)
     where
-      go : (t : Bool)
-          → Told ts (pick t (ends e (e .peer) why.Unreadable s) (repliesCode e (e .peer) Nothing (pick (unknownByte (firstByte (getD q 0 0))) 0x51 0x40) s)) (unchanged (pick t (end j) (after j none nothing)))
-      go true = told-ends ts e (e .peer) s (end j) why.Unreadable
-      go false =
-          told-code ts e (e .peer) s (after j none nothing) _
-          (record { fixed = record { settings = f .settings; past = f .past; standing = f .standing; window = f .window; ended = f .ended }; begun = refl; opened = refl })
+      go : (t : Bool) → busy (e .operation) ≡ t
+          → Told ts (pick t (ends e (e .peer) why.Unreadable s) (repliesCode e (e .peer) (e .operation) (pick (unknownByte (firstByte (getD q 0 0))) 0x51 0x40) s)) (unchanged (pick t (end j) (after j none (j .opened))))
+      go true m = told-ends ts e (e .peer) s (end j) why.Unreadable
+      go false m =
+          told-replies ts e (e .peer) s (after j none (j .opened)) (e .operation)
+          (packetBytes (sentCode (pick (unknownByte (firstByte (getD q 0 0))) 0x51 0x40)) [] []) (idle-quiet (e .operation) m)
+          (record { fixed = record { settings = f .settings; past = f .past; standing = f .standing; window = f .window; ended = f .ended }; begun = refl; opened = w })
   read-told o w c q (some r) i k = go (sameOpcode (r .opcode) op.Abort) refl
     where
       short : length (allBytes (r .headers)) ≤ 65535

@@ -1,16 +1,16 @@
 -- Each step of the model leads to a sound state and stores with room, and tells the host what is awaited. Assumes nothing.
 use mathlib.Core.Path.{_≡_, refl}
 use mathlib.Core.List.{List, []}
-use mathlib.Core.Bool.{Bool, true, false, _&&_, _||_, not}
+use mathlib.Core.Bool.{Bool, true, false, _&&_, _||_, not, true≢false}
 use mathlib.Core.Option.{Option, none, some}
 use Prim.Native.Nat.{ℕ, _+_, _≤_}
 use native.Mathlib.Omega.{arith}
-use lib.ListN.{length, length-append}
+use lib.ListN.{length, getD, length-append}
 use lib.Dec.{ltb, leb, eqb}
 use borrow.Author.Tests.{ltb-false, leb-true, le-leb}
 use Rattle.base.specs.Pick.{pick}
 use Rattle.digest.specs.declared.md5.Octets16.{Octets16}
-use Rattle.packet.specs.FirstByte.{sameOpcode}
+use Rattle.packet.specs.FirstByte.{sameOpcode, firstByte}
 use Rattle.packet.specs.Codes.{isSuccess, sentCode}
 use Rattle.packet.specs.Header.{Header, readHeaders, first}
 use Rattle.packet.specs.Packet.{Request as Packet, connectLimit, packetBytes}
@@ -36,18 +36,18 @@ use Rattle.connection.specs.declared.peer.Challenge.{Challenge}
 use Rattle.connection.specs.declared.peer.Challenge.the-variants.{Stored, Absent}
 use Rattle.connection.specs.declared.peer.Peer.{Peer}
 use Rattle.journal.specs.Journal.{listOf}
-use Rattle.model.specs.Step.{Stores, withReply, withHeaders, withGathered, sent, sends, sendsConnect, limitOf, capacityOf}
+use Rattle.model.specs.Step.{Stores, withReply, withHeaders, withGathered, ends, repliesCode, sent, sends, sendsConnect, limitOf, capacityOf}
 use Rattle.model.specs.Request.{lastPacket, lastHeaders, clientResponse, userPlace}
 use Rattle.model.specs.Operation.{nothingGathered, gathers, putBody, putContinues, putPacket, getContinues, getPacket, headersRequest, headersPacket}
 use Rattle.model.specs.Object.{sendsMade, sendsPacket, sendsNext}
-use Rattle.model.specs.Connect.{verifies, connectPacket, connectSends, frontFor, credentialsFor, connectChallenged, connectOpened, connectAnswer, stops, repliesFields, checks, passwordAnswered, passwordAnswer, nonceAnswer, srmAsked, demandsUser}
-use Rattle.model.specs.Dispatch.{Rejection, admits, rejects, rejection, knownIn, drains, dispatches, admittedAs, dispatch, interrupts, inside, busy, readAs}
+use Rattle.model.specs.Connect.{verifies, connectPacket, connectSends, frontFor, credentialsFor, connectChallenged, connectOpened, connectAnswer, checks, passwordAnswer, nonceAnswer, srmAsked, stops, repliesFields, passwordAnswered, demandsUser}
+use Rattle.model.specs.Dispatch.{Rejection, admits, rejects, rejection, knownIn, drains, dispatches, admittedAs, dispatch, interrupts, trails, inside, busy, unknownByte, readAs}
 use Rattle.model.specs.Guard.{soundGathered, soundOutgoing, soundOperation, sameAwait}
 use Rattle.model.specs.Calls.{replyAnswer}
 use Rattle.model.specs.Runs.{handedBy}
 use Rattle.model.specs.Refusals.{reply, asked}
 use Rattle.server.specs.declared.Operation.{Operation}
-use Rattle.server.specs.declared.Operation.the-variants.{Nothing, Putting, Getting, Sending, Gathering as GatheringOp, Connecting, Draining}
+use Rattle.server.specs.declared.Operation.the-variants.{Nothing, Trailing, Putting, Getting, Sending, Gathering as GatheringOp, Connecting, Draining}
 use Rattle.connection.specs.declared.peer.ConnectionId.{ConnectionId}
 use Rattle.server.specs.declared.Await.the-variants as await
 use Rattle.server.specs.declared.End.the-variants as end
@@ -59,7 +59,7 @@ use Rattle.connection.proofs.Standings.{PeerFits, limited-fits, checked-fits, v
 use Rattle.incoming.proofs.Frames.{Octets}
 use Rattle.incoming.proofs.Gathers.{gather-lengths}
 use Rattle.outgoing.proofs.Sent.{SendsFrom, next-sends}
-use Rattle.model.proofs.Fit.{and-left, and-right, Room, room-reply, room-headers, Base, Fine, fine-pick, FineTabled, tabled-pick, fine-done, fine-wants, fine-asks, fine-ends, fine-replies, fine-code, fine-continues}
+use Rattle.model.proofs.Fit.{and-left, and-right, Room, room-reply, room-headers, Base, Fine, fine-pick, FineTabled, tabled-pick, fine-done, fine-wants, fine-asks, fine-ends, fine-replies, fine-code-in, fine-code, fine-continues, connecting}
 
 -- ---- counts
 
@@ -120,6 +120,17 @@ limit-small : (p : List ℕ) → Octets p → connectLimit p ≤ 65535
 unfolding connectLimit
 limit-small p o = omega (arith, o 5, o (5 + 1))
 
+-- no Connect waits outside an operation
+idle-shape : (o : Operation) → busy o ≡ false → connecting o ≡ false
+idle-shape Nothing i = refl
+idle-shape Trailing i = refl
+idle-shape (Putting g srm) i = refl
+idle-shape (Getting g srm confirm wait) i = refl
+idle-shape (Sending o c srm wait) i = refl
+idle-shape (GatheringOp o g) i = refl
+idle-shape (Connecting c f n) i = absurd (true≢false i)
+idle-shape (Draining c) i = refl
+
 module _ (e : Engine) (s : Stores) (h : Base e s) where
   -- ---- gathering
 
@@ -136,12 +147,21 @@ module _ (e : Engine) (s : Stores) (h : Base e s) where
         counts = gathered-sound (limitOf e) (gathers e k hs g s .got) (l .2) (l .3);
       }
 
+  -- 0x4D, after which what trails a Put is refused or not
+  overrun-fine : (t : Bool) (z : Stores) → Room (limitOf e) z → Fine e (repliesCode e (e .peer) (pick t Trailing Nothing) 0x4D z)
+  overrun-fine true z r = fine-code-in e s h (e .peer) Trailing 0x4D z (h .peer) r refl refl
+  overrun-fine false z r = fine-code e s h (e .peer) 0x4D z (h .peer) r
+
+  trailed-fine : (t : Bool) → Fine e (repliesCode e (e .peer) (pick t Nothing Trailing) 0x4D s)
+  trailed-fine true = overrun-fine false s (h .room)
+  trailed-fine false = overrun-fine true s (h .room)
+
   put-continues : (g : Gathered) (srm confirm additional : Bool) (z : Stores) → Room (limitOf e) z → soundGathered (limitOf e) g ≡ true
       → Fine e (putContinues e g srm confirm additional z)
   put-continues g true confirm additional z r c =
       fine-pick e additional _ _ (fine-continues e s h (Putting g true) false z r c refl) (fine-wants e s h (e .peer) (Putting g true) z (h .peer) r c refl)
   put-continues g false confirm additional z r c =
-      fine-pick e (g .over) _ _ (fine-code e s h (e .peer) 0x4D z (h .peer) r) (fine-continues e s h (Putting g confirm) confirm z r c refl)
+      fine-pick e (g .over) _ _ (overrun-fine (e .settings .«refuse_trailing») z r) (fine-continues e s h (Putting g confirm) confirm z r c refl)
 
   put-fine : (r : Packet) (v : Survey) (srm confirm : Bool) (g : Gathered) → soundGathered (limitOf e) g ≡ true
       → Fine e (putPacket e r v srm confirm g s)
@@ -353,6 +373,8 @@ module _ (e : Engine) (s : Stores) (h : Base e s) where
 
     inside-fine : (o : Operation) (known : Bool) → soundOperation (limitOf e) o ≡ true → Fine e (inside o e r v known s)
     inside-fine Nothing known c = dispatch-fine known
+    inside-fine Trailing known c =
+        fine-pick e (trails r) _ _ (trailed-fine (r .final)) (dispatch-fine known)
     inside-fine (Putting g srm) known c = fine-pick e (sameOpcode (r .opcode) op.Put) _ _ (put-fine r v srm false g c) interrupts-fine
     inside-fine (Getting g srm confirm wait) known c = fine-pick e (sameOpcode (r .opcode) op.Get) _ _ (get-fine r v srm confirm g c) interrupts-fine
     inside-fine (Sending o k srm wait) known c =
@@ -366,8 +388,12 @@ module _ (e : Engine) (s : Stores) (h : Base e s) where
 
   pub read-fine : Octets (lastPacket e s) → soundOperation (limitOf e) (e .operation) ≡ true → (q t : List ℕ) (x : Option Packet)
       → Fine e (readAs x e q s t)
-  read-fine o c q t none =
-      fine-pick e (busy (e .operation)) _ _ (fine-ends e s h (e .peer) end.Unreadable s (h .peer) (h .room)) (fine-code e s h (e .peer) _ s (h .peer) (h .room))
+  read-fine o c q t none = go (busy (e .operation)) refl
+    where
+      go : (b : Bool) → busy (e .operation) ≡ b
+          → Fine e (pick b (ends e (e .peer) end.Unreadable s) (repliesCode e (e .peer) (e .operation) (pick (unknownByte (firstByte (getD q 0 0))) 0x51 0x40) s))
+      go true m = fine-ends e s h (e .peer) end.Unreadable s (h .peer) (h .room)
+      go false m = fine-code-in e s h (e .peer) (e .operation) _ s (h .peer) (h .room) c (idle-shape (e .operation) m)
   read-fine o c q t (some r) =
       fine-pick e (sameOpcode (r .opcode) op.Abort) _ _
       (fine-asks e s h (e .peer) await.Acknowledgement (request.Abort (e .length)) s (h .peer) (h .room) refl refl)

@@ -20,7 +20,7 @@ use Rattle.connection.specs.Reply.{front}
 use Rattle.connection.specs.Peer.{freshPeer, Linked, linked, disconnectedPeer}
 use Rattle.server.specs.declared.Settings.{Settings}
 use Rattle.server.specs.declared.Operation.{Operation}
-use Rattle.server.specs.declared.Operation.the-variants.{Nothing, Putting, Getting, Sending, Gathering as GatheringOp, Connecting, Draining}
+use Rattle.server.specs.declared.Operation.the-variants.{Nothing, Trailing, Putting, Getting, Sending, Gathering as GatheringOp, Connecting, Draining}
 use Rattle.server.specs.declared.Await.the-variants as await
 use Rattle.server.specs.declared.CallKind.the-variants as kind
 use Rattle.server.specs.declared.End.the-variants as end
@@ -91,6 +91,7 @@ abbrev pub objectFor : Operation → Engine → List ℕ → Bool → Stores →
 objectFor (Getting g srm confirm wait) e hs has s =
     checked (badHeaders hs) e s (sendsNext e (objectOf (length hs) confirm has) (srm || confirm) wait (withHeaders s (front hs (s .headers))))
 objectFor Nothing e hs has s = refuse refusal.WrongMoment e s
+objectFor Trailing e hs has s = refuse refusal.WrongMoment e s
 objectFor (Putting g srm) e hs has s = refuse refusal.WrongMoment e s
 objectFor (Sending o c srm wait) e hs has s = refuse refusal.WrongMoment e s
 objectFor (GatheringOp o g) e hs has s = refuse refusal.WrongMoment e s
@@ -106,6 +107,7 @@ abbrev pub bodyFor : Operation → Engine → List ℕ → Stores → Stepped
 bodyFor (Sending o c srm wait) e d s =
     pick (ltb (c .room) (length d)) (refuse refusal.WrongMoment e s) (after 0 (sendsPacket e srm wait (bodyGiven o c d (s .reply)) s))
 bodyFor Nothing e d s = refuse refusal.WrongMoment e s
+bodyFor Trailing e d s = refuse refusal.WrongMoment e s
 bodyFor (Putting g srm) e d s = refuse refusal.WrongMoment e s
 bodyFor (Getting g srm confirm wait) e d s = refuse refusal.WrongMoment e s
 bodyFor (GatheringOp o g) e d s = refuse refusal.WrongMoment e s
@@ -137,6 +139,7 @@ abbrev pub credentialsWith : Operation → Engine → Option Credentials → Sto
 credentialsWith (Connecting code f n) e c s =
     checked (longUser c) e s (connectSends e (e .peer) code f (listOf (readHeaders (take n (s .headers)) 0)) c s)
 credentialsWith Nothing e c s = refuse refusal.WrongMoment e s
+credentialsWith Trailing e c s = refuse refusal.WrongMoment e s
 credentialsWith (Putting g srm) e c s = refuse refusal.WrongMoment e s
 credentialsWith (Getting g srm confirm wait) e c s = refuse refusal.WrongMoment e s
 credentialsWith (Sending o k srm wait) e c s = refuse refusal.WrongMoment e s

@@ -15,19 +15,40 @@ use Rattle.journal.specs.Calls.{Call, bytesOffered, replyTaken, objectGiven, bo
 use Rattle.model.specs.Step.{Stores}
 use Rattle.model.specs.Calls.{started}
 use Rattle.server.specs.Settings.{defaultSettings}
+use Rattle.server.specs.declared.Settings.{Settings}
 use Rattle.model.specs.Runs.{State, stepOf, nextState, records}
 use Rattle.server.specs.declared.Outcome.{Outcome}
 use Rattle.server.specs.declared.Outcome.the-variants as outcome
 
--- a fresh engine with a Put limit and else the source's settings, and stores of zeros
-abbrev pub freshState : ℕ → State
-freshState limit =
+-- the source's settings with a Put limit, and what trails a Put that was too long refused with it
+abbrev pub refusingSettings : ℕ → Settings
+refusingSettings limit =
     record {
-      engine = started (defaultSettings limit);
-      stores = record { packet = replicate 65535 0; headers = replicate 65535 0; body = replicate limit 0; reply = replicate 65535 0 };
+      «max_object_size» = limit;
+      «max_packet_length» = 65535;
+      charset = 0;
+      «has_realm» = false;
+      «srm_supported» = false;
+      authentication = false;
+      «user_id_required» = false;
+      «read_only» = false;
+      «user_id_enforced» = false;
+      «refuse_trailing» = true;
+    }
+
+-- a fresh engine with some settings, and stores of zeros
+abbrev pub freshWith : Settings → State
+freshWith st =
+    record {
+      engine = started st;
+      stores = record { packet = replicate 65535 0; headers = replicate 65535 0; body = replicate (st .«max_object_size») 0; reply = replicate 65535 0 };
       tables = replicate 64 0;
       realm = [];
     }
+
+-- a fresh engine with a Put limit and else the source's settings
+abbrev pub freshState : ℕ → State
+freshState limit = freshWith (defaultSettings limit)
 
 -- the replies that calls make
 abbrev pub replyIn : Outcome → Stores → List (List ℕ)
@@ -41,12 +62,14 @@ abbrev pub replies : State → List Call → List (List ℕ)
 replies s [] = []
 replies s (c ∷ cs) = replyIn (stepOf s c .took .outcome) (stepOf s c .stores) ++ replies (nextState s c) cs
 
--- what is given: a first byte; open ids and a counter; bytes of text; or calls on a fresh engine with a Put limit
+-- what is given: a first byte; open ids and a counter; bytes of text; calls on a fresh engine with a Put limit; or such calls if what
+-- trails a Put that was too long is refused
 pub data Given : Type 0 where
   byte : ℕ → Given
   counter : List ℕ → ℕ → Given
   text : List ℕ → Given
   calls : ℕ → List Call → Given
+  refusing : ℕ → List Call → Given
 
 -- what comes of it: an operation; an id; scalar values; or replies and records
 pub data Comes : Type 0 where
@@ -61,6 +84,7 @@ comesOf (byte b) = operation (firstByte b)
 comesOf (counter ids c) = id (newId ids c)
 comesOf (text s) = scalars (scalars16 s)
 comesOf (calls limit cs) = session (replies (freshState limit) cs) (records (freshState limit) cs)
+comesOf (refusing limit cs) = session (replies (freshWith (refusingSettings limit)) cs) (records (freshWith (refusingSettings limit)) cs)
 
 -- a row of the table
 pub record Row : Type 0 where
@@ -94,13 +118,16 @@ table =
     (session [] (putBody (0x41 ∷ []) ∷ []))
     ∷ row (calls 8 (bytesOffered (0x82 ∷ 0x00 ∷ 0x03 ∷ []) ∷ [])) (session [] (record { headers = []; body = none } ∷ []))
     ∷ row (calls 8 (bytesOffered (0x82 ∷ 0x00 ∷ 0x06 ∷ 0x49 ∷ 0x00 ∷ 0x03 ∷ []) ∷ [])) (session [] (putBody [] ∷ []))
-    -- P7: limit 2; P8: limit 1
+    -- P7: limit 2; P8: limit 1, without and with the setting that refuses what trails
     ∷ row
     (calls 2 (bytesOffered (0x02 ∷ 0x00 ∷ 0x08 ∷ 0x48 ∷ 0x00 ∷ 0x05 ∷ 0x41 ∷ 0x42 ∷ []) ∷ replyTaken ∷ bytesOffered (0x82 ∷ 0x00 ∷ 0x07 ∷ 0x49 ∷ 0x00 ∷ 0x04 ∷ 0x43 ∷ []) ∷ []))
     (session ((0x90 ∷ 0x00 ∷ 0x03 ∷ []) ∷ (0xCD ∷ 0x00 ∷ 0x03 ∷ []) ∷ []) [])
     ∷ row
     (calls 1 (bytesOffered (0x02 ∷ 0x00 ∷ 0x08 ∷ 0x48 ∷ 0x00 ∷ 0x05 ∷ 0x41 ∷ 0x42 ∷ []) ∷ replyTaken ∷ bytesOffered (0x82 ∷ 0x00 ∷ 0x07 ∷ 0x49 ∷ 0x00 ∷ 0x04 ∷ 0x43 ∷ []) ∷ []))
     (session ((0xCD ∷ 0x00 ∷ 0x03 ∷ []) ∷ []) (putBody (0x43 ∷ []) ∷ []))
+    ∷ row
+    (refusing 1 (bytesOffered (0x02 ∷ 0x00 ∷ 0x08 ∷ 0x48 ∷ 0x00 ∷ 0x05 ∷ 0x41 ∷ 0x42 ∷ []) ∷ replyTaken ∷ bytesOffered (0x82 ∷ 0x00 ∷ 0x07 ∷ 0x49 ∷ 0x00 ∷ 0x04 ∷ 0x43 ∷ []) ∷ []))
+    (session ((0xCD ∷ 0x00 ∷ 0x03 ∷ []) ∷ (0xCD ∷ 0x00 ∷ 0x03 ∷ []) ∷ []) [])
     -- P9: the counter at its end; 0 open
     ∷ row (counter [] 4294967295) (id 0)
     ∷ row (counter (0 ∷ []) 4294967295) (id 1)

@@ -5,6 +5,7 @@ use mathlib.Core.Bool.{Bool, true, false, _&&_, _||_, not}
 use mathlib.Core.Option.{Option, none, some}
 use lib.ListN.{length, getD, take}
 use Rattle.base.specs.Pick.{pick}
+use Rattle.packet.specs.HeaderIds as header-id
 use Rattle.packet.specs.ResponseCodes as response
 use Rattle.packet.specs.FirstByte.{firstByte, sameOpcode}
 use Rattle.packet.specs.Codes.{sentCode}
@@ -15,12 +16,12 @@ use Rattle.packet.specs.declared.opcode.Opcode.the-variants as op
 use Rattle.packet.specs.declared.opcode.FirstByte.{FirstByte}
 use Rattle.packet.specs.declared.opcode.FirstByte.the-variants.{Known, Unknown}
 use Rattle.journal.specs.Ids.{member}
-use Rattle.incoming.specs.Survey.{surveyOf}
+use Rattle.incoming.specs.Survey.{present, surveyOf}
 use Rattle.incoming.specs.declared.survey.Survey.{Survey}
 use Rattle.outgoing.specs.declared.object.Next.the-variants as next
 use Rattle.connection.specs.Peer.{idsOf}
 use Rattle.server.specs.declared.Operation.{Operation}
-use Rattle.server.specs.declared.Operation.the-variants.{Nothing, Putting, Getting, Sending, Gathering as GatheringOp, Connecting, Draining}
+use Rattle.server.specs.declared.Operation.the-variants.{Nothing, Trailing, Putting, Getting, Sending, Gathering as GatheringOp, Connecting, Draining}
 use Rattle.server.specs.declared.Await.the-variants as await
 use Rattle.server.specs.declared.End.the-variants as end
 use Rattle.server.specs.declared.Engine.{Engine}
@@ -86,9 +87,18 @@ dispatch e r v known s =
 abbrev pub interrupts : Engine → Stores → Done
 interrupts e s = replies e (e .peer) Nothing await.Last (packetBytes (sentCode response.badRequest) [] []) s
 
+-- Whether a packet may trail a Put that was too long: a Put packet without a Name, which begins nothing new (docs/PROTOCOL.md#trailing).
+unfoldable pub trails : Packet → Bool
+trails r = sameOpcode (r .opcode) op.Put && not (present (first header-id.name (r .headers)))
+
+-- A packet that trails a Put that was too long gets 0x4D as that Put did. The final one is the last of them.
+abbrev pub trailed : Engine → Packet → Stores → Done
+trailed e r s = repliesCode e (e .peer) (pick (r .final) Nothing Trailing) response.requestedEntityTooLarge s
+
 -- A packet by what is open; `known` says that it names an open ConnectionID.
 abbrev pub inside : Operation → Engine → Packet → Survey → Bool → Stores → Done
 inside Nothing e r v known s = dispatch e r v known s
+inside Trailing e r v known s = pick (trails r) (trailed e r s) (dispatch e r v known s)
 inside (Putting g srm) e r v known s = pick (sameOpcode (r .opcode) op.Put) (putPacket e r v srm false g s) (interrupts e s)
 inside (Getting g srm confirm wait) e r v known s =
     pick (sameOpcode (r .opcode) op.Get) (getPacket e r v srm confirm g s) (interrupts e s)
@@ -105,6 +115,7 @@ unknownByte (Known o f) = false
 -- Whether an operation is open.
 abbrev pub busy : Operation → Bool
 busy Nothing = false
+busy Trailing = false
 busy (Putting g srm) = true
 busy (Getting g srm confirm wait) = true
 busy (Sending o c srm wait) = true
@@ -112,10 +123,12 @@ busy (GatheringOp o g) = true
 busy (Connecting c f n) = true
 busy (Draining code) = true
 
+-- A packet that cannot be read ends the engine inside an operation. Otherwise it gets 0x51 for an unknown opcode or 0x40, and what trails a
+-- Put that was too long is refused as before (docs/PROTOCOL.md#unreadable).
 abbrev pub unreadable : Engine → List ℕ → Stores → Done
 unreadable e q s =
     pick (busy (e .operation)) (ends e (e .peer) end.Unreadable s)
-    (repliesCode e (e .peer) Nothing (pick (unknownByte (firstByte (getD q 0 0))) response.notImplemented response.badRequest) s)
+    (repliesCode e (e .peer) (e .operation) (pick (unknownByte (firstByte (getD q 0 0))) response.notImplemented response.badRequest) s)
 
 -- A packet that can be read or not. An Abort goes before all else.
 abbrev pub readAs : Option Packet → Engine → List ℕ → Stores → List ℕ → Done

@@ -15,7 +15,7 @@ use Rattle.outgoing.specs.declared.object.Outgoing.{Outgoing}
 use Rattle.outgoing.specs.declared.object.Chunk.{Chunk}
 use Rattle.server.specs.declared.Settings.{Settings}
 use Rattle.server.specs.declared.Operation.{Operation}
-use Rattle.server.specs.declared.Operation.the-variants.{Nothing, Putting, Getting, Sending, Gathering as GatheringOp, Connecting, Draining}
+use Rattle.server.specs.declared.Operation.the-variants.{Nothing, Trailing, Putting, Getting, Sending, Gathering as GatheringOp, Connecting, Draining}
 use Rattle.server.specs.declared.Await.{Await}
 use Rattle.server.specs.declared.Await.the-variants as await
 use Rattle.server.specs.declared.CallKind.{CallKind}
@@ -45,6 +45,7 @@ soundOutgoing o c =
 
 abbrev pub soundOperation : ℕ → Operation → Bool
 soundOperation limit Nothing = true
+soundOperation limit Trailing = true
 soundOperation limit (Putting g srm) = soundGathered limit g
 soundOperation limit (Getting g srm confirm wait) = soundGathered limit g
 soundOperation limit (Sending o c srm wait) = soundOutgoing o c

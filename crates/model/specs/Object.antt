@@ -10,7 +10,7 @@ use Rattle.outgoing.specs.declared.object.Next.{Next}
 use Rattle.outgoing.specs.declared.object.Next.the-variants as next
 use Rattle.connection.specs.Reply.{front}
 use Rattle.server.specs.declared.Operation.{Operation}
-use Rattle.server.specs.declared.Operation.the-variants.{Nothing, Putting, Getting, Sending, Gathering as GatheringOp, Connecting, Draining}
+use Rattle.server.specs.declared.Operation.the-variants.{Nothing, Trailing, Putting, Getting, Sending, Gathering as GatheringOp, Connecting, Draining}
 use Rattle.server.specs.declared.Await.the-variants as await
 use Rattle.server.specs.declared.Engine.{Engine}
 use Rattle.server.specs.declared.Body.{Body}
@@ -45,6 +45,7 @@ sendsNext e o srm wait s = sendsPacket e srm wait (nextPacket (capacityOf e) o (
 abbrev pub goesOn : Operation → Engine → Stores → Done
 goesOn (Sending o c srm wait) e s = pick (srm && not wait) (sendsNext e o srm wait s) (wants e (e .peer) (e .operation) s)
 goesOn Nothing e s = wants e (e .peer) (e .operation) s
+goesOn Trailing e s = wants e (e .peer) (e .operation) s
 goesOn (Putting g srm) e s = wants e (e .peer) (e .operation) s
 goesOn (Getting g srm confirm wait) e s = wants e (e .peer) (e .operation) s
 goesOn (GatheringOp o g) e s = wants e (e .peer) (e .operation) s

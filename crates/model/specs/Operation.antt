@@ -14,7 +14,9 @@ use Rattle.incoming.specs.declared.survey.Survey.{Survey}
 use Rattle.incoming.specs.declared.gather.Keep.{Keep}
 use Rattle.incoming.specs.declared.gather.Keep.the-variants as keep
 use Rattle.incoming.specs.declared.gather.Gathered.{Gathered}
-use Rattle.server.specs.declared.Operation.the-variants.{Nothing, Putting, Getting, Gathering as GatheringOp}
+use Rattle.server.specs.declared.Settings.{Settings}
+use Rattle.server.specs.declared.Operation.{Operation}
+use Rattle.server.specs.declared.Operation.the-variants.{Nothing, Trailing, Putting, Getting, Gathering as GatheringOp}
 use Rattle.server.specs.declared.Await.the-variants as await
 use Rattle.server.specs.declared.End.the-variants as end
 use Rattle.server.specs.declared.Engine.{Engine}
@@ -36,13 +38,18 @@ gathers e k hs g s = gatherAll k (limitOf e) hs (gathering g (s .headers) (s .bo
 abbrev pub putBody : Gathered → Body
 putBody g = pick (g .came) (body.Bytes (g .body)) body.Missing
 
+-- What is open once a Put was refused before its final packet: if the setting is on, the packets that trail it are refused with it
+-- (docs/PROTOCOL.md#trailing).
+abbrev pub overrun : Settings → Operation
+overrun st = pick (st .«refuse_trailing») Trailing Nothing
+
 -- After a Put packet that is not final. Under Single Response Mode (SRM) the engine says Continue only if the client asks for it. Without
 -- SRM the client waits, so a body past the limit is refused right away (docs/PROTOCOL.md#put-limit).
 abbrev pub putContinues : Engine → Gathered → Bool → Bool → Bool → Stores → Done
 putContinues e g true confirm additional s =
     pick additional (continues e (Putting g true) false s) (wants e (e .peer) (Putting g true) s)
 putContinues e g false confirm additional s =
-    pick (g .over) (repliesCode e (e .peer) Nothing response.requestedEntityTooLarge s) (continues e (Putting g confirm) confirm s)
+    pick (g .over) (repliesCode e (e .peer) (overrun (e .settings)) response.requestedEntityTooLarge s) (continues e (Putting g confirm) confirm s)
 
 -- After the final packet of a Put: 0x4D if the body is past the limit, otherwise the host gets the record.
 abbrev pub putFinal : Engine → Gathered → Stores → Done

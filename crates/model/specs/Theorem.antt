@@ -20,6 +20,7 @@ settingsOf st =
       srm = st .«srm_supported»;
       authentication = st .authentication;
       demandsUser = st .«user_id_enforced» && st .«user_id_required»;
+      refuses = st .«refuse_trailing»;
     }
 
 -- The one premise of the records theorem: kept headers stay within 65,535 bytes.

@@ -39,6 +39,7 @@ pub struct Options {
     pub user_id_required: bool,
     pub read_only: bool,
     pub user_id_enforced: bool,
+    pub refuse_trailing: bool,
     // Whether the stores are filled with zeros.
     pub clear: bool,
 }
@@ -80,6 +81,7 @@ enum Key {
     UserIdRequired,
     ReadOnly,
     UserIdEnforced,
+    RefuseTrailing,
     Clear,
     Other,
 }
@@ -159,6 +161,9 @@ fn key_of(w: &[u8]) -> Key {
     if same(w, b"user_id_enforced") {
         return Key::UserIdEnforced;
     }
+    if same(w, b"refuse_trailing") {
+        return Key::RefuseTrailing;
+    }
     if same(w, b"clear") {
         return Key::Clear;
     }
@@ -178,6 +183,7 @@ pub(crate) fn default_options() -> Options {
         user_id_required: false,
         read_only: false,
         user_id_enforced: false,
+        refuse_trailing: false,
         clear: false,
     }
 }
@@ -211,6 +217,7 @@ fn with_option(o: Options, key: Key, w: &[u8], realm: usize) -> Options {
         Key::UserIdRequired => r.user_id_required = is_set(w),
         Key::ReadOnly => r.read_only = is_set(w),
         Key::UserIdEnforced => r.user_id_enforced = is_set(w),
+        Key::RefuseTrailing => r.refuse_trailing = is_set(w),
         Key::Clear => r.clear = is_set(w),
         Key::Other => {}
     }

@@ -22,6 +22,7 @@ pub(crate) fn settings_of(o: Options) -> Settings {
         user_id_required: o.user_id_required,
         read_only: o.read_only,
         user_id_enforced: o.user_id_enforced,
+        refuse_trailing: o.refuse_trailing,
     }
 }
 

@@ -131,11 +131,12 @@ fn take_line(
 
 // ---- what is printed
 
+// Returns whether no operation is open, also while what trails a Put that was too long is refused.
 fn is_nothing(operation: Operation) -> bool {
-    if let Operation::Nothing = operation {
-        true
-    } else {
-        false
+    match operation {
+        Operation::Nothing => true,
+        Operation::Trailing => true,
+        _ => false,
     }
 }
 

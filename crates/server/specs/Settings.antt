@@ -16,4 +16,5 @@ defaultSettings limit =
       «user_id_required» = false;
       «read_only» = false;
       «user_id_enforced» = false;
+      «refuse_trailing» = false;
     }

@@ -24,6 +24,8 @@ pub struct Settings {
     pub read_only: bool,
     // Whether a response without a user id fails if the challenges say that one is required. The source lets such a response pass.
     pub user_id_enforced: bool,
+    // Whether the packets that trail a Put that was too long are refused with it (docs/PROTOCOL.md#trailing).
+    pub refuse_trailing: bool,
 }
 
 // The source's settings, but for the Put limit: the host chooses `max_object_size`, since it must lend a body store of that length.
@@ -40,6 +42,7 @@ pub fn default_settings(max_object_size: u32) -> Settings
         user_id_required: false,
         read_only: false,
         user_id_enforced: false,
+        refuse_trailing: false,
     }
 }
 
@@ -47,6 +50,8 @@ pub fn default_settings(max_object_size: u32) -> Settings
 pub enum Operation {
     // No operation is open.
     Nothing,
+    // No operation is open, and the engine refuses the packets that trail a Put that was too long.
+    Trailing,
     // A Put whose packets the engine gathers. `srm` says whether SRM is on for this operation.
     Putting {
         gathered: incoming::gather::Gathered,

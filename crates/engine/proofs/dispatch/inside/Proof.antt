@@ -9,6 +9,12 @@ enum-told c = search needs
 open-route-requires : tie.Need-open-route-requires
 open-route-requires c κs = search needs
 
+enum-told-2 : tie.Need-enum-told-2
+enum-told-2 c = search needs
+
+trailing-requires : tie.Need-trailing-requires
+trailing-requires c κs = search needs
+
 enum-known-operation : tie.Need-enum-known-operation
 enum-known-operation c = search needs
 
@@ -45,8 +51,8 @@ headers-route-requires c κs = search needs
 next-request-requires-4 : tie.Need-next-request-requires-4
 next-request-requires-4 c κs = search needs
 
-enum-told-2 : tie.Need-enum-told-2
-enum-told-2 c = search needs
+enum-told-3 : tie.Need-enum-told-3
+enum-told-3 c = search needs
 
 interrupts-requires : tie.Need-interrupts-requires
 interrupts-requires c κs = search needs
@@ -61,22 +67,25 @@ returns : tie.Need-returns
 returns c = simp (c .before .enum-told .given .1, c .open-route .ensures)
 
 returns-2 : tie.Need-returns-2
-returns-2 c = simp (c .before .before .before .operation .given .1, c .next-request .ensures, c .before .put-route .ensures)
+returns-2 c = simp (c .before .enum-told2 .given .1, c .trailing .ensures)
 
 returns-3 : tie.Need-returns-3
-returns-3 c = simp (c .before .before .before .operation2 .given .1, c .next-request2 .ensures, c .before .get-route .ensures)
+returns-3 c = simp (c .before .before .before .operation .given .1, c .next-request .ensures, c .before .put-route .ensures)
 
 returns-4 : tie.Need-returns-4
-returns-4 c = simp (c .before .before .before .operation3 .given .1, c .next-request3 .ensures, c .before .send-route .ensures)
+returns-4 c = simp (c .before .before .before .operation2 .given .1, c .next-request2 .ensures, c .before .get-route .ensures)
 
 returns-5 : tie.Need-returns-5
-returns-5 c = simp (c .before .before .before .operation4 .given .1, c .next-request4 .ensures, c .before .headers-route .ensures)
+returns-5 c = simp (c .before .before .before .operation3 .given .1, c .next-request3 .ensures, c .before .send-route .ensures)
 
 returns-6 : tie.Need-returns-6
-returns-6 c = simp (c .before .enum-told2 .given .1, c .interrupts .ensures)
+returns-6 c = simp (c .before .before .before .operation4 .given .1, c .next-request4 .ensures, c .before .headers-route .ensures)
 
 returns-7 : tie.Need-returns-7
-returns-7 c = simp (c .before .before .operation5 .given .1, c .draining .ensures)
+returns-7 c = simp (c .before .enum-told3 .given .1, c .interrupts .ensures)
+
+returns-8 : tie.Need-returns-8
+returns-8 c = simp (c .before .before .operation5 .given .1, c .draining .ensures)
 
 pub inside-spec : {M : Type 1} → statement M
 inside-spec =
@@ -84,6 +93,8 @@ inside-spec =
     (tie.spec
     enum-told
     open-route-requires
+    enum-told-2
+    trailing-requires
     enum-known-operation
     put-route-requires
     next-request-requires
@@ -96,7 +107,7 @@ inside-spec =
     enum-known-operation-4
     headers-route-requires
     next-request-requires-4
-    enum-told-2
+    enum-told-3
     interrupts-requires
     enum-known-operation-5
     draining-requires
@@ -106,4 +117,5 @@ inside-spec =
     returns-4
     returns-5
     returns-6
-    returns-7)
+    returns-7
+    returns-8)

@@ -60,15 +60,18 @@ set-path-flags-requires c κs = search needs
 is-known-requires : tie.Need-is-known-requires
 is-known-requires c κs = search needs
 
+is-trailed-requires : tie.Need-is-trailed-requires
+is-trailed-requires c κs = search needs
+
 heading-route-requires : tie.Need-heading-route-requires
 heading-route-requires c κs = search needs
 
 returns-3 : tie.Need-returns-3
 returns-3 c =
-    let u = c .before .before .before in
+    let u = c .before .before .before .before in
     let v = u .before .before in
     let k = v .before .before in
-    simp (c .heading-route .ensures, c .before .is-known .ensures, c .before .before .set-path-flags .ensures, v .survey-headers .ensures)
+    simp (c .heading-route .ensures, c .before .is-trailed .ensures, c .before .before .is-known .ensures, c .before .before .before .set-path-flags .ensures, v .survey-headers .ensures)
     (sym (heading-way _ _ _ _ _ _ (sym (k .before .before .packet-head .ensures) ∙ k .opcode .given .1)
     (ap (λ (s : Survey). s .readable) (sym (v .survey-headers .ensures)) ∙ not-false _ (u .if1 .left))))
 
@@ -90,5 +93,6 @@ route-packet-spec =
     returns-2
     set-path-flags-requires
     is-known-requires
+    is-trailed-requires
     heading-route-requires
     returns-3)

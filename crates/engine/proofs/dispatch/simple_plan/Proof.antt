@@ -19,11 +19,17 @@ code-requires c κs = search needs
 enum-known-brief-3 : tie.Need-enum-known-brief-3
 enum-known-brief-3 c = search needs
 
-wants-requires : tie.Need-wants-requires
-wants-requires c κs = search needs
+code-keeping-requires : tie.Need-code-keeping-requires
+code-keeping-requires c κs = search needs
 
 enum-known-brief-4 : tie.Need-enum-known-brief-4
 enum-known-brief-4 c = search needs
+
+wants-requires : tie.Need-wants-requires
+wants-requires c κs = search needs
+
+enum-known-brief-5 : tie.Need-enum-known-brief-5
+enum-known-brief-5 c = search needs
 
 ends-requires : tie.Need-ends-requires
 ends-requires c κs = search needs
@@ -38,11 +44,15 @@ returns-2 c = simp (c .before .before .brief2 .given .1, c .code .ensures)
 
 returns-3 : tie.Need-returns-3
 unfolding simplePlan
-returns-3 c = simp (c .before .before .brief3 .given .1, c .wants .ensures)
+returns-3 c = simp (c .before .before .brief3 .given .1, c .code-keeping .ensures)
 
 returns-4 : tie.Need-returns-4
 unfolding simplePlan
-returns-4 c = simp (c .before .before .brief4 .given .1, c .ends .ensures)
+returns-4 c = simp (c .before .before .brief4 .given .1, c .wants .ensures)
+
+returns-5 : tie.Need-returns-5
+unfolding simplePlan
+returns-5 c = simp (c .before .before .brief5 .given .1, c .ends .ensures)
 
 pub simple-plan-spec : {M : Type 1} → statement M
 simple-plan-spec =
@@ -53,10 +63,13 @@ simple-plan-spec =
     enum-known-brief-2
     code-requires
     enum-known-brief-3
-    wants-requires
+    code-keeping-requires
     enum-known-brief-4
+    wants-requires
+    enum-known-brief-5
     ends-requires
     returns
     returns-2
     returns-3
-    returns-4)
+    returns-4
+    returns-5)

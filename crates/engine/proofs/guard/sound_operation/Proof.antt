@@ -6,6 +6,9 @@ use Rattle.engine.proofs.guard.sound_operation.Tie as tie
 enum-told : tie.Need-enum-told
 enum-told c = search needs
 
+enum-told-2 : tie.Need-enum-told-2
+enum-told-2 c = search needs
+
 enum-known-operation : tie.Need-enum-known-operation
 enum-known-operation c = search needs
 
@@ -33,35 +36,39 @@ sound-gathered-requires-3 c κs = search needs
 enum-known-operation-5 : tie.Need-enum-known-operation-5
 enum-known-operation-5 c = search needs
 
-enum-told-2 : tie.Need-enum-told-2
-enum-told-2 c = search needs
+enum-told-3 : tie.Need-enum-told-3
+enum-told-3 c = search needs
 
 returns : tie.Need-returns
 returns c = search needs
 
 returns-2 : tie.Need-returns-2
-returns-2 c = rw (c .before .before .operation .given .1) (c .sound-gathered .ensures)
+returns-2 c = search needs
 
 returns-3 : tie.Need-returns-3
-returns-3 c = rw (c .before .before .operation2 .given .1) (c .sound-gathered2 .ensures)
+returns-3 c = rw (c .before .before .operation .given .1) (c .sound-gathered .ensures)
 
 returns-4 : tie.Need-returns-4
-returns-4 c = rw (c .before .before .operation3 .given .1) (c .sound-outgoing .ensures)
+returns-4 c = rw (c .before .before .operation2 .given .1) (c .sound-gathered2 .ensures)
 
 returns-5 : tie.Need-returns-5
-returns-5 c = rw (c .before .before .operation4 .given .1) (c .sound-gathered3 .ensures)
+returns-5 c = rw (c .before .before .operation3 .given .1) (c .sound-outgoing .ensures)
 
 returns-6 : tie.Need-returns-6
-returns-6 c = rw (c .before .operation5 .given .1)
+returns-6 c = rw (c .before .before .operation4 .given .1) (c .sound-gathered3 .ensures)
 
 returns-7 : tie.Need-returns-7
-returns-7 c = search needs
+returns-7 c = rw (c .before .operation5 .given .1)
+
+returns-8 : tie.Need-returns-8
+returns-8 c = search needs
 
 pub sound-operation-spec : {M : Type 1} → statement M
 sound-operation-spec =
     tie.close
     (tie.spec
     enum-told
+    enum-told-2
     enum-known-operation
     sound-gathered-requires
     enum-known-operation-2
@@ -71,11 +78,12 @@ sound-operation-spec =
     enum-known-operation-4
     sound-gathered-requires-3
     enum-known-operation-5
-    enum-told-2
+    enum-told-3
     returns
     returns-2
     returns-3
     returns-4
     returns-5
     returns-6
-    returns-7)
+    returns-7
+    returns-8)

@@ -15,11 +15,14 @@ wants-requires c κs = search needs
 returns-2 : tie.Need-returns-2
 returns-2 c = simp (c .before .before .if1 .taken, c .before .if2 .left, ← c .wants .ensures)
 
-code-requires : tie.Need-code-requires
-code-requires c κs = search needs
+overrun-requires : tie.Need-overrun-requires
+overrun-requires c κs = search needs
+
+code-keeping-requires : tie.Need-code-keeping-requires
+code-keeping-requires c κs = search needs
 
 returns-3 : tie.Need-returns-3
-returns-3 c = simp (c .before .before .if1 .left, c .before .if3 .taken, ← c .code .ensures)
+returns-3 c = simp (c .before .before .before .if1 .left, c .before .before .if3 .taken, c .code-keeping .ensures, c .before .overrun .ensures)
 
 continues-requires-2 : tie.Need-continues-requires-2
 continues-requires-2 c κs = search needs
@@ -35,7 +38,8 @@ put-continues-spec =
     returns
     wants-requires
     returns-2
-    code-requires
+    overrun-requires
+    code-keeping-requires
     returns-3
     continues-requires-2
     returns-4)
