@@ -131,6 +131,7 @@ module _ (ts : List ℕ) (e : Engine) (s : Stores) (j : Journal) (f : Fixed ts (
           headers = sym (ap headersIn last);
         }))
         g
+        refl
 
     connect-told : r .opcode ≡ op.Connect → Told ts (connectPacket e s) (dropped j r)
     unfolding connectPacket

@@ -13,8 +13,8 @@ use Rattle.digest.specs.declared.md5.Octets16.{Octets16}
 use Rattle.packet.specs.Codes.{isCode}
 use Rattle.packet.specs.Header.{readHeaders}
 use Rattle.packet.specs.declared.opcode.Opcode.the-variants as op
-use Rattle.journal.specs.Calls.{Call, replyGiven, objectGiven, bodyGiven, bodyFailed, abortAcknowledged, passwordGiven, nonceGiven, credentialsGiven, Credentials, goes, refused}
-use Rattle.journal.specs.Journal.{Opened, nothing, getting, sending, Journal, unchanged, opens, replied, objectSent, journalCall, journalFed, listOf}
+use Rattle.journal.specs.Calls.{Call, replyGiven, objectGiven, bodyGiven, bodyFailed, abortAcknowledged, passwordGiven, nonceGiven, credentialsGiven, Credentials, goes, refused, stepBy}
+use Rattle.journal.specs.Journal.{Opened, nothing, getting, sending, Journal, unchanged, opens, replied, objectSent, journalCall, journalFed, fedTakes, listOf}
 use Rattle.outgoing.specs.Object.{bodyGiven as givenBody}
 use Rattle.outgoing.specs.declared.object.Outgoing.{Outgoing}
 use Rattle.outgoing.specs.declared.object.Chunk.{Chunk}
@@ -38,7 +38,7 @@ use Rattle.model.proofs.Steps.{OutgoingFits, outgoing-within, sends-nex
 use Rattle.model.proofs.Coupling.{KeptOpen, OpenedAt, Held, Coupled, Told, ToldTabled, tabled-told-pick, told-code}
 use Rattle.model.proofs.Gathers.{next-told, fails-told, sends-told as made-told}
 use Rattle.model.proofs.Answers.{sends-told, connect-sends-told, connect-told, disconnect-told, password-told, nonce-told}
-use Rattle.model.proofs.Moments.{same-await, or-second, Agree, AgreeKept, Agrees, fed-goes, agree-tabled, agree-goes, agree-refused, agrees}
+use Rattle.model.proofs.Moments.{same-await, or-second, fedGoing, Agree, AgreeKept, Agrees, fed-goes, none-taken, agree-tabled, agree-goes, agree-refused, agrees}
 use Rattle.model.proofs.FromPeer.{coupled-at}
 
 -- an answer's headers that are not refused fit the header store
@@ -70,16 +70,15 @@ module _ (w : Waits) (s : State) (h : Seated s) (k : w ≡ waitsOf (s .engine .a
       subst (λ (o : Operation). OpenedAt (limitOf e) o (st .headers) (st .body) (j .opened)) (shape-at await.Get at .is) w
 
   -- the journal's step, on a journal that has not ended
-  entered : (c : Call) (j : Journal) (d : Done) → j .ended ≡ false → Told ts d (journalCall j c (getD (st .reply) 0 0))
-      → Told ts d (journalFed j c goes (getD (st .reply) 0 0))
-  entered c j d i x = subst (Told ts d) (sym (fed-goes j c (getD (st .reply) 0 0) i)) x
+  entered : (c : Call) (j : Journal) (d : Done) → j .ended ≡ false → Told ts d (journalCall j c) → Told ts d (journalFed j (stepBy c))
+  entered c j d i x = subst (Told ts d) (sym (fed-goes j c i)) x
 
   -- an answer that may be refused with 8
-  checked-agrees : (c : Call) (b : Bool) (d : Done) → (b ≡ false → Fine e d)
-      → (b ≡ false → (j : Journal) → Coupled ts e st j → Told ts d (journalFed j c goes (getD (st .reply) 0 0)))
+  checked-agrees : (c : Call) (b : Bool) (d : Done) → (b ≡ false → Fine e d) → ((j : Journal) → 0 ≡ fedTakes j (fedGoing s c))
+      → (b ≡ false → (j : Journal) → Coupled ts e st j → Told ts d (journalFed j (fedGoing s c)))
       → AgreeKept w s c (pick b (refused 8) goes) (checked b e st d)
-  checked-agrees c true d f g = agree-refused w s h k c refusal.BadAnswer
-  checked-agrees c false d f g = agree-goes w s h k c 0 d (f refl) (λ j x u. g refl j x)
+  checked-agrees c true d f n g = agree-refused w s h k c refusal.BadAnswer
+  checked-agrees c false d f n g = agree-goes w s h k c 0 d (f refl) (λ j x. n j) (λ j x u. g refl j x)
 
   -- ---- a reply
 
@@ -87,7 +86,7 @@ module _ (w : Waits) (s : State) (h : Seated s) (k : w ≡ waitsOf (s .engine .a
     -- to a Get it is sent as it is, and closes it; to any other request it is sent as it is
     plain-reply : (t : Bool) → sameAwait (e .awaits) await.Get ≡ t → (sameAwait (e .awaits) await.Get ≡ false → e .awaits ≡ await.Reply) → (j : Journal)
         → Coupled ts e st j
-        → Told ts (sends e (e .peer) code hs st) (journalFed j (replyGiven code hs) goes (getD (st .reply) 0 0))
+        → Told ts (sends e (e .peer) code hs st) (journalFed j (stepBy (replyGiven code hs)))
     plain-reply true i o j x =
         let at = same-await (e .awaits) await.Get i in
         let y = coupled-at w s h k await.Get j at x in
@@ -102,12 +101,12 @@ module _ (w : Waits) (s : State) (h : Seated s) (k : w ≡ waitsOf (s .engine .a
         (subst (λ (u : Journal). Told ts (sends e (e .peer) code hs st) (unchanged u)) (sym (ap (λ (v : Opened). replied v j code hs) (y .0 .opened) ∙ y .1 code hs))
         (sends-told ts e st (e .peer) j (y .0) code hs))
 
-    entered-tabled : (j : Journal) (d : DoneTabled) → j .ended ≡ false → ToldTabled d (journalCall j (replyGiven code hs) (getD (st .reply) 0 0))
-        → ToldTabled d (journalFed j (replyGiven code hs) goes (getD (st .reply) 0 0))
-    entered-tabled j d i x = subst (ToldTabled d) (sym (fed-goes j (replyGiven code hs) (getD (st .reply) 0 0) i)) x
+    entered-tabled : (j : Journal) (d : DoneTabled) → j .ended ≡ false → ToldTabled d (journalCall j (replyGiven code hs))
+        → ToldTabled d (journalFed j (stepBy (replyGiven code hs)))
+    entered-tabled j d i x = subst (ToldTabled d) (sym (fed-goes j (replyGiven code hs) i)) x
 
     reply-told : fits kind.ReplyGiven (e .awaits) ≡ true → (j : Journal) → Coupled ts e st j
-        → ToldTabled (replyAnswer e code hs st ts) (journalFed j (replyGiven code hs) goes (getD (st .reply) 0 0))
+        → ToldTabled (replyAnswer e code hs st ts) (journalFed j (stepBy (replyGiven code hs)))
     unfolding replyAnswer
     reply-told r j x =
         tabled-told-pick (sameAwait (e .awaits) await.Connect) _ _ _
@@ -134,7 +133,7 @@ module _ (w : Waits) (s : State) (h : Seated s) (k : w ≡ waitsOf (s .engine .a
         go r false i =
             let f = reply-fine e st (h .sits .base) ts (h .tables) code hs (reply-headers-fit code hs i) in
             agree-tabled w s h k (replyGiven code hs) (replyAnswer e code hs st ts .done) 0 (replyAnswer e code hs st ts .tables) (f .done) (f .tables)
-            (λ j x u. reply-told r j x)
+            (λ j x. none-taken (j .ended)) (λ j x u. reply-told r j x)
 
   -- ---- an object
 
@@ -147,7 +146,7 @@ module _ (w : Waits) (s : State) (h : Seated s) (k : w ≡ waitsOf (s .engine .a
         record { room = room-headers (limitOf e) st hs l (h .sits .base .room); peer = h .sits .base .peer; last = h .sits .base .last }
 
     object-told : length hs ≤ 65535 → (srm confirm wait : Bool) → e .awaits ≡ await.Get → (j : Journal) → Coupled ts e st j
-        → Told ts (sendsNext e (objectOf (length hs) confirm has) srm wait z) (journalFed j (objectGiven hs has) goes (getD (st .reply) 0 0))
+        → Told ts (sendsNext e (objectOf (length hs) confirm has) srm wait z) (journalFed j (stepBy (objectGiven hs has)))
     object-told l srm confirm wait at j x =
         let y = coupled-at w s h k await.Get j at x in
         let g = get-open at j (y .opened) in
@@ -163,6 +162,7 @@ module _ (w : Waits) (s : State) (h : Seated s) (k : w ≡ waitsOf (s .engine .a
         (checked-agrees (objectGiven hs has) (badHeaders hs) (sendsNext e (objectOf (length hs) (v .confirm) has) (v .srm || v .confirm) (v .wait) z)
         (λ b. sends-next-fine e z (object-base (headers-fit hs b)) (objectOf (length hs) (v .confirm) has) (v .srm || v .confirm) (v .wait) (omega arith)
         (headers-fit hs b))
+        (λ j. none-taken (j .ended))
         (λ b j y. object-told (headers-fit hs b) (v .srm || v .confirm) (v .confirm) (v .wait) at j y))
 
     pub object-agrees : Agrees w s (objectGiven hs has)
@@ -194,6 +194,7 @@ module _ (w : Waits) (s : State) (h : Seated s) (k : w ≡ waitsOf (s .engine .a
         let m = body-sends o c d (st .reply) (h .sits .base .room .reply) within (y .begun) (y .chunk) (y .sent) in
         subst (λ (t : Bool). AgreeKept w s (bodyGiven d) (pick t goes (refused 9)) (after 0 (sendsPacket e srm wait (givenBody o c d (st .reply)) st))) (sym (le-leb (length d) (c .room) within))
         (agree-goes w s h k (bodyGiven d) 0 _ (sends-packet-fine e st (h .sits .base) o srm wait (givenBody o c d (st .reply)) (y .total) m)
+        (λ j x. none-taken (j .ended))
         (λ j x u. let l = body-held at j x in
         entered (bodyGiven d) j _ (l .fixed .ended)
         (made-told ts e st j (l .fixed) (l .begun) (body-open at j x) o srm wait (givenBody o c d (st .reply)) m)))
@@ -218,6 +219,7 @@ module _ (w : Waits) (s : State) (h : Seated s) (k : w ≡ waitsOf (s .engine .a
       agrees w s h k bodyFailed
       (λ r. let at = same-await (e .awaits) await.Body r in
       agree-goes w s h k bodyFailed 0 _ (fine-code e st (h .sits .base) (e .peer) 0x50 st (h .sits .base .peer) (h .sits .base .room))
+      (λ j x. none-taken (j .ended))
       (λ j x u. let l = body-held at j x in entered bodyFailed j _ (l .fixed .ended)
       (fails-told ts e st j (l .fixed) (l .begun) (body-open at j x) (st .reply))))
 
@@ -228,6 +230,7 @@ module _ (w : Waits) (s : State) (h : Seated s) (k : w ≡ waitsOf (s .engine .a
   acknowledge-agrees =
       agrees w s h k abortAcknowledged
       (λ r. agree-goes w s h k abortAcknowledged 0 _ (fine-code e st (h .sits .base) (e .peer) 0x20 st (h .sits .base .peer) (h .sits .base .room))
+      (λ j x. none-taken (j .ended))
       (λ j x u. let y = coupled-at w s h k await.Acknowledgement j (same-await (e .awaits) await.Acknowledgement r) x in
       entered abortAcknowledged j _ (y .fixed .ended) (told-code ts e (e .peer) st j 0x20 y)))
 
@@ -236,6 +239,7 @@ module _ (w : Waits) (s : State) (h : Seated s) (k : w ≡ waitsOf (s .engine .a
   password-agrees p =
       agrees w s h k (passwordGiven p)
       (λ r. agree-goes w s h k (passwordGiven p) 0 _ (password-fine e st (h .sits .base) p)
+      (λ j x. none-taken (j .ended))
       (λ j x u. let y = coupled-at w s h k await.Password j (same-await (e .awaits) await.Password r) x in
       entered (passwordGiven p) j _ (y .held .fixed .ended) (password-told ts e st j op.Connect y refl p)))
 
@@ -246,6 +250,7 @@ module _ (w : Waits) (s : State) (h : Seated s) (k : w ≡ waitsOf (s .engine .a
       agrees w s h k (nonceGiven n)
       (λ r. subst (λ (b : Bool). AgreeKept w s (nonceGiven n) goes (checked b e st (nonceAnswer e n (s .realm) st))) (sym (h .realm))
       (agree-goes w s h k (nonceGiven n) 0 _ (nonce-fine e st (h .sits .base) n (s .realm))
+      (λ j x. none-taken (j .ended))
       (λ j x u. let y = coupled-at w s h k await.Nonce j (same-await (e .awaits) await.Nonce r) x in
       entered (nonceGiven n) j _ (y .held .fixed .ended) (nonce-told ts e st j op.Connect y n (s .realm)))))
 
@@ -256,6 +261,7 @@ module _ (w : Waits) (s : State) (h : Seated s) (k : w ≡ waitsOf (s .engine .a
       subst (λ (o : Operation). AgreeKept w s (credentialsGiven c) (pick (longUser c) (refused 8) goes) (credentialsWith o e c st)) (sym (v .is))
       (checked-agrees (credentialsGiven c) (longUser c) (connectSends e (e .peer) (v .code) (v .front) answer c st)
       (λ b. connect-sends-fine e st (h .sits .base) (e .peer) (v .code) (v .front) answer c (h .sits .base .peer))
+      (λ j. none-taken (j .ended))
       (λ b j x. let y = coupled-at w s h k await.Credentials j at x in
       entered (credentialsGiven c) j _ (y .fixed .ended) (connect-sends-told ts e st (e .peer) j y (v .code) (v .front) answer c)))
 

@@ -1,16 +1,16 @@
 -- Bytes, the end of the stream, and replies taken: each such call agrees with what is due and with the journal. Assumes nothing.
 use mathlib.Core.Path.{_≡_, refl, sym, ap, _∙_, subst}
-use mathlib.Core.List.{List, []}
+use mathlib.Core.List.{List, [], _∷_}
 use mathlib.Core.Bool.{Bool, true, false, _&&_, not}
-use Prim.Native.Nat.{ℕ, _≤_}
+use Prim.Native.Nat.{ℕ, zero, suc, _≤_}
 use native.Mathlib.Omega.{arith}
 use lib.ListN.{length, getD, take}
 use lib.Dec.{leb, eqb}
-use borrow.Author.Tests.{leb-true, eqb-true, eqb-false}
+use borrow.Author.Tests.{leb-true, eqb-true, eqb-false, ne-eqb}
 use Rattle.base.specs.Pick.{pick}
 use Rattle.packet.specs.Packet.{requestOf}
-use Rattle.journal.specs.Calls.{bytesOffered, streamEnded, replyTaken, goes}
-use Rattle.journal.specs.Journal.{Journal, unchanged, begin, end, Read, more, whole, short, readUp, bytesRead, packetRead, journalPacket, takenAt, journalCall, journalFed, readIn, fedReads, keptRead, keptAfter}
+use Rattle.journal.specs.Calls.{bytesOffered, streamEnded, replyTaken, goes, stepBy, replySent}
+use Rattle.journal.specs.Journal.{Journal, unchanged, begin, end, endsWith, Read, more, whole, short, readUp, bytesRead, packetRead, journalPacket, takenUp, streamNumber, takenAt, lastTaken, journalCall, journalFed, readIn, fedTakes, fedReads, keptRead, keptAfter}
 use Rattle.incoming.specs.Frame.{Frames, framed}
 use Rattle.incoming.specs.declared.frame.Frame.{Frame}
 use Rattle.incoming.specs.declared.frame.Frame.the-variants.{More, Whole, Short}
@@ -23,6 +23,7 @@ use Rattle.model.specs.Object.{goesOn}
 use Rattle.model.specs.Runs.{State}
 use Rattle.model.specs.Refusals.{Waits, bad}
 use Rattle.model.specs.Theorem.{Kept}
+use Rattle.server.specs.Numbers.{endNumber}
 use Rattle.server.specs.declared.Operation.{Operation}
 use Rattle.server.specs.declared.Operation.the-variants.{Nothing, Putting, Getting, Sending, Gathering as GatheringOp, Connecting, Draining}
 use Rattle.server.specs.declared.End.the-variants as why
@@ -31,13 +32,19 @@ use Rattle.server.specs.declared.Await.{Await}
 use Rattle.server.specs.declared.Await.the-variants as await
 use Rattle.server.specs.declared.Engine.{Engine}
 use Rattle.server.specs.declared.Outcome.the-variants as outcome
-use Rattle.incoming.proofs.Frames.{Octets, Agrees as Frames-agree, frames-agree}
+use Rattle.incoming.proofs.Frames.{Octets, Agrees as Frames-agree, frames-agree, frames-count}
 use Rattle.model.proofs.Fit.{and-left, and-right, Room, Shape, waitsOf, Base, Seated, Fine, fine-pick, fine-wants, fine-ends}
 use Rattle.model.proofs.Steps.{outgoing-within, sends-next-fine, read-fine}
 use Rattle.model.proofs.Coupling.{OpenedAt, Held, CoupledAt, Coupled, Told, told-pick, told-ends, told-wants}
 use Rattle.model.proofs.Gathers.{next-told}
 use Rattle.model.proofs.Packets.{read-told}
-use Rattle.model.proofs.Moments.{same-await, or-second, AgreeKept, Agrees, fed-goes, agree-goes, agrees}
+use Rattle.model.proofs.Moments.{same-await, or-second, AgreeKept, Agrees, fed-goes, none-taken, agree-goes, agrees}
+
+-- the number at the end of the stream, by how many bytes of a packet have come
+stream-number : (p : List ℕ) (b : ℕ) → b ≤ length p → streamNumber (take b p) ≡ endNumber (pick (eqb b 0) why.Disconnected why.Truncated)
+stream-number p zero l = refl
+stream-number [] (suc b) l = absurd (omega (arith, l))
+stream-number (x ∷ p) (suc b) l = rw (ne-eqb (suc b) 0 (λ i. omega (arith, i))) refl
 
 module _ (w : Waits) (s : State) (h : Seated s) (k : w ≡ waitsOf (s .engine .awaits) (s .engine .operation)) where
   abbrev e : Engine
@@ -71,14 +78,21 @@ module _ (w : Waits) (s : State) (h : Seated s) (k : w ≡ waitsOf (s .engine .a
 
     -- what the journal reads
     journal-reads : (j : Journal) (r : Read) → Begins j → readUp (take (e .begun) (st .packet)) i ≡ r
-        → journalFed j (bytesOffered i) goes (getD (st .reply) 0 0) ≡ bytesRead j r
+        → journalFed j (stepBy (bytesOffered i)) ≡ bytesRead j r
     journal-reads j r x q =
-        fed-goes j (bytesOffered i) (getD (st .reply) 0 0) (x .fixed .ended) ∙ ap (bytesRead j) (ap (λ (l : List ℕ). readUp l i) (x .begun) ∙ q)
+        fed-goes j (bytesOffered i) (x .fixed .ended) ∙ ap (bytesRead j) (ap (λ (l : List ℕ). readUp l i) (x .begun) ∙ q)
 
-    kept-reads : (j : Journal) (r : Read) → Begins j → readUp (take (e .begun) (st .packet)) i ≡ r → Kept (fedReads j (bytesOffered i) goes)
+    kept-reads : (j : Journal) (r : Read) → Begins j → readUp (take (e .begun) (st .packet)) i ≡ r → Kept (fedReads j (stepBy (bytesOffered i)))
         → Kept (readIn j r)
     kept-reads j r x q y =
         subst Kept (ap (λ (t : Bool). pick t [] (readIn j (readUp (j .begun) i))) (x .fixed .ended) ∙ ap (readIn j) (ap (λ (l : List ℕ). readUp l i) (x .begun) ∙ q)) y
+
+    -- as many bytes are taken as the journal says
+    count-at : (j : Journal) → Begins j → f .result .taken ≡ fedTakes j (stepBy (bytesOffered i))
+    count-at j x =
+        let n = frames-count (st .packet) i (e .begun) 0 (h .sits .begun .small) (h .sits .base .room .packet) (h .sits .begun .octets) o in
+        let m : f .result .taken ≡ takenUp (take (e .begun) (st .packet)) i = omega (arith, n) in
+        m ∙ sym (ap (λ (t : Bool). pick t 0 (takenUp (j .begun) i)) (x .fixed .ended) ∙ ap (λ (l : List ℕ). takenUp l i) (x .begun))
 
     room-at : length (f .packet) ≡ length (st .packet) → Room (limitOf e) z
     room-at l =
@@ -106,6 +120,7 @@ module _ (w : Waits) (s : State) (h : Seated s) (k : w ≡ waitsOf (s .engine .a
     unfolding engineWith
     more-told q (a, g, l, m) j x =
         record {
+          ends = λ u. refl;
           given = refl;
           after = subst (λ (y : Await). CoupledAt ts y (e .operation) (e .settings) (e .peer) n (e .length) z (begin j q)) (sym at)
               (record { fixed = record { settings = x .fixed .settings; standing = x .fixed .standing; ended = x .fixed .ended }; begun = g .bytes; opened = x .opened });
@@ -143,15 +158,18 @@ module _ (w : Waits) (s : State) (h : Seated s) (k : w ≡ waitsOf (s .engine .a
     read-agrees (more q) y g =
         frame-at More (g .0)
         (agree-goes w s h k (bytesOffered i) (f .result .taken) _ (more-fine q g)
+        (λ j x. count-at j (coupled-at await.Bytes j at x))
         (λ j x u. subst (Told ts _) (sym (journal-reads j (more q) (coupled-at await.Bytes j at x) y)) (more-told q g j (coupled-at await.Bytes j at x))))
     read-agrees (whole q) y g =
         frame-at Whole (g .0)
         (agree-goes w s h k (bytesOffered i) (f .result .taken) _ (whole-fine q g)
+        (λ j x. count-at j (coupled-at await.Bytes j at x))
         (λ j x u. subst (Told ts _) (sym (journal-reads j (whole q) (coupled-at await.Bytes j at x) y))
         (whole-told q g j (coupled-at await.Bytes j at x) (kept-reads j (whole q) (coupled-at await.Bytes j at x) y u))))
     read-agrees short y g =
         frame-at Short (g .0)
         (agree-goes w s h k (bytesOffered i) (f .result .taken) _ (fine-ends e st (h .sits .base) (e .peer) why.LengthTooSmall z (h .sits .base .peer) (room-at (g .1)))
+        (λ j x. count-at j (coupled-at await.Bytes j at x))
         (λ j x u. subst (Told ts _) (sym (journal-reads j short (coupled-at await.Bytes j at x) y)) (told-ends ts e (e .peer) z (end j) why.LengthTooSmall)))
 
   pub bytes-agree : (i : List ℕ) → Octets i → Agrees w s (bytesOffered i)
@@ -168,7 +186,10 @@ module _ (w : Waits) (s : State) (h : Seated s) (k : w ≡ waitsOf (s .engine .a
   end-agrees =
       agrees w s h k streamEnded
       (λ r. agree-goes w s h k streamEnded 0 _ (fine-ends e st (h .sits .base) (e .peer) (pick (eqb (e .begun) 0) why.Disconnected why.Truncated) st (h .sits .base .peer) (h .sits .base .room))
-      (λ j x u. subst (Told ts _) (sym (fed-goes j streamEnded (getD (st .reply) 0 0) (coupled-at await.Bytes j (same-await (e .awaits) await.Bytes r) x .fixed .ended)))
+      (λ j x. none-taken (j .ended))
+      (λ j x u. let y = coupled-at await.Bytes j (same-await (e .awaits) await.Bytes r) x in
+      subst (Told ts _) (sym (fed-goes j streamEnded (y .fixed .ended)
+      ∙ ap (λ (n : ℕ). endsWith n j) (ap streamNumber (y .begun) ∙ stream-number (st .packet) (e .begun) (omega (arith, h .sits .begun .small, h .sits .base .room .packet)))))
       (told-ends ts e (e .peer) st (end j) (pick (eqb (e .begun) 0) why.Disconnected why.Truncated))))
 
   -- ---- a reply is taken
@@ -203,8 +224,9 @@ module _ (w : Waits) (s : State) (h : Seated s) (k : w ≡ waitsOf (s .engine .a
       agree-goes w s h k replyTaken 0 _
       (goes-on-fine (e .operation) (h .sits .counts)
       (fine-wants e st (h .sits .base) (e .peer) (e .operation) st (h .sits .base .peer) (h .sits .base .room) (h .sits .counts) (subst (λ (x : Await). Shape x (e .operation)) at (h .sits .shape))))
+      (λ j x. refl)
       (λ j x u. let y = coupled-at await.Taken j at x in
-      subst (Told ts _) (sym (fed-goes j replyTaken (getD (st .reply) 0 0) (y .0)))
+      subst (Told ts _) (sym (ap (λ (t : Bool). pick t (lastTaken j) (unchanged (takenAt (j .opened) j (getD (st .reply) 0 0)))) (y .0)))
       (goes-on-told (takenAt (j .opened) j (getD (st .reply) 0 0)) (y .1) (e .operation) (y .1 .opened) (h .sits .counts)
       (told-wants ts e (e .peer) st _ (e .operation) (y .1))))
     where
@@ -212,7 +234,8 @@ module _ (w : Waits) (s : State) (h : Seated s) (k : w ≡ waitsOf (s .engine .a
       at = same-await (e .awaits) await.Taken i
   taken-goes false i r =
       agree-goes w s h k replyTaken 0 _ (fine-ends e st (h .sits .base) (e .peer) why.OtherOperation st (h .sits .base .peer) (h .sits .base .room))
-      (λ j x u. subst (Told ts _) (sym (ap (λ (t : Bool). pick t (unchanged j) (journalCall j replyTaken (getD (st .reply) 0 0))) (coupled-at await.Last j at x))) (told-ends ts e (e .peer) st j why.OtherOperation))
+      (λ j x. refl)
+      (λ j x u. subst (Told ts _) (sym (ap (λ (t : Bool). pick t (lastTaken j) (unchanged (takenAt (j .opened) j (getD (st .reply) 0 0)))) (coupled-at await.Last j at x))) (told-ends ts e (e .peer) st j why.OtherOperation))
     where
       at : e .awaits ≡ await.Last
       at = same-await (e .awaits) await.Last (or-second _ _ r i)

@@ -91,7 +91,7 @@ module _ (ts : List ℕ) (e : Engine) (s : Stores) (j : Journal) (f : Fixed ts (
         (told-done ts e (e .peer) Nothing await.Reply (outcome.Request (request.Put (x .got .kept) (putBody (x .got)))) (withGathered s x)
         (after j (some r) nothing) (c ∷ [])
         (held-after Nothing nothing (withGathered s x) refl, still-after op.Put nothing o (λ a b y z. refl))
-        (put-handed i))
+        (put-handed i) refl)
     put-told v true confirm t false o i k =
         simp (w .full, k, within-test t i, or-true (not t))
         (told-pick ts (v .additional) _ _ _
@@ -126,7 +126,7 @@ module _ (ts : List ℕ) (e : Engine) (s : Stores) (j : Journal) (f : Fixed ts (
       (told-done ts e (e .peer) (Getting (x .got) srm confirm (v .wait)) await.Get (outcome.Request (request.Get (x .got .kept))) (withGathered s x)
       (after j (some r) (getting k)) []
       (held-after (Getting (x .got) srm confirm (v .wait)) (getting k) (withGathered s x) (record { keeps = k; is = refl; agrees = w }))
-      refl)
+      refl refl)
   get-told v true confirm false x k w i =
       simp (w .full, i)
       (told-wants ts e (e .peer) (withGathered s x) (after j (some r) (getting k)) (Getting (x .got) true confirm (v .wait))
@@ -152,7 +152,7 @@ module _ (ts : List ℕ) (e : Engine) (s : Stores) (j : Journal) (f : Fixed ts (
       simp (w .full, i)
       (told-done ts e (e .peer) Nothing await.Reply (outcome.Request (headersRequest o (x .got .kept))) (withGathered s x) (after j (some r) nothing) []
       (held-after Nothing nothing (withGathered s x) refl, still-after o nothing q p)
-      (headers-request o (x .got .kept) (withGathered s x) .1))
+      (headers-request o (x .got .kept) (withGathered s x) .1) refl)
   headers-told o false x k w p q i =
       simp (w .full, i)
       (told-replies ts e (e .peer) (withGathered s x) (after j (some r) (gathering o k)) (GatheringOp o (x .got)) (continueBytes false) refl
@@ -174,12 +174,12 @@ module _ (ts : List ℕ) (e : Engine) (s : Stores) (j : Journal) (f : Fixed ts (
   unfolding packetBytes
   fails-told y =
       told-closes ts e (e .peer) s j (outcome.Reply (length (packetBytes (sentCode 0x50) [] [])))
-      (front (packetBytes (sentCode 0x50) [] []) y) refl refl f k z
+      (front (packetBytes (sentCode 0x50) [] []) y) refl refl refl f k z
 
   made-told : (o : Outgoing) (srm wait : Bool) (m : Made) → SendsFrom o (s .reply) m → (n : Next) → m .packet .next ≡ n
       → Told ts (sendsMade e srm wait n m s) (unchanged j)
   made-told o srm wait m w (next.Send n true) i =
-      told-closes ts e (e .peer) s j (outcome.Reply n) (m .reply) refl (ap (λ (b : ℕ). eqb b 0x90) (w .last n i)) f k z
+      told-closes ts e (e .peer) s j (outcome.Reply n) (m .reply) refl refl (ap (λ (b : ℕ). eqb b 0x90) (w .last n i)) f k z
   made-told o srm wait m w (next.Send n false) i =
       told-done ts e (e .peer) (Sending (m .packet .outgoing) (m .packet .chunk) srm wait) await.Taken (outcome.Reply n) (withReply s (m .reply)) j [] (
         f .ended,
@@ -188,10 +188,11 @@ module _ (ts : List ℕ) (e : Engine) (s : Stores) (j : Journal) (f : Fixed ts (
             (record { fixed = f; begun = k; opened = z }),
       )
       refl
+      refl
   made-told o srm wait m w next.Read i =
       told-done ts e (e .peer) (Sending (m .packet .outgoing) (m .packet .chunk) srm wait) await.Body
       (outcome.Request (request.Read (m .packet .chunk .room))) (withReply s (m .reply)) j []
-      (record { fixed = f; begun = k; opened = z }) refl
+      (record { fixed = f; begun = k; opened = z }) refl refl
   made-told o srm wait m w next.TooLarge i = fails-told (m .reply)
 
   pub sends-told : (o : Outgoing) (srm wait : Bool) (m : Made) → SendsFrom o (s .reply) m → Told ts (sendsPacket e srm wait m s) (unchanged j)

@@ -15,7 +15,7 @@ use Rattle.journal.specs.Calls.{Call, bytesOffered, replyTaken, objectGiven, bo
 use Rattle.model.specs.Step.{Stores}
 use Rattle.model.specs.Calls.{started}
 use Rattle.server.specs.Settings.{defaultSettings}
-use Rattle.model.specs.Runs.{State, stepOf, nextState, records}
+use Rattle.model.specs.Runs.{State, stepOf, stateOf, handed}
 use Rattle.server.specs.declared.Outcome.{Outcome}
 use Rattle.server.specs.declared.Outcome.the-variants as outcome
 
@@ -28,6 +28,15 @@ freshState limit =
       tables = replicate 64 0;
       realm = [];
     }
+
+-- the state after a call, by the model's step
+abbrev pub nextState : State → Call → State
+nextState s c = stateOf (s .realm) (stepOf s c)
+
+-- the records that calls hand over
+abbrev pub recordsBy : State → List Call → List Record
+recordsBy s [] = []
+recordsBy s (c ∷ cs) = handed (stepOf s c .took .outcome) (stepOf s c .stores) ++ recordsBy (nextState s c) cs
 
 -- the replies that calls make
 abbrev pub replyIn : Outcome → Stores → List (List ℕ)
@@ -60,7 +69,7 @@ unfoldable pub comesOf : Given → Comes
 comesOf (byte b) = operation (firstByte b)
 comesOf (counter ids c) = id (newId ids c)
 comesOf (text s) = scalars (scalars16 s)
-comesOf (calls limit cs) = session (replies (freshState limit) cs) (records (freshState limit) cs)
+comesOf (calls limit cs) = session (replies (freshState limit) cs) (recordsBy (freshState limit) cs)
 
 -- a row of the table
 pub record Row : Type 0 where

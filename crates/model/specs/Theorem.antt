@@ -1,45 +1,79 @@
--- The records theorem (the mission's demand 3): for every accepted start and every list of calls, the records handed over are the journal's
--- and exactly those of the Put forms of the packets. Beside it: calls are refused exactly if they are due to be, and then change nothing.
+-- The records theorem (the mission's demand 3). It is a single claim about a list of calls: for every accepted start and every run of calls
+-- from there, what the calls return and hand over is what the journal says, which is fed what the host sees and nothing of the engine.
+-- What journal and model share, and what guards it, is told in README, "What must be believed".
 use Prim.Native.Nat.{ℕ, _≤_}
 use mathlib.Core.Path.{_≡_}
-use mathlib.Core.List.{List, [], _∷_}
+use mathlib.Core.List.{List, [], _∷_, map}
+use mathlib.Core.Bool.{Bool, true, false}
 use lib.ListN.{length}
-use Rattle.journal.specs.Calls.{Call, refused}
-use Rattle.journal.specs.Journal.{Settings as JournalSettings, journalRecords, fresh, packets, Marked, keptAfter}
+use Rattle.journal.specs.Calls.{Fed, refused}
+use Rattle.journal.specs.Journal.{Journal, Settings as JournalSettings, fresh, journalRecords, journalCounts, journalEnds, packets, Marked, keptAfter}
 use Rattle.journal.specs.PutForm.{Exactly}
-use Rattle.model.specs.Runs.{State, stepOf, nextState, records, Started, AllOctets}
-use Rattle.model.specs.Refusals.{bytes, verdictOf, due, returned, feedOf}
+use Rattle.model.specs.Refusals.{verdictOf, endOf, due, feed}
+use Rattle.model.specs.Runs.{State, Performed, next, Ran, records, Started, seen}
 use Rattle.server.specs.declared.Settings.{Settings}
+use Rattle.server.specs.declared.End.the-variants as end
+use Rattle.server.specs.declared.Outcome.{Outcome}
+use Rattle.server.specs.declared.Outcome.the-variants as outcome
 
--- The settings that the journal keeps.
+-- The settings that the journal keeps, and the journal of a fresh engine with these settings.
 abbrev pub settingsOf : Settings → JournalSettings
 settingsOf st = record { limit = st .«max_object_size»; srm = st .«srm_supported»; authentication = st .authentication }
 
--- The one premise of the records theorem: kept headers stay within 65,535 bytes.
+abbrev pub journalOf : Settings → Journal
+journalOf st = fresh (settingsOf st)
+
+-- What the journal is fed of a run from the state `s`.
+abbrev pub fed : Settings → State → List Performed → List Fed
+fed st s xs = feed (seen st s xs)
+
+-- The premise on kept headers: they stay within 65,535 bytes.
 abbrev pub Kept : List Marked → Type 0
 Kept [] = Unit {0}
 Kept (m ∷ ms) = (length (keptAfter m) ≤ 65535) × Kept ms
 
--- What holds after a list of calls: the records handed over are the journal's, and exactly those of the Put forms of the packets.
-pub record Holds (st : Settings) (s : State) (cs : List Call) : Type 0 where
-  pub journal : records s cs ≡ journalRecords (fresh (settingsOf st)) (feedOf bytes s cs)
-  pub forms : Exactly (st .«max_object_size») (packets (fresh (settingsOf st)) (feedOf bytes s cs)) (records s cs)
-
--- The records theorem (the mission's demand 3), for every accepted start and every list of calls.
-abbrev pub RecordsTheorem : Type 0
-RecordsTheorem =
-    (st : Settings) (s : State) → Started st s → (cs : List Call) → AllOctets cs
-    → Kept (packets (fresh (settingsOf st)) (feedOf bytes s cs)) → Holds st s cs
-
--- A call is refused exactly if it is due to be, with the number that is due.
-abbrev pub Refusals : Type 0
-Refusals = (st : Settings) (s : State) → Started st s → (cs : List Call) → AllOctets cs → returned s cs ≡ due bytes s cs
-
 -- A refused call changes nothing.
-abbrev pub Unmoved : State → List Call → Type 0
+abbrev pub Unmoved : State → List Performed → Type 0
 Unmoved s [] = Unit {0}
-Unmoved s (c ∷ cs) =
-    ((n : ℕ) → verdictOf (stepOf s c .took .outcome) ≡ refused n → nextState s c ≡ s) × Unmoved (nextState s c) cs
+Unmoved s (x ∷ xs) = ((n : ℕ) → verdictOf (x .result .outcome) ≡ refused n → next s x ≡ s) × Unmoved (next s x) xs
 
-abbrev pub RefusedUnmoved : Type 0
-RefusedUnmoved = (st : Settings) (s : State) → Started st s → (cs : List Call) → AllOctets cs → Unmoved s cs
+-- What holds of a run if kept headers stay within 65,535 bytes.
+pub record Agrees (st : Settings) (s : State) (xs : List Performed) : Type 0 where
+  -- The records handed over are the journal's, and exactly those of the Put forms of the packets.
+  pub journal : records xs ≡ journalRecords (journalOf st) (fed st s xs)
+  pub forms : Exactly (st .«max_object_size») (packets (journalOf st) (fed st s xs)) (records xs)
+  -- Each call reports as many bytes as the journal says were taken.
+  pub counts : map (λ (x : Performed). x .result .taken) xs ≡ journalCounts (journalOf st) (fed st s xs)
+
+-- A reply of over 65,535 bytes ended the engine (7).
+abbrev pub tooLarge : Outcome → Bool
+tooLarge (outcome.End end.ReplyTooLarge) = true
+tooLarge (outcome.End end.Disconnected) = false
+tooLarge (outcome.End end.Truncated) = false
+tooLarge (outcome.End end.LengthTooSmall) = false
+tooLarge (outcome.End end.Unreadable) = false
+tooLarge (outcome.End end.OtherOperation) = false
+tooLarge (outcome.End end.HeadersTooLarge) = false
+tooLarge outcome.WantsBytes = false
+tooLarge (outcome.Reply n) = false
+tooLarge (outcome.Request r) = false
+tooLarge (outcome.Refused r) = false
+
+-- The premise on replies: they stay within 65,535 bytes.
+abbrev pub Sent : List Performed → Type 0
+Sent [] = Unit {0}
+Sent (x ∷ xs) = (tooLarge (x .result .outcome) ≡ false) × Sent xs
+
+-- What holds of a run `xs` of calls, from the state `s` of an accepted start with the settings `st`.
+pub record Upholds (st : Settings) (s : State) (xs : List Performed) : Type 0 where
+  -- A call is refused exactly if it is due to be, with the number that is due; and then it changes nothing.
+  pub refusals : map (λ (x : Performed). verdictOf (x .result .outcome)) xs ≡ due (seen st s xs)
+  pub unmoved : Unmoved s xs
+  pub agrees : Kept (packets (journalOf st) (fed st s xs)) → Agrees st s xs
+  -- The engine ends in the calls in which the journal says so, and with its number, if replies stay within 65,535 bytes too.
+  pub ends : Kept (packets (journalOf st) (fed st s xs)) → Sent xs
+      → map (λ (x : Performed). endOf (x .result .outcome)) xs ≡ journalEnds (journalOf st) (fed st s xs)
+
+-- The records theorem, from every state that an accepted start leaves.
+abbrev pub RecordsTheorem : Type 0
+RecordsTheorem = (st : Settings) (s : State) → Started st s → (xs : List Performed) → Ran s xs → Upholds st s xs
