@@ -60,6 +60,9 @@ pub record Performed : Type 0 where
   pub stores : Stores
   pub tables : List ℕ
 
+abbrev pub performed : Call → CallResult → Stores → List ℕ → Performed
+performed c r t u = record { call = c; result = r; stores = t; tables = u }
+
 -- What a call returned and left, as the model's steps have it.
 abbrev pub calledIn : Performed → Called
 calledIn x = called (stepped (x .result) (x .stores)) (x .tables)
