@@ -67,6 +67,10 @@ module _ (w : Waits) (s : State) (h : Seated s) (k : w ≡ waitsOf (s .engine .a
     abbrev f : Frames
     f = framed (st .packet) (e .begun) 0 i
 
+    -- how many bytes the call reports as taken
+    abbrev reported : ℕ
+    reported = f .result .taken
+
     abbrev z : Stores
     z = withPacket st (f .packet)
 
@@ -88,10 +92,10 @@ module _ (w : Waits) (s : State) (h : Seated s) (k : w ≡ waitsOf (s .engine .a
         subst Kept (ap (λ (t : Bool). pick t [] (readIn j (readUp (j .begun) i))) (x .fixed .ended) ∙ ap (readIn j) (ap (λ (l : List ℕ). readUp l i) (x .begun) ∙ q)) y
 
     -- as many bytes are taken as the journal says
-    count-at : (j : Journal) → Begins j → f .result .taken ≡ fedTakes j (stepBy (bytesOffered i))
+    count-at : (j : Journal) → Begins j → reported ≡ fedTakes j (stepBy (bytesOffered i))
     count-at j x =
         let n = frames-count (st .packet) i (e .begun) 0 (h .sits .begun .small) (h .sits .base .room .packet) (h .sits .begun .octets) o in
-        let m : f .result .taken ≡ takenUp (take (e .begun) (st .packet)) i = omega (arith, n) in
+        let m : reported ≡ takenUp (take (e .begun) (st .packet)) i = omega (arith, n) in
         m ∙ sym (ap (λ (t : Bool). pick t 0 (takenUp (j .begun) i)) (x .fixed .ended) ∙ ap (λ (l : List ℕ). takenUp l i) (x .begun))
 
     room-at : length (f .packet) ≡ length (st .packet) → Room (limitOf e) z
@@ -149,26 +153,26 @@ module _ (w : Waits) (s : State) (h : Seated s) (k : w ≡ waitsOf (s .engine .a
         (subst (λ (p : List ℕ). length (keptRead (j .opened) (requestOf p)) ≤ 65535) (g .bytes) (y .0)))
 
     -- by where the bytes end
-    frame-at : (x : Frame) → f .result .frame ≡ x → AgreeKept w s (bytesOffered i) goes (framedAs x e n (f .result .taken) z ts)
+    frame-at : (x : Frame) → f .result .frame ≡ x → AgreeKept w s (bytesOffered i) goes (framedAs x e n reported z ts)
         → AgreeKept w s (bytesOffered i) goes (offers e f st ts)
-    frame-at x q a = subst (λ (y : Frame). AgreeKept w s (bytesOffered i) goes (framedAs y e n (f .result .taken) z ts)) (sym q) a
+    frame-at x q a = subst (λ (y : Frame). AgreeKept w s (bytesOffered i) goes (framedAs y e n reported z ts)) (sym q) a
 
     read-agrees : (r : Read) → readUp (take (e .begun) (st .packet)) i ≡ r → Frames-agree (st .packet) f r
         → AgreeKept w s (bytesOffered i) goes (offers e f st ts)
     read-agrees (more q) y g =
         frame-at More (g .0)
-        (agree-goes w s h k (bytesOffered i) (f .result .taken) _ (more-fine q g)
+        (agree-goes w s h k (bytesOffered i) reported _ (more-fine q g)
         (λ j x. count-at j (coupled-at await.Bytes j at x))
         (λ j x u. subst (Told ts _) (sym (journal-reads j (more q) (coupled-at await.Bytes j at x) y)) (more-told q g j (coupled-at await.Bytes j at x))))
     read-agrees (whole q) y g =
         frame-at Whole (g .0)
-        (agree-goes w s h k (bytesOffered i) (f .result .taken) _ (whole-fine q g)
+        (agree-goes w s h k (bytesOffered i) reported _ (whole-fine q g)
         (λ j x. count-at j (coupled-at await.Bytes j at x))
         (λ j x u. subst (Told ts _) (sym (journal-reads j (whole q) (coupled-at await.Bytes j at x) y))
         (whole-told q g j (coupled-at await.Bytes j at x) (kept-reads j (whole q) (coupled-at await.Bytes j at x) y u))))
     read-agrees short y g =
         frame-at Short (g .0)
-        (agree-goes w s h k (bytesOffered i) (f .result .taken) _ (fine-ends e st (h .sits .base) (e .peer) why.LengthTooSmall z (h .sits .base .peer) (room-at (g .1)))
+        (agree-goes w s h k (bytesOffered i) reported _ (fine-ends e st (h .sits .base) (e .peer) why.LengthTooSmall z (h .sits .base .peer) (room-at (g .1)))
         (λ j x. count-at j (coupled-at await.Bytes j at x))
         (λ j x u. subst (Told ts _) (sym (journal-reads j short (coupled-at await.Bytes j at x) y)) (told-ends ts e (e .peer) z (end j) why.LengthTooSmall)))
 
