@@ -3,12 +3,13 @@
 use mathlib.Core.Path.{_≡_, refl, sym, ap, _∙_, subst}
 use mathlib.Core.List.{List, []}
 use mathlib.Core.Bool.{Bool, true, false, true≢false}
-use mathlib.Core.Option.{none, some}
+use mathlib.Core.Option.{Option, none, some}
 use Prim.Native.Nat.{ℕ}
 use native.Mathlib.Omega.{arith}
 use lib.ListN.{length, getD, take}
 use lib.Dec.{eqb}
 use Rattle.base.specs.Pick.{pick}
+use Rattle.packet.specs.FirstByte.{sameOpcode}
 use Rattle.packet.specs.Codes.{sentCode}
 use Rattle.packet.specs.Packet.{Request as Packet, requestOf, packetBytes}
 use Rattle.packet.specs.declared.opcode.Opcode.{Opcode}
@@ -22,7 +23,7 @@ use Rattle.connection.specs.declared.peer.Peer.{Peer}
 use Rattle.model.specs.Step.{Stores, withReply, engineWith, Done, done, DoneTabled, wants, ends, replies, repliesCode}
 use Rattle.model.specs.Runs.{handed}
 use Rattle.model.specs.Refusals.{endOf}
-use Rattle.model.specs.Theorem.{settingsOf, tooLarge}
+use Rattle.model.specs.Theorem.{settingsOf}
 use Rattle.server.specs.Numbers.{endNumber}
 use Rattle.server.specs.declared.Settings.{Settings}
 use Rattle.server.specs.declared.Operation.{Operation}
@@ -51,9 +52,9 @@ pub record KeptOpen (limit : ℕ) (g : Gathered) (f : List ℕ → Opened) (h b 
   pub is : x ≡ f keeps
   pub agrees : KeptAgrees limit (gatheringOf g h b) keeps
 
--- an opcode to which the journal does nothing on a reply
+-- an opcode to which the journal does nothing on a reply, and which is not Connect
 abbrev pub Plain : Opcode → Type 0
-Plain o = (j : Journal) (r : Packet) (code : ℕ) (hs : List ℕ) → replyTo o j r code hs ≡ j
+Plain o = ((j : Journal) (r : Packet) (code : ℕ) (hs : List ℕ) → replyTo o j r code hs ≡ j) × (sameOpcode o op.Connect ≡ false)
 
 -- the operation, over the header and body stores, and what the journal has open
 abbrev pub OpenedAt : ℕ → Operation → List ℕ → List ℕ → Opened → Type 0
@@ -87,9 +88,13 @@ pub record AskedBy (ts : List ℕ) (st : Settings) (p : Peer) (o : Opcode) (n : 
   pub opcode : request .opcode ≡ o
   pub headers : request .headers ≡ headersIn (requestOf (take n (s .packet)))
 
--- a reply to the last packet changes nothing
+-- a reply to the last packet changes nothing, and that packet is no Connect
+abbrev pub connects : Option Packet → Bool
+connects none = false
+connects (some r) = sameOpcode (r .opcode) op.Connect
+
 abbrev pub Still : Journal → Type 0
-Still j = (code : ℕ) (hs : List ℕ) → replyLast (j .last) j code hs ≡ j
+Still j = ((code : ℕ) (hs : List ℕ) → replyLast (j .last) j code hs ≡ j) × (connects (j .last) ≡ false)
 
 -- while a reply waits, the journal is told by what it does once the reply is taken
 abbrev pub CoupledAt : List ℕ → Await → Operation → Settings → Peer → ℕ → ℕ → Stores → Journal → Type 0
@@ -111,6 +116,20 @@ abbrev pub Coupled : List ℕ → Engine → Stores → Journal → Type 0
 Coupled ts e s j = CoupledAt ts (e .awaits) (e .operation) (e .settings) (e .peer) (e .begun) (e .length) s j
 
 -- ---- what a step leads to is what the journal enters
+
+-- a reply of over 65,535 bytes ended the engine (7)
+abbrev pub tooLarge : Outcome → Bool
+tooLarge (outcome.End end.ReplyTooLarge) = true
+tooLarge (outcome.End end.Disconnected) = false
+tooLarge (outcome.End end.Truncated) = false
+tooLarge (outcome.End end.LengthTooSmall) = false
+tooLarge (outcome.End end.Unreadable) = false
+tooLarge (outcome.End end.OtherOperation) = false
+tooLarge (outcome.End end.HeadersTooLarge) = false
+tooLarge outcome.WantsBytes = false
+tooLarge (outcome.Reply n) = false
+tooLarge (outcome.Request r) = false
+tooLarge (outcome.Refused r) = false
 
 pub record Told (ts : List ℕ) (d : Done) (x : Entry) : Type 0 where
   pub given : handed (d .outcome) (d .stores) ≡ x .given

@@ -218,11 +218,11 @@ module _ (ts : List ℕ) (e : Engine) (s : Stores) (j : Journal) (f : Fixed ts (
       dispatch-told op.SetPath i n =
           dropped-first op.SetPath i refl refl
           (asks-told op.SetPath (e .peer) await.Reply (request.SetPath (e .length) (backup (r .bytes)) (noCreate (r .bytes))) i refl
-          (λ x. (x .held, still-after ts e s j f r op.SetPath nothing i (λ a b y z. refl))) refl)
+          (λ x. (x .held, still-after ts e s j f r op.SetPath nothing i (λ a b y z. refl, refl))) refl)
       dispatch-told op.Put i n = drained-first op.Put _ i refl refl (first-put i)
       dispatch-told op.Get i n =
           drained-first op.Get _ i refl refl
           (get-packet ts e s j f r v (e .peer .«srm_enabled») (confirms e v) nothingGathered [] none-kept (omega (arith, kept-headers (r .headers))))
-      dispatch-told op.Action i n = plain-first op.Action _ i refl refl (plain-told op.Action i (λ a b y z. refl))
-      dispatch-told op.Session i n = plain-first op.Session _ i refl refl (plain-told op.Session i (λ a b y z. refl))
-      dispatch-told (op.UserDefined x) i n = plain-first (op.UserDefined x) _ i refl refl (plain-told (op.UserDefined x) i (λ a b y z. refl))
+      dispatch-told op.Action i n = plain-first op.Action _ i refl refl (plain-told op.Action i (λ a b y z. refl, refl))
+      dispatch-told op.Session i n = plain-first op.Session _ i refl refl (plain-told op.Session i (λ a b y z. refl, refl))
+      dispatch-told (op.UserDefined x) i n = plain-first (op.UserDefined x) _ i refl refl (plain-told (op.UserDefined x) i (λ a b y z. refl, refl))

@@ -36,6 +36,7 @@ use Rattle.incoming.proofs.Frames.{Octets, Agrees as Frames-agree, frames-agree
 use Rattle.model.proofs.Fit.{and-left, and-right, Room, Shape, waitsOf, Base, Seated, Fine, fine-pick, fine-wants, fine-ends}
 use Rattle.model.proofs.Steps.{outgoing-within, sends-next-fine, read-fine}
 use Rattle.model.proofs.Coupling.{OpenedAt, Held, CoupledAt, Coupled, Told, told-pick, told-ends, told-wants}
+use Rattle.model.proofs.Sizes.{early, Brief, brief-done, done-brief, goes-on-brief}
 use Rattle.model.proofs.Gathers.{next-told}
 use Rattle.model.proofs.Packets.{read-told}
 use Rattle.model.proofs.Moments.{same-await, or-second, AgreeKept, Agrees, fed-goes, none-taken, agree-goes, agrees}
@@ -163,18 +164,21 @@ module _ (w : Waits) (s : State) (h : Seated s) (k : w ≡ waitsOf (s .engine .a
         frame-at More (g .0)
         (agree-goes w s h k (bytesOffered i) reported _ (more-fine q g)
         (λ j x. count-at j (coupled-at await.Bytes j at x))
-        (λ j x u. subst (Told ts _) (sym (journal-reads j (more q) (coupled-at await.Bytes j at x) y)) (more-told q g j (coupled-at await.Bytes j at x))))
+        (λ j x u. subst (Told ts _) (sym (journal-reads j (more q) (coupled-at await.Bytes j at x) y)) (more-told q g j (coupled-at await.Bytes j at x)))
+        (λ j late x v l. brief-done e (e .peer) (e .operation) (e .awaits) n (e .length) outcome.WantsBytes z refl (ap early at)))
     read-agrees (whole q) y g =
         frame-at Whole (g .0)
         (agree-goes w s h k (bytesOffered i) reported _ (whole-fine q g)
         (λ j x. count-at j (coupled-at await.Bytes j at x))
         (λ j x u. subst (Told ts _) (sym (journal-reads j (whole q) (coupled-at await.Bytes j at x) y))
-        (whole-told q g j (coupled-at await.Bytes j at x) (kept-reads j (whole q) (coupled-at await.Bytes j at x) y u))))
+        (whole-told q g j (coupled-at await.Bytes j at x) (kept-reads j (whole q) (coupled-at await.Bytes j at x) y u)))
+        (λ j late x v l. done-brief e n z ts))
     read-agrees short y g =
         frame-at Short (g .0)
         (agree-goes w s h k (bytesOffered i) reported _ (fine-ends e st (h .sits .base) (e .peer) why.LengthTooSmall z (h .sits .base .peer) (room-at (g .1)))
         (λ j x. count-at j (coupled-at await.Bytes j at x))
-        (λ j x u. subst (Told ts _) (sym (journal-reads j short (coupled-at await.Bytes j at x) y)) (told-ends ts e (e .peer) z (end j) why.LengthTooSmall)))
+        (λ j x u. subst (Told ts _) (sym (journal-reads j short (coupled-at await.Bytes j at x) y)) (told-ends ts e (e .peer) z (end j) why.LengthTooSmall))
+        (λ j late x v l. brief-done e (e .peer) Nothing await.Nothing 0 (e .length) (outcome.End why.LengthTooSmall) z refl refl))
 
   pub bytes-agree : (i : List ℕ) → Octets i → Agrees w s (bytesOffered i)
   unfolding bad
@@ -194,7 +198,12 @@ module _ (w : Waits) (s : State) (h : Seated s) (k : w ≡ waitsOf (s .engine .a
       (λ j x u. let y = coupled-at await.Bytes j (same-await (e .awaits) await.Bytes r) x in
       subst (Told ts _) (sym (fed-goes j streamEnded (y .fixed .ended)
       ∙ ap (λ (n : ℕ). endsWith n j) (ap streamNumber (y .begun) ∙ stream-number (st .packet) (e .begun) (omega (arith, h .sits .begun .small, h .sits .base .room .packet)))))
-      (told-ends ts e (e .peer) st (end j) (pick (eqb (e .begun) 0) why.Disconnected why.Truncated))))
+      (told-ends ts e (e .peer) st (end j) (pick (eqb (e .begun) 0) why.Disconnected why.Truncated)))
+      (λ j late x v l. stream-brief (eqb (e .begun) 0)))
+    where
+      stream-brief : (t : Bool) → Brief (ends e (e .peer) (pick t why.Disconnected why.Truncated) st)
+      stream-brief true = brief-done e (e .peer) Nothing await.Nothing 0 (e .length) (outcome.End why.Disconnected) st refl refl
+      stream-brief false = brief-done e (e .peer) Nothing await.Nothing 0 (e .length) (outcome.End why.Truncated) st refl refl
 
   -- ---- a reply is taken
 
@@ -233,6 +242,7 @@ module _ (w : Waits) (s : State) (h : Seated s) (k : w ≡ waitsOf (s .engine .a
       subst (Told ts _) (sym (ap (λ (t : Bool). pick t (lastTaken j) (unchanged (takenAt (j .opened) j (getD (st .reply) 0 0)))) (y .0)))
       (goes-on-told (takenAt (j .opened) j (getD (st .reply) 0 0)) (y .1) (e .operation) (y .1 .opened) (h .sits .counts)
       (told-wants ts e (e .peer) st _ (e .operation) (y .1))))
+      (λ j late x v l. goes-on-brief e st (e .operation))
     where
       at : e .awaits ≡ await.Taken
       at = same-await (e .awaits) await.Taken i
@@ -240,6 +250,7 @@ module _ (w : Waits) (s : State) (h : Seated s) (k : w ≡ waitsOf (s .engine .a
       agree-goes w s h k replyTaken 0 _ (fine-ends e st (h .sits .base) (e .peer) why.OtherOperation st (h .sits .base .peer) (h .sits .base .room))
       (λ j x. refl)
       (λ j x u. subst (Told ts _) (sym (ap (λ (t : Bool). pick t (lastTaken j) (unchanged (takenAt (j .opened) j (getD (st .reply) 0 0)))) (coupled-at await.Last j at x))) (told-ends ts e (e .peer) st j why.OtherOperation))
+      (λ j late x v l. brief-done e (e .peer) Nothing await.Nothing 0 (e .length) (outcome.End why.OtherOperation) st refl refl)
     where
       at : e .awaits ≡ await.Last
       at = same-await (e .awaits) await.Last (or-second _ _ r i)

@@ -10,6 +10,7 @@ use lib.ListN.{length, getD, take}
 use lib.Dec.{leb, eqb}
 use borrow.Author.Tests.{ltb-true, ltb-false, lt-leb, le-leb}
 use Rattle.base.specs.Pick.{pick}
+use Rattle.packet.specs.FirstByte.{sameOpcode}
 use Rattle.packet.specs.Codes.{sentCode}
 use Rattle.packet.specs.Header.{allBytes}
 use Rattle.packet.specs.Packet.{Request as Packet, packetBytes}
@@ -58,7 +59,8 @@ module _ (ts : List ℕ) (e : Engine) (s : Stores) (j : Journal) (f : Fixed ts (
   held-after o x z w = record { fixed = record { settings = f .settings; standing = f .standing; ended = f .ended }; begun = refl; opened = w }
 
   pub still-after : (o : Opcode) (x : Opened) → r .opcode ≡ o → Plain o → Still (after j (some r) x)
-  still-after o x i p code hs = ap (λ (u : Opcode). replyTo u (after j (some r) x) r code hs) i ∙ p (after j (some r) x) r code hs
+  still-after o x i p =
+      (λ code hs. ap (λ (u : Opcode). replyTo u (after j (some r) x) r code hs) i ∙ p .0 (after j (some r) x) r code hs, ap (λ (u : Opcode). sameOpcode u op.Connect) i ∙ p .1)
 
   -- ---- Put
 
@@ -82,7 +84,7 @@ module _ (ts : List ℕ) (e : Engine) (s : Stores) (j : Journal) (f : Fixed ts (
 
     put-told : (v : Survey) (srm confirm t u : Bool) → r .opcode ≡ op.Put → x .got .over ≡ t → r .final ≡ u
         → Told ts (putGathered e r v srm confirm x s) (putRead j r srm (pick srm true confirm) c)
-    unfolding putRead
+    unfolding putRead sameOpcode
     put-told v srm confirm true true o i k =
         simp (w .full, i, k, within-test true i)
         (told-code ts e (e .peer) (withGathered s x) (after j (some r) nothing) 0x4D (held-after Nothing nothing (withGathered s x) refl))
@@ -90,7 +92,7 @@ module _ (ts : List ℕ) (e : Engine) (s : Stores) (j : Journal) (f : Fixed ts (
         simp (w .full, i, k, within-test false i)
         (told-done ts e (e .peer) Nothing await.Reply (outcome.Request (request.Put (x .got .kept) (putBody (x .got)))) (withGathered s x)
         (after j (some r) nothing) (c ∷ [])
-        (held-after Nothing nothing (withGathered s x) refl, still-after op.Put nothing o (λ a b y z. refl))
+        (held-after Nothing nothing (withGathered s x) refl, still-after op.Put nothing o (λ a b y z. refl, refl))
         (put-handed i) refl)
     put-told v true confirm t false o i k =
         simp (w .full, k, within-test t i, or-true (not t))

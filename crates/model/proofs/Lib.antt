@@ -5,6 +5,7 @@ pub mod Cases
 pub mod Fit
 pub mod Steps
 pub mod Coupling
+pub mod Sizes
 pub mod Gathers
 pub mod Dispatch
 pub mod Packets

@@ -20,6 +20,7 @@ use Rattle.model.specs.Object.{goesOn}
 use Rattle.model.specs.Connect.{passwordAnswer, nonceAnswer}
 use Rattle.model.specs.Runs.{State, keeps, stepOf, stateOf, lacks}
 use Rattle.model.specs.Refusals.{Waits, roomIn, told, expected, bad, verdict, verdictOf, fedCall, fedBy}
+use Rattle.model.specs.Replies.{Late, lateAfter, replySize}
 use Rattle.model.specs.Theorem.{Kept}
 use Rattle.server.specs.Numbers.{refusalNumber}
 use Rattle.server.specs.declared.CallKind.{CallKind}
@@ -34,6 +35,7 @@ use Rattle.server.specs.declared.Await.the-variants as await
 use Rattle.server.specs.declared.Engine.{Engine}
 use Rattle.model.proofs.Fit.{not-short, waitsOf, Seated, tables-long, is-sound, Fine}
 use Rattle.model.proofs.Coupling.{Coupled, Told}
+use Rattle.model.proofs.Sizes.{Brief, LateAt, Sized, brief-sized}
 
 -- ---- moments
 
@@ -206,6 +208,8 @@ pub record Agree (w : Waits) (s : State) (c : Call) (v : Verdict) (m : Called) :
   pub count : (j : Journal) → Coupled (s .tables) (s .engine) (s .stores) j → m .took .taken ≡ fedTakes j (fedAt s v c)
   pub journal : (j : Journal) → Coupled (s .tables) (s .engine) (s .stores) j → Kept (fedReads j (fedAt s v c))
       → Told (m .tables) (doneOf m) (journalFed j (fedAt s v c))
+  pub sized : (j : Journal) (late : Late) → Coupled (s .tables) (s .engine) (s .stores) j → LateAt (s .engine) (s .stores) late
+      → replySize late j (fedAt s v c) ≤ 65535 → Sized (doneOf m) (lateAfter late j (fedAt s v c))
 
 -- the same of a call that leaves the table store
 abbrev pub AgreeKept : Waits → State → Call → Verdict → Stepped → Type 0
@@ -236,12 +240,18 @@ module _ (w : Waits) (s : State) (h : Seated s) (k : w ≡ waitsOf (s .engine .a
   abbrev fitted : Bool
   fitted = fitting c (waitsOf (e .awaits) (e .operation))
 
+  -- what a call that goes leads to has no reply that is too long, if the journal says so
+  abbrev pub SizedBy : (Journal → Late → Type 0) → Type 0
+  SizedBy p =
+      (j : Journal) (late : Late) → Coupled (s .tables) e st j → LateAt e st late → replySize late j (fedGoing s c) ≤ 65535 → p j late
+
   -- a call that goes, takes `t` bytes, and leaves `u` in the table store
   pub agree-tabled : (d : Done) (t : ℕ) (u : List ℕ) → Fine e d → length u ≡ length (s .tables)
       → ((j : Journal) → Coupled (s .tables) e st j → t ≡ fedTakes j (fedGoing s c))
       → ((j : Journal) → Coupled (s .tables) e st j → Kept (fedReads j (fedGoing s c)) → Told u d (journalFed j (fedGoing s c)))
+      → SizedBy (λ j late. Sized d (lateAfter late j (fedGoing s c)))
       → Agree w s c goes (called (after t d) u)
-  agree-tabled d t u f l n g =
+  agree-tabled d t u f l n g z =
       record {
         due = f .goes;
         settings = f .settings;
@@ -250,14 +260,16 @@ module _ (w : Waits) (s : State) (h : Seated s) (k : w ≡ waitsOf (s .engine .a
         unmoved = λ n i. absurd (let z : _≡_ {A = ℕ} 0 1 = cc in omega arith);
         count = n;
         journal = g;
+        sized = z;
       }
 
   -- a call that goes
   pub agree-goes : (t : ℕ) (d : Done) → Fine e d
       → ((j : Journal) → Coupled (s .tables) e st j → t ≡ fedTakes j (fedGoing s c))
       → ((j : Journal) → Coupled (s .tables) e st j → Kept (fedReads j (fedGoing s c)) → Told (s .tables) d (journalFed j (fedGoing s c)))
+      → SizedBy (λ j late. Brief d)
       → AgreeKept w s c goes (after t d)
-  agree-goes t d f n g = agree-tabled d t (s .tables) f refl n g
+  agree-goes t d f n g z = agree-tabled d t (s .tables) f refl n g (λ j late x y l. brief-sized d (lateAfter late j (fedGoing s c)) (z j late x y l))
 
   -- a call that is refused
   pub agree-refused : (r : Refusal) → AgreeKept w s c (refused (refusalNumber r)) (refuse r e st)
@@ -270,6 +282,7 @@ module _ (w : Waits) (s : State) (h : Seated s) (k : w ≡ waitsOf (s .engine .a
         unmoved = λ m i. refl;
         count = λ j x. refl;
         journal = λ j x y. record { given = refl; after = x; ends = λ i. refl };
+        sized = λ j late x y l. record { small = refl; waiting = y };
       }
 
   -- nothing that is lent is too short

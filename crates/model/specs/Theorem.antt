@@ -4,17 +4,14 @@
 use Prim.Native.Nat.{ℕ, _≤_}
 use mathlib.Core.Path.{_≡_}
 use mathlib.Core.List.{List, [], _∷_, map}
-use mathlib.Core.Bool.{Bool, true, false}
 use lib.ListN.{length}
 use Rattle.journal.specs.Calls.{Fed, refused}
 use Rattle.journal.specs.Journal.{Journal, Settings as JournalSettings, fresh, journalRecords, journalCounts, journalEnds, packets, Marked, keptAfter}
 use Rattle.journal.specs.PutForm.{Exactly}
 use Rattle.model.specs.Refusals.{verdictOf, endOf, due, feed}
+use Rattle.model.specs.Replies.{Replies}
 use Rattle.model.specs.Runs.{State, Performed, next, Ran, records, Started, seen}
 use Rattle.server.specs.declared.Settings.{Settings}
-use Rattle.server.specs.declared.End.the-variants as end
-use Rattle.server.specs.declared.Outcome.{Outcome}
-use Rattle.server.specs.declared.Outcome.the-variants as outcome
 
 -- The settings that the journal keeps, and the journal of a fresh engine with these settings.
 abbrev pub settingsOf : Settings → JournalSettings
@@ -45,25 +42,6 @@ pub record Agrees (st : Settings) (s : State) (xs : List Performed) : Type 0 whe
   -- Each call reports as many bytes as the journal says were taken.
   pub counts : map (λ (x : Performed). x .result .taken) xs ≡ journalCounts (journalOf st) (fed st s xs)
 
--- A reply of over 65,535 bytes ended the engine (7).
-abbrev pub tooLarge : Outcome → Bool
-tooLarge (outcome.End end.ReplyTooLarge) = true
-tooLarge (outcome.End end.Disconnected) = false
-tooLarge (outcome.End end.Truncated) = false
-tooLarge (outcome.End end.LengthTooSmall) = false
-tooLarge (outcome.End end.Unreadable) = false
-tooLarge (outcome.End end.OtherOperation) = false
-tooLarge (outcome.End end.HeadersTooLarge) = false
-tooLarge outcome.WantsBytes = false
-tooLarge (outcome.Reply n) = false
-tooLarge (outcome.Request r) = false
-tooLarge (outcome.Refused r) = false
-
--- The premise on replies: they stay within 65,535 bytes.
-abbrev pub Sent : List Performed → Type 0
-Sent [] = Unit {0}
-Sent (x ∷ xs) = (tooLarge (x .result .outcome) ≡ false) × Sent xs
-
 -- What holds of a run `xs` of calls, from the state `s` of an accepted start with the settings `st`.
 pub record Upholds (st : Settings) (s : State) (xs : List Performed) : Type 0 where
   -- A call is refused exactly if it is due to be, with the number that is due; and then it changes nothing.
@@ -71,7 +49,7 @@ pub record Upholds (st : Settings) (s : State) (xs : List Performed) : Type 0 wh
   pub unmoved : Unmoved s xs
   pub agrees : Kept (packets (journalOf st) (fed st s xs)) → Agrees st s xs
   -- The engine ends in the calls in which the journal says so, and with its number, if replies stay within 65,535 bytes too.
-  pub ends : Kept (packets (journalOf st) (fed st s xs)) → Sent xs
+  pub ends : Kept (packets (journalOf st) (fed st s xs)) → Replies (journalOf st) (fed st s xs)
       → map (λ (x : Performed). endOf (x .result .outcome)) xs ≡ journalEnds (journalOf st) (fed st s xs)
 
 -- The records theorem, from every state that an accepted start leaves.
