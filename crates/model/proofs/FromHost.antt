@@ -155,7 +155,7 @@ module _ (w : Waits) (s : State) (h : Seated s) (k : w ≡ waitsOf (s .engine .a
     unfolding replyAnswer
     reply-sized r j x l =
         sized-pick (sameAwait (e .awaits) await.Connect) _ _ (lateBy (j .last) j hs)
-        (λ m. connect-sized ts e st j (coupled-at w s h k await.Connect j (same-await (e .awaits) await.Connect m) x) code hs l)
+        (λ m. connect-sized ts e st j (coupled-at w s h k await.Connect j (same-await (e .awaits) await.Connect m) x) code hs (h .sits .base .peer) (h .tables) l)
         (λ m. sized-pick (sameAwait (e .awaits) await.Disconnect) _ _ (lateBy (j .last) j hs)
         (λ n. let y = coupled-at w s h k await.Disconnect j (same-await (e .awaits) await.Disconnect n) x in
         brief-sized _ (lateBy (j .last) j hs) (sends-brief e st _ code hs (subst (λ (n : ℕ). n ≤ 65535) (plain-size j (y .held .opened) (disconnects j y)) l)))

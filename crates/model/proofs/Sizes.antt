@@ -4,13 +4,14 @@ use mathlib.Core.Path.{_≡_, refl, sym, ap, ap₂, _∙_, subst}
 use mathlib.Core.List.{List, [], _∷_}
 use mathlib.Core.Bool.{Bool, true, false, _&&_, _||_, not, true≢false, false≢true}
 use mathlib.Core.Option.{Option, none, some}
-use Prim.Native.Nat.{ℕ, _+_, _≤_}
+use Prim.Native.Nat.{ℕ, _+_, _%_, _^_, _≤_}
 use native.Mathlib.Omega.{arith}
 use lib.ListN.{length, take, drop}
-use lib.Seq.{take-append-seam}
-use lib.Dec.{ltb}
+use lib.Seq.{take-append-seam, length-take-le}
+use lib.Dec.{ltb, leb}
 use borrow.Author.Tests.{ltb-false, le-ltb}
 use Rattle.base.specs.Pick.{pick}
+use Rattle.base.specs.Bytes.{be32}
 use Rattle.digest.specs.Md5.{octets16}
 use Rattle.digest.specs.declared.md5.Octets16.{Octets16}
 use Rattle.packet.specs.FirstByte.{sameOpcode}
@@ -21,6 +22,7 @@ use Rattle.packet.specs.Packet.{Request as Packet, requestOf, connectLimit, pac
 use Rattle.packet.specs.Auth.{Challenge as PeerChallenge, Response}
 use Rattle.packet.specs.declared.opcode.Opcode.{Opcode}
 use Rattle.packet.specs.declared.opcode.Opcode.the-variants as op
+use Rattle.journal.specs.Ids.{member}
 use Rattle.journal.specs.Calls.{Credentials}
 use Rattle.journal.specs.Journal.{Settings as JournalSettings, Standing, Opened, Journal, asksSrm, listOf}
 use Rattle.incoming.specs.Survey.{surveyOf}
@@ -33,7 +35,7 @@ use Rattle.outgoing.specs.declared.object.Outgoing.{Outgoing}
 use Rattle.outgoing.specs.declared.object.Next.{Next}
 use Rattle.outgoing.specs.declared.object.Next.the-variants as next
 use Rattle.connection.specs.Reply.{fieldsOf, sendBytes, front}
-use Rattle.connection.specs.Peer.{Linked, openedFor, limited, verifiedPeer, challengedPeer}
+use Rattle.connection.specs.Peer.{idsOf, Linked, opened, searched, openedFor, limited, verifiedPeer, challengedPeer}
 use Rattle.connection.specs.ConnectReply.{answeredChallenge, connectHeaders, challengeHeader}
 use Rattle.connection.specs.Pieces.{idGiven}
 use Rattle.connection.specs.declared.peer.Challenge.{Challenge}
@@ -47,7 +49,7 @@ use Rattle.model.specs.Operation.{gathers, putContinues, putGathered, pu
 use Rattle.model.specs.Object.{sendsMade, sendsPacket, sendsNext, goesOn}
 use Rattle.model.specs.Connect.{srmAsked, connectSends, frontFor, connectChallenged, connectOpened, connectAnswer, verifies, connectPacket, checks, passwordAnswer, optionsOf, realmOf, nonceAnswer}
 use Rattle.model.specs.Dispatch.{Rejection, admits, rejects, rejection, drains, dispatches, admittedAs, dispatch, inside, busy, readAs, knownIn, lengthOf, packetDone}
-use Rattle.model.specs.Replies.{frontIn, acceptedSize, acceptedAt, connectSize, lastSize, answerSize, Late, lateBy}
+use Rattle.model.specs.Replies.{frontIn, isFull, fullFor, acceptedSize, acceptedAt, connectSize, lastSize, answerSize, Late, lateBy}
 use Rattle.model.specs.Theorem.{settingsOf}
 use Rattle.server.specs.declared.Settings.{Settings}
 use Rattle.server.specs.declared.Operation.{Operation}
@@ -58,7 +60,7 @@ use Rattle.server.specs.declared.Engine.{Engine}
 use Rattle.server.specs.declared.HostRequest.the-variants as request
 use Rattle.server.specs.declared.Outcome.{Outcome}
 use Rattle.server.specs.declared.Outcome.the-variants as outcome
-use Rattle.connection.proofs.Standings.{standingOf}
+use Rattle.connection.proofs.Standings.{PeerFits, standingOf}
 use Rattle.connection.proofs.Putting.{challenge-bytes-length}
 use Rattle.model.proofs.Coupling.{AskedBy, tooLarge}
 
@@ -297,6 +299,28 @@ front-is p ts (some v) t = refl
 front-is p ts none none = refl
 front-is p ts none (some v) = refl
 
+-- an id that is opened is no 65th
+not-full : (p : Peer) (ts : List ℕ) (srm : Bool) → PeerFits p → 64 ≤ length ts → (q : Linked) (a t : Option (List ℕ)) → openedFor p ts srm a t ≡ some q
+    → fullFor (standingOf p ts) a t ≡ false
+unfolding opened isFull
+not-full p ts srm f room q a t = by a t
+  where
+    size : length (idsOf p ts) ≡ p .count
+    size = length-take-le (p .count) ts (omega (arith, f .count, room))
+
+    one : (id next : ℕ) → opened p ts srm id next ≡ some q → isFull (standingOf p ts) id ≡ false
+    one id next i = go (member id (idsOf p ts)) (leb 64 (p .count)) refl refl i
+      where
+        go : (x u : Bool) → member id (idsOf p ts) ≡ x → leb 64 (p .count) ≡ u → opened p ts srm id next ≡ some q → isFull (standingOf p ts) id ≡ false
+        go true u m k i = simp m
+        go false true m k i = absurd (let z : _≡_ {A = ℕ} 0 1 = (let y = simp (m, k) at i in cc) in omega arith)
+        go false false m k i = simp (m, size, k)
+
+    by : (a t : Option (List ℕ)) → openedFor p ts srm a t ≡ some q → fullFor (standingOf p ts) a t ≡ false
+    by (some v) t i = one (be32 v 0) (p .«next_connection_id») i
+    by none (some v) i = one (searched p ts) ((searched p ts + 1) % 2 ^ 32) i
+    by none none i = refl
+
 module _ (ts : List ℕ) (e : Engine) (s : Stores) (j : Journal) (w : AskedBy ts (e .settings) (e .peer) op.Connect (e .length) s j) (code : ℕ) (hs : List ℕ) where
   abbrev named : Option (List ℕ)
   named = first 0xCB (listOf (readHeaders hs 0))
@@ -345,18 +369,31 @@ module _ (ts : List ℕ) (e : Engine) (s : Stores) (j : Journal) (w : AskedBy ts
             (take-append-seam hs (drop (length hs) (s .headers))) ∙ sym (late-is c ∙ accepted-is c);
       }
 
-  opened-sized : (q : Option Linked) → acceptedAt (answeredChallenge (lastHeaders e s)) j (w .request) hs ≤ 65535
-      → Sized (connectOpened e ts q code (frontFor (e .peer) ts named target) hs s .done) late
-  opened-sized none l = brief-sized _ late (sends-connect-brief e s (e .peer) 0x53 [] (omega arith))
-  opened-sized (some q) l = challenged-sized (q .peer) (answeredChallenge (lastHeaders e s)) l
+  abbrev srm : Bool
+  srm = e .peer .«srm_enabled» || srmAsked e (surveyOf (some (lastHeaders e s)))
 
-  pub connect-sized : answerSize (j .opened) j code hs ≤ 65535 → Sized (connectAnswer e code hs s ts .done) late
-  unfolding connectAnswer
-  connect-sized l =
-      go (isSuccess code) (subst (λ (n : ℕ). n ≤ 65535) (size-is ∙ ap (λ (x : List Header). pick (isSuccess code) (acceptedAt (answeredChallenge x) j (w .request) hs) (7 + length hs)) headers-are) l)
-    where
-      go : (t : Bool) → pick t (acceptedAt (answeredChallenge (lastHeaders e s)) j (w .request) hs) (7 + length hs) ≤ 65535
-          → Sized (pick t (connectOpened e ts (openedFor (e .peer) ts (e .peer .«srm_enabled» || srmAsked e (surveyOf (some (lastHeaders e s)))) named target) code (frontFor (e .peer) ts named target) hs s)
-          (doneTabled (sendsConnect e (e .peer) code hs s) ts) .done) late
-      go true k = opened-sized (openedFor (e .peer) ts (e .peer .«srm_enabled» || srmAsked e (surveyOf (some (lastHeaders e s)))) named target) k
-      go false k = brief-sized (sendsConnect e (e .peer) code hs s) late (sends-connect-brief e s (e .peer) code hs k)
+  abbrev acceptedOr : Bool → ℕ
+  acceptedOr full = pick full 7 (acceptedAt (answeredChallenge (lastHeaders e s)) j (w .request) hs)
+
+  module _ (fits : PeerFits (e .peer)) (room : 64 ≤ length ts) where
+    opened-sized : (q : Option Linked) → openedFor (e .peer) ts srm named target ≡ q → acceptedOr (fullFor (standingOf (e .peer) ts) named target) ≤ 65535
+        → Sized (connectOpened e ts q code (frontFor (e .peer) ts named target) hs s .done) late
+    opened-sized none i l = brief-sized _ late (sends-connect-brief e s (e .peer) 0x53 [] (omega arith))
+    opened-sized (some q) i l =
+        challenged-sized (q .peer) (answeredChallenge (lastHeaders e s))
+        (subst (λ (t : Bool). acceptedOr t ≤ 65535) (not-full (e .peer) ts srm fits room q named target i) l)
+
+    -- by the headers of the request and the standing, which engine and journal share
+    abbrev sizeBy : List Header → Standing → ℕ
+    sizeBy x y = pick (isSuccess code) (pick (fullFor y named (first 0x46 x)) 7 (acceptedAt (answeredChallenge x) j (w .request) hs)) (7 + length hs)
+
+    pub connect-sized : answerSize (j .opened) j code hs ≤ 65535 → Sized (connectAnswer e code hs s ts .done) late
+    unfolding connectAnswer
+    connect-sized l =
+        go (isSuccess code) (subst (λ (n : ℕ). n ≤ 65535) (size-is ∙ ap₂ sizeBy headers-are (w .held .fixed .standing)) l)
+      where
+        go : (t : Bool) → pick t (acceptedOr (fullFor (standingOf (e .peer) ts) named target)) (7 + length hs) ≤ 65535
+            → Sized (pick t (connectOpened e ts (openedFor (e .peer) ts srm named target) code (frontFor (e .peer) ts named target) hs s)
+            (doneTabled (sendsConnect e (e .peer) code hs s) ts) .done) late
+        go true k = opened-sized (openedFor (e .peer) ts srm named target) refl k
+        go false k = brief-sized (sendsConnect e (e .peer) code hs s) late (sends-connect-brief e s (e .peer) code hs k)

@@ -3,9 +3,13 @@
 -- Continue, a challenge, a packet of an object.
 use Prim.Native.Nat.{ℕ, _+_, _≤_}
 use mathlib.Core.List.{List, [], _∷_}
+use mathlib.Core.Bool.{Bool, false, _&&_, not}
 use mathlib.Core.Option.{Option, none, some}
 use lib.ListN.{length}
+use lib.Dec.{leb}
 use Rattle.base.specs.Pick.{pick}
+use Rattle.base.specs.Bytes.{be32}
+use Rattle.packet.specs.Limits.{maxConnections}
 use Rattle.packet.specs.HeaderIds as header-id
 use Rattle.packet.specs.FirstByte.{sameOpcode}
 use Rattle.packet.specs.Codes.{isSuccess}
@@ -13,7 +17,7 @@ use Rattle.packet.specs.Header.{readHeaders, first, allBytes}
 use Rattle.packet.specs.Packet.{Request}
 use Rattle.packet.specs.Auth.{Challenge}
 use Rattle.packet.specs.declared.opcode.Opcode.the-variants.{Connect}
-use Rattle.journal.specs.Ids.{newId}
+use Rattle.journal.specs.Ids.{member, newId}
 use Rattle.journal.specs.Calls.{Credentials, Call, bytesOffered, streamEnded, replyTaken, replyGiven, objectGiven, bodyGiven, bodyFailed, abortAcknowledged, passwordGiven, nonceGiven, credentialsGiven, Fed, noStep, stepBy, replySent}
 use Rattle.journal.specs.Journal.{Standing, Opened, nothing, putting, getting, sending, gathering, draining, Journal, asksSrm, listOf, journalStep}
 use Rattle.connection.specs.ConnectReply.{answeredChallenge, connectHeaders}
@@ -24,8 +28,16 @@ frontIn s (some v) target = none
 frontIn s none none = none
 frontIn s none (some t) = some (newId (s .ids) (s .next))
 
--- The reply to the Connect `r`, which the host accepts with the header bytes `hs`, by the credentials for the client's challenge. A 65th
--- id is refused with a shorter reply, which is not told apart here.
+-- The id would be a 65th. Such a Connect is refused with a reply without headers.
+unfoldable pub isFull : Standing → ℕ → Bool
+isFull s id = not (member id (s .ids)) && leb maxConnections (length (s .ids))
+
+abbrev pub fullFor : Standing → Option (List ℕ) → Option (List ℕ) → Bool
+fullFor s (some v) target = isFull s (be32 v 0)
+fullFor s none (some t) = isFull s (newId (s .ids) (s .next))
+fullFor s none none = false
+
+-- The reply to the Connect `r`, which the host accepts with the header bytes `hs`, by the credentials for the client's challenge.
 unfoldable pub acceptedSize : Journal → Request → List ℕ → Option Credentials → ℕ
 acceptedSize j r hs c =
     let answer = listOf (readHeaders hs 0) in
@@ -39,7 +51,9 @@ acceptedAt (some c) j r hs = 0
 
 -- The reply to the host's answer to a Connect.
 abbrev pub connectSize : Journal → Request → ℕ → List ℕ → ℕ
-connectSize j r code hs = pick (isSuccess code) (acceptedAt (answeredChallenge (r .headers)) j r hs) (7 + length hs)
+connectSize j r code hs =
+    let full = fullFor (j .standing) (first header-id.connectionId (listOf (readHeaders hs 0))) (first header-id.target (r .headers)) in
+    pick (isSuccess code) (pick full 7 (acceptedAt (answeredChallenge (r .headers)) j r hs)) (7 + length hs)
 
 -- The reply to the host's answer, by the last packet: any but a Connect is answered with the host's headers alone.
 abbrev pub lastSize : Option Request → Journal → ℕ → List ℕ → ℕ
