@@ -1,5 +1,6 @@
 -- Theorems over the definitions of specs/, and no code: `Laws` (what packets carry, and bytes read in pieces), `Scan` (the Put forms, found
--- in one pass), `Forms` (the journal's records are theirs).
+-- in one pass), `Forms` (the journal's records are theirs), `Ends` (where the journal ends, and how many bytes it takes).
 pub mod Laws
 pub mod Scan
 pub mod Forms
+pub mod Ends
