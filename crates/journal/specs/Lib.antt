@@ -4,4 +4,5 @@ pub mod Ids
 pub mod Calls
 pub mod Journal
 pub mod PutForm
+pub mod Srm
 pub mod Claim

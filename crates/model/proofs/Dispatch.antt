@@ -67,14 +67,14 @@ module _ (ts : List ℕ) (e : Engine) (s : Stores) (j : Journal) (f : Fixed ts (
   abbrev known : Bool
   known = knownIn e ts v
 
-  rejection-is : rejection e (r .opcode) v known ≡ pick noPassword (rejects 0x41) (pick closedId (rejects 0x53) admits)
+  pub rejection-is : rejection e (r .opcode) v known ≡ pick noPassword (rejects 0x41) (pick closedId (rejects 0x53) admits)
   unfolding rejection unauthorized surveyOf
   rejection-is =
       ap (λ (t : Bool). pick (e .settings .authentication && (not (e .peer .authenticated) && not (sameOpcode (r .opcode) op.Disconnect))) (rejects 0x41)
       (pick t (rejects 0x53) admits)) (known-open (v .«has_id») (member (v .id) (idsOf (e .peer) ts)))
       ∙ rw (f .settings, f .standing) (rw (survey-open (idsOf (e .peer) ts) (first 0xCB (r .headers))) refl)
 
-  admitted-is : admitted (j .settings) (j .standing) r ≡ (not noPassword && not closedId)
+  pub admitted-is : admitted (j .settings) (j .standing) r ≡ (not noPassword && not closedId)
   unfolding admitted
   admitted-is = refl
 
@@ -92,7 +92,7 @@ module _ (ts : List ℕ) (e : Engine) (s : Stores) (j : Journal) (f : Fixed ts (
   drops code = told-code ts e (e .peer) s (after j (some r) nothing) code (held-after ts e s j f r Nothing nothing s refl)
 
   -- turned away: drained, or dropped
-  srm-is : j .standing .srm ≡ e .peer .«srm_enabled»
+  pub srm-is : j .standing .srm ≡ e .peer .«srm_enabled»
   srm-is = ap (λ (x : Standing). x .srm) (f .standing)
 
   turned-away : (code : ℕ) → drains (r .opcode) ≡ true → Told ts (rejected e r code s) (turnedAway j r)
@@ -153,7 +153,7 @@ module _ (ts : List ℕ) (e : Engine) (s : Stores) (j : Journal) (f : Fixed ts (
     -- ---- nothing is open
 
     module _ (h : Base e s) (small : length (allBytes (r .headers)) ≤ 65535) where
-      none-kept : KeptAgrees (limitOf e) (gatheringOf nothingGathered (s .headers) (s .body)) []
+      pub none-kept : KeptAgrees (limitOf e) (gatheringOf nothingGathered (s .headers) (s .body)) []
       none-kept = kept-begins (limitOf e) (s .headers) (s .body) (h .room .headers) (h .room .body)
 
       plain-told : (o : Opcode) → r .opcode ≡ o → Plain o → Told ts (headersPacket e r o nothingGathered s) (gatherRead j r o (allBytes (r .headers)))
@@ -164,7 +164,7 @@ module _ (ts : List ℕ) (e : Engine) (s : Stores) (j : Journal) (f : Fixed ts (
       srm-next true a = refl
       srm-next false a = refl
 
-      confirms-is : confirms e v ≡ (not (j .standing .srm) && asksSrm (j .settings) (r .headers))
+      pub confirms-is : confirms e v ≡ (not (j .standing .srm) && asksSrm (j .settings) (r .headers))
       unfolding surveyOf asksSrm
       confirms-is = rw (f .settings, f .standing) refl
 

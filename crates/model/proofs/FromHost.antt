@@ -29,9 +29,10 @@ use Rattle.model.specs.Object.{sendsPacket, sendsNext, objectOf}
 use Rattle.model.specs.Calls.{replyAnswer, objectFor, bodyFor, credentialsWith}
 use Rattle.model.specs.Runs.{State, keeps}
 use Rattle.model.specs.Refusals.{Waits, roomIn, bad}
+use Rattle.journal.specs.Srm.{speaks, Mode, objectMode}
 use Rattle.model.specs.Replies.{connectSize, lastSize, answerSize, Late, lateBy}
 use Rattle.server.specs.declared.Operation.{Operation}
-use Rattle.server.specs.declared.Operation.the-variants.{Nothing, Connecting}
+use Rattle.server.specs.declared.Operation.the-variants.{Nothing, Sending, Connecting}
 use Rattle.server.specs.declared.CallKind.the-variants as kind
 use Rattle.server.specs.declared.Refusal.the-variants as refusal
 use Rattle.server.specs.declared.Await.{Await}
@@ -42,9 +43,10 @@ use Rattle.model.proofs.Fit.{and-left, and-right, or-left, or-right, ro
 use Rattle.model.proofs.Steps.{OutgoingFits, outgoing-within, sends-next-fine, sends-packet-fine, reply-fine, password-fine, nonce-fine, connect-sends-fine}
 use Rattle.model.proofs.Coupling.{KeptOpen, OpenedAt, Held, AskedBy, connects, Coupled, Told, ToldTabled, tabled-told-pick, told-code}
 use Rattle.model.proofs.Sizes.{early, Brief, brief-done, packet-brief, next-brief, password-brief, sends-brief, sends-connect-brief, nonce-brief, LateIn, LateAt, Sized, brief-sized, sized-pick, connect-sized}
+use Rattle.model.proofs.Speaks.{ModeAt, Spoken, spoken-done, next-spoken, packet-spoken, speaks-spoken, reply-speaks, password-speaks, nonce-speaks, connect-sends-speaks}
 use Rattle.model.proofs.Gathers.{next-told, fails-told, sends-told as made-told}
 use Rattle.model.proofs.Answers.{sends-told, connect-sends-told, connect-told, disconnect-told, password-told, nonce-told}
-use Rattle.model.proofs.Moments.{same-await, or-second, fedGoing, SizedBy, Agree, AgreeKept, Agrees, fed-goes, none-taken, agree-tabled, agree-goes, agree-refused, agrees}
+use Rattle.model.proofs.Moments.{same-await, or-second, fedGoing, SizedBy, SpokenBy, Agree, AgreeKept, Agrees, fed-goes, none-taken, agree-tabled, agree-goes, agree-refused, agrees}
 use Rattle.model.proofs.FromPeer.{coupled-at}
 
 -- an answer's headers that are not refused fit the header store
@@ -82,10 +84,10 @@ module _ (w : Waits) (s : State) (h : Seated s) (k : w ≡ waitsOf (s .engine .a
   -- an answer that may be refused with 8
   checked-agrees : (c : Call) (b : Bool) (d : Done) → (b ≡ false → Fine e d) → ((j : Journal) → 0 ≡ fedTakes j (fedGoing s c))
       → (b ≡ false → (j : Journal) → Coupled ts e st j → Told ts d (journalFed j (fedGoing s c)))
-      → SizedBy w s h k c (λ j late. Brief d)
+      → SizedBy w s h k c (λ j late. Brief d) → SpokenBy w s h k c d
       → AgreeKept w s c (pick b (refused 8) goes) (checked b e st d)
-  checked-agrees c true d f n g z = agree-refused w s h k c refusal.BadAnswer
-  checked-agrees c false d f n g z = agree-goes w s h k c 0 d (f refl) (λ j x. n j) (λ j x u. g refl j x) z
+  checked-agrees c true d f n g z a = agree-refused w s h k c refusal.BadAnswer
+  checked-agrees c false d f n g z a = agree-goes w s h k c 0 d (f refl) (λ j x. n j) (λ j x u. g refl j x) z a
 
   -- ---- a reply
 
@@ -175,6 +177,7 @@ module _ (w : Waits) (s : State) (h : Seated s) (k : w ≡ waitsOf (s .engine .a
             let f = reply-fine e st (h .sits .base) ts (h .tables) code hs (reply-headers-fit code hs i) in
             agree-tabled w s h k (replyGiven code hs) (replyAnswer e code hs st ts .done) 0 (replyAnswer e code hs st ts .tables) (f .done) (f .tables)
             (λ j x. none-taken (j .ended)) (λ j x u. reply-told r j x) (λ j late x y l. reply-sized r j x l)
+            (λ j o x y l. speaks-spoken _ o (reply-speaks e st code hs ts))
 
   -- ---- an object
 
@@ -205,7 +208,10 @@ module _ (w : Waits) (s : State) (h : Seated s) (k : w ≡ waitsOf (s .engine .a
         (headers-fit hs b))
         (λ j. none-taken (j .ended))
         (λ b j y. object-told (headers-fit hs b) (v .srm || v .confirm) (v .confirm) (v .wait) at j y)
-        (λ j late x y l. next-brief e z (objectOf (length hs) (v .confirm) has) (v .srm || v .confirm) (v .wait)))
+        (λ j late x y l. next-brief e z (objectOf (length hs) (v .confirm) has) (v .srm || v .confirm) (v .wait))
+        (λ j o x y l. let i : o ≡ record { on = v .srm; asked = v .confirm; wait = v .wait } = subst (λ (q : Operation). ModeAt q o) (v .is) y in
+        next-spoken e z (objectOf (length hs) (v .confirm) has) (v .srm || v .confirm) (v .wait) (objectMode o)
+        (ap (λ (q : Mode). q .on || q .asked) i) (ap (λ (q : Mode). q .wait) i)))
 
     pub object-agrees : Agrees w s (objectGiven hs has)
     unfolding bad
@@ -226,12 +232,12 @@ module _ (w : Waits) (s : State) (h : Seated s) (k : w ≡ waitsOf (s .engine .a
 
   module _ (d : List ℕ) where
     -- more than were asked for is refused with 9
-    body-at : e .awaits ≡ await.Body → (o : Outgoing) (c : Chunk) (srm wait : Bool) → OutgoingFits o c → (t : Bool) → ltb (c .room) (length d) ≡ t
+    body-at : e .awaits ≡ await.Body → (o : Outgoing) (c : Chunk) (srm wait : Bool) → e .operation ≡ Sending o c srm wait → OutgoingFits o c → (t : Bool) → ltb (c .room) (length d) ≡ t
         → AgreeKept w s (bodyGiven d) (pick (leb (length d) (c .room)) goes (refused 9)) (pick t (refuse refusal.WrongMoment e st) (after 0 (sendsPacket e srm wait (givenBody o c d (st .reply)) st)))
-    body-at at o c srm wait y true i =
+    body-at at o c srm wait is y true i =
         let more : c .room < length d = ltb-true _ _ i in
         subst (λ (t : Bool). AgreeKept w s (bodyGiven d) (pick t goes (refused 9)) (refuse refusal.WrongMoment e st)) (sym (lt-leb (length d) (c .room) more)) (agree-refused w s h k (bodyGiven d) refusal.WrongMoment)
-    body-at at o c srm wait y false i =
+    body-at at o c srm wait is y false i =
         let within : length d ≤ c .room = ltb-false _ _ i in
         let m = body-sends o c d (st .reply) (h .sits .base .room .reply) within (y .begun) (y .chunk) (y .sent) in
         subst (λ (t : Bool). AgreeKept w s (bodyGiven d) (pick t goes (refused 9)) (after 0 (sendsPacket e srm wait (givenBody o c d (st .reply)) st))) (sym (le-leb (length d) (c .room) within))
@@ -240,14 +246,16 @@ module _ (w : Waits) (s : State) (h : Seated s) (k : w ≡ waitsOf (s .engine .a
         (λ j x u. let l = body-held at j x in
         entered (bodyGiven d) j _ (l .fixed .ended)
         (made-told ts e st j (l .fixed) (l .begun) (body-open at j x) o srm wait (givenBody o c d (st .reply)) m))
-        (λ j late x y l. packet-brief e st srm wait (givenBody o c d (st .reply))))
+        (λ j late x y l. packet-brief e st srm wait (givenBody o c d (st .reply)))
+        (λ j q x u l. let i : ModeAt (Sending o c srm wait) q = subst (λ (a : Operation). ModeAt a q) is u in
+        packet-spoken e st srm wait (givenBody o c d (st .reply)) q (i .0) (i .1)))
 
     body-for : e .awaits ≡ await.Body → (v : IsSending (e .operation))
         → AgreeKept w s (bodyGiven d) (pick (leb (length d) (roomIn (waitsOf (e .awaits) (e .operation)))) goes (refused 9)) (bodyFor (e .operation) e d st)
     body-for at v =
         subst (λ (a : Await). AgreeKept w s (bodyGiven d) (pick (leb (length d) (roomIn (waitsOf a (e .operation)))) goes (refused 9)) (bodyFor (e .operation) e d st)) (sym at)
         (subst (λ (o : Operation). AgreeKept w s (bodyGiven d) (pick (leb (length d) (roomOf o)) goes (refused 9)) (bodyFor o e d st)) (sym (v .is))
-        (body-at at (v .outgoing) (v .chunk) (v .srm) (v .wait)
+        (body-at at (v .outgoing) (v .chunk) (v .srm) (v .wait) (v .is)
         (outgoing-within (v .outgoing) (v .chunk) (ap (soundOperation (limitOf e)) (sym (v .is)) ∙ h .sits .counts)) _ refl))
 
     pub body-agrees : Agrees w s (bodyGiven d)
@@ -265,7 +273,8 @@ module _ (w : Waits) (s : State) (h : Seated s) (k : w ≡ waitsOf (s .engine .a
       (λ j x. none-taken (j .ended))
       (λ j x u. let l = body-held at j x in entered bodyFailed j _ (l .fixed .ended)
       (fails-told ts e st j (l .fixed) (l .begun) (body-open at j x) (st .reply)))
-      (λ j late x y l. brief-done e (e .peer) Nothing await.Taken 0 (e .length) _ _ refl refl))
+      (λ j late x y l. brief-done e (e .peer) Nothing await.Taken 0 (e .length) _ _ refl refl)
+      (λ j o x y l. spoken-done e (e .peer) Nothing await.Taken 0 (e .length) _ _ speaks o refl tt))
 
   -- ---- an Abort is acknowledged; the password, the nonce, credentials
 
@@ -277,7 +286,8 @@ module _ (w : Waits) (s : State) (h : Seated s) (k : w ≡ waitsOf (s .engine .a
       (λ j x. none-taken (j .ended))
       (λ j x u. let y = coupled-at w s h k await.Acknowledgement j (same-await (e .awaits) await.Acknowledgement r) x in
       entered abortAcknowledged j _ (y .fixed .ended) (told-code ts e (e .peer) st j 0x20 y))
-      (λ j late x y l. brief-done e (e .peer) Nothing await.Taken 0 (e .length) _ _ refl refl))
+      (λ j late x y l. brief-done e (e .peer) Nothing await.Taken 0 (e .length) _ _ refl refl)
+      (λ j o x y l. spoken-done e (e .peer) Nothing await.Taken 0 (e .length) _ _ speaks o refl tt))
 
   pub password-agrees : (p : Option (List ℕ)) → Agrees w s (passwordGiven p)
   unfolding bad
@@ -287,7 +297,8 @@ module _ (w : Waits) (s : State) (h : Seated s) (k : w ≡ waitsOf (s .engine .a
       (λ j x. none-taken (j .ended))
       (λ j x u. let y = coupled-at w s h k await.Password j (same-await (e .awaits) await.Password r) x in
       entered (passwordGiven p) j _ (y .held .fixed .ended) (password-told ts e st j op.Connect y refl p))
-      (λ j late x y l. password-brief e st p))
+      (λ j late x y l. password-brief e st p)
+      (λ j o x y l. speaks-spoken _ o (password-speaks e st p)))
 
   -- the realm is not too long, since it was not at the start
   pub nonce-agrees : (n : Octets16) → Agrees w s (nonceGiven n)
@@ -299,7 +310,8 @@ module _ (w : Waits) (s : State) (h : Seated s) (k : w ≡ waitsOf (s .engine .a
       (λ j x. none-taken (j .ended))
       (λ j x u. let y = coupled-at w s h k await.Nonce j (same-await (e .awaits) await.Nonce r) x in
       entered (nonceGiven n) j _ (y .held .fixed .ended) (nonce-told ts e st j op.Connect y n (s .realm)))
-      (λ j late x y l. nonce-brief e st n (s .realm) (h .realm))))
+      (λ j late x y l. nonce-brief e st n (s .realm) (h .realm))
+      (λ j o x y l. speaks-spoken _ o (nonce-speaks e st n (s .realm)))))
 
   -- the reply that credentials lead to has the size that the journal says
   credentials-brief : (c : Option Credentials) → e .awaits ≡ await.Credentials → (v : IsConnecting (e .operation)) (late : Late) → LateAt e st late
@@ -320,7 +332,8 @@ module _ (w : Waits) (s : State) (h : Seated s) (k : w ≡ waitsOf (s .engine .a
       (λ j. none-taken (j .ended))
       (λ b j x. let y = coupled-at w s h k await.Credentials j at x in
       entered (credentialsGiven c) j _ (y .fixed .ended) (connect-sends-told ts e st (e .peer) j y (v .code) (v .front) answer c))
-      (λ j late x y l. credentials-brief c at v late y l))
+      (λ j late x y l. credentials-brief c at v late y l)
+      (λ j o x y l. speaks-spoken _ o (connect-sends-speaks e st (e .peer) (v .code) (v .front) answer c)))
 
   pub credentials-agree : (c : Option Credentials) → Agrees w s (credentialsGiven c)
   unfolding bad

@@ -14,7 +14,7 @@ use Rattle.journal.specs.Journal.{Journal, unchanged, begin, end, endsWith, Rea
 use Rattle.incoming.specs.Frame.{Frames, framed}
 use Rattle.incoming.specs.declared.frame.Frame.{Frame}
 use Rattle.incoming.specs.declared.frame.Frame.the-variants.{More, Whole, Short}
-use Rattle.model.specs.Step.{Stores, done, wants, ends, after, engineWith, limitOf}
+use Rattle.model.specs.Step.{Stores, Done, done, wants, ends, after, engineWith, limitOf}
 use Rattle.model.specs.Request.{lastPacket}
 use Rattle.model.specs.Dispatch.{lengthOf, packetDone}
 use Rattle.model.specs.Calls.{framedAs, withPacket, offers}
@@ -22,6 +22,7 @@ use Rattle.model.specs.Guard.{sameAwait, fits, soundOperation}
 use Rattle.model.specs.Object.{goesOn}
 use Rattle.model.specs.Runs.{State}
 use Rattle.model.specs.Refusals.{Waits, bad}
+use Rattle.journal.specs.Srm.{silent, speaks, Mode, packetDue, packetMode, readDue, readMode, takenDue, dueIn, modeAfter}
 use Rattle.model.specs.Theorem.{Kept}
 use Rattle.server.specs.Numbers.{endNumber}
 use Rattle.server.specs.declared.Operation.{Operation}
@@ -37,6 +38,7 @@ use Rattle.model.proofs.Fit.{and-left, and-right, Room, Shape, waitsOf,
 use Rattle.model.proofs.Steps.{outgoing-within, sends-next-fine, read-fine}
 use Rattle.model.proofs.Coupling.{OpenedAt, Held, CoupledAt, Coupled, Told, told-pick, told-ends, told-wants}
 use Rattle.model.proofs.Sizes.{early, Brief, brief-done, done-brief, goes-on-brief}
+use Rattle.model.proofs.Speaks.{ModeAt, Spoken, spoken-done, goes-on-spoken, read-spoken}
 use Rattle.model.proofs.Gathers.{next-told}
 use Rattle.model.proofs.Packets.{read-told}
 use Rattle.model.proofs.Moments.{same-await, or-second, AgreeKept, Agrees, fed-goes, none-taken, agree-goes, agrees}
@@ -153,6 +155,23 @@ module _ (w : Waits) (s : State) (h : Seated s) (k : w ≡ waitsOf (s .engine .a
         (take n (f .packet)) (requestOf (take n (f .packet))) refl
         (subst (λ (p : List ℕ). length (keptRead (j .opened) (requestOf p)) ≤ 65535) (g .bytes) (y .0)))
 
+    whole-spoken : (q : List ℕ) → Frames-agree (st .packet) f (whole q) → (j : Journal) (o : Mode) → Begins j → ModeAt (e .operation) o
+        → Kept (readIn j (whole q)) → Spoken (packetDone e n z ts) (readDue (whole q) o j) (readMode (whole q) o j)
+    unfolding engineWith packetDone keptAfter
+    whole-spoken q (a, g, l) j o x v y =
+        subst (λ (p : List ℕ). Spoken (packetDone e n z ts) (packetDue (requestOf p) o j) (packetMode (requestOf p) o j)) (sym (g .bytes))
+        (read-spoken ts (lengthOf e n) z j (record { settings = x .fixed .settings; standing = x .fixed .standing; ended = x .fixed .ended }) o
+        (whole-base q (a, g, l)) (subst Octets (g .bytes) (g .octets)) (x .opened) v
+        (take n (f .packet)) (requestOf (take n (f .packet))) refl
+        (subst (λ (p : List ℕ). length (keptRead (j .opened) (requestOf p)) ≤ 65535) (g .bytes) (y .0)))
+
+    -- what is due, by what the journal reads
+    read-spoken-at : (j : Journal) (o : Mode) (r : Read) → Begins j → readUp (take (e .begun) (st .packet)) i ≡ r → {d : Done}
+        → Spoken d (readDue r o j) (readMode r o j)
+        → Spoken d (dueIn o j (stepBy (bytesOffered i))) (modeAfter o j (stepBy (bytesOffered i)))
+    read-spoken-at j o r x q {d} v =
+        subst (λ (k : Read). Spoken d (readDue k o j) (readMode k o j)) (sym (ap (λ (l : List ℕ). readUp l i) (x .begun) ∙ q)) v
+
     -- by where the bytes end
     frame-at : (x : Frame) → f .result .frame ≡ x → AgreeKept w s (bytesOffered i) goes (framedAs x e n reported z ts)
         → AgreeKept w s (bytesOffered i) goes (offers e f st ts)
@@ -165,20 +184,26 @@ module _ (w : Waits) (s : State) (h : Seated s) (k : w ≡ waitsOf (s .engine .a
         (agree-goes w s h k (bytesOffered i) reported _ (more-fine q g)
         (λ j x. count-at j (coupled-at await.Bytes j at x))
         (λ j x u. subst (Told ts _) (sym (journal-reads j (more q) (coupled-at await.Bytes j at x) y)) (more-told q g j (coupled-at await.Bytes j at x)))
-        (λ j late x v l. brief-done e (e .peer) (e .operation) (e .awaits) n (e .length) outcome.WantsBytes z refl (ap early at)))
+        (λ j late x v l. brief-done e (e .peer) (e .operation) (e .awaits) n (e .length) outcome.WantsBytes z refl (ap early at))
+        (λ j o x v l. read-spoken-at j o (more q) (coupled-at await.Bytes j at x) y
+        (spoken-done e (e .peer) (e .operation) (e .awaits) n (e .length) outcome.WantsBytes z silent o refl v)))
     read-agrees (whole q) y g =
         frame-at Whole (g .0)
         (agree-goes w s h k (bytesOffered i) reported _ (whole-fine q g)
         (λ j x. count-at j (coupled-at await.Bytes j at x))
         (λ j x u. subst (Told ts _) (sym (journal-reads j (whole q) (coupled-at await.Bytes j at x) y))
         (whole-told q g j (coupled-at await.Bytes j at x) (kept-reads j (whole q) (coupled-at await.Bytes j at x) y u)))
-        (λ j late x v l. done-brief e n z ts))
+        (λ j late x v l. done-brief e n z ts)
+        (λ j o x v l. read-spoken-at j o (whole q) (coupled-at await.Bytes j at x) y
+        (whole-spoken q g j o (coupled-at await.Bytes j at x) v (kept-reads j (whole q) (coupled-at await.Bytes j at x) y l))))
     read-agrees short y g =
         frame-at Short (g .0)
         (agree-goes w s h k (bytesOffered i) reported _ (fine-ends e st (h .sits .base) (e .peer) why.LengthTooSmall z (h .sits .base .peer) (room-at (g .1)))
         (λ j x. count-at j (coupled-at await.Bytes j at x))
         (λ j x u. subst (Told ts _) (sym (journal-reads j short (coupled-at await.Bytes j at x) y)) (told-ends ts e (e .peer) z (end j) why.LengthTooSmall))
-        (λ j late x v l. brief-done e (e .peer) Nothing await.Nothing 0 (e .length) (outcome.End why.LengthTooSmall) z refl refl))
+        (λ j late x v l. brief-done e (e .peer) Nothing await.Nothing 0 (e .length) (outcome.End why.LengthTooSmall) z refl refl)
+        (λ j o x v l. read-spoken-at j o short (coupled-at await.Bytes j at x) y
+        (spoken-done e (e .peer) Nothing await.Nothing 0 (e .length) (outcome.End why.LengthTooSmall) z speaks o refl tt)))
 
   pub bytes-agree : (i : List ℕ) → Octets i → Agrees w s (bytesOffered i)
   unfolding bad
@@ -199,7 +224,8 @@ module _ (w : Waits) (s : State) (h : Seated s) (k : w ≡ waitsOf (s .engine .a
       subst (Told ts _) (sym (fed-goes j streamEnded (y .fixed .ended)
       ∙ ap (λ (n : ℕ). endsWith n j) (ap streamNumber (y .begun) ∙ stream-number (st .packet) (e .begun) (omega (arith, h .sits .begun .small, h .sits .base .room .packet)))))
       (told-ends ts e (e .peer) st (end j) (pick (eqb (e .begun) 0) why.Disconnected why.Truncated)))
-      (λ j late x v l. stream-brief (eqb (e .begun) 0)))
+      (λ j late x v l. stream-brief (eqb (e .begun) 0))
+      (λ j o x v l. spoken-done e (e .peer) Nothing await.Nothing 0 (e .length) (outcome.End (pick (eqb (e .begun) 0) why.Disconnected why.Truncated)) st speaks o refl tt))
     where
       stream-brief : (t : Bool) → Brief (ends e (e .peer) (pick t why.Disconnected why.Truncated) st)
       stream-brief true = brief-done e (e .peer) Nothing await.Nothing 0 (e .length) (outcome.End why.Disconnected) st refl refl
@@ -243,6 +269,9 @@ module _ (w : Waits) (s : State) (h : Seated s) (k : w ≡ waitsOf (s .engine .a
       (goes-on-told (takenAt (j .opened) j (getD (st .reply) 0 0)) (y .1) (e .operation) (y .1 .opened) (h .sits .counts)
       (told-wants ts e (e .peer) st _ (e .operation) (y .1))))
       (λ j late x v l. goes-on-brief e st (e .operation))
+      (λ j o x v l. let y = coupled-at await.Taken j at x in
+      subst (λ (t : Bool). Spoken (goesOn (e .operation) e st) (pick t speaks (takenDue (takenAt (j .opened) j (getD (st .reply) 0 0) .opened) o)) o) (sym (y .0))
+      (goes-on-spoken e st (limitOf e) (e .operation) (st .headers) (st .body) (takenAt (j .opened) j (getD (st .reply) 0 0) .opened) o refl (y .1 .opened) v))
     where
       at : e .awaits ≡ await.Taken
       at = same-await (e .awaits) await.Taken i
@@ -251,6 +280,9 @@ module _ (w : Waits) (s : State) (h : Seated s) (k : w ≡ waitsOf (s .engine .a
       (λ j x. refl)
       (λ j x u. subst (Told ts _) (sym (ap (λ (t : Bool). pick t (lastTaken j) (unchanged (takenAt (j .opened) j (getD (st .reply) 0 0)))) (coupled-at await.Last j at x))) (told-ends ts e (e .peer) st j why.OtherOperation))
       (λ j late x v l. brief-done e (e .peer) Nothing await.Nothing 0 (e .length) (outcome.End why.OtherOperation) st refl refl)
+      (λ j o x v l.
+      subst (λ (t : Bool). Spoken (ends e (e .peer) why.OtherOperation st) (pick t speaks (takenDue (takenAt (j .opened) j (getD (st .reply) 0 0) .opened) o)) o)
+      (sym (coupled-at await.Last j at x)) (spoken-done e (e .peer) Nothing await.Nothing 0 (e .length) (outcome.End why.OtherOperation) st speaks o refl tt))
     where
       at : e .awaits ≡ await.Last
       at = same-await (e .awaits) await.Last (or-second _ _ r i)

@@ -68,7 +68,7 @@ module _ (ts : List ℕ) (e : Engine) (s : Stores) (j : Journal) (f : Fixed ts (
     limit-is : j .settings .limit ≡ limitOf e
     limit-is = ap (λ (u : JournalSettings). u .limit) (f .settings)
 
-    within-test : (t : Bool) → x .got .over ≡ t → leb (sizeOf c) (j .settings .limit) ≡ not t
+    pub within-test : (t : Bool) → x .got .over ≡ t → leb (sizeOf c) (j .settings .limit) ≡ not t
     within-test true i =
         let z : limitOf e < sizeOf c = ltb-true _ _ (sym (w .over) ∙ i) in lt-leb (sizeOf c) (j .settings .limit) (omega (arith, limit-is))
     within-test false i =

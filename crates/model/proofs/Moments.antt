@@ -21,6 +21,7 @@ use Rattle.model.specs.Connect.{passwordAnswer, nonceAnswer}
 use Rattle.model.specs.Runs.{State, keeps, stepOf, stateOf, lacks}
 use Rattle.model.specs.Refusals.{Waits, roomIn, told, expected, bad, verdict, verdictOf, fedCall, fedBy}
 use Rattle.model.specs.Replies.{Late, lateAfter, replySize}
+use Rattle.journal.specs.Srm.{Mode, dueIn, modeAfter}
 use Rattle.model.specs.Theorem.{Kept}
 use Rattle.server.specs.Numbers.{refusalNumber}
 use Rattle.server.specs.declared.CallKind.{CallKind}
@@ -36,6 +37,7 @@ use Rattle.server.specs.declared.Engine.{Engine}
 use Rattle.model.proofs.Fit.{not-short, waitsOf, Seated, tables-long, is-sound, Fine}
 use Rattle.model.proofs.Coupling.{Coupled, Told}
 use Rattle.model.proofs.Sizes.{Brief, LateAt, Sized, brief-sized}
+use Rattle.model.proofs.Speaks.{ModeAt, Spoken}
 
 -- ---- moments
 
@@ -210,6 +212,8 @@ pub record Agree (w : Waits) (s : State) (c : Call) (v : Verdict) (m : Called) :
       → Told (m .tables) (doneOf m) (journalFed j (fedAt s v c))
   pub sized : (j : Journal) (late : Late) → Coupled (s .tables) (s .engine) (s .stores) j → LateAt (s .engine) (s .stores) late
       → replySize late j (fedAt s v c) ≤ 65535 → Sized (doneOf m) (lateAfter late j (fedAt s v c))
+  pub spoken : (j : Journal) (o : Mode) → Coupled (s .tables) (s .engine) (s .stores) j → ModeAt (s .engine .operation) o → Kept (fedReads j (fedAt s v c))
+      → Spoken (doneOf m) (dueIn o j (fedAt s v c)) (modeAfter o j (fedAt s v c))
 
 -- the same of a call that leaves the table store
 abbrev pub AgreeKept : Waits → State → Call → Verdict → Stepped → Type 0
@@ -245,13 +249,19 @@ module _ (w : Waits) (s : State) (h : Seated s) (k : w ≡ waitsOf (s .engine .a
   SizedBy p =
       (j : Journal) (late : Late) → Coupled (s .tables) e st j → LateAt e st late → replySize late j (fedGoing s c) ≤ 65535 → p j late
 
+  -- and does what is due
+  abbrev pub SpokenBy : Done → Type 0
+  SpokenBy d =
+      (j : Journal) (o : Mode) → Coupled (s .tables) e st j → ModeAt (e .operation) o → Kept (fedReads j (fedGoing s c))
+      → Spoken d (dueIn o j (fedGoing s c)) (modeAfter o j (fedGoing s c))
+
   -- a call that goes, takes `t` bytes, and leaves `u` in the table store
   pub agree-tabled : (d : Done) (t : ℕ) (u : List ℕ) → Fine e d → length u ≡ length (s .tables)
       → ((j : Journal) → Coupled (s .tables) e st j → t ≡ fedTakes j (fedGoing s c))
       → ((j : Journal) → Coupled (s .tables) e st j → Kept (fedReads j (fedGoing s c)) → Told u d (journalFed j (fedGoing s c)))
-      → SizedBy (λ j late. Sized d (lateAfter late j (fedGoing s c)))
+      → SizedBy (λ j late. Sized d (lateAfter late j (fedGoing s c))) → SpokenBy d
       → Agree w s c goes (called (after t d) u)
-  agree-tabled d t u f l n g z =
+  agree-tabled d t u f l n g z a =
       record {
         due = f .goes;
         settings = f .settings;
@@ -261,15 +271,16 @@ module _ (w : Waits) (s : State) (h : Seated s) (k : w ≡ waitsOf (s .engine .a
         count = n;
         journal = g;
         sized = z;
+        spoken = a;
       }
 
   -- a call that goes
   pub agree-goes : (t : ℕ) (d : Done) → Fine e d
       → ((j : Journal) → Coupled (s .tables) e st j → t ≡ fedTakes j (fedGoing s c))
       → ((j : Journal) → Coupled (s .tables) e st j → Kept (fedReads j (fedGoing s c)) → Told (s .tables) d (journalFed j (fedGoing s c)))
-      → SizedBy (λ j late. Brief d)
+      → SizedBy (λ j late. Brief d) → SpokenBy d
       → AgreeKept w s c goes (after t d)
-  agree-goes t d f n g z = agree-tabled d t (s .tables) f refl n g (λ j late x y l. brief-sized d (lateAfter late j (fedGoing s c)) (z j late x y l))
+  agree-goes t d f n g z a = agree-tabled d t (s .tables) f refl n g (λ j late x y l. brief-sized d (lateAfter late j (fedGoing s c)) (z j late x y l)) a
 
   -- a call that is refused
   pub agree-refused : (r : Refusal) → AgreeKept w s c (refused (refusalNumber r)) (refuse r e st)
@@ -283,6 +294,7 @@ module _ (w : Waits) (s : State) (h : Seated s) (k : w ≡ waitsOf (s .engine .a
         count = λ j x. refl;
         journal = λ j x y. record { given = refl; after = x; ends = λ i. refl };
         sized = λ j late x y l. record { small = refl; waiting = y };
+        spoken = λ j o x y l. record { obeys = refl; mode = y };
       }
 
   -- nothing that is lent is too short

@@ -18,7 +18,8 @@ use Rattle.model.specs.Calls.{started}
 use Rattle.model.specs.Runs.{State, Performed, calledIn, next, OffersOctets, Says, Ran, records, Started, lacks, seen}
 use Rattle.model.specs.Refusals.{Waits, bytes, told, verdict, verdictOf, endOf, fedBy, dueFrom, feedFrom}
 use Rattle.model.specs.Replies.{Late, lateAfter, RepliesFrom}
-use Rattle.model.specs.Theorem.{settingsOf, journalOf, fed, Kept, Unmoved, RecordsTheorem}
+use Rattle.journal.specs.Srm.{Mode, modeAfter, duesFrom}
+use Rattle.model.specs.Theorem.{settingsOf, journalOf, fed, Kept, AllObey, Unmoved, RecordsTheorem}
 use Rattle.server.specs.declared.Settings.{Settings}
 use Rattle.server.specs.declared.Engine.{Engine}
 use Rattle.connection.proofs.Standings.{fresh-fits}
@@ -26,6 +27,7 @@ use Rattle.journal.proofs.Forms.{put-forms}
 use Rattle.model.proofs.Fit.{room, waitsOf, none-begun, Sits, Seated, tables-room}
 use Rattle.model.proofs.Coupling.{Coupled}
 use Rattle.model.proofs.Sizes.{early, LateAt, early-late}
+use Rattle.model.proofs.Speaks.{ModeAt}
 use Rattle.model.proofs.Moments.{verdictAt, Agree, Agrees}
 use Rattle.model.proofs.FromPeer.{bytes-agree, end-agrees, taken-agrees}
 use Rattle.model.proofs.FromHost.{reply-agrees, object-agrees, body-agrees, body-failed-agrees, acknowledge-agrees, password-agrees, nonce-agrees, credentials-agree}
@@ -94,13 +96,14 @@ kept-both (x ∷ l) m k = let b = kept-both l m (k .1) in ((k .0, b .0), b .1)
 record Along (st : Settings) (w : Waits) (s : State) (j : Journal) (xs : List Performed) : Type 0 where
   journal : records xs ≡ journalRecords j (feedFrom w (seen st s xs))
   counts : map (λ (x : Performed). x .result .taken) xs ≡ journalCounts j (feedFrom w (seen st s xs))
+  srm : (m : Mode) → ModeAt (s .engine .operation) m → AllObey (duesFrom m j (feedFrom w (seen st s xs))) xs
   ends : (late : Late) → LateAt (s .engine) (s .stores) late → RepliesFrom late j (feedFrom w (seen st s xs))
       → map (λ (x : Performed). endOf (x .result .outcome)) xs ≡ journalEnds j (feedFrom w (seen st s xs))
 
 run-along : (st : Settings) (xs : List Performed) (w : Waits) (s : State) (j : Journal) → Between st w s → Ran s xs
     → Coupled (s .tables) (s .engine) (s .stores) j → Kept (packets j (feedFrom w (seen st s xs))) → Along st w s j xs
 unfolding journalStep
-run-along st [] w s j b r c k = record { journal = refl; counts = refl; ends = λ late y z. refl }
+run-along st [] w s j b r c k = record { journal = refl; counts = refl; srm = λ m y. tt; ends = λ late y z. refl }
 run-along st (x ∷ xs) w s j b r c k =
     let a = performed-agrees st w s b x (r .0) in
     let f = fedTo st w s b x (r .0) in
@@ -110,6 +113,7 @@ run-along st (x ∷ xs) w s j b r c k =
     record {
       journal = ap₂ (λ (l m : List Record). l ++ m) (t .given) (later .journal);
       counts = ap₂ (λ (n : ℕ) (l : List ℕ). n ∷ l) (a .count j c) (later .counts);
+      srm = λ m y. let spoken = a .spoken j m c y (both .0) in (spoken .obeys, later .srm (modeAfter m j f) (spoken .mode));
       ends = λ late y z.
           let sized = a .sized j late c y (z .0) in
           ap₂ (λ (n : Option ℕ) (l : List (Option ℕ)). n ∷ l) (t .ends (sized .small)) (later .ends (lateAfter late j f) (sized .waiting) (z .1));
@@ -151,6 +155,10 @@ module _ (st : Settings) (s : State) (h : Started st s) where
   unfolding started engineWith
   start-early = early-late (s .engine) (s .stores) (λ c. 0) (ap (λ (e : Engine). early (e .awaits)) (h .fresh))
 
+  start-mode : ModeAt (s .engine .operation) (record { on = false; asked = false; wait = false })
+  unfolding started engineWith
+  start-mode = subst (λ (e : Engine). ModeAt (e .operation) (record { on = false; asked = false; wait = false })) (sym (h .fresh)) tt
+
 pub records-theorem : RecordsTheorem
 records-theorem st s h xs r =
     let b = start-between st s h in
@@ -163,6 +171,7 @@ records-theorem st s h xs r =
         forms = subst (Exactly (st .«max_object_size») (packets (journalOf st) (fed st s xs))) (sym (along k .journal))
             (put-forms (settingsOf st) (fed st s xs));
         counts = along k .counts;
+        srm = along k .srm (record { on = false; asked = false; wait = false }) (start-mode st s h);
       };
       ends = λ k z. along k .ends (λ c. 0) (start-early st s h) z;
     }

@@ -6,14 +6,18 @@
 use Prim.Native.Nat.{ℕ, _≤_}
 use mathlib.Core.Path.{_≡_}
 use mathlib.Core.List.{List, [], _∷_, map}
-use lib.ListN.{length}
+use mathlib.Core.Bool.{Bool, true, false}
+use lib.ListN.{length, take}
 use Rattle.journal.specs.Calls.{Fed, refused}
 use Rattle.journal.specs.Journal.{Journal, Settings as JournalSettings, fresh, journalRecords, journalCounts, journalEnds, packets, Marked, keptAfter}
 use Rattle.journal.specs.PutForm.{Exactly}
 use Rattle.model.specs.Refusals.{verdictOf, endOf, due, feed}
 use Rattle.model.specs.Replies.{Replies}
+use Rattle.journal.specs.Srm.{Due, silent, continues, speaks, continueReply, dues}
 use Rattle.model.specs.Runs.{State, Performed, next, Ran, records, Started, seen}
 use Rattle.server.specs.declared.Settings.{Settings}
+use Rattle.server.specs.declared.Outcome.{Outcome}
+use Rattle.server.specs.declared.Outcome.the-variants as outcome
 
 -- The settings that the journal keeps, and the journal of a fresh engine with these settings.
 abbrev pub settingsOf : Settings → JournalSettings
@@ -36,6 +40,26 @@ abbrev pub Unmoved : State → List Performed → Type 0
 Unmoved s [] = Unit {0}
 Unmoved s (x ∷ xs) = ((n : ℕ) → verdictOf (x .result .outcome) ≡ refused n → next s x ≡ s) × Unmoved (next s x) xs
 
+-- A call does what is due, by its outcome and the reply store afterwards: it wants bytes, or it makes that Continue, or it does not want
+-- bytes.
+abbrev pub wantsBytes : Outcome → Bool
+wantsBytes outcome.WantsBytes = true
+wantsBytes (outcome.Reply n) = false
+wantsBytes (outcome.Request r) = false
+wantsBytes (outcome.End n) = false
+wantsBytes (outcome.Refused r) = false
+
+abbrev pub Obeys : Due → Outcome → List ℕ → Type 0
+Obeys silent o y = o ≡ outcome.WantsBytes
+Obeys (continues g) o y = (o ≡ outcome.Reply (length (continueReply g))) × (take (length (continueReply g)) y ≡ continueReply g)
+Obeys speaks o y = wantsBytes o ≡ false
+
+abbrev pub AllObey : List Due → List Performed → Type 0
+AllObey [] [] = Unit {0}
+AllObey [] (x ∷ xs) = ⊥
+AllObey (d ∷ ds) [] = ⊥
+AllObey (d ∷ ds) (x ∷ xs) = Obeys d (x .result .outcome) (x .stores .reply) × AllObey ds xs
+
 -- What holds of a run if kept headers stay within 65,535 bytes.
 pub record Agrees (st : Settings) (s : State) (xs : List Performed) : Type 0 where
   -- The records handed over are the journal's, and exactly those of the Put forms of the packets.
@@ -43,6 +67,8 @@ pub record Agrees (st : Settings) (s : State) (xs : List Performed) : Type 0 whe
   pub forms : Exactly (st .«max_object_size») (packets (journalOf st) (fed st s xs)) (records xs)
   -- Each call reports as many bytes as the journal says were taken.
   pub counts : map (λ (x : Performed). x .result .taken) xs ≡ journalCounts (journalOf st) (fed st s xs)
+  -- A reply is made, and Single Response Mode granted, where its definition says so.
+  pub srm : AllObey (dues (journalOf st) (fed st s xs)) xs
 
 -- What holds of a run `xs` of calls, from the state `s` of an accepted start with the settings `st`.
 pub record Upholds (st : Settings) (s : State) (xs : List Performed) : Type 0 where
