@@ -15,8 +15,7 @@ use Rattle.connection.specs.Pieces.{credentialsOf}
 use Rattle.journal.specs.Calls.{bytesOffered, streamEnded, replyTaken, replyGiven, objectGiven, bodyGiven, bodyFailed, abortAcknowledged, passwordGiven, nonceGiven, credentialsGiven}
 use Rattle.model.specs.Step.{Stores, stores, Stepped, stepped, called}
 use Rattle.model.specs.Calls.{startStep}
-use Rattle.model.specs.Runs.{State}
-use Rattle.model.specs.Contracts.{Says}
+use Rattle.model.specs.Runs.{State, performed, Says}
 use Rattle.server.specs.declared.Engine.{Engine}
 use Rattle.engine.proofs.calls.bytes_offered
 use Rattle.engine.proofs.calls.bytes_offered.Kinds as bytes-offered-kinds
@@ -73,74 +72,83 @@ pub bytes-says : (l : List ℕ) (κs : Lfts 6) (a : ArgsD bytes_offered.signatur
     → let t = now (a .1 .1 .0) in
     let p = a .1 .1 .1 in
     let q = x .1 .1 .1 in
-    Says (before t l (a .0) (stores (now (p .0)) (now (p .1 .0)) (now (p .1 .1 .0)) (now (p .1 .1 .1 .0)))) (bytesOffered (now (a .1 .0))) r
-    (stores (now (q .0)) (now (q .1 .0)) (now (q .1 .1 .0)) (now (q .1 .1 .1 .0))) t
-bytes-says l κs a r x h = ap (λ (m : Stepped). called m (now (a .1 .1 .0))) h
+    Says (before t l (a .0) (stores (now (p .0)) (now (p .1 .0)) (now (p .1 .1 .0)) (now (p .1 .1 .1 .0))))
+    (performed (bytesOffered (now (a .1 .0))) r
+    (stores (now (q .0)) (now (q .1 .0)) (now (q .1 .1 .0)) (now (q .1 .1 .1 .0))) t)
+bytes-says l κs a r x h = record { step = ap (λ (m : Stepped). called m (now (a .1 .1 .0))) (h .0); octets = h .1 }
 
 pub stream-ended-says : (t l : List ℕ) (κs : Lfts 4) (a : ArgsD stream_ended.signature κs) (r : ResD stream_ended.signature κs) (x : AtExit (endedOf 4 stream-ended-kinds.ps stream-ended-kinds.r) κs)
     → stream-ended-reads.Learnt κs a r x
     → let p = a .1 in
     let q = x .1 in
-    Says (before t l (a .0) (stores (now (p .0)) (now (p .1 .0)) (now (p .1 .1 .0)) (now (p .1 .1 .1 .0)))) streamEnded r
-    (stores (now (q .0)) (now (q .1 .0)) (now (q .1 .1 .0)) (now (q .1 .1 .1 .0))) t
-stream-ended-says t l κs a r x h = ap (λ (m : Stepped). called m t) h
+    Says (before t l (a .0) (stores (now (p .0)) (now (p .1 .0)) (now (p .1 .1 .0)) (now (p .1 .1 .1 .0))))
+    (performed streamEnded r
+    (stores (now (q .0)) (now (q .1 .0)) (now (q .1 .1 .0)) (now (q .1 .1 .1 .0))) t)
+stream-ended-says t l κs a r x h = record { step = ap (λ (m : Stepped). called m t) h; octets = tt }
 
 pub reply-taken-says : (t l : List ℕ) (κs : Lfts 4) (a : ArgsD reply_taken.signature κs) (r : ResD reply_taken.signature κs) (x : AtExit (endedOf 4 reply-taken-kinds.ps reply-taken-kinds.r) κs)
     → reply-taken-reads.Learnt κs a r x
     → let p = a .1 in
     let q = x .1 in
-    Says (before t l (a .0) (stores (now (p .0)) (now (p .1 .0)) (now (p .1 .1 .0)) (now (p .1 .1 .1 .0)))) replyTaken r
-    (stores (now (q .0)) (now (q .1 .0)) (now (q .1 .1 .0)) (now (q .1 .1 .1 .0))) t
-reply-taken-says t l κs a r x h = ap (λ (m : Stepped). called m t) h
+    Says (before t l (a .0) (stores (now (p .0)) (now (p .1 .0)) (now (p .1 .1 .0)) (now (p .1 .1 .1 .0))))
+    (performed replyTaken r
+    (stores (now (q .0)) (now (q .1 .0)) (now (q .1 .1 .0)) (now (q .1 .1 .1 .0))) t)
+reply-taken-says t l κs a r x h = record { step = ap (λ (m : Stepped). called m t) h; octets = tt }
 
 pub object-says : (t l : List ℕ) (κs : Lfts 5) (a : ArgsD object_given.signature κs) (r : ResD object_given.signature κs) (x : AtExit (endedOf 5 object-given-kinds.ps object-given-kinds.r) κs)
     → object-given-reads.Learnt κs a r x
     → let p = a .1 .1 .1 in
     let q = x .1 .1 .1 in
-    Says (before t l (a .0) (stores (now (p .0)) (now (p .1 .0)) (now (p .1 .1 .0)) (now (p .1 .1 .1 .0)))) (objectGiven (now (a .1 .0)) (a .1 .1 .0)) r
-    (stores (now (q .0)) (now (q .1 .0)) (now (q .1 .1 .0)) (now (q .1 .1 .1 .0))) t
-object-says t l κs a r x h = ap (λ (m : Stepped). called m t) h
+    Says (before t l (a .0) (stores (now (p .0)) (now (p .1 .0)) (now (p .1 .1 .0)) (now (p .1 .1 .1 .0))))
+    (performed (objectGiven (now (a .1 .0)) (a .1 .1 .0)) r
+    (stores (now (q .0)) (now (q .1 .0)) (now (q .1 .1 .0)) (now (q .1 .1 .1 .0))) t)
+object-says t l κs a r x h = record { step = ap (λ (m : Stepped). called m t) h; octets = tt }
 
 pub body-says : (t l : List ℕ) (κs : Lfts 5) (a : ArgsD body_given.signature κs) (r : ResD body_given.signature κs) (x : AtExit (endedOf 5 body-given-kinds.ps body-given-kinds.r) κs)
     → body-given-reads.Learnt κs a r x
     → let p = a .1 .1 in
     let q = x .1 .1 in
-    Says (before t l (a .0) (stores (now (p .0)) (now (p .1 .0)) (now (p .1 .1 .0)) (now (p .1 .1 .1 .0)))) (bodyGiven (now (a .1 .0))) r
-    (stores (now (q .0)) (now (q .1 .0)) (now (q .1 .1 .0)) (now (q .1 .1 .1 .0))) t
-body-says t l κs a r x h = ap (λ (m : Stepped). called m t) h
+    Says (before t l (a .0) (stores (now (p .0)) (now (p .1 .0)) (now (p .1 .1 .0)) (now (p .1 .1 .1 .0))))
+    (performed (bodyGiven (now (a .1 .0))) r
+    (stores (now (q .0)) (now (q .1 .0)) (now (q .1 .1 .0)) (now (q .1 .1 .1 .0))) t)
+body-says t l κs a r x h = record { step = ap (λ (m : Stepped). called m t) h; octets = tt }
 
 pub body-failed-says : (t l : List ℕ) (κs : Lfts 4) (a : ArgsD body_failed.signature κs) (r : ResD body_failed.signature κs) (x : AtExit (endedOf 4 body-failed-kinds.ps body-failed-kinds.r) κs)
     → body-failed-reads.Learnt κs a r x
     → let p = a .1 in
     let q = x .1 in
-    Says (before t l (a .0) (stores (now (p .0)) (now (p .1 .0)) (now (p .1 .1 .0)) (now (p .1 .1 .1 .0)))) bodyFailed r
-    (stores (now (q .0)) (now (q .1 .0)) (now (q .1 .1 .0)) (now (q .1 .1 .1 .0))) t
-body-failed-says t l κs a r x h = ap (λ (m : Stepped). called m t) h
+    Says (before t l (a .0) (stores (now (p .0)) (now (p .1 .0)) (now (p .1 .1 .0)) (now (p .1 .1 .1 .0))))
+    (performed bodyFailed r
+    (stores (now (q .0)) (now (q .1 .0)) (now (q .1 .1 .0)) (now (q .1 .1 .1 .0))) t)
+body-failed-says t l κs a r x h = record { step = ap (λ (m : Stepped). called m t) h; octets = tt }
 
 pub acknowledge-says : (t l : List ℕ) (κs : Lfts 4) (a : ArgsD abort_acknowledged.signature κs) (r : ResD abort_acknowledged.signature κs) (x : AtExit (endedOf 4 abort-acknowledged-kinds.ps abort-acknowledged-kinds.r) κs)
     → abort-acknowledged-reads.Learnt κs a r x
     → let p = a .1 in
     let q = x .1 in
-    Says (before t l (a .0) (stores (now (p .0)) (now (p .1 .0)) (now (p .1 .1 .0)) (now (p .1 .1 .1 .0)))) abortAcknowledged r
-    (stores (now (q .0)) (now (q .1 .0)) (now (q .1 .1 .0)) (now (q .1 .1 .1 .0))) t
-acknowledge-says t l κs a r x h = ap (λ (m : Stepped). called m t) h
+    Says (before t l (a .0) (stores (now (p .0)) (now (p .1 .0)) (now (p .1 .1 .0)) (now (p .1 .1 .1 .0))))
+    (performed abortAcknowledged r
+    (stores (now (q .0)) (now (q .1 .0)) (now (q .1 .1 .0)) (now (q .1 .1 .1 .0))) t)
+acknowledge-says t l κs a r x h = record { step = ap (λ (m : Stepped). called m t) h; octets = tt }
 
 pub password-says : (t l : List ℕ) (κs : Lfts 5) (a : ArgsD password_given.signature κs) (r : ResD password_given.signature κs) (x : AtExit (endedOf 5 password-given-kinds.ps password-given-kinds.r) κs)
     → password-given-reads.Learnt κs a r x
     → let p = a .1 .1 .1 in
     let q = x .1 .1 .1 in
-    Says (before t l (a .0) (stores (now (p .0)) (now (p .1 .0)) (now (p .1 .1 .0)) (now (p .1 .1 .1 .0)))) (passwordGiven (given (a .1 .0) (now (a .1 .1 .0)))) r
-    (stores (now (q .0)) (now (q .1 .0)) (now (q .1 .1 .0)) (now (q .1 .1 .1 .0))) t
-password-says t l κs a r x h = ap (λ (m : Stepped). called m t) h
+    Says (before t l (a .0) (stores (now (p .0)) (now (p .1 .0)) (now (p .1 .1 .0)) (now (p .1 .1 .1 .0))))
+    (performed (passwordGiven (given (a .1 .0) (now (a .1 .1 .0)))) r
+    (stores (now (q .0)) (now (q .1 .0)) (now (q .1 .1 .0)) (now (q .1 .1 .1 .0))) t)
+password-says t l κs a r x h = record { step = ap (λ (m : Stepped). called m t) h; octets = tt }
 
 pub nonce-says : (t : List ℕ) (κs : Lfts 5) (a : ArgsD nonce_given.signature κs) (r : ResD nonce_given.signature κs)
     (x : AtExit (endedOf 5 nonce-given-kinds.ps nonce-given-kinds.r) κs)
     → nonce-given-reads.Learnt κs a r x
     → let p = a .1 .1 .1 in
     let q = x .1 .1 .1 in
-    Says (before t (now (a .1 .1 .0)) (a .0) (stores (now (p .0)) (now (p .1 .0)) (now (p .1 .1 .0)) (now (p .1 .1 .1 .0)))) (nonceGiven (a .1 .0)) r
-    (stores (now (q .0)) (now (q .1 .0)) (now (q .1 .1 .0)) (now (q .1 .1 .1 .0))) t
-nonce-says t κs a r x h = ap (λ (m : Stepped). called m t) h
+    Says (before t (now (a .1 .1 .0)) (a .0) (stores (now (p .0)) (now (p .1 .0)) (now (p .1 .1 .0)) (now (p .1 .1 .1 .0))))
+    (performed (nonceGiven (a .1 .0)) r
+    (stores (now (q .0)) (now (q .1 .0)) (now (q .1 .1 .0)) (now (q .1 .1 .1 .0))) t)
+nonce-says t κs a r x h = record { step = ap (λ (m : Stepped). called m t) h; octets = tt }
 
 pub reply-says : (l : List ℕ) (κs : Lfts 6) (a : ArgsD reply_given.signature κs) (r : ResD reply_given.signature κs)
     (x : AtExit (endedOf 6 reply-given-kinds.ps reply-given-kinds.r) κs)
@@ -148,15 +156,16 @@ pub reply-says : (l : List ℕ) (κs : Lfts 6) (a : ArgsD reply_given.signature 
     → let p = a .1 .1 .1 in
     let q = x .1 .1 .1 in
     Says (before (now (p .0)) l (a .0) (stores (now (p .1 .0)) (now (p .1 .1 .0)) (now (p .1 .1 .1 .0)) (now (p .1 .1 .1 .1 .0))))
-    (replyGiven (a .1 .0) (now (a .1 .1 .0))) r
-    (stores (now (q .1 .0)) (now (q .1 .1 .0)) (now (q .1 .1 .1 .0)) (now (q .1 .1 .1 .1 .0))) (now (q .0))
-reply-says l κs a r x h = h
+    (performed (replyGiven (a .1 .0) (now (a .1 .1 .0))) r
+    (stores (now (q .1 .0)) (now (q .1 .1 .0)) (now (q .1 .1 .1 .0)) (now (q .1 .1 .1 .1 .0))) (now (q .0)))
+reply-says l κs a r x h = record { step = h; octets = tt }
 
 pub credentials-says : (t l : List ℕ) (κs : Lfts 6) (a : ArgsD credentials_given.signature κs) (r : ResD credentials_given.signature κs) (x : AtExit (endedOf 6 credentials-given-kinds.ps credentials-given-kinds.r) κs)
     → credentials-given-reads.Learnt κs a r x
     → let p = a .1 .1 .1 .1 .1 in
     let q = x .1 .1 .1 .1 .1 in
     let c = credentialsOf (a .1 .0) (given (a .1 .1 .0) (now (a .1 .1 .1 .0))) (now (a .1 .1 .1 .1 .0)) in
-    Says (before t l (a .0) (stores (now (p .0)) (now (p .1 .0)) (now (p .1 .1 .0)) (now (p .1 .1 .1 .0)))) (credentialsGiven c) r
-    (stores (now (q .0)) (now (q .1 .0)) (now (q .1 .1 .0)) (now (q .1 .1 .1 .0))) t
-credentials-says t l κs a r x h = ap (λ (m : Stepped). called m t) h
+    Says (before t l (a .0) (stores (now (p .0)) (now (p .1 .0)) (now (p .1 .1 .0)) (now (p .1 .1 .1 .0))))
+    (performed (credentialsGiven c) r
+    (stores (now (q .0)) (now (q .1 .0)) (now (q .1 .1 .0)) (now (q .1 .1 .1 .0))) t)
+credentials-says t l κs a r x h = record { step = ap (λ (m : Stepped). called m t) h; octets = tt }

@@ -2,6 +2,7 @@
 ghost use mathlib.Core.Path.{_≡_};
 ghost use Rattle.model.specs.Step.{stepped, called, stores};
 ghost use Rattle.model.specs.Calls.{streamEndedStep, startStep, bytesOfferedStep, replyTakenStep, abortAcknowledgedStep, bodyFailedStep, bodyGivenStep, objectGivenStep, nonceGivenStep, passwordGivenStep, replyGivenStep, credentialsGivenStep};
+ghost use Rattle.model.specs.Runs.{Octets};
 ghost use Rattle.packet.specs.AuthWrite.{given};
 ghost use Rattle.connection.specs.Pieces.{credentialsOf};
 use crate::connect::connect_answer;
@@ -97,9 +98,10 @@ pub fn bytes_offered(
     body: &mut [u8],
     reply: &mut [u8],
 ) -> CallResult
-    ensures { λ r. ⌜ stepped r (stores (now (packet .exit)) (now (headers .exit)) (now (body .exit)) (now (reply .exit)))
+    ensures step { λ r. ⌜ stepped r (stores (now (packet .exit)) (now (headers .exit)) (now (body .exit)) (now (reply .exit)))
         ≡ bytesOfferedStep e (now (input .entry)) (stores (now (packet .entry)) (now (headers .entry)) (now (body .entry))
         (now (reply .entry))) (now (tables .entry)) ⌝ }
+    ensures octets { λ r. ⌜ Octets (now (input .entry)) ⌝ }
 {
     if let Guarded::Refuse(refusal) = guard_lent(
         e,

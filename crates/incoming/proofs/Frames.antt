@@ -2,7 +2,7 @@
 -- of the bytes so far, and a packet that goes on is not at 65,535 bytes yet. Assumes nothing.
 use mathlib.Core.Path.{_≡_, refl, sym, ap, _∙_}
 use mathlib.Core.List.{List, [], _∷_, _++_}
-use mathlib.Core.Bool.{Bool, true, false}
+use mathlib.Core.Bool.{Bool, true, false, _&&_, _||_, not}
 use Prim.Native.Nat.{ℕ, zero, suc, _+_, _≤_, _<_}
 use native.Mathlib.Omega.{arith}
 use native.Mathlib.Numerals.{add-one}
@@ -13,7 +13,7 @@ use borrow.Author.Tests.{ltb-true, ltb-false, leb-false}
 use Rattle.base.specs.Pick.{pick}
 use Rattle.base.specs.Bytes.{be16}
 pub use Rattle.packet.proofs.HeaderBytes.{Octets}
-use Rattle.journal.specs.Journal.{Read, more, whole, short, readStep, readUp}
+use Rattle.journal.specs.Journal.{Read, more, whole, short, readStep, readUp, goesOn, takenUp}
 use Rattle.incoming.specs.declared.frame.Frame.{Frame}
 use Rattle.incoming.specs.declared.frame.Frame.the-variants.{More, Whole, Short}
 use Rattle.incoming.specs.Frame.{Frames, frameEnd, framed}
@@ -49,6 +49,22 @@ unfolding readStep frameEnd
 step-by q rest = go (ltb (length q) 3) (ltb (be16 q 1) 3) (leb (be16 q 1) (length q))
   where
     go : (s t u : Bool) → pick s rest (pick t short (pick u (whole q) rest)) ≡ readBy (pick s More (pick t Short (pick u Whole More))) q rest
+    go true t u = refl
+    go false true u = refl
+    go false false true = refl
+    go false false false = refl
+
+-- and so is whether the packet goes on
+abbrev isMore : Frame → Bool
+isMore More = true
+isMore Whole = false
+isMore Short = false
+
+goes-by : (q : List ℕ) → goesOn q ≡ isMore (frameEnd q (length q))
+unfolding goesOn frameEnd
+goes-by q = go (ltb (length q) 3) (ltb (be16 q 1) 3) (leb (be16 q 1) (length q))
+  where
+    go : (s t u : Bool) → (s || (not t && not u)) ≡ isMore (pick s More (pick t Short (pick u Whole More)))
     go true t u = refl
     go false true u = refl
     go false false true = refl
@@ -120,6 +136,19 @@ module _ (x : ℕ) (xs p : List ℕ) (b t : ℕ) (h : b < 65535) (k : 65535 ≤ 
       (refl, record { bytes = sym byte-list; octets = byte-octets; same-length = length-set p b x }, omega arith)
   byte rest Short e = rw (step-by, ← byte-test, e) (refl, length-set p b x)
 
+  -- the same of how many bytes are taken
+  byte-count : (b + 1 < 65535 → Octets (take (b + 1) (set p b x)) → frameEnd (set p b x) (b + 1) ≡ More
+      → framed (set p b x) (b + 1) (t + 1) xs .result .taken ≡ t + 1 + takenUp (take (b + 1) (set p b x)) xs)
+      → (f : Frame) → frameEnd (set p b x) (b + 1) ≡ f
+      → framed p b t (x ∷ xs) .result .taken ≡ t + takenUp (take b p) (x ∷ xs)
+  unfolding framed takenUp
+  byte-count rest More e =
+      rw (goes-by, ← byte-test, e)
+      (let r = rest (byte-room e) (rw byte-list byte-octets) e in
+      let q = ap (λ (l : List ℕ). takenUp l xs) byte-list in omega (arith, r, q))
+  byte-count rest Whole e = rw (goes-by, ← byte-test, e) (omega arith)
+  byte-count rest Short e = rw (goes-by, ← byte-test, e) (omega arith)
+
 pub frames-agree : (p i : List ℕ) (b t : ℕ) → b < 65535 → 65535 ≤ length p → Octets (take b p) → Octets i → frameEnd p b ≡ More
     → Agrees p (framed p b t i) (readUp (take b p) i)
 unfolding framed readUp
@@ -127,5 +156,16 @@ frames-agree p [] b t h k o oi e = (refl, record { bytes = refl; octets = o; sam
 frames-agree p (x ∷ xs) b t h k o oi e =
     byte x xs p b t h k o (oi 0)
     (λ h′ o′ e′. frames-agree (set p b x) xs (b + 1) (t + 1) h′ (omega (arith, length-set p b x)) o′ (λ j. oi (suc j)) e′)
+    (frameEnd (set p b x) (b + 1))
+    refl
+
+-- as many are taken as the journal says
+pub frames-count : (p i : List ℕ) (b t : ℕ) → b < 65535 → 65535 ≤ length p → Octets (take b p) → Octets i
+    → framed p b t i .result .taken ≡ t + takenUp (take b p) i
+unfolding framed takenUp
+frames-count p [] b t h k o oi = omega arith
+frames-count p (x ∷ xs) b t h k o oi =
+    byte-count x xs p b t h k o (oi 0)
+    (λ h′ o′ e′. frames-count (set p b x) xs (b + 1) (t + 1) h′ (omega (arith, length-set p b x)) o′ (λ j. oi (suc j)))
     (frameEnd (set p b x) (b + 1))
     refl

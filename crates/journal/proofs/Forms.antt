@@ -15,9 +15,9 @@ use Rattle.packet.specs.Packet.{Request, requestOf}
 use Rattle.packet.specs.declared.opcode.Opcode.{Opcode}
 use Rattle.packet.specs.declared.opcode.Opcode.the-variants.{Connect, Disconnect, Put, Get, SetPath, Action, Session, Abort, UserDefined}
 use Rattle.journal.specs.Record.{Record, bare, joined, sizeOf, carriedBy, keptByGet}
-use Rattle.journal.specs.Calls.{Call, bytesOffered, streamEnded, replyTaken, replyGiven, objectGiven, bodyGiven, bodyFailed, abortAcknowledged, passwordGiven, nonceGiven, credentialsGiven, Verdict, goes, refused, Fed}
-use Rattle.journal.specs.Journal.{Opened, nothing, trailing, putting, getting, sending, gathering, draining, busy, Journal, fresh, Entry, unchanged, begin, after, opens, stands, end, admitted, asksSrm, overrun, trails, putRead, gatherRead, turnedAway, dropped, firstRead, stopped, requestRead, packetRead, journalPacket, Read, more, whole, short, readUp, bytesRead, replyTo, replyLast, replied, objectSent, takenAt, passwordChecked, challenged, passes, journalCall, journalFed, journalStep, journalRecords, Marked, readIn, callReads, fedReads, packets, isStopped, withCheck, connectRead}
-use Rattle.journal.specs.PutForm.{readablePut, isFinal, carriedIn, admits, isTrailing, trailsRequest, isTrailed, Form, Apart}
+use Rattle.journal.specs.Calls.{Call, bytesOffered, streamEnded, replyTaken, replyGiven, objectGiven, bodyGiven, bodyFailed, abortAcknowledged, passwordGiven, nonceGiven, credentialsGiven, Fed, noStep, stepBy, replySent}
+use Rattle.journal.specs.Journal.{Opened, nothing, putting, getting, sending, gathering, draining, busy, Journal, fresh, Entry, unchanged, begin, after, opens, stands, end, endsWith, admitted, asksSrm, putRead, gatherRead, turnedAway, dropped, firstRead, stopped, requestRead, packetRead, journalPacket, Read, more, whole, short, readUp, bytesRead, replyTo, replyLast, replied, objectSent, takenAt, passwordChecked, challenged, passes, streamNumber, lastTaken, journalCall, journalFed, journalStep, journalRecords, Marked, readIn, callReads, fedReads, packets, trailing, overrun, trails, isStopped, withCheck, connectRead}
+use Rattle.journal.specs.PutForm.{readablePut, isFinal, carriedIn, admits, Form, Apart, isTrailing, trailsRequest, isTrailed}
 use Rattle.journal.specs.Checks.{stop}
 use Rattle.journal.specs.Claim.{PutForms}
 use Rattle.journal.proofs.Scan.{run, forms, past, forms-sound, forms-complete}
@@ -38,26 +38,32 @@ sooner {m} {n} {rs} {fs} h w = record { same = w .same; apart = earlier m n fs h
 
 -- ---- an ended journal reads nothing and gives nothing
 
-ended-step : (j : Journal) (c : Call) (v : Verdict) (b : ℕ) → j .ended ≡ true → journalFed j c v b ≡ unchanged j
-ended-step j c goes b e = simp e
-ended-step j c (refused n) b e = refl
+ended-given : (j : Journal) (f : Fed) → j .ended ≡ true → journalFed j f .given ≡ []
+ended-given j noStep e = refl
+ended-given j (stepBy c) e = simp e
+ended-given j (replySent b) e = simp e
 
-ended-reads : (j : Journal) (c : Call) (v : Verdict) → j .ended ≡ true → fedReads j c v ≡ []
-ended-reads j c goes e = simp e
-ended-reads j c (refused n) e = refl
+ended-next : (j : Journal) (f : Fed) → j .ended ≡ true → journalFed j f .next ≡ j
+ended-next j noStep e = refl
+ended-next j (stepBy c) e = simp e
+ended-next j (replySent b) e = simp e
+
+ended-reads : (j : Journal) (f : Fed) → j .ended ≡ true → fedReads j f ≡ []
+ended-reads j noStep e = refl
+ended-reads j (stepBy c) e = simp e
+ended-reads j (replySent b) e = refl
 
 ended-records : (fs : List Fed) (j : Journal) → j .ended ≡ true → journalRecords j fs ≡ []
 unfolding journalStep
 ended-records [] j e = refl
 ended-records (f ∷ fs) j e =
-    ap (λ (x : Entry). x .given ++ journalRecords (x .next) fs) (ended-step j (f .call) (f .verdict) (f .reply) e) ∙ ended-records fs j e
+    ap₂ (λ (l : List Record) (x : Journal). l ++ journalRecords x fs) (ended-given j f e) (ended-next j f e) ∙ ended-records fs j e
 
 ended-packets : (fs : List Fed) (j : Journal) → j .ended ≡ true → packets j fs ≡ []
 unfolding journalStep
 ended-packets [] j e = refl
 ended-packets (f ∷ fs) j e =
-    ap₂ (λ (l : List Marked) (x : Entry). l ++ packets (x .next) fs) (ended-reads j (f .call) (f .verdict) e) (ended-step j (f .call) (f .verdict) (f .reply) e)
-    ∙ ended-packets fs j e
+    ap₂ (λ (l : List Marked) (x : Journal). l ++ packets x fs) (ended-reads j f e) (ended-next j f e) ∙ ended-packets fs j e
 
 -- ---- what is open
 
@@ -145,6 +151,9 @@ module _ (j : Journal) (fs : List Fed) (h : j .ended ≡ false) (ih : (d : Journ
     halts : (o : Opened) → Goal at (stopped (opens j o)) []
     halts o = stops fs (end (opens j o)) limit nothing at 0 (i + 1) refl
 
+    ends : (o : Opened) → Goal at (endsWith 4 (opens j o)) []
+    ends o = stops fs (end (opens j o)) limit nothing at 0 (i + 1) refl
+
     either-way : (t : Bool) (x y : Entry) → Goal at x [] → Goal at y [] → Goal at (pick t x y) []
     either-way true x y a b = a
     either-way false x y a b = b
@@ -182,7 +191,7 @@ module _ (j : Journal) (fs : List Fed) (h : j .ended ≡ false) (ih : (d : Journ
 
     -- any packet, inside an operation whose requests come to no form
     inside : (o : Opened) (q : Option Request) → busy o ≡ true → ((r : Request) → Goal at (requestRead o (opens j o) r) []) → Goal at (readAt o q j) []
-    inside o none b w = simp b (halts o)
+    inside o none b w = simp b (ends o)
     inside o (some r) b w = go (sameOpcode (r .opcode) Abort) refl
       where
         go : (t : Bool) → sameOpcode (r .opcode) Abort ≡ t → Goal at (readAt o (some r) j) []
@@ -195,7 +204,7 @@ module _ (j : Journal) (fs : List Fed) (h : j .ended ≡ false) (ih : (d : Journ
     total = joined c (carriedBy (r .headers))
 
     -- the last packet, within the limit; and one that goes on
-    found : Goal at (record { next = after j (some r) nothing; given = total ∷ [] }) (record { first = at; count = n + 1; given = total } ∷ [])
+    found : Goal at (record { next = after j (some r) nothing; given = total ∷ []; number = none }) (record { first = at; count = n + 1; given = total } ∷ [])
     found =
         let w : Told (at + (n + 1)) _ _ = sooner (omega arith) (ih (after j (some r) nothing) h (i + 1) 0 (i + 1) (omega arith)) in
         record { same = ap (λ (l : List Record). total ∷ l) (w .same); apart = (omega arith, w .apart) }
@@ -273,7 +282,7 @@ module _ (j : Journal) (fs : List Fed) (h : j .ended ≡ false) (ih : (d : Journ
 
     in-a-put : (c : Record) (s : Bool) (q : Option Request) → requestOf p ≡ q → Here p (putting c s) at n false (readAt (putting c s) q j)
     unfolding readablePut
-    in-a-put c s none k = simp k (halts at late (putting c s))
+    in-a-put c s none k = simp k (ends at late (putting c s))
     in-a-put c s (some r) k = go (sameOpcode (r .opcode) Put) (sameOpcode (r .opcode) Abort) refl refl
       where
         go : (t a : Bool) → sameOpcode (r .opcode) Put ≡ t → sameOpcode (r .opcode) Abort ≡ a → Here p (putting c s) at n false (readAt (putting c s) (some r) j)
@@ -308,13 +317,13 @@ module _ (j : Journal) (fs : List Fed) (h : j .ended ≡ false) (ih : (d : Journ
   same-told : After (unchanged j) []
   same-told = ih j h at n i place
 
-  ends-told : After (unchanged (end j)) []
-  ends-told = stops fs (end j) (j .settings .limit) (j .opened) at n i refl
+  ends-told : (k : ℕ) → After (endsWith k j) []
+  ends-told k = stops fs (end j) (j .settings .limit) (j .opened) at n i refl
 
   read-told : (r : Read) → After (bytesRead j r) (readIn j r)
   unfolding isTrailed
   read-told (more q) = ih (begin j q) h at n i place
-  read-told short = ends-told
+  read-told short = ends-told 3
   read-told (whole p) =
       subst (λ (x : Entry). After x (record { before = j; bytes = p } ∷ [])) (sym (packet-at j p))
       (subst (λ (t : Bool). Here j fs h ih i p (j .opened) at n t (readAt (j .opened) (requestOf p) j)) (sym h) (packet-told j fs h ih i p at n place (j .opened)))
@@ -372,29 +381,30 @@ module _ (j : Journal) (fs : List Fed) (h : j .ended ≡ false) (ih : (d : Journ
   taken-told (gathering o k) e b = same-told
   taken-told draining e b = same-told
 
-  call-told : (c : Call) (b : ℕ) → After (journalCall j c b) (callReads j c)
-  call-told (bytesOffered q) b = read-told (readUp (j .begun) q)
-  call-told streamEnded b = ends-told
-  call-told replyTaken b = taken-told (j .opened) refl b
-  call-told (replyGiven code hs) b = reply-told (j .opened) refl code hs
-  call-told (objectGiven hs body) b = sent-told (j .opened) refl
-  call-told (bodyGiven d) b = same-told
-  call-told bodyFailed b = same-told
-  call-told abortAcknowledged b = same-told
-  call-told (passwordGiven p) b = ih (stands j (passwordChecked (j .standing) (passes j p))) h at n i place
-  call-told (nonceGiven d) b = ih (stands j (challenged (j .standing) (octets16 d))) h at n i place
-  call-told (credentialsGiven c) b = same-told
+  call-told : (c : Call) → After (journalCall j c) (callReads j c)
+  call-told (bytesOffered q) = read-told (readUp (j .begun) q)
+  call-told streamEnded = ends-told (streamNumber (j .begun))
+  call-told replyTaken = same-told
+  call-told (replyGiven code hs) = reply-told (j .opened) refl code hs
+  call-told (objectGiven hs body) = sent-told (j .opened) refl
+  call-told (bodyGiven d) = same-told
+  call-told bodyFailed = same-told
+  call-told abortAcknowledged = same-told
+  call-told (passwordGiven p) = ih (stands j (passwordChecked (j .standing) (passes j p))) h at n i place
+  call-told (nonceGiven d) = ih (stands j (challenged (j .standing) (octets16 d))) h at n i place
+  call-told (credentialsGiven c) = same-told
 
-  fed-told : (c : Call) (v : Verdict) (b : ℕ) → After (journalFed j c v b) (fedReads j c v)
-  fed-told c (refused k) b = same-told
-  fed-told c goes b = simp h (call-told c b)
+  fed-told : (f : Fed) → After (journalFed j f) (fedReads j f)
+  fed-told noStep = same-told
+  fed-told (stepBy c) = simp h (call-told c)
+  fed-told (replySent b) = simp h (taken-told (j .opened) refl b)
 
 -- ---- a list of calls
 
 claim : (fs : List Fed) (j : Journal) → j .ended ≡ false → Claim j fs
 unfolding journalStep
 claim [] j h at n i place = simp (pending-none (j .settings .limit) (carrying (j .opened)) at n) (record { same = refl; apart = tt })
-claim (f ∷ fs) j h at n i place = fed-told j fs h (claim fs) at n i place (f .call) (f .verdict) (f .reply)
+claim (f ∷ fs) j h at n i place = fed-told j fs h (claim fs) at n i place f
 
 -- for every list that a fresh journal is fed, its records are exactly those of the Put forms among its packets
 pub put-forms : PutForms

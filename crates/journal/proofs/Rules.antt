@@ -1,6 +1,6 @@
 -- The checks of a journal keep the rule of eight wrong ones, call by call, if a password is given only while not too many were wrong. That
 -- a stop comes only after too many, the journal itself says. Assumes nothing.
-use mathlib.Core.Path.{_≡_, refl, sym, subst}
+use mathlib.Core.Path.{_≡_, refl, sym, ap, subst}
 use mathlib.Core.Bool.{Bool, true, false, _&&_, _||_, false≢true}
 use mathlib.Core.List.{List, [], _∷_}
 use mathlib.Core.Option.{Option, none, some}
@@ -17,7 +17,7 @@ use Rattle.packet.specs.declared.opcode.Opcode.{Opcode}
 use Rattle.packet.specs.declared.opcode.Opcode.the-variants.{Connect, Disconnect, Put, Get, SetPath, Action, Session, Abort, UserDefined}
 use Rattle.journal.specs.Record.{Record, joined, carriedBy}
 use Rattle.journal.specs.Ids.{member, without, newId}
-use Rattle.journal.specs.Calls.{Call, bytesOffered, streamEnded, replyTaken, replyGiven, objectGiven, bodyGiven, bodyFailed, abortAcknowledged, passwordGiven, nonceGiven, credentialsGiven, Verdict, goes, refused, Fed}
+use Rattle.journal.specs.Calls.{Call, bytesOffered, streamEnded, replyTaken, replyGiven, objectGiven, bodyGiven, bodyFailed, abortAcknowledged, passwordGiven, nonceGiven, credentialsGiven, Fed, noStep, stepBy, replySent}
 use Rattle.journal.specs.Checks.{Check, right, wrong, stop, tooMany, Ruled}
 use Rattle.journal.specs.Journal.{Settings, Standing, Opened, nothing, trailing, putting, getting, sending, gathering, draining, busy, Journal, Entry, unchanged, after, opens, stands, end, admitted, asksSrm, isStopped, withCheck, trails, putRead, firstRead, requestRead, packetRead, journalPacket, Read, more, whole, short, readUp, bytesRead, openId, opensFor, connected, leaves, disconnected, replyTo, replyLast, replied, objectSent, takenAt, passwordChecked, passes, journalCall, journalFed, journalStep, listOf}
 
@@ -170,11 +170,7 @@ module _ (j : Journal) (k : Ruled (j .standing .checks)) where
   request-kept draining r = k
 
   packet-kept : (q : Option Request) → Kept (packetRead q j)
-  packet-kept none = go (busy (j .opened))
-    where
-      go : (t : Bool) → Ruled (pick t (end j) (after j none (j .opened)) .standing .checks)
-      go true = k
-      go false = k
+  packet-kept none = either-kept (busy (j .opened)) _ _ k k
   packet-kept (some r) = either-kept (sameOpcode (r .opcode) Abort) _ _ k (request-kept (j .opened) r)
 
   bytes-kept : (x : Read) → Kept (bytesRead j x)
@@ -187,26 +183,26 @@ module _ (j : Journal) (k : Ruled (j .standing .checks)) where
   checked-kept true e = (e, k)
   checked-kept false e = (e, k)
 
-  call-kept : (c : Call) (b : ℕ) → ((p : Option (List ℕ)) → c ≡ passwordGiven p → tooMany (j .standing .checks) ≡ false) → Kept (journalCall j c b)
-  call-kept (bytesOffered i) b w = bytes-kept (readUp (j .begun) i)
-  call-kept streamEnded b w = k
-  call-kept replyTaken b w = subst (λ (s : Standing). Ruled (s .checks)) (sym (taken-standing (j .opened) j b)) k
-  call-kept (replyGiven code hs) b w = same-kept _ (replied-same (j .opened) j code hs)
-  call-kept (objectGiven hs d) b w = same-kept _ (sent-same (j .opened) j)
-  call-kept (bodyGiven d) b w = k
-  call-kept bodyFailed b w = k
-  call-kept abortAcknowledged b w = k
-  call-kept (passwordGiven p) b w = checked-kept (passes j p) (w p refl)
-  call-kept (nonceGiven n) b w = k
-  call-kept (credentialsGiven c) b w = k
+  call-kept : (c : Call) → ((p : Option (List ℕ)) → c ≡ passwordGiven p → tooMany (j .standing .checks) ≡ false) → Kept (journalCall j c)
+  call-kept (bytesOffered i) w = bytes-kept (readUp (j .begun) i)
+  call-kept streamEnded w = k
+  call-kept replyTaken w = k
+  call-kept (replyGiven code hs) w = same-kept _ (replied-same (j .opened) j code hs)
+  call-kept (objectGiven hs d) w = same-kept _ (sent-same (j .opened) j)
+  call-kept (bodyGiven d) w = k
+  call-kept bodyFailed w = k
+  call-kept abortAcknowledged w = k
+  call-kept (passwordGiven p) w = checked-kept (passes j p) (w p refl)
+  call-kept (nonceGiven n) w = k
+  call-kept (credentialsGiven c) w = k
 
-  fed-kept : (c : Call) (v : Verdict) (b : ℕ) → ((p : Option (List ℕ)) → c ≡ passwordGiven p → v ≡ goes → tooMany (j .standing .checks) ≡ false)
-      → Kept (journalFed j c v b)
-  fed-kept c (refused n) b w = k
-  fed-kept c goes b w = either-kept (j .ended) _ _ k (call-kept c b (λ p e. w p e refl))
+  fed-kept : (f : Fed) → ((p : Option (List ℕ)) → f ≡ stepBy (passwordGiven p) → tooMany (j .standing .checks) ≡ false) → Kept (journalFed j f)
+  fed-kept noStep w = k
+  fed-kept (stepBy c) w = either-kept (j .ended) _ _ k (call-kept c (λ p e. w p (ap stepBy e)))
+  fed-kept (replySent b) w =
+      either-kept (j .ended) _ _ k (subst (λ (s : Standing). Ruled (s .checks)) (sym (taken-standing (j .opened) j b)) k)
 
   -- a call keeps the rule
-  pub step-ruled : (f : Fed) → ((p : Option (List ℕ)) → f .call ≡ passwordGiven p → f .verdict ≡ goes → tooMany (j .standing .checks) ≡ false)
-      → Kept (journalStep j f)
+  pub step-ruled : (f : Fed) → ((p : Option (List ℕ)) → f ≡ stepBy (passwordGiven p) → tooMany (j .standing .checks) ≡ false) → Kept (journalStep j f)
   unfolding journalStep
-  step-ruled f w = fed-kept (f .call) (f .verdict) (f .reply) w
+  step-ruled f w = fed-kept f w

@@ -40,8 +40,11 @@ pub data Verdict : Type 0 where
   goes : Verdict
   refused : ℕ → Verdict
 
--- A call as the journal is fed it; `reply` is the first byte of the reply that is taken.
-pub record Fed : Type 0 where
-  pub call : Call
-  pub verdict : Verdict
-  pub reply : ℕ
+-- What the journal is fed of a call.
+pub data Fed : Type 0 where
+  -- The call was refused, so it is no step.
+  noStep : Fed
+  -- The call went.
+  stepBy : Call → Fed
+  -- The call `replyTaken` went: the host has sent the reply that waited, and this is its first byte.
+  replySent : ℕ → Fed

@@ -1,6 +1,6 @@
 -- The journal, which the requirements call the book: a machine of its own that says which records are handed over
--- (docs/PROTOCOL.md#journal). It is fed the calls' arguments, whether a call is refused, and the first byte of each reply taken; nothing of
--- the engine's state or stores.
+-- (docs/PROTOCOL.md#journal), how many of the bytes that are offered are taken, and in which call the engine ends. It is fed the calls'
+-- arguments, whether a call is refused, and the first byte of each reply taken; nothing of the engine's state or stores.
 use Prim.Native.Nat.{ℕ, _+_, _%_, _^_}
 use mathlib.Core.List.{List, [], _∷_, _++_}
 use mathlib.Core.Bool.{Bool, true, false, _&&_, _||_, not}
@@ -23,7 +23,7 @@ use Rattle.packet.specs.declared.opcode.Opcode.{Opcode}
 use Rattle.packet.specs.declared.opcode.Opcode.the-variants.{Connect, Disconnect, Put, Get, SetPath, Action, Session, Abort, UserDefined}
 use Rattle.journal.specs.Record.{Record, joined, sizeOf, carriedBy, keptByGet}
 use Rattle.journal.specs.Ids.{member, without, newId}
-use Rattle.journal.specs.Calls.{Call, bytesOffered, streamEnded, replyTaken, replyGiven, objectGiven, bodyGiven, bodyFailed, abortAcknowledged, passwordGiven, nonceGiven, credentialsGiven, Verdict, goes, refused, Fed}
+use Rattle.journal.specs.Calls.{Call, bytesOffered, streamEnded, replyTaken, replyGiven, objectGiven, bodyGiven, bodyFailed, abortAcknowledged, passwordGiven, nonceGiven, credentialsGiven, Fed, noStep, stepBy, replySent}
 use Rattle.journal.specs.Checks.{Check, right, wrong, stop, tooMany}
 
 -- ---- what the journal keeps
@@ -94,14 +94,16 @@ fresh st =
 
 -- ---- a step, and what a step may change, each in turn
 
--- A step: the journal afterwards, and the records handed over.
+-- A step: the journal afterwards, the records handed over, and the number with which the engine ends in this call, if it does
+-- (docs/PROTOCOL.md#ends).
 pub record Entry : Type 0 where
   pub next : Journal
   pub given : List Record
+  pub number : Option ℕ
 
 -- A step to the journal `j` that hands nothing over.
 abbrev pub unchanged : Journal → Entry
-unchanged j = record { next = j; given = [] }
+unchanged j = record { next = j; given = []; number = none }
 
 -- The journal once the bytes `p` of a packet have come.
 abbrev pub begin : Journal → List ℕ → Journal
@@ -126,6 +128,10 @@ stands j s =
 abbrev pub end : Journal → Journal
 end j =
     record { settings = j .settings; begun = []; last = j .last; opened = j .opened; standing = j .standing; ended = true }
+
+-- A step in which the engine ends with the number `n`, and so the journal ends.
+abbrev pub endsWith : ℕ → Journal → Entry
+endsWith n j = record { next = end j; given = []; number = some n }
 
 -- ---- admission (docs/PROTOCOL.md#admission)
 
@@ -167,7 +173,7 @@ overrun st = pick (st .refuses) trailing nothing
 unfoldable pub putRead : Journal → Request → Bool → Bool → Record → Entry
 putRead j r srm next c =
     pick (r .final)
-    (record { next = after j (some r) nothing; given = pick (leb (sizeOf c) (j .settings .limit)) (c ∷ []) [] })
+    (record { next = after j (some r) nothing; given = pick (leb (sizeOf c) (j .settings .limit)) (c ∷ []) []; number = none })
     (unchanged (after j (some r) (pick (leb (sizeOf c) (j .settings .limit) || srm) (putting c next) (overrun (j .settings)))))
 
 -- A packet of Action, Session or a user-defined operation is read.
@@ -215,7 +221,8 @@ firstRead Session j r = pick (admitted (j .settings) (j .standing) r) (gatherRea
 firstRead (UserDefined x) j r =
     pick (admitted (j .settings) (j .standing) r) (gatherRead j r (UserDefined x) (allBytes (r .headers))) (dropped j r)
 
--- The journal ends: another operation started before the last one ended.
+-- The journal ends: another operation started before the last one ended. The engine ends once its reply to that packet is taken
+-- (`journalFed`).
 abbrev pub stopped : Journal → Entry
 stopped j = unchanged (end j)
 
@@ -241,7 +248,7 @@ requestRead draining j r = unchanged (after j (some r) (pick (r .final) nothing 
 -- A packet is read: one that is unreadable ends the journal if an operation is open, and else leaves what is open; Abort, final or not,
 -- closes what is open.
 abbrev pub packetRead : Option Request → Journal → Entry
-packetRead none j = unchanged (pick (busy (j .opened)) (end j) (after j none (j .opened)))
+packetRead none j = pick (busy (j .opened)) (endsWith 4 j) (unchanged (after j none (j .opened)))
 packetRead (some r) j = pick (sameOpcode (r .opcode) Abort) (dropped j r) (requestRead (j .opened) j r)
 
 -- A whole packet has come.
@@ -272,7 +279,21 @@ readUp p (x ∷ xs) = readStep (p ++ (x ∷ [])) (readUp (p ++ (x ∷ [])) xs)
 abbrev pub bytesRead : Journal → Read → Entry
 bytesRead j (more p) = unchanged (begin j p)
 bytesRead j (whole p) = journalPacket j p
-bytesRead j short = unchanged (end j)
+bytesRead j short = endsWith 3 j
+
+-- A packet goes on after the bytes `p`: they are fewer than three, or a length field of 3 at least has not been reached.
+unfoldable pub goesOn : List ℕ → Bool
+goesOn p = ltb (length p) 3 || (not (ltb (be16 p 1) 3) && not (leb (be16 p 1) (length p)))
+
+-- How many of the bytes are taken behind `p`: all of them up to the packet's end, or up to the third byte if the length is under 3.
+unfoldable pub takenUp : List ℕ → List ℕ → ℕ
+takenUp p [] = 0
+takenUp p (x ∷ xs) = 1 + pick (goesOn (p ++ (x ∷ []))) (takenUp (p ++ (x ∷ [])) xs) 0
+
+-- The number with which the engine ends at the end of the stream: between packets, or inside one.
+abbrev pub streamNumber : List ℕ → ℕ
+streamNumber [] = 1
+streamNumber (x ∷ xs) = 2
 
 -- ---- the host's answers (docs/PROTOCOL.md#connect, #connection-ids, #disconnect)
 
@@ -398,28 +419,32 @@ challenged s n = record { authenticated = false; challenge = some n; ids = s .id
 
 -- ---- a call
 
--- The step of a call that goes.
-abbrev pub journalCall : Journal → Call → ℕ → Entry
-journalCall j (bytesOffered i) b = bytesRead j (readUp (j .begun) i)
-journalCall j streamEnded b = unchanged (end j)
-journalCall j replyTaken b = unchanged (takenAt (j .opened) j b)
-journalCall j (replyGiven code hs) b = unchanged (replied (j .opened) j code hs)
-journalCall j (objectGiven hs body) b = unchanged (objectSent (j .opened) j)
-journalCall j (bodyGiven d) b = unchanged j
-journalCall j bodyFailed b = unchanged j
-journalCall j abortAcknowledged b = unchanged j
-journalCall j (passwordGiven p) b = unchanged (stands j (passwordChecked (j .standing) (passes j p)))
-journalCall j (nonceGiven n) b = unchanged (stands j (challenged (j .standing) (octets16 n)))
-journalCall j (credentialsGiven c) b = unchanged j
+-- The step of a call that goes. A reply taken is fed with its first byte, and stands in `journalFed`.
+abbrev pub journalCall : Journal → Call → Entry
+journalCall j (bytesOffered i) = bytesRead j (readUp (j .begun) i)
+journalCall j streamEnded = endsWith (streamNumber (j .begun)) j
+journalCall j replyTaken = unchanged j
+journalCall j (replyGiven code hs) = unchanged (replied (j .opened) j code hs)
+journalCall j (objectGiven hs body) = unchanged (objectSent (j .opened) j)
+journalCall j (bodyGiven d) = unchanged j
+journalCall j bodyFailed = unchanged j
+journalCall j abortAcknowledged = unchanged j
+journalCall j (passwordGiven p) = unchanged (stands j (passwordChecked (j .standing) (passes j p)))
+journalCall j (nonceGiven n) = unchanged (stands j (challenged (j .standing) (octets16 n)))
+journalCall j (credentialsGiven c) = unchanged j
 
--- The step of a call; a call that was refused, or that comes after the end, is no step.
-abbrev pub journalFed : Journal → Call → Verdict → ℕ → Entry
-journalFed j c (refused n) b = unchanged j
-journalFed j c goes b = pick (j .ended) (unchanged j) (journalCall j c b)
+-- A reply is taken after the journal has ended: it was the reply to a packet of another operation, so the engine ends.
+abbrev pub lastTaken : Journal → Entry
+lastTaken j = record { next = j; given = []; number = some 5 }
 
--- The step of a call as it is fed.
+-- The step of a call as it is fed. A call that was refused is no step, and none but a reply taken is one after the end.
+abbrev pub journalFed : Journal → Fed → Entry
+journalFed j noStep = unchanged j
+journalFed j (stepBy c) = pick (j .ended) (unchanged j) (journalCall j c)
+journalFed j (replySent b) = pick (j .ended) (lastTaken j) (unchanged (takenAt (j .opened) j b))
+
 unfoldable pub journalStep : Journal → Fed → Entry
-journalStep j f = journalFed j (f .call) (f .verdict) (f .reply)
+journalStep j f = journalFed j f
 
 -- The journal after a list of calls.
 abbrev pub journalAfter : Journal → List Fed → Journal
@@ -430,6 +455,38 @@ journalAfter j (f ∷ fs) = journalAfter (journalStep j f .next) fs
 abbrev pub journalRecords : Journal → List Fed → List Record
 journalRecords j [] = []
 journalRecords j (f ∷ fs) = journalStep j f .given ++ journalRecords (journalStep j f .next) fs
+
+-- In which calls of a list the engine must end, and with which number.
+abbrev pub journalEnds : Journal → List Fed → List (Option ℕ)
+journalEnds j [] = []
+journalEnds j (f ∷ fs) = journalStep j f .number ∷ journalEnds (journalStep j f .next) fs
+
+-- ---- the bytes that are taken
+
+-- How many bytes a call takes.
+abbrev pub callTakes : Journal → Call → ℕ
+callTakes j (bytesOffered i) = takenUp (j .begun) i
+callTakes j streamEnded = 0
+callTakes j replyTaken = 0
+callTakes j (replyGiven code hs) = 0
+callTakes j (objectGiven hs body) = 0
+callTakes j (bodyGiven d) = 0
+callTakes j bodyFailed = 0
+callTakes j abortAcknowledged = 0
+callTakes j (passwordGiven p) = 0
+callTakes j (nonceGiven n) = 0
+callTakes j (credentialsGiven c) = 0
+
+-- How many bytes a call takes, as it is fed.
+abbrev pub fedTakes : Journal → Fed → ℕ
+fedTakes j noStep = 0
+fedTakes j (stepBy c) = pick (j .ended) 0 (callTakes j c)
+fedTakes j (replySent b) = 0
+
+-- How many bytes each call of a list must report as taken.
+abbrev pub journalCounts : Journal → List Fed → List ℕ
+journalCounts j [] = []
+journalCounts j (f ∷ fs) = fedTakes j f ∷ journalCounts (journalStep j f .next) fs
 
 -- ---- the packets that are read
 
@@ -458,15 +515,16 @@ callReads j (passwordGiven p) = []
 callReads j (nonceGiven n) = []
 callReads j (credentialsGiven c) = []
 
--- The packets that a call reads, by its verdict.
-abbrev pub fedReads : Journal → Call → Verdict → List Marked
-fedReads j c (refused n) = []
-fedReads j c goes = pick (j .ended) [] (callReads j c)
+-- The packets that a call reads, as it is fed.
+abbrev pub fedReads : Journal → Fed → List Marked
+fedReads j noStep = []
+fedReads j (stepBy c) = pick (j .ended) [] (callReads j c)
+fedReads j (replySent b) = []
 
 -- The packets that a list of calls reads, in whatever pieces they come.
 abbrev pub packets : Journal → List Fed → List Marked
 packets j [] = []
-packets j (f ∷ fs) = fedReads j (f .call) (f .verdict) ++ packets (journalStep j f .next) fs
+packets j (f ∷ fs) = fedReads j f ++ packets (journalStep j f .next) fs
 
 -- ---- the one premise of the records theorem: the kept headers stay within 65,535 bytes
 

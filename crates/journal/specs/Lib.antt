@@ -5,4 +5,5 @@ pub mod Calls
 pub mod Checks
 pub mod Journal
 pub mod PutForm
+pub mod Srm
 pub mod Claim

@@ -32,18 +32,17 @@ use Rattle.model.specs.Theorem.{settingsOf}
 use Rattle.server.specs.declared.Operation.the-variants.{Nothing, Connecting}
 use Rattle.connection.specs.declared.peer.ConnectionId.{ConnectionId}
 use Rattle.server.specs.declared.Await.the-variants as await
-use Rattle.server.specs.declared.End.the-variants as why
 use Rattle.server.specs.declared.Engine.{Engine}
 use Rattle.server.specs.declared.HostRequest.the-variants as request
 use Rattle.server.specs.declared.Outcome.the-variants as outcome
-use Rattle.connection.proofs.Standings.{PeerFits, challengeBytes, standingOf, verified-standing, wrong-standing, challenged-standing, disconnected-standing, opened-standing, full-standing, Windowed, challenged-window, disconnected-window, checked-window, verified-window, opened-window}
-use Rattle.model.proofs.Coupling.{Held, AskedBy, Told, ToldTabled, told-done, told-ends, told-replies}
+use Rattle.connection.proofs.Standings.{PeerFits, challengeBytes, standingOf, verified-standing, challenged-standing, disconnected-standing, opened-standing, full-standing, wrong-standing, Windowed, challenged-window, disconnected-window, checked-window, verified-window, opened-window}
+use Rattle.model.proofs.Coupling.{Held, AskedBy, Told, ToldTabled, told-done, told-too-large, told-replies}
 
 -- ---- a reply that is sent, or is too long
 
 module _ (ts : List ℕ) (e : Engine) (s : Stores) (p : Peer) (j : Journal) (w : Held ts (e .settings) p Nothing s [] j) where
   sent-told : (x : Option (List ℕ)) → Told ts (sent e p x s) (unchanged j)
-  sent-told none = told-ends ts e p s j why.ReplyTooLarge
+  sent-told none = told-too-large ts e p s j
   sent-told (some q) = told-replies ts e p s j Nothing q refl w
 
   pub sends-told : (code : ℕ) (hs : List ℕ) → Told ts (sends e p code hs s) (unchanged j)
@@ -128,7 +127,7 @@ module _ (ts : List ℕ) (e : Engine) (s : Stores) (j : Journal) (o : Opcode) (w
     challenged-told u p x g (some c) i k =
         told-done u e p (Connecting code g (length hs)) await.Credentials (outcome.Request (credentialsFor (lastPacket e s) c))
         (withHeaders s (front hs (s .headers))) (stands j x) []
-        (held-stands u (withHeaders s (front hs (s .headers))) p x past i k) refl
+        (held-stands u (withHeaders s (front hs (s .headers))) p x past i k) refl refl
 
     opened-told : (a : Option (List ℕ)) (g : ConnectionId) (p : Option Linked) → openedFor (e .peer) ts srm a target ≡ p
         → ToldTabled (connectOpened e ts p code g hs s) (unchanged (stands j (opensFor stood srm a target)))
@@ -200,10 +199,12 @@ module _ (ts : List ℕ) (e : Engine) (s : Stores) (j : Journal) (o : Opcode) (w
           (still-asked (verifiedPeer (checkedPeer (e .peer) false)) _ (right ∷ past) (sym (verified-standing (e .peer) ts past))
           (verified-window (e .peer) past (w .held .fixed .window)))
           refl
+          refl
       go false =
           told-done ts e (checkedPeer (e .peer) true) Nothing await.Nonce (outcome.Request request.Nonce) s (stands j _) []
           (still-asked (checkedPeer (e .peer) true) _ (wrong ∷ past) (sym (wrong-standing (e .peer) ts past))
           (checked-window (e .peer) past wrong (w .held .fixed .window)))
+          refl
           refl
 
   pub nonce-told : (n : Octets16) (l : List ℕ) → Told ts (nonceAnswer e n l s) (unchanged (stands j (challenged (j .standing) (octets16 n))))

@@ -2,13 +2,14 @@
 -- Assumes nothing.
 use mathlib.Core.Path.{_≡_, refl, sym, ap, _∙_, subst}
 use mathlib.Core.List.{List, []}
-use mathlib.Core.Bool.{Bool, true, false}
-use mathlib.Core.Option.{some}
+use mathlib.Core.Bool.{Bool, true, false, true≢false}
+use mathlib.Core.Option.{Option, none, some}
 use Prim.Native.Nat.{ℕ}
 use native.Mathlib.Omega.{arith}
 use lib.ListN.{length, getD, take}
 use lib.Dec.{eqb}
 use Rattle.base.specs.Pick.{pick}
+use Rattle.packet.specs.FirstByte.{sameOpcode}
 use Rattle.packet.specs.Codes.{sentCode}
 use Rattle.packet.specs.Packet.{Request as Packet, requestOf, packetBytes}
 use Rattle.packet.specs.declared.opcode.Opcode.{Opcode}
@@ -22,13 +23,16 @@ use Rattle.connection.specs.Reply.{front}
 use Rattle.connection.specs.declared.peer.Peer.{Peer}
 use Rattle.model.specs.Step.{Stores, withReply, engineWith, Done, done, DoneTabled, wants, ends, replies, repliesCode}
 use Rattle.model.specs.Runs.{handed}
+use Rattle.model.specs.Refusals.{endOf}
 use Rattle.model.specs.Theorem.{settingsOf}
+use Rattle.server.specs.Numbers.{endNumber}
 use Rattle.server.specs.declared.Settings.{Settings}
 use Rattle.server.specs.declared.Operation.{Operation}
 use Rattle.server.specs.declared.Operation.the-variants.{Nothing, Trailing, Putting, Getting, Sending, Gathering as GatheringOp, Connecting, Draining}
 use Rattle.server.specs.declared.Await.{Await}
 use Rattle.server.specs.declared.Await.the-variants as await
 use Rattle.server.specs.declared.End.{End}
+use Rattle.server.specs.declared.End.the-variants as end
 use Rattle.server.specs.declared.Engine.{Engine}
 use Rattle.server.specs.declared.Outcome.{Outcome}
 use Rattle.server.specs.declared.Outcome.the-variants as outcome
@@ -49,9 +53,9 @@ pub record KeptOpen (limit : ℕ) (g : Gathered) (f : List ℕ → Opened) (h b 
   pub is : x ≡ f keeps
   pub agrees : KeptAgrees limit (gatheringOf g h b) keeps
 
--- an opcode to which the journal does nothing on a reply
+-- an opcode to which the journal does nothing on a reply, and which is not Connect
 abbrev pub Plain : Opcode → Type 0
-Plain o = (j : Journal) (r : Packet) (code : ℕ) (hs : List ℕ) → replyTo o j r code hs ≡ j
+Plain o = ((j : Journal) (r : Packet) (code : ℕ) (hs : List ℕ) → replyTo o j r code hs ≡ j) × (sameOpcode o op.Connect ≡ false)
 
 -- the operation, over the header and body stores, and what the journal has open
 abbrev pub OpenedAt : ℕ → Operation → List ℕ → List ℕ → Opened → Type 0
@@ -89,9 +93,13 @@ pub record AskedBy (ts : List ℕ) (st : Settings) (p : Peer) (o : Opcode) (n : 
   pub opcode : request .opcode ≡ o
   pub headers : request .headers ≡ headersIn (requestOf (take n (s .packet)))
 
--- a reply to the last packet changes nothing
+-- a reply to the last packet changes nothing, and that packet is no Connect
+abbrev pub connects : Option Packet → Bool
+connects none = false
+connects (some r) = sameOpcode (r .opcode) op.Connect
+
 abbrev pub Still : Journal → Type 0
-Still j = (code : ℕ) (hs : List ℕ) → replyLast (j .last) j code hs ≡ j
+Still j = ((code : ℕ) (hs : List ℕ) → replyLast (j .last) j code hs ≡ j) × (connects (j .last) ≡ false)
 
 -- while a reply waits, the journal is told by what it does once the reply is taken
 abbrev pub CoupledAt : List ℕ → Await → Operation → Settings → Peer → ℕ → ℕ → Stores → Journal → Type 0
@@ -114,9 +122,24 @@ Coupled ts e s j = CoupledAt ts (e .awaits) (e .operation) (e .settings) (e .pee
 
 -- ---- what a step leads to is what the journal enters
 
+-- a reply of over 65,535 bytes ended the engine (7)
+abbrev pub tooLarge : Outcome → Bool
+tooLarge (outcome.End end.ReplyTooLarge) = true
+tooLarge (outcome.End end.Disconnected) = false
+tooLarge (outcome.End end.Truncated) = false
+tooLarge (outcome.End end.LengthTooSmall) = false
+tooLarge (outcome.End end.Unreadable) = false
+tooLarge (outcome.End end.OtherOperation) = false
+tooLarge (outcome.End end.HeadersTooLarge) = false
+tooLarge outcome.WantsBytes = false
+tooLarge (outcome.Reply n) = false
+tooLarge (outcome.Request r) = false
+tooLarge (outcome.Refused r) = false
+
 pub record Told (ts : List ℕ) (d : Done) (x : Entry) : Type 0 where
   pub given : handed (d .outcome) (d .stores) ≡ x .given
   pub after : Coupled ts (d .engine) (d .stores) (x .next)
+  pub ends : tooLarge (d .outcome) ≡ false → endOf (d .outcome) ≡ x .number
 
 pub told-pick : (ts : List ℕ) (t : Bool) (a b : Done) (x : Entry) → (t ≡ true → Told ts a x) → (t ≡ false → Told ts b x) → Told ts (pick t a b) x
 told-pick ts true a b x f g = f refl
@@ -131,10 +154,10 @@ tabled-told-pick true a b x f g = f refl
 tabled-told-pick false a b x f g = g refl
 
 pub told-done : (ts : List ℕ) (e : Engine) (p : Peer) (o : Operation) (a : Await) (c : Outcome) (z : Stores) (j : Journal) (l : List Record)
-    → CoupledAt ts a o (e .settings) p 0 (e .length) z j → handed c z ≡ l
-    → Told ts (done (engineWith (e .settings) p o a 0 (e .length)) c z) (record { next = j; given = l })
+    → CoupledAt ts a o (e .settings) p 0 (e .length) z j → handed c z ≡ l → endOf c ≡ none
+    → Told ts (done (engineWith (e .settings) p o a 0 (e .length)) c z) (record { next = j; given = l; number = none })
 unfolding engineWith
-told-done ts e p o a c z j l w g = record { given = g; after = w }
+told-done ts e p o a c z j l w g n = record { given = g; after = w; ends = λ i. n }
 
 -- no operation that sends an object
 abbrev pub quiet : Operation → Bool
@@ -159,11 +182,17 @@ taken-still limit (Connecting c f n) h b x j y q w = absurd w
 taken-still limit (Draining c) h b x j y q w = ap (λ (u : Opened). takenAt u j y) w
 
 module _ (ts : List ℕ) (e : Engine) (p : Peer) (z : Stores) (j : Journal) where
-  pub told-ends : (x : End) → Told ts (ends e p x z) (unchanged j)
-  told-ends x = told-done ts e p Nothing await.Nothing (outcome.End x) z j [] tt refl
+  pub told-ends : (x : End) → Told ts (ends e p x z) (record { next = j; given = []; number = some (endNumber x) })
+  unfolding engineWith
+  told-ends x = record { given = refl; after = tt; ends = λ i. refl }
+
+  -- a reply that is too long ends the engine, and not the journal
+  pub told-too-large : Told ts (ends e p end.ReplyTooLarge z) (unchanged j)
+  unfolding engineWith
+  told-too-large = record { given = refl; after = tt; ends = λ i. absurd (true≢false i) }
 
   pub told-wants : (o : Operation) → Held ts (e .settings) p o z [] j → Told ts (wants e p o z) (unchanged j)
-  told-wants o w = told-done ts e p o await.Bytes outcome.WantsBytes z j [] w refl
+  told-wants o w = told-done ts e p o await.Bytes outcome.WantsBytes z j [] w refl refl
 
   pub told-replies : (o : Operation) (q : List ℕ) → quiet o ≡ true → Held ts (e .settings) p o z [] j
       → Told ts (replies e p o await.Taken q z) (unchanged j)
@@ -175,15 +204,16 @@ module _ (ts : List ℕ) (e : Engine) (p : Peer) (z : Stores) (j : Journal) wher
             (record { fixed = w .fixed; begun = w .begun; opened = w .opened }),
       )
       refl
+      refl
 
   pub told-code : (code : ℕ) → Held ts (e .settings) p Nothing z [] j → Told ts (repliesCode e p Nothing code z) (unchanged j)
   told-code code w = told-replies Nothing (packetBytes (sentCode code) [] []) refl w
 
   -- a Get whose object was sent closes on a reply that is not 0x90
-  pub told-closes : (c : Outcome) (y : List ℕ) → handed c (withReply z y) ≡ [] → eqb (getD y 0 0) 0x90 ≡ false → Fixed ts (e .settings) p j
+  pub told-closes : (c : Outcome) (y : List ℕ) → handed c (withReply z y) ≡ [] → endOf c ≡ none → eqb (getD y 0 0) 0x90 ≡ false → Fixed ts (e .settings) p j
       → j .begun ≡ [] → j .opened ≡ sending
       → Told ts (done (engineWith (e .settings) p Nothing await.Taken 0 (e .length)) c (withReply z y)) (unchanged j)
-  told-closes c y g b f k w =
+  told-closes c y g n b f k w =
       told-done ts e p Nothing await.Taken c (withReply z y) j [] (
         f .ended,
         subst (λ (x : Journal). Held ts (e .settings) p Nothing (withReply z y) [] x)
@@ -191,3 +221,4 @@ module _ (ts : List ℕ) (e : Engine) (p : Peer) (z : Stores) (j : Journal) wher
             (record { fixed = record { settings = f .settings; past = f .past; standing = f .standing; window = f .window; ended = f .ended }; begun = k; opened = refl }),
       )
       g
+      n

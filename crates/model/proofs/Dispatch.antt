@@ -73,14 +73,14 @@ module _ (ts : List ℕ) (e : Engine) (s : Stores) (j : Journal) (f : Fixed ts (
   abbrev known : Bool
   known = knownIn e ts v
 
-  rejection-is : rejection e (r .opcode) v known ≡ pick noPassword (rejects 0x41) (pick closedId (rejects 0x53) admits)
+  pub rejection-is : rejection e (r .opcode) v known ≡ pick noPassword (rejects 0x41) (pick closedId (rejects 0x53) admits)
   unfolding rejection unauthorized surveyOf
   rejection-is =
       ap (λ (t : Bool). pick (e .settings .authentication && (not (e .peer .authenticated) && not (sameOpcode (r .opcode) op.Disconnect))) (rejects 0x41)
       (pick t (rejects 0x53) admits)) (known-open (v .«has_id») (member (v .id) (idsOf (e .peer) ts)))
       ∙ rw (f .settings, f .standing) (rw (survey-open (idsOf (e .peer) ts) (first 0xCB (r .headers))) refl)
 
-  admitted-is : admitted (j .settings) (j .standing) r ≡ (not noPassword && not closedId)
+  pub admitted-is : admitted (j .settings) (j .standing) r ≡ (not noPassword && not closedId)
   unfolding admitted
   admitted-is = refl
 
@@ -98,7 +98,7 @@ module _ (ts : List ℕ) (e : Engine) (s : Stores) (j : Journal) (f : Fixed ts (
   drops code = told-code ts e (e .peer) s (after j (some r) nothing) code (held-after ts e s j f r Nothing nothing s refl)
 
   -- turned away: drained, or dropped
-  srm-is : j .standing .srm ≡ e .peer .«srm_enabled»
+  pub srm-is : j .standing .srm ≡ e .peer .«srm_enabled»
   srm-is = ap (λ (x : Standing). x .srm) (f .standing)
 
   turned-away : (code : ℕ) → drains (r .opcode) ≡ true → Told ts (rejected e r code s) (turnedAway j r)
@@ -141,6 +141,7 @@ module _ (ts : List ℕ) (e : Engine) (s : Stores) (j : Journal) (f : Fixed ts (
           headers = sym (ap headersIn last);
         }))
         g
+        refl
 
     -- the peer with the limit that this packet names
     abbrev named : Peer
@@ -216,7 +217,7 @@ module _ (ts : List ℕ) (e : Engine) (s : Stores) (j : Journal) (f : Fixed ts (
     -- ---- nothing is open
 
     module _ (h : Base e s) (small : length (allBytes (r .headers)) ≤ 65535) where
-      none-kept : KeptAgrees (limitOf e) (gatheringOf nothingGathered (s .headers) (s .body)) []
+      pub none-kept : KeptAgrees (limitOf e) (gatheringOf nothingGathered (s .headers) (s .body)) []
       none-kept = kept-begins (limitOf e) (s .headers) (s .body) (h .room .headers) (h .room .body)
 
       plain-told : (o : Opcode) → r .opcode ≡ o → Plain o → Told ts (headersPacket e r o nothingGathered s) (gatherRead j r o (allBytes (r .headers)))
@@ -227,7 +228,7 @@ module _ (ts : List ℕ) (e : Engine) (s : Stores) (j : Journal) (f : Fixed ts (
       srm-next true a = refl
       srm-next false a = refl
 
-      confirms-is : confirms e v ≡ (not (j .standing .srm) && asksSrm (j .settings) (r .headers))
+      pub confirms-is : confirms e v ≡ (not (j .standing .srm) && asksSrm (j .settings) (r .headers))
       unfolding surveyOf asksSrm
       confirms-is = rw (f .settings, f .standing) refl
 
@@ -281,11 +282,11 @@ module _ (ts : List ℕ) (e : Engine) (s : Stores) (j : Journal) (f : Fixed ts (
       dispatch-told op.SetPath i n =
           dropped-first op.SetPath i refl refl
           (asks-told op.SetPath (e .peer) await.Reply (request.SetPath (e .length) (backup (r .bytes)) (noCreate (r .bytes))) i (refl, refl)
-          (λ x. (x .held, still-after ts e s j f r op.SetPath nothing i (λ a b y z. refl))) refl)
+          (λ x. (x .held, still-after ts e s j f r op.SetPath nothing i (λ a b y z. refl, refl))) refl)
       dispatch-told op.Put i n = drained-first op.Put _ i refl refl (first-put i)
       dispatch-told op.Get i n =
           drained-first op.Get _ i refl refl
           (get-packet ts e s j f r v (e .peer .«srm_enabled») (confirms e v) nothingGathered [] none-kept (omega (arith, kept-headers (r .headers))))
-      dispatch-told op.Action i n = plain-first op.Action _ i refl refl (plain-told op.Action i (λ a b y z. refl))
-      dispatch-told op.Session i n = plain-first op.Session _ i refl refl (plain-told op.Session i (λ a b y z. refl))
-      dispatch-told (op.UserDefined x) i n = plain-first (op.UserDefined x) _ i refl refl (plain-told (op.UserDefined x) i (λ a b y z. refl))
+      dispatch-told op.Action i n = plain-first op.Action _ i refl refl (plain-told op.Action i (λ a b y z. refl, refl))
+      dispatch-told op.Session i n = plain-first op.Session _ i refl refl (plain-told op.Session i (λ a b y z. refl, refl))
+      dispatch-told (op.UserDefined x) i n = plain-first (op.UserDefined x) _ i refl refl (plain-told (op.UserDefined x) i (λ a b y z. refl, refl))

@@ -1,5 +1,5 @@
--- The window counts the wrong checks of the history from the start, and the history keeps the rule of eight: by induction over the list of
--- calls, along the coupling of engine and journal. Over contracts, since a run by contracts is a run of the model. Assumes nothing.
+-- The window counts the wrong checks of the history from the start, and the history keeps the rule of eight: by induction over the run,
+-- along the coupling of engine and journal. Assumes nothing.
 use mathlib.Core.Path.{_≡_, refl, sym, ap, _∙_, subst}
 use mathlib.Core.List.{List, [], _∷_}
 use mathlib.Core.Bool.{Bool, true, false, _||_, not, false≢true}
@@ -10,10 +10,9 @@ use lib.Count.{ones}
 use lib.Dec.{leb}
 use lib.ListN.{getD}
 use Rattle.base.specs.Pick.{pick}
-use Rattle.journal.specs.Calls.{Call, passwordGiven, Verdict, goes, refused}
-use Rattle.journal.specs.Record.{Record}
+use Rattle.journal.specs.Calls.{Call, bytesOffered, streamEnded, replyTaken, replyGiven, objectGiven, bodyGiven, bodyFailed, abortAcknowledged, passwordGiven, nonceGiven, credentialsGiven, Verdict, goes, refused, stepBy}
 use Rattle.journal.specs.Checks.{Check, mostWrong, tooMany, windowOf, Ruled}
-use Rattle.journal.specs.Journal.{Standing, Journal, journalStep, journalAfter, fresh, packets, fedReads}
+use Rattle.journal.specs.Journal.{Standing, Journal, journalStep, journalAfter, packets, fedReads}
 use Rattle.journal.proofs.Checked.{counts, passes-after, few-stops}
 use Rattle.journal.proofs.Rules.{taken-standing, step-ruled}
 use Rattle.connection.specs.declared.peer.Peer.{Peer}
@@ -23,16 +22,16 @@ use Rattle.server.specs.declared.Await.the-variants as await
 use Rattle.server.specs.declared.Operation.{Operation}
 use Rattle.server.specs.declared.Engine.{Engine}
 use Rattle.server.specs.declared.Settings.{Settings}
-use Rattle.model.specs.Step.{Stores, Stepped, Called, called}
+use Rattle.model.specs.Step.{Stores}
 use Rattle.model.specs.Guard.{sameAwait}
-use Rattle.model.specs.Runs.{State, stateOf, stepOf, nextState, Octet, AllOctets}
-use Rattle.model.specs.Refusals.{Waits, bytes, password, sameWait, told, expected, bad, verdict, lacks, verdictAt, fedAt, feedOf}
-use Rattle.model.specs.Theorem.{settingsOf, Kept}
-use Rattle.model.specs.Contracts.{state, Ran, none, call}
-use Rattle.model.specs.EightWrong.{ranTo, live, Counted, EightWrong, lastOf, ContractsCount}
-use Rattle.model.proofs.Fit.{waitsOf, Seated}
+use Rattle.model.specs.Runs.{State, Performed, next, Ran, lacks, seen}
+use Rattle.model.specs.Refusals.{Waits, bytes, password, sameWait, told, expected, bad, verdict, fedBy, feedFrom}
+use Rattle.model.specs.Theorem.{journalOf, Kept}
+use Rattle.model.specs.Contracts.{state}
+use Rattle.model.specs.EightWrong.{ranTo, live, Counted, EightWrong, ContractsCount}
+use Rattle.model.proofs.Fit.{waitsOf}
 use Rattle.model.proofs.Coupling.{Fixed, CoupledAt, Coupled}
-use Rattle.model.proofs.Records.{step-agrees, kept-both, start-seated, start-waits, start-coupled}
+use Rattle.model.proofs.Records.{Between, fedTo, performed-agrees, between-next, kept-both, start-between, start-coupled}
 use Rattle.model.proofs.Contracts.{accepted-started}
 
 -- ---- the window, by what is awaited
@@ -88,22 +87,36 @@ goes-expected true t b e = absurd (let z : _≡_ {A = ℕ} 0 1 = cc in omega ari
 goes-expected false true b e = refl
 goes-expected false false b e = absurd (let z : _≡_ {A = ℕ} 0 1 = cc in omega arith)
 
-goes-awaited : (w : Waits) (s : State) → w ≡ waitsOf (s .engine .awaits) (s .engine .operation) → (p : Option (List ℕ))
-    → verdictAt w s (passwordGiven p) ≡ goes → s .engine .awaits ≡ await.Password
+goes-awaited : (short : Bool) (w : Waits) (a : Await) (o : Operation) → w ≡ waitsOf a o → (p : Option (List ℕ))
+    → verdict short w (passwordGiven p) ≡ goes → a ≡ await.Password
 unfolding verdict expected
-goes-awaited w s k p e =
-    password-await (s .engine .awaits) (s .engine .operation)
-    (ap (λ (x : Waits). sameWait x password) (sym k)
-    ∙ goes-expected (lacks (passwordGiven p) s) (sameWait w password) (bad (passwordGiven p)) e)
+goes-awaited short w a o k p e =
+    password-await a o (ap (λ (x : Waits). sameWait x password) (sym k) ∙ goes-expected short (sameWait w password) (bad (passwordGiven p)) e)
 
-checks-few : (w : Waits) (s : State) (j : Journal) → w ≡ waitsOf (s .engine .awaits) (s .engine .operation)
-    → Coupled (s .tables) (s .engine) (s .stores) j → (c : Call) (p : Option (List ℕ)) → c ≡ passwordGiven p → verdictAt w s c ≡ goes
-    → tooMany (j .standing .checks) ≡ false
-checks-few w s j k x c p i e =
-    let a = goes-awaited w s k p (ap (verdictAt w s) (sym i) ∙ e) in
+-- what the journal is fed as a password is one that goes
+fed-password : (c : Call) (v : Verdict) (b : ℕ) (p : Option (List ℕ)) → fedBy v c b ≡ stepBy (passwordGiven p) → (c ≡ passwordGiven p) × (v ≡ goes)
+fed-password c (refused n) b p e = absurd (let z : _≡_ {A = ℕ} 0 1 = cc in omega arith)
+fed-password replyTaken goes b p e = absurd (let z : _≡_ {A = ℕ} 0 1 = cc in omega arith)
+fed-password (bytesOffered i) goes b p e = (cc, refl)
+fed-password streamEnded goes b p e = (cc, refl)
+fed-password (replyGiven code hs) goes b p e = (cc, refl)
+fed-password (objectGiven hs d) goes b p e = (cc, refl)
+fed-password (bodyGiven d) goes b p e = (cc, refl)
+fed-password bodyFailed goes b p e = (cc, refl)
+fed-password abortAcknowledged goes b p e = (cc, refl)
+fed-password (passwordGiven q) goes b p e = (cc, refl)
+fed-password (nonceGiven n) goes b p e = (cc, refl)
+fed-password (credentialsGiven d) goes b p e = (cc, refl)
+
+checks-few : (short : Bool) (w : Waits) (s : State) (j : Journal) → w ≡ waitsOf (s .engine .awaits) (s .engine .operation)
+    → Coupled (s .tables) (s .engine) (s .stores) j → (c : Call) (b : ℕ) (p : Option (List ℕ))
+    → fedBy (verdict short w c) c b ≡ stepBy (passwordGiven p) → tooMany (j .standing .checks) ≡ false
+checks-few short w s j k x c b p i =
+    let f = fed-password c (verdict short w c) b p i in
+    let a = goes-awaited short w (s .engine .awaits) (s .engine .operation) k p (ap (verdict short w) (sym (f .0)) ∙ f .1) in
     subst (λ (y : Await). CoupledAt (s .tables) y (s .engine .operation) (s .engine .settings) (s .engine .peer) (s .engine .begun) (s .engine .length) (s .stores) j) a x .1
 
--- ---- a list of calls
+-- ---- a run
 
 counted : (s : State) (j : Journal) → Coupled (s .tables) (s .engine) (s .stores) j → Ruled (j .standing .checks) → Counted (s .engine) j
 counted s j x k =
@@ -120,31 +133,22 @@ counted s j x k =
         window-at (s .tables) (e .awaits) (e .operation) (e .settings) (e .peer) (e .begun) (e .length) (s .stores) j x
         (live-at (sameAwait (e .awaits) await.Last) (sameAwait (e .awaits) await.Nothing) l)
 
-run-counted : (cs : List Call) (w : Waits) (s : State) (j : Journal) → Seated s
-    → w ≡ waitsOf (s .engine .awaits) (s .engine .operation) → Coupled (s .tables) (s .engine) (s .stores) j → Ruled (j .standing .checks)
-    → AllOctets cs → Kept (packets j (feedOf w s cs)) → Counted (ranTo s cs .engine) (journalAfter j (feedOf w s cs))
+run-counted : (st : Settings) (xs : List Performed) (w : Waits) (s : State) (j : Journal) → Between st w s → Ran s xs
+    → Coupled (s .tables) (s .engine) (s .stores) j → Ruled (j .standing .checks) → Kept (packets j (feedFrom w (seen st s xs)))
+    → Counted (ranTo s xs .engine) (journalAfter j (feedFrom w (seen st s xs)))
 unfolding journalStep
-run-counted [] w s j h k x r o p = counted s j x r
-run-counted (c ∷ cs) w s j h k x r o p =
-    let a = step-agrees w s h k c (o .0) in
-    let b = kept-both (fedReads j c (verdictAt w s c))
-    (packets (journalStep j (fedAt w s c) .next) (feedOf (told w (stepOf s c .took .outcome)) (nextState s c) cs)) p in
-    let t = a .journal j x (b .0) in
-    run-counted cs (told w (stepOf s c .took .outcome)) (nextState s c) (journalStep j (fedAt w s c) .next) (a .seated) (a .waits) (t .after)
-    (step-ruled j r (fedAt w s c) (checks-few w s j k x c)) (o .1) (b .1)
+run-counted st [] w s j b r x k p = counted s j x k
+run-counted st (y ∷ xs) w s j b r x k p =
+    let a = performed-agrees st w s b y (r .0) in
+    let f = fedTo st w s b y (r .0) in
+    let both = kept-both (fedReads j f) (packets (journalStep j f .next) (feedFrom (told w (y .result .outcome)) (seen st (next s y) xs))) p in
+    run-counted st xs (told w (y .result .outcome)) (next s y) (journalStep j f .next) (between-next st w s b y (r .0)) (r .1)
+    (a .journal j x (both .0) .after)
+    (step-ruled j k f (checks-few (lacks st (y .call) (s .stores) (s .tables)) w s j (b .waits) x (y .call) (getD (s .stores .reply) 0 0))) (both .1)
 
 -- the count is that of the history from the start, which keeps the rule
 pub eight-wrong : EightWrong
-eight-wrong st s h cs o k =
-    run-counted cs bytes s (fresh (settingsOf st)) (start-seated st s h) (start-waits st s h) (start-coupled st s h) tt o k
-
--- ---- over contracts
-
-ran-to : {s : State} {cs : List Call} {vs : List Verdict} {ls : List Record} (h : Ran s cs vs ls) → lastOf h ≡ ranTo s cs
-ran-to none = refl
-ran-to (call {s = s} {cs = cs} c r t u e h) = ran-to h ∙ ap (λ (m : Called). ranTo (stateOf (s .realm) m) cs) e
+eight-wrong st s h xs r k = run-counted st xs bytes s (journalOf st) (start-between st s h) r (start-coupled st s h) tt k
 
 pub contracts-count : ContractsCount
-contracts-count st l s t u r cs vs ls a o h k =
-    subst (λ (x : State). Counted (x .engine) (journalAfter (fresh (settingsOf st)) (feedOf bytes (state l r t u) cs))) (sym (ran-to h))
-    (eight-wrong st (state l r t u) (accepted-started st l s t u r a) cs o k)
+contracts-count st l s t u r xs a h k = eight-wrong st (state l r t u) (accepted-started st l s t u r a) xs h k

@@ -2,19 +2,22 @@
 use mathlib.Core.Path.{_≡_, refl, sym, ap, _∙_, subst}
 use mathlib.Core.List.{List, []}
 use mathlib.Core.Bool.{Bool, true, false, _||_, not}
-use mathlib.Core.Option.{Option}
-use Prim.Native.Nat.{ℕ, _≤_, _<_}
+use mathlib.Core.Option.{Option, none, some}
+use Prim.Native.Nat.{ℕ, _+_, _≤_, _<_}
 use native.Mathlib.Omega.{arith}
 use lib.ListN.{length, getD, take}
 use lib.Dec.{ltb, leb, eqb}
 use borrow.Author.Tests.{ltb-true, ltb-false, leb-true, eqb-true, eqb-false, lt-leb, le-leb}
 use Rattle.base.specs.Pick.{pick}
 use Rattle.digest.specs.declared.md5.Octets16.{Octets16}
+use Rattle.packet.specs.FirstByte.{sameOpcode}
 use Rattle.packet.specs.Codes.{isCode}
+use Rattle.packet.specs.Packet.{Request as Packet}
+use Rattle.packet.specs.declared.opcode.Opcode.{Opcode}
 use Rattle.packet.specs.Header.{readHeaders}
 use Rattle.packet.specs.declared.opcode.Opcode.the-variants as op
-use Rattle.journal.specs.Calls.{Call, replyGiven, objectGiven, bodyGiven, bodyFailed, abortAcknowledged, passwordGiven, nonceGiven, credentialsGiven, Credentials, goes, refused}
-use Rattle.journal.specs.Journal.{Opened, nothing, getting, sending, Journal, unchanged, opens, replied, objectSent, journalCall, journalFed, listOf}
+use Rattle.journal.specs.Calls.{Call, replyGiven, objectGiven, bodyGiven, bodyFailed, abortAcknowledged, passwordGiven, nonceGiven, credentialsGiven, Credentials, goes, refused, stepBy}
+use Rattle.journal.specs.Journal.{Opened, nothing, getting, sending, Journal, unchanged, opens, replied, objectSent, journalCall, journalFed, fedTakes, listOf}
 use Rattle.outgoing.specs.Object.{bodyGiven as givenBody}
 use Rattle.outgoing.specs.declared.object.Outgoing.{Outgoing}
 use Rattle.outgoing.specs.declared.object.Chunk.{Chunk}
@@ -26,7 +29,10 @@ use Rattle.model.specs.Object.{sendsPacket, sendsNext, objectOf}
 use Rattle.model.specs.Calls.{replyAnswer, objectFor, bodyFor, credentialsWith}
 use Rattle.model.specs.Runs.{State, keeps}
 use Rattle.model.specs.Refusals.{Waits, roomIn, bad}
+use Rattle.journal.specs.Srm.{speaks, Mode, objectMode}
+use Rattle.model.specs.Replies.{connectSize, lastSize, answerSize, Late, lateBy}
 use Rattle.server.specs.declared.Operation.{Operation}
+use Rattle.server.specs.declared.Operation.the-variants.{Nothing, Sending, Connecting}
 use Rattle.server.specs.declared.CallKind.the-variants as kind
 use Rattle.server.specs.declared.Refusal.the-variants as refusal
 use Rattle.server.specs.declared.Await.{Await}
@@ -35,10 +41,12 @@ use Rattle.server.specs.declared.Engine.{Engine}
 use Rattle.outgoing.proofs.Sent.{body-sends}
 use Rattle.model.proofs.Fit.{and-left, and-right, or-left, or-right, room-headers, IsGetting, IsSending, IsConnecting, Shape, roomOf, waitsOf, Base, Seated, Fine, fine-code}
 use Rattle.model.proofs.Steps.{OutgoingFits, outgoing-within, sends-next-fine, sends-packet-fine, reply-fine, password-fine, nonce-fine, connect-sends-fine}
-use Rattle.model.proofs.Coupling.{KeptOpen, OpenedAt, Held, Coupled, Told, ToldTabled, tabled-told-pick, told-code}
+use Rattle.model.proofs.Coupling.{KeptOpen, OpenedAt, Held, AskedBy, connects, Coupled, Told, ToldTabled, tabled-told-pick, told-code}
+use Rattle.model.proofs.Sizes.{early, Brief, brief-done, packet-brief, next-brief, password-brief, sends-brief, sends-connect-brief, nonce-brief, LateIn, LateAt, Sized, brief-sized, sized-pick, connect-sized}
+use Rattle.model.proofs.Speaks.{ModeAt, Spoken, spoken-done, next-spoken, packet-spoken, speaks-spoken, reply-speaks, password-speaks, nonce-speaks, connect-sends-speaks}
 use Rattle.model.proofs.Gathers.{next-told, fails-told, sends-told as made-told}
 use Rattle.model.proofs.Answers.{sends-told, connect-sends-told, connect-told, disconnect-told, password-told, nonce-told}
-use Rattle.model.proofs.Moments.{same-await, or-second, Agree, AgreeKept, Agrees, fed-goes, agree-tabled, agree-goes, agree-refused, agrees}
+use Rattle.model.proofs.Moments.{same-await, or-second, fedGoing, SizedBy, SpokenBy, Agree, AgreeKept, Agrees, fed-goes, none-taken, agree-tabled, agree-goes, agree-refused, agrees}
 use Rattle.model.proofs.FromPeer.{coupled-at}
 
 -- an answer's headers that are not refused fit the header store
@@ -70,16 +78,16 @@ module _ (w : Waits) (s : State) (h : Seated s) (k : w ≡ waitsOf (s .engine .a
       subst (λ (o : Operation). OpenedAt (limitOf e) o (st .headers) (st .body) (j .opened)) (shape-at await.Get at .is) w
 
   -- the journal's step, on a journal that has not ended
-  entered : (c : Call) (j : Journal) (d : Done) → j .ended ≡ false → Told ts d (journalCall j c (getD (st .reply) 0 0))
-      → Told ts d (journalFed j c goes (getD (st .reply) 0 0))
-  entered c j d i x = subst (Told ts d) (sym (fed-goes j c (getD (st .reply) 0 0) i)) x
+  entered : (c : Call) (j : Journal) (d : Done) → j .ended ≡ false → Told ts d (journalCall j c) → Told ts d (journalFed j (stepBy c))
+  entered c j d i x = subst (Told ts d) (sym (fed-goes j c i)) x
 
   -- an answer that may be refused with 8
-  checked-agrees : (c : Call) (b : Bool) (d : Done) → (b ≡ false → Fine e d)
-      → (b ≡ false → (j : Journal) → Coupled ts e st j → Told ts d (journalFed j c goes (getD (st .reply) 0 0)))
+  checked-agrees : (c : Call) (b : Bool) (d : Done) → (b ≡ false → Fine e d) → ((j : Journal) → 0 ≡ fedTakes j (fedGoing s c))
+      → (b ≡ false → (j : Journal) → Coupled ts e st j → Told ts d (journalFed j (fedGoing s c)))
+      → SizedBy w s h k c (λ j late. Brief d) → SpokenBy w s h k c d
       → AgreeKept w s c (pick b (refused 8) goes) (checked b e st d)
-  checked-agrees c true d f g = agree-refused w s h k c refusal.BadAnswer
-  checked-agrees c false d f g = agree-goes w s h k c 0 d (f refl) (λ j x u. g refl j x)
+  checked-agrees c true d f n g z a = agree-refused w s h k c refusal.BadAnswer
+  checked-agrees c false d f n g z a = agree-goes w s h k c 0 d (f refl) (λ j x. n j) (λ j x u. g refl j x) z a
 
   -- ---- a reply
 
@@ -87,7 +95,7 @@ module _ (w : Waits) (s : State) (h : Seated s) (k : w ≡ waitsOf (s .engine .a
     -- to a Get it is sent as it is, and closes it; to any other request it is sent as it is
     plain-reply : (t : Bool) → sameAwait (e .awaits) await.Get ≡ t → (sameAwait (e .awaits) await.Get ≡ false → e .awaits ≡ await.Reply) → (j : Journal)
         → Coupled ts e st j
-        → Told ts (sends e (e .peer) code hs st) (journalFed j (replyGiven code hs) goes (getD (st .reply) 0 0))
+        → Told ts (sends e (e .peer) code hs st) (journalFed j (stepBy (replyGiven code hs)))
     plain-reply true i o j x =
         let at = same-await (e .awaits) await.Get i in
         let y = coupled-at w s h k await.Get j at x in
@@ -99,15 +107,15 @@ module _ (w : Waits) (s : State) (h : Seated s) (k : w ≡ waitsOf (s .engine .a
     plain-reply false i o j x =
         let y = coupled-at w s h k await.Reply j (o i) x in
         entered (replyGiven code hs) j _ (y .0 .fixed .ended)
-        (subst (λ (u : Journal). Told ts (sends e (e .peer) code hs st) (unchanged u)) (sym (ap (λ (v : Opened). replied v j code hs) (y .0 .opened) ∙ y .1 code hs))
+        (subst (λ (u : Journal). Told ts (sends e (e .peer) code hs st) (unchanged u)) (sym (ap (λ (v : Opened). replied v j code hs) (y .0 .opened) ∙ y .1 .0 code hs))
         (sends-told ts e st (e .peer) j (y .0) code hs))
 
-    entered-tabled : (j : Journal) (d : DoneTabled) → j .ended ≡ false → ToldTabled d (journalCall j (replyGiven code hs) (getD (st .reply) 0 0))
-        → ToldTabled d (journalFed j (replyGiven code hs) goes (getD (st .reply) 0 0))
-    entered-tabled j d i x = subst (ToldTabled d) (sym (fed-goes j (replyGiven code hs) (getD (st .reply) 0 0) i)) x
+    entered-tabled : (j : Journal) (d : DoneTabled) → j .ended ≡ false → ToldTabled d (journalCall j (replyGiven code hs))
+        → ToldTabled d (journalFed j (stepBy (replyGiven code hs)))
+    entered-tabled j d i x = subst (ToldTabled d) (sym (fed-goes j (replyGiven code hs) i)) x
 
     reply-told : fits kind.ReplyGiven (e .awaits) ≡ true → (j : Journal) → Coupled ts e st j
-        → ToldTabled (replyAnswer e code hs st ts) (journalFed j (replyGiven code hs) goes (getD (st .reply) 0 0))
+        → ToldTabled (replyAnswer e code hs st ts) (journalFed j (stepBy (replyGiven code hs)))
     unfolding replyAnswer
     reply-told r j x =
         tabled-told-pick (sameAwait (e .awaits) await.Connect) _ _ _
@@ -122,6 +130,40 @@ module _ (w : Waits) (s : State) (h : Seated s) (k : w ≡ waitsOf (s .engine .a
             → sameAwait (e .awaits) await.Get ≡ false → sameAwait (e .awaits) await.Reply ≡ true
         reply-left m n o = or-second _ _ (or-second _ _ (or-second _ _ r m) n) o
 
+    -- the size of the reply, by what is answered
+    plain-size : (j : Journal) → j .opened ≡ nothing → connects (j .last) ≡ false → answerSize (j .opened) j code hs ≡ 3 + length hs
+    plain-size j o n = ap (λ (x : Opened). answerSize x j code hs) o ∙ go (j .last) n
+      where
+        go : (x : Option Packet) → connects x ≡ false → lastSize x j code hs ≡ 3 + length hs
+        go none i = refl
+        go (some r) i = ap (λ (t : Bool). pick t (connectSize j r code hs) (3 + length hs)) i
+
+    plain-sized : (t : Bool) → sameAwait (e .awaits) await.Get ≡ t → (sameAwait (e .awaits) await.Get ≡ false → e .awaits ≡ await.Reply) → (j : Journal)
+        → Coupled ts e st j → answerSize (j .opened) j code hs ≤ 65535 → Brief (sends e (e .peer) code hs st)
+    plain-sized true i o j x l =
+        let at = same-await (e .awaits) await.Get i in
+        let g = get-open at j (coupled-at w s h k await.Get j at x .opened) in
+        sends-brief e st (e .peer) code hs (subst (λ (u : Opened). answerSize u j code hs ≤ 65535) (g .is) l)
+    plain-sized false i o j x l =
+        let y = coupled-at w s h k await.Reply j (o i) x in
+        sends-brief e st (e .peer) code hs (subst (λ (n : ℕ). n ≤ 65535) (plain-size j (y .0 .opened) (y .1 .1)) l)
+
+    disconnects : (j : Journal) (y : AskedBy ts (e .settings) (e .peer) op.Disconnect (e .length) st j) → connects (j .last) ≡ false
+    unfolding sameOpcode
+    disconnects j y = ap connects (y .last) ∙ ap (λ (o : Opcode). sameOpcode o op.Connect) (y .opcode)
+
+    reply-sized : fits kind.ReplyGiven (e .awaits) ≡ true → (j : Journal) → Coupled ts e st j → answerSize (j .opened) j code hs ≤ 65535
+        → Sized (replyAnswer e code hs st ts .done) (lateBy (j .last) j hs)
+    unfolding replyAnswer
+    reply-sized r j x l =
+        sized-pick (sameAwait (e .awaits) await.Connect) _ _ (lateBy (j .last) j hs)
+        (λ m. connect-sized ts e st j (coupled-at w s h k await.Connect j (same-await (e .awaits) await.Connect m) x) code hs (h .sits .base .peer) (h .tables) l)
+        (λ m. sized-pick (sameAwait (e .awaits) await.Disconnect) _ _ (lateBy (j .last) j hs)
+        (λ n. let y = coupled-at w s h k await.Disconnect j (same-await (e .awaits) await.Disconnect n) x in
+        brief-sized _ (lateBy (j .last) j hs) (sends-brief e st _ code hs (subst (λ (n : ℕ). n ≤ 65535) (plain-size j (y .held .opened) (disconnects j y)) l)))
+        (λ n. brief-sized _ (lateBy (j .last) j hs)
+        (plain-sized (sameAwait (e .awaits) await.Get) refl (λ o. same-await (e .awaits) await.Reply (or-second _ _ (or-second _ _ (or-second _ _ r m) n) o)) j x l)))
+
     pub reply-agrees : Agrees w s (replyGiven code hs)
     unfolding bad
     reply-agrees =
@@ -134,7 +176,8 @@ module _ (w : Waits) (s : State) (h : Seated s) (k : w ≡ waitsOf (s .engine .a
         go r false i =
             let f = reply-fine e st (h .sits .base) ts (h .tables) code hs (reply-headers-fit code hs i) in
             agree-tabled w s h k (replyGiven code hs) (replyAnswer e code hs st ts .done) 0 (replyAnswer e code hs st ts .tables) (f .done) (f .tables)
-            (λ j x u. reply-told r j x)
+            (λ j x. none-taken (j .ended)) (λ j x u. reply-told r j x) (λ j late x y l. reply-sized r j x l)
+            (λ j o x y l. speaks-spoken _ o (reply-speaks e st code hs ts))
 
   -- ---- an object
 
@@ -147,7 +190,7 @@ module _ (w : Waits) (s : State) (h : Seated s) (k : w ≡ waitsOf (s .engine .a
         record { room = room-headers (limitOf e) st hs l (h .sits .base .room); peer = h .sits .base .peer; last = h .sits .base .last }
 
     object-told : length hs ≤ 65535 → (srm confirm wait : Bool) → e .awaits ≡ await.Get → (j : Journal) → Coupled ts e st j
-        → Told ts (sendsNext e (objectOf (length hs) confirm has) srm wait z) (journalFed j (objectGiven hs has) goes (getD (st .reply) 0 0))
+        → Told ts (sendsNext e (objectOf (length hs) confirm has) srm wait z) (journalFed j (stepBy (objectGiven hs has)))
     object-told l srm confirm wait at j x =
         let y = coupled-at w s h k await.Get j at x in
         let g = get-open at j (y .opened) in
@@ -163,7 +206,12 @@ module _ (w : Waits) (s : State) (h : Seated s) (k : w ≡ waitsOf (s .engine .a
         (checked-agrees (objectGiven hs has) (badHeaders hs) (sendsNext e (objectOf (length hs) (v .confirm) has) (v .srm || v .confirm) (v .wait) z)
         (λ b. sends-next-fine e z (object-base (headers-fit hs b)) (objectOf (length hs) (v .confirm) has) (v .srm || v .confirm) (v .wait) (omega arith)
         (headers-fit hs b))
-        (λ b j y. object-told (headers-fit hs b) (v .srm || v .confirm) (v .confirm) (v .wait) at j y))
+        (λ j. none-taken (j .ended))
+        (λ b j y. object-told (headers-fit hs b) (v .srm || v .confirm) (v .confirm) (v .wait) at j y)
+        (λ j late x y l. next-brief e z (objectOf (length hs) (v .confirm) has) (v .srm || v .confirm) (v .wait))
+        (λ j o x y l. let i : o ≡ record { on = v .srm; asked = v .confirm; wait = v .wait } = subst (λ (q : Operation). ModeAt q o) (v .is) y in
+        next-spoken e z (objectOf (length hs) (v .confirm) has) (v .srm || v .confirm) (v .wait) (objectMode o)
+        (ap (λ (q : Mode). q .on || q .asked) i) (ap (λ (q : Mode). q .wait) i)))
 
     pub object-agrees : Agrees w s (objectGiven hs has)
     unfolding bad
@@ -184,26 +232,30 @@ module _ (w : Waits) (s : State) (h : Seated s) (k : w ≡ waitsOf (s .engine .a
 
   module _ (d : List ℕ) where
     -- more than were asked for is refused with 9
-    body-at : e .awaits ≡ await.Body → (o : Outgoing) (c : Chunk) (srm wait : Bool) → OutgoingFits o c → (t : Bool) → ltb (c .room) (length d) ≡ t
+    body-at : e .awaits ≡ await.Body → (o : Outgoing) (c : Chunk) (srm wait : Bool) → e .operation ≡ Sending o c srm wait → OutgoingFits o c → (t : Bool) → ltb (c .room) (length d) ≡ t
         → AgreeKept w s (bodyGiven d) (pick (leb (length d) (c .room)) goes (refused 9)) (pick t (refuse refusal.WrongMoment e st) (after 0 (sendsPacket e srm wait (givenBody o c d (st .reply)) st)))
-    body-at at o c srm wait y true i =
+    body-at at o c srm wait is y true i =
         let more : c .room < length d = ltb-true _ _ i in
         subst (λ (t : Bool). AgreeKept w s (bodyGiven d) (pick t goes (refused 9)) (refuse refusal.WrongMoment e st)) (sym (lt-leb (length d) (c .room) more)) (agree-refused w s h k (bodyGiven d) refusal.WrongMoment)
-    body-at at o c srm wait y false i =
+    body-at at o c srm wait is y false i =
         let within : length d ≤ c .room = ltb-false _ _ i in
         let m = body-sends o c d (st .reply) (h .sits .base .room .reply) within (y .begun) (y .chunk) (y .sent) in
         subst (λ (t : Bool). AgreeKept w s (bodyGiven d) (pick t goes (refused 9)) (after 0 (sendsPacket e srm wait (givenBody o c d (st .reply)) st))) (sym (le-leb (length d) (c .room) within))
         (agree-goes w s h k (bodyGiven d) 0 _ (sends-packet-fine e st (h .sits .base) o srm wait (givenBody o c d (st .reply)) (y .total) m)
+        (λ j x. none-taken (j .ended))
         (λ j x u. let l = body-held at j x in
         entered (bodyGiven d) j _ (l .fixed .ended)
-        (made-told ts e st j (l .fixed) (l .begun) (body-open at j x) o srm wait (givenBody o c d (st .reply)) m)))
+        (made-told ts e st j (l .fixed) (l .begun) (body-open at j x) o srm wait (givenBody o c d (st .reply)) m))
+        (λ j late x y l. packet-brief e st srm wait (givenBody o c d (st .reply)))
+        (λ j q x u l. let i : ModeAt (Sending o c srm wait) q = subst (λ (a : Operation). ModeAt a q) is u in
+        packet-spoken e st srm wait (givenBody o c d (st .reply)) q (i .0) (i .1)))
 
     body-for : e .awaits ≡ await.Body → (v : IsSending (e .operation))
         → AgreeKept w s (bodyGiven d) (pick (leb (length d) (roomIn (waitsOf (e .awaits) (e .operation)))) goes (refused 9)) (bodyFor (e .operation) e d st)
     body-for at v =
         subst (λ (a : Await). AgreeKept w s (bodyGiven d) (pick (leb (length d) (roomIn (waitsOf a (e .operation)))) goes (refused 9)) (bodyFor (e .operation) e d st)) (sym at)
         (subst (λ (o : Operation). AgreeKept w s (bodyGiven d) (pick (leb (length d) (roomOf o)) goes (refused 9)) (bodyFor o e d st)) (sym (v .is))
-        (body-at at (v .outgoing) (v .chunk) (v .srm) (v .wait)
+        (body-at at (v .outgoing) (v .chunk) (v .srm) (v .wait) (v .is)
         (outgoing-within (v .outgoing) (v .chunk) (ap (soundOperation (limitOf e)) (sym (v .is)) ∙ h .sits .counts)) _ refl))
 
     pub body-agrees : Agrees w s (bodyGiven d)
@@ -218,8 +270,11 @@ module _ (w : Waits) (s : State) (h : Seated s) (k : w ≡ waitsOf (s .engine .a
       agrees w s h k bodyFailed
       (λ r. let at = same-await (e .awaits) await.Body r in
       agree-goes w s h k bodyFailed 0 _ (fine-code e st (h .sits .base) (e .peer) 0x50 st (h .sits .base .peer) (h .sits .base .room))
+      (λ j x. none-taken (j .ended))
       (λ j x u. let l = body-held at j x in entered bodyFailed j _ (l .fixed .ended)
-      (fails-told ts e st j (l .fixed) (l .begun) (body-open at j x) (st .reply))))
+      (fails-told ts e st j (l .fixed) (l .begun) (body-open at j x) (st .reply)))
+      (λ j late x y l. brief-done e (e .peer) Nothing await.Taken 0 (e .length) _ _ refl refl)
+      (λ j o x y l. spoken-done e (e .peer) Nothing await.Taken 0 (e .length) _ _ speaks o refl tt))
 
   -- ---- an Abort is acknowledged; the password, the nonce, credentials
 
@@ -228,16 +283,22 @@ module _ (w : Waits) (s : State) (h : Seated s) (k : w ≡ waitsOf (s .engine .a
   acknowledge-agrees =
       agrees w s h k abortAcknowledged
       (λ r. agree-goes w s h k abortAcknowledged 0 _ (fine-code e st (h .sits .base) (e .peer) 0x20 st (h .sits .base .peer) (h .sits .base .room))
+      (λ j x. none-taken (j .ended))
       (λ j x u. let y = coupled-at w s h k await.Acknowledgement j (same-await (e .awaits) await.Acknowledgement r) x in
-      entered abortAcknowledged j _ (y .fixed .ended) (told-code ts e (e .peer) st j 0x20 y)))
+      entered abortAcknowledged j _ (y .fixed .ended) (told-code ts e (e .peer) st j 0x20 y))
+      (λ j late x y l. brief-done e (e .peer) Nothing await.Taken 0 (e .length) _ _ refl refl)
+      (λ j o x y l. spoken-done e (e .peer) Nothing await.Taken 0 (e .length) _ _ speaks o refl tt))
 
   pub password-agrees : (p : Option (List ℕ)) → Agrees w s (passwordGiven p)
   unfolding bad
   password-agrees p =
       agrees w s h k (passwordGiven p)
       (λ r. agree-goes w s h k (passwordGiven p) 0 _ (password-fine e st (h .sits .base) p)
+      (λ j x. none-taken (j .ended))
       (λ j x u. let y = coupled-at w s h k await.Password j (same-await (e .awaits) await.Password r) x in
-      entered (passwordGiven p) j _ (y .0 .held .fixed .ended) (password-told ts e st j op.Connect (y .0) refl p)))
+      entered (passwordGiven p) j _ (y .0 .held .fixed .ended) (password-told ts e st j op.Connect (y .0) refl p))
+      (λ j late x y l. password-brief e st p)
+      (λ j o x y l. speaks-spoken _ o (password-speaks e st p)))
 
   -- the realm is not too long, since it was not at the start
   pub nonce-agrees : (n : Octets16) → Agrees w s (nonceGiven n)
@@ -246,8 +307,20 @@ module _ (w : Waits) (s : State) (h : Seated s) (k : w ≡ waitsOf (s .engine .a
       agrees w s h k (nonceGiven n)
       (λ r. subst (λ (b : Bool). AgreeKept w s (nonceGiven n) goes (checked b e st (nonceAnswer e n (s .realm) st))) (sym (h .realm))
       (agree-goes w s h k (nonceGiven n) 0 _ (nonce-fine e st (h .sits .base) n (s .realm))
+      (λ j x. none-taken (j .ended))
       (λ j x u. let y = coupled-at w s h k await.Nonce j (same-await (e .awaits) await.Nonce r) x in
-      entered (nonceGiven n) j _ (y .held .fixed .ended) (nonce-told ts e st j op.Connect y n (s .realm)))))
+      entered (nonceGiven n) j _ (y .held .fixed .ended) (nonce-told ts e st j op.Connect y n (s .realm)))
+      (λ j late x y l. nonce-brief e st n (s .realm) (h .realm))
+      (λ j o x y l. speaks-spoken _ o (nonce-speaks e st n (s .realm)))))
+
+  -- the reply that credentials lead to has the size that the journal says
+  credentials-brief : (c : Option Credentials) → e .awaits ≡ await.Credentials → (v : IsConnecting (e .operation)) (late : Late) → LateAt e st late
+      → late c ≤ 65535 → Brief (connectSends e (e .peer) (v .code) (v .front) (listOf (readHeaders (take (v .size) (st .headers)) 0)) c st)
+  unfolding connectSends
+  credentials-brief c at v late y l =
+      let z : LateIn (Connecting (v .code) (v .front) (v .size)) e st late =
+      subst (λ (o : Operation). LateIn o e st late) (v .is) (y (ap early at)) in
+      sends-connect-brief e st (e .peer) (v .code) _ (omega (arith, l, z c))
 
   credentials-at : (c : Option Credentials) → e .awaits ≡ await.Credentials → IsConnecting (e .operation)
       → AgreeKept w s (credentialsGiven c) (pick (longUser c) (refused 8) goes) (credentialsWith (e .operation) e c st)
@@ -256,8 +329,11 @@ module _ (w : Waits) (s : State) (h : Seated s) (k : w ≡ waitsOf (s .engine .a
       subst (λ (o : Operation). AgreeKept w s (credentialsGiven c) (pick (longUser c) (refused 8) goes) (credentialsWith o e c st)) (sym (v .is))
       (checked-agrees (credentialsGiven c) (longUser c) (connectSends e (e .peer) (v .code) (v .front) answer c st)
       (λ b. connect-sends-fine e st (h .sits .base) (e .peer) (v .code) (v .front) answer c (h .sits .base .peer))
+      (λ j. none-taken (j .ended))
       (λ b j x. let y = coupled-at w s h k await.Credentials j at x in
-      entered (credentialsGiven c) j _ (y .fixed .ended) (connect-sends-told ts e st (e .peer) j y (v .code) (v .front) answer c)))
+      entered (credentialsGiven c) j _ (y .fixed .ended) (connect-sends-told ts e st (e .peer) j y (v .code) (v .front) answer c))
+      (λ j late x y l. credentials-brief c at v late y l)
+      (λ j o x y l. speaks-spoken _ o (connect-sends-speaks e st (e .peer) (v .code) (v .front) answer c)))
 
   pub credentials-agree : (c : Option Credentials) → Agrees w s (credentialsGiven c)
   unfolding bad

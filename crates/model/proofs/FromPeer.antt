@@ -1,20 +1,20 @@
 -- Bytes, the end of the stream, and replies taken: each such call agrees with what is due and with the journal. Assumes nothing.
 use mathlib.Core.Path.{_≡_, refl, sym, ap, _∙_, subst}
-use mathlib.Core.List.{List, []}
+use mathlib.Core.List.{List, [], _∷_}
 use mathlib.Core.Bool.{Bool, true, false, _&&_, not}
-use Prim.Native.Nat.{ℕ, _≤_}
+use Prim.Native.Nat.{ℕ, zero, suc, _≤_}
 use native.Mathlib.Omega.{arith}
 use lib.ListN.{length, getD, take}
 use lib.Dec.{leb, eqb}
-use borrow.Author.Tests.{leb-true, eqb-true, eqb-false}
+use borrow.Author.Tests.{leb-true, eqb-true, eqb-false, ne-eqb}
 use Rattle.base.specs.Pick.{pick}
 use Rattle.packet.specs.Packet.{requestOf}
-use Rattle.journal.specs.Calls.{bytesOffered, streamEnded, replyTaken, goes}
-use Rattle.journal.specs.Journal.{Journal, unchanged, begin, end, Read, more, whole, short, readUp, bytesRead, packetRead, journalPacket, takenAt, journalCall, journalFed, readIn, fedReads, keptRead, keptAfter}
+use Rattle.journal.specs.Calls.{bytesOffered, streamEnded, replyTaken, goes, stepBy, replySent}
+use Rattle.journal.specs.Journal.{Journal, unchanged, begin, end, endsWith, Read, more, whole, short, readUp, bytesRead, packetRead, journalPacket, takenUp, streamNumber, takenAt, lastTaken, journalCall, journalFed, readIn, fedTakes, fedReads, keptRead, keptAfter}
 use Rattle.incoming.specs.Frame.{Frames, framed}
 use Rattle.incoming.specs.declared.frame.Frame.{Frame}
 use Rattle.incoming.specs.declared.frame.Frame.the-variants.{More, Whole, Short}
-use Rattle.model.specs.Step.{Stores, done, wants, ends, after, engineWith, limitOf}
+use Rattle.model.specs.Step.{Stores, Done, done, wants, ends, after, engineWith, limitOf}
 use Rattle.model.specs.Request.{lastPacket}
 use Rattle.model.specs.Dispatch.{lengthOf, packetDone}
 use Rattle.model.specs.Calls.{framedAs, withPacket, offers}
@@ -22,7 +22,9 @@ use Rattle.model.specs.Guard.{sameAwait, fits, soundOperation}
 use Rattle.model.specs.Object.{goesOn}
 use Rattle.model.specs.Runs.{State}
 use Rattle.model.specs.Refusals.{Waits, bad}
+use Rattle.journal.specs.Srm.{silent, speaks, Mode, packetDue, packetMode, readDue, readMode, takenDue, dueIn, modeAfter}
 use Rattle.model.specs.Theorem.{Kept}
+use Rattle.server.specs.Numbers.{endNumber}
 use Rattle.server.specs.declared.Operation.{Operation}
 use Rattle.server.specs.declared.Operation.the-variants.{Nothing, Trailing, Putting, Getting, Sending, Gathering as GatheringOp, Connecting, Draining}
 use Rattle.server.specs.declared.End.the-variants as why
@@ -31,13 +33,21 @@ use Rattle.server.specs.declared.Await.{Await}
 use Rattle.server.specs.declared.Await.the-variants as await
 use Rattle.server.specs.declared.Engine.{Engine}
 use Rattle.server.specs.declared.Outcome.the-variants as outcome
-use Rattle.incoming.proofs.Frames.{Octets, Agrees as Frames-agree, frames-agree}
+use Rattle.incoming.proofs.Frames.{Octets, Agrees as Frames-agree, frames-agree, frames-count}
 use Rattle.model.proofs.Fit.{and-left, and-right, Room, Shape, waitsOf, Base, Seated, Fine, fine-pick, fine-wants, fine-ends}
 use Rattle.model.proofs.Steps.{outgoing-within, sends-next-fine, read-fine}
 use Rattle.model.proofs.Coupling.{OpenedAt, Held, CoupledAt, Coupled, Told, told-pick, told-ends, told-wants}
+use Rattle.model.proofs.Sizes.{early, Brief, brief-done, done-brief, goes-on-brief}
+use Rattle.model.proofs.Speaks.{ModeAt, Spoken, spoken-done, goes-on-spoken, read-spoken}
 use Rattle.model.proofs.Gathers.{next-told}
 use Rattle.model.proofs.Packets.{read-told}
-use Rattle.model.proofs.Moments.{same-await, or-second, AgreeKept, Agrees, fed-goes, agree-goes, agrees}
+use Rattle.model.proofs.Moments.{same-await, or-second, AgreeKept, Agrees, fed-goes, none-taken, agree-goes, agrees}
+
+-- the number at the end of the stream, by how many bytes of a packet have come
+stream-number : (p : List ℕ) (b : ℕ) → b ≤ length p → streamNumber (take b p) ≡ endNumber (pick (eqb b 0) why.Disconnected why.Truncated)
+stream-number p zero l = refl
+stream-number [] (suc b) l = absurd (omega (arith, l))
+stream-number (x ∷ p) (suc b) l = rw (ne-eqb (suc b) 0 (λ i. omega (arith, i))) refl
 
 module _ (w : Waits) (s : State) (h : Seated s) (k : w ≡ waitsOf (s .engine .awaits) (s .engine .operation)) where
   abbrev e : Engine
@@ -60,6 +70,10 @@ module _ (w : Waits) (s : State) (h : Seated s) (k : w ≡ waitsOf (s .engine .a
     abbrev f : Frames
     f = framed (st .packet) (e .begun) 0 i
 
+    -- how many bytes the call reports as taken
+    abbrev reported : ℕ
+    reported = f .result .taken
+
     abbrev z : Stores
     z = withPacket st (f .packet)
 
@@ -71,14 +85,21 @@ module _ (w : Waits) (s : State) (h : Seated s) (k : w ≡ waitsOf (s .engine .a
 
     -- what the journal reads
     journal-reads : (j : Journal) (r : Read) → Begins j → readUp (take (e .begun) (st .packet)) i ≡ r
-        → journalFed j (bytesOffered i) goes (getD (st .reply) 0 0) ≡ bytesRead j r
+        → journalFed j (stepBy (bytesOffered i)) ≡ bytesRead j r
     journal-reads j r x q =
-        fed-goes j (bytesOffered i) (getD (st .reply) 0 0) (x .fixed .ended) ∙ ap (bytesRead j) (ap (λ (l : List ℕ). readUp l i) (x .begun) ∙ q)
+        fed-goes j (bytesOffered i) (x .fixed .ended) ∙ ap (bytesRead j) (ap (λ (l : List ℕ). readUp l i) (x .begun) ∙ q)
 
-    kept-reads : (j : Journal) (r : Read) → Begins j → readUp (take (e .begun) (st .packet)) i ≡ r → Kept (fedReads j (bytesOffered i) goes)
+    kept-reads : (j : Journal) (r : Read) → Begins j → readUp (take (e .begun) (st .packet)) i ≡ r → Kept (fedReads j (stepBy (bytesOffered i)))
         → Kept (readIn j r)
     kept-reads j r x q y =
         subst Kept (ap (λ (t : Bool). pick t [] (readIn j (readUp (j .begun) i))) (x .fixed .ended) ∙ ap (readIn j) (ap (λ (l : List ℕ). readUp l i) (x .begun) ∙ q)) y
+
+    -- as many bytes are taken as the journal says
+    count-at : (j : Journal) → Begins j → reported ≡ fedTakes j (stepBy (bytesOffered i))
+    count-at j x =
+        let n = frames-count (st .packet) i (e .begun) 0 (h .sits .begun .small) (h .sits .base .room .packet) (h .sits .begun .octets) o in
+        let m : reported ≡ takenUp (take (e .begun) (st .packet)) i = omega (arith, n) in
+        m ∙ sym (ap (λ (t : Bool). pick t 0 (takenUp (j .begun) i)) (x .fixed .ended) ∙ ap (λ (l : List ℕ). takenUp l i) (x .begun))
 
     room-at : length (f .packet) ≡ length (st .packet) → Room (limitOf e) z
     room-at l =
@@ -106,6 +127,7 @@ module _ (w : Waits) (s : State) (h : Seated s) (k : w ≡ waitsOf (s .engine .a
     unfolding engineWith
     more-told q (a, g, l, m) j x =
         record {
+          ends = λ u. refl;
           given = refl;
           after = subst (λ (y : Await). CoupledAt ts y (e .operation) (e .settings) (e .peer) n (e .length) z (begin j q)) (sym at)
               (record { fixed = record { settings = x .fixed .settings; past = x .fixed .past; standing = x .fixed .standing; window = x .fixed .window; ended = x .fixed .ended }; begun = g .bytes; opened = x .opened });
@@ -133,26 +155,56 @@ module _ (w : Waits) (s : State) (h : Seated s) (k : w ≡ waitsOf (s .engine .a
         (take n (f .packet)) (requestOf (take n (f .packet))) refl
         (subst (λ (p : List ℕ). length (keptRead (j .opened) (requestOf p)) ≤ 65535) (g .bytes) (y .0)))
 
+    whole-spoken : (q : List ℕ) → Frames-agree (st .packet) f (whole q) → (j : Journal) (o : Mode) → Begins j → ModeAt (e .operation) o
+        → Kept (readIn j (whole q)) → Spoken (packetDone e n z ts) (readDue (whole q) o j) (readMode (whole q) o j)
+    unfolding engineWith packetDone keptAfter
+    whole-spoken q (a, g, l) j o x v y =
+        subst (λ (p : List ℕ). Spoken (packetDone e n z ts) (packetDue (requestOf p) o j) (packetMode (requestOf p) o j)) (sym (g .bytes))
+        (read-spoken ts (lengthOf e n) z j
+        (record { settings = x .fixed .settings; past = x .fixed .past; standing = x .fixed .standing; window = x .fixed .window; ended = x .fixed .ended }) o
+        (whole-base q (a, g, l)) (subst Octets (g .bytes) (g .octets)) (x .opened) v
+        (take n (f .packet)) (requestOf (take n (f .packet))) refl
+        (subst (λ (p : List ℕ). length (keptRead (j .opened) (requestOf p)) ≤ 65535) (g .bytes) (y .0)))
+
+    -- what is due, by what the journal reads
+    read-spoken-at : (j : Journal) (o : Mode) (r : Read) → Begins j → readUp (take (e .begun) (st .packet)) i ≡ r → {d : Done}
+        → Spoken d (readDue r o j) (readMode r o j)
+        → Spoken d (dueIn o j (stepBy (bytesOffered i))) (modeAfter o j (stepBy (bytesOffered i)))
+    read-spoken-at j o r x q {d} v =
+        subst (λ (k : Read). Spoken d (readDue k o j) (readMode k o j)) (sym (ap (λ (l : List ℕ). readUp l i) (x .begun) ∙ q)) v
+
     -- by where the bytes end
-    frame-at : (x : Frame) → f .result .frame ≡ x → AgreeKept w s (bytesOffered i) goes (framedAs x e n (f .result .taken) z ts)
+    frame-at : (x : Frame) → f .result .frame ≡ x → AgreeKept w s (bytesOffered i) goes (framedAs x e n reported z ts)
         → AgreeKept w s (bytesOffered i) goes (offers e f st ts)
-    frame-at x q a = subst (λ (y : Frame). AgreeKept w s (bytesOffered i) goes (framedAs y e n (f .result .taken) z ts)) (sym q) a
+    frame-at x q a = subst (λ (y : Frame). AgreeKept w s (bytesOffered i) goes (framedAs y e n reported z ts)) (sym q) a
 
     read-agrees : (r : Read) → readUp (take (e .begun) (st .packet)) i ≡ r → Frames-agree (st .packet) f r
         → AgreeKept w s (bytesOffered i) goes (offers e f st ts)
     read-agrees (more q) y g =
         frame-at More (g .0)
-        (agree-goes w s h k (bytesOffered i) (f .result .taken) _ (more-fine q g)
-        (λ j x u. subst (Told ts _) (sym (journal-reads j (more q) (coupled-at await.Bytes j at x) y)) (more-told q g j (coupled-at await.Bytes j at x))))
+        (agree-goes w s h k (bytesOffered i) reported _ (more-fine q g)
+        (λ j x. count-at j (coupled-at await.Bytes j at x))
+        (λ j x u. subst (Told ts _) (sym (journal-reads j (more q) (coupled-at await.Bytes j at x) y)) (more-told q g j (coupled-at await.Bytes j at x)))
+        (λ j late x v l. brief-done e (e .peer) (e .operation) (e .awaits) n (e .length) outcome.WantsBytes z refl (ap early at))
+        (λ j o x v l. read-spoken-at j o (more q) (coupled-at await.Bytes j at x) y
+        (spoken-done e (e .peer) (e .operation) (e .awaits) n (e .length) outcome.WantsBytes z silent o refl v)))
     read-agrees (whole q) y g =
         frame-at Whole (g .0)
-        (agree-goes w s h k (bytesOffered i) (f .result .taken) _ (whole-fine q g)
+        (agree-goes w s h k (bytesOffered i) reported _ (whole-fine q g)
+        (λ j x. count-at j (coupled-at await.Bytes j at x))
         (λ j x u. subst (Told ts _) (sym (journal-reads j (whole q) (coupled-at await.Bytes j at x) y))
-        (whole-told q g j (coupled-at await.Bytes j at x) (kept-reads j (whole q) (coupled-at await.Bytes j at x) y u))))
+        (whole-told q g j (coupled-at await.Bytes j at x) (kept-reads j (whole q) (coupled-at await.Bytes j at x) y u)))
+        (λ j late x v l. done-brief e n z ts)
+        (λ j o x v l. read-spoken-at j o (whole q) (coupled-at await.Bytes j at x) y
+        (whole-spoken q g j o (coupled-at await.Bytes j at x) v (kept-reads j (whole q) (coupled-at await.Bytes j at x) y l))))
     read-agrees short y g =
         frame-at Short (g .0)
-        (agree-goes w s h k (bytesOffered i) (f .result .taken) _ (fine-ends e st (h .sits .base) (e .peer) why.LengthTooSmall z (h .sits .base .peer) (room-at (g .1)))
-        (λ j x u. subst (Told ts _) (sym (journal-reads j short (coupled-at await.Bytes j at x) y)) (told-ends ts e (e .peer) z (end j) why.LengthTooSmall)))
+        (agree-goes w s h k (bytesOffered i) reported _ (fine-ends e st (h .sits .base) (e .peer) why.LengthTooSmall z (h .sits .base .peer) (room-at (g .1)))
+        (λ j x. count-at j (coupled-at await.Bytes j at x))
+        (λ j x u. subst (Told ts _) (sym (journal-reads j short (coupled-at await.Bytes j at x) y)) (told-ends ts e (e .peer) z (end j) why.LengthTooSmall))
+        (λ j late x v l. brief-done e (e .peer) Nothing await.Nothing 0 (e .length) (outcome.End why.LengthTooSmall) z refl refl)
+        (λ j o x v l. read-spoken-at j o short (coupled-at await.Bytes j at x) y
+        (spoken-done e (e .peer) Nothing await.Nothing 0 (e .length) (outcome.End why.LengthTooSmall) z speaks o refl tt)))
 
   pub bytes-agree : (i : List ℕ) → Octets i → Agrees w s (bytesOffered i)
   unfolding bad
@@ -168,8 +220,17 @@ module _ (w : Waits) (s : State) (h : Seated s) (k : w ≡ waitsOf (s .engine .a
   end-agrees =
       agrees w s h k streamEnded
       (λ r. agree-goes w s h k streamEnded 0 _ (fine-ends e st (h .sits .base) (e .peer) (pick (eqb (e .begun) 0) why.Disconnected why.Truncated) st (h .sits .base .peer) (h .sits .base .room))
-      (λ j x u. subst (Told ts _) (sym (fed-goes j streamEnded (getD (st .reply) 0 0) (coupled-at await.Bytes j (same-await (e .awaits) await.Bytes r) x .fixed .ended)))
-      (told-ends ts e (e .peer) st (end j) (pick (eqb (e .begun) 0) why.Disconnected why.Truncated))))
+      (λ j x. none-taken (j .ended))
+      (λ j x u. let y = coupled-at await.Bytes j (same-await (e .awaits) await.Bytes r) x in
+      subst (Told ts _) (sym (fed-goes j streamEnded (y .fixed .ended)
+      ∙ ap (λ (n : ℕ). endsWith n j) (ap streamNumber (y .begun) ∙ stream-number (st .packet) (e .begun) (omega (arith, h .sits .begun .small, h .sits .base .room .packet)))))
+      (told-ends ts e (e .peer) st (end j) (pick (eqb (e .begun) 0) why.Disconnected why.Truncated)))
+      (λ j late x v l. stream-brief (eqb (e .begun) 0))
+      (λ j o x v l. spoken-done e (e .peer) Nothing await.Nothing 0 (e .length) (outcome.End (pick (eqb (e .begun) 0) why.Disconnected why.Truncated)) st speaks o refl tt))
+    where
+      stream-brief : (t : Bool) → Brief (ends e (e .peer) (pick t why.Disconnected why.Truncated) st)
+      stream-brief true = brief-done e (e .peer) Nothing await.Nothing 0 (e .length) (outcome.End why.Disconnected) st refl refl
+      stream-brief false = brief-done e (e .peer) Nothing await.Nothing 0 (e .length) (outcome.End why.Truncated) st refl refl
 
   -- ---- a reply is taken
 
@@ -205,16 +266,26 @@ module _ (w : Waits) (s : State) (h : Seated s) (k : w ≡ waitsOf (s .engine .a
       agree-goes w s h k replyTaken 0 _
       (goes-on-fine (e .operation) (h .sits .counts)
       (fine-wants e st (h .sits .base) (e .peer) (e .operation) st (h .sits .base .peer) (h .sits .base .room) (h .sits .counts) (subst (λ (x : Await). Shape x (e .operation)) at (h .sits .shape))))
+      (λ j x. refl)
       (λ j x u. let y = coupled-at await.Taken j at x in
-      subst (Told ts _) (sym (fed-goes j replyTaken (getD (st .reply) 0 0) (y .0)))
+      subst (Told ts _) (sym (ap (λ (t : Bool). pick t (lastTaken j) (unchanged (takenAt (j .opened) j (getD (st .reply) 0 0)))) (y .0)))
       (goes-on-told (takenAt (j .opened) j (getD (st .reply) 0 0)) (y .1) (e .operation) (y .1 .opened) (h .sits .counts)
       (told-wants ts e (e .peer) st _ (e .operation) (y .1))))
+      (λ j late x v l. goes-on-brief e st (e .operation))
+      (λ j o x v l. let y = coupled-at await.Taken j at x in
+      subst (λ (t : Bool). Spoken (goesOn (e .operation) e st) (pick t speaks (takenDue (takenAt (j .opened) j (getD (st .reply) 0 0) .opened) o)) o) (sym (y .0))
+      (goes-on-spoken e st (limitOf e) (e .operation) (st .headers) (st .body) (takenAt (j .opened) j (getD (st .reply) 0 0) .opened) o refl (y .1 .opened) v))
     where
       at : e .awaits ≡ await.Taken
       at = same-await (e .awaits) await.Taken i
   taken-goes false i r =
       agree-goes w s h k replyTaken 0 _ (fine-ends e st (h .sits .base) (e .peer) why.OtherOperation st (h .sits .base .peer) (h .sits .base .room))
-      (λ j x u. subst (Told ts _) (sym (ap (λ (t : Bool). pick t (unchanged j) (journalCall j replyTaken (getD (st .reply) 0 0))) (coupled-at await.Last j at x))) (told-ends ts e (e .peer) st j why.OtherOperation))
+      (λ j x. refl)
+      (λ j x u. subst (Told ts _) (sym (ap (λ (t : Bool). pick t (lastTaken j) (unchanged (takenAt (j .opened) j (getD (st .reply) 0 0)))) (coupled-at await.Last j at x))) (told-ends ts e (e .peer) st j why.OtherOperation))
+      (λ j late x v l. brief-done e (e .peer) Nothing await.Nothing 0 (e .length) (outcome.End why.OtherOperation) st refl refl)
+      (λ j o x v l.
+      subst (λ (t : Bool). Spoken (ends e (e .peer) why.OtherOperation st) (pick t speaks (takenDue (takenAt (j .opened) j (getD (st .reply) 0 0) .opened) o)) o)
+      (sym (coupled-at await.Last j at x)) (spoken-done e (e .peer) Nothing await.Nothing 0 (e .length) (outcome.End why.OtherOperation) st speaks o refl tt))
     where
       at : e .awaits ≡ await.Last
       at = same-await (e .awaits) await.Last (or-second _ _ r i)

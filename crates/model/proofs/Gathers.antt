@@ -10,6 +10,7 @@ use lib.ListN.{length, getD, take}
 use lib.Dec.{leb, eqb}
 use borrow.Author.Tests.{ltb-true, ltb-false, lt-leb, le-leb}
 use Rattle.base.specs.Pick.{pick}
+use Rattle.packet.specs.FirstByte.{sameOpcode}
 use Rattle.packet.specs.Codes.{sentCode}
 use Rattle.packet.specs.Header.{allBytes}
 use Rattle.packet.specs.Packet.{Request as Packet, packetBytes}
@@ -58,7 +59,8 @@ module _ (ts : List ℕ) (e : Engine) (s : Stores) (j : Journal) (f : Fixed ts (
   held-after o x z w = record { fixed = record { settings = f .settings; past = f .past; standing = f .standing; window = f .window; ended = f .ended }; begun = refl; opened = w }
 
   pub still-after : (o : Opcode) (x : Opened) → r .opcode ≡ o → Plain o → Still (after j (some r) x)
-  still-after o x i p code hs = ap (λ (u : Opcode). replyTo u (after j (some r) x) r code hs) i ∙ p (after j (some r) x) r code hs
+  still-after o x i p =
+      (λ code hs. ap (λ (u : Opcode). replyTo u (after j (some r) x) r code hs) i ∙ p .0 (after j (some r) x) r code hs, ap (λ (u : Opcode). sameOpcode u op.Connect) i ∙ p .1)
 
   -- ---- Put
 
@@ -66,7 +68,7 @@ module _ (ts : List ℕ) (e : Engine) (s : Stores) (j : Journal) (f : Fixed ts (
     limit-is : j .settings .limit ≡ limitOf e
     limit-is = ap (λ (u : JournalSettings). u .limit) (f .settings)
 
-    within-test : (t : Bool) → x .got .over ≡ t → leb (sizeOf c) (j .settings .limit) ≡ not t
+    pub within-test : (t : Bool) → x .got .over ≡ t → leb (sizeOf c) (j .settings .limit) ≡ not t
     within-test true i =
         let z : limitOf e < sizeOf c = ltb-true _ _ (sym (w .over) ∙ i) in lt-leb (sizeOf c) (j .settings .limit) (omega (arith, limit-is))
     within-test false i =
@@ -91,7 +93,7 @@ module _ (ts : List ℕ) (e : Engine) (s : Stores) (j : Journal) (f : Fixed ts (
 
     put-told : (v : Survey) (srm confirm t u : Bool) → r .opcode ≡ op.Put → x .got .over ≡ t → r .final ≡ u
         → Told ts (putGathered e r v srm confirm x s) (putRead j r srm (pick srm true confirm) c)
-    unfolding putRead
+    unfolding putRead sameOpcode
     put-told v srm confirm true true o i k =
         simp (w .full, i, k, within-test true i)
         (told-code ts e (e .peer) (withGathered s x) (after j (some r) nothing) 0x4D (held-after Nothing nothing (withGathered s x) refl))
@@ -99,8 +101,8 @@ module _ (ts : List ℕ) (e : Engine) (s : Stores) (j : Journal) (f : Fixed ts (
         simp (w .full, i, k, within-test false i)
         (told-done ts e (e .peer) Nothing await.Reply (outcome.Request (request.Put (x .got .kept) (putBody (x .got)))) (withGathered s x)
         (after j (some r) nothing) (c ∷ [])
-        (held-after Nothing nothing (withGathered s x) refl, still-after op.Put nothing o (λ a b y z. refl))
-        (put-handed i))
+        (held-after Nothing nothing (withGathered s x) refl, still-after op.Put nothing o (λ a b y z. refl, refl))
+        (put-handed i) refl)
     put-told v true confirm t false o i k =
         simp (w .full, k, within-test t i, or-true (not t))
         (told-pick ts (v .additional) _ _ _
@@ -136,7 +138,7 @@ module _ (ts : List ℕ) (e : Engine) (s : Stores) (j : Journal) (f : Fixed ts (
       (told-done ts e (e .peer) (Getting (x .got) srm confirm (v .wait)) await.Get (outcome.Request (request.Get (x .got .kept))) (withGathered s x)
       (after j (some r) (getting k)) []
       (held-after (Getting (x .got) srm confirm (v .wait)) (getting k) (withGathered s x) (record { keeps = k; is = refl; agrees = w }))
-      refl)
+      refl refl)
   get-told v true confirm false x k w i =
       simp (w .full, i)
       (told-wants ts e (e .peer) (withGathered s x) (after j (some r) (getting k)) (Getting (x .got) true confirm (v .wait))
@@ -162,7 +164,7 @@ module _ (ts : List ℕ) (e : Engine) (s : Stores) (j : Journal) (f : Fixed ts (
       simp (w .full, i)
       (told-done ts e (e .peer) Nothing await.Reply (outcome.Request (headersRequest o (x .got .kept))) (withGathered s x) (after j (some r) nothing) []
       (held-after Nothing nothing (withGathered s x) refl, still-after o nothing q p)
-      (headers-request o (x .got .kept) (withGathered s x) .1))
+      (headers-request o (x .got .kept) (withGathered s x) .1) refl)
   headers-told o false x k w p q i =
       simp (w .full, i)
       (told-replies ts e (e .peer) (withGathered s x) (after j (some r) (gathering o k)) (GatheringOp o (x .got)) (continueBytes false) refl
@@ -184,12 +186,12 @@ module _ (ts : List ℕ) (e : Engine) (s : Stores) (j : Journal) (f : Fixed ts (
   unfolding packetBytes
   fails-told y =
       told-closes ts e (e .peer) s j (outcome.Reply (length (packetBytes (sentCode 0x50) [] [])))
-      (front (packetBytes (sentCode 0x50) [] []) y) refl refl f k z
+      (front (packetBytes (sentCode 0x50) [] []) y) refl refl refl f k z
 
   made-told : (o : Outgoing) (srm wait : Bool) (m : Made) → SendsFrom o (s .reply) m → (n : Next) → m .packet .next ≡ n
       → Told ts (sendsMade e srm wait n m s) (unchanged j)
   made-told o srm wait m w (next.Send n true) i =
-      told-closes ts e (e .peer) s j (outcome.Reply n) (m .reply) refl (ap (λ (b : ℕ). eqb b 0x90) (w .last n i)) f k z
+      told-closes ts e (e .peer) s j (outcome.Reply n) (m .reply) refl refl (ap (λ (b : ℕ). eqb b 0x90) (w .last n i)) f k z
   made-told o srm wait m w (next.Send n false) i =
       told-done ts e (e .peer) (Sending (m .packet .outgoing) (m .packet .chunk) srm wait) await.Taken (outcome.Reply n) (withReply s (m .reply)) j [] (
         f .ended,
@@ -198,10 +200,11 @@ module _ (ts : List ℕ) (e : Engine) (s : Stores) (j : Journal) (f : Fixed ts (
             (record { fixed = f; begun = k; opened = z }),
       )
       refl
+      refl
   made-told o srm wait m w next.Read i =
       told-done ts e (e .peer) (Sending (m .packet .outgoing) (m .packet .chunk) srm wait) await.Body
       (outcome.Request (request.Read (m .packet .chunk .room))) (withReply s (m .reply)) j []
-      (record { fixed = f; begun = k; opened = z }) refl
+      (record { fixed = f; begun = k; opened = z }) refl refl
   made-told o srm wait m w next.TooLarge i = fails-told (m .reply)
 
   pub sends-told : (o : Outgoing) (srm wait : Bool) (m : Made) → SendsFrom o (s .reply) m → Told ts (sendsPacket e srm wait m s) (unchanged j)

@@ -1,14 +1,16 @@
 -- Theorems over the definitions of specs/. `Cases`: the table. The rest proves the records theorem (`Records`): what holds of the engine
--- alone (`Fit`, `Steps`), how it stands to the journal (`Coupling`), packets (`Gathers`, `Dispatch`, `Packets`) and the host's answers
--- (`Answers`), and the calls (`Moments`, `FromPeer`, `FromHost`). `Contracts`: the same over contracts. `EightWrong`: the count of wrong
--- passwords.
+-- alone (`Fit`, `Steps`), how it stands to the journal (`Coupling`), how long replies are (`Sizes`), packets (`Gathers`, `Dispatch`,
+-- `Packets`), Single Response Mode (`Speaks`), the host's answers (`Answers`), and the calls (`Moments`, `FromPeer`, `FromHost`).
+-- `Contracts`: the same from the contract of a start. `EightWrong`: the count of wrong passwords.
 pub mod Cases
 pub mod Fit
 pub mod Steps
 pub mod Coupling
+pub mod Sizes
 pub mod Gathers
 pub mod Dispatch
 pub mod Packets
+pub mod Speaks
 pub mod Answers
 pub mod Moments
 pub mod FromPeer

@@ -10,16 +10,18 @@ use lib.ListN.{length, getD}
 use lib.Dec.{leb, eqb}
 use borrow.Author.Tests.{eqb-true}
 use Rattle.base.specs.Pick.{pick}
-use Rattle.journal.specs.Calls.{Call, bytesOffered, streamEnded, replyTaken, replyGiven, objectGiven, bodyGiven, bodyFailed, abortAcknowledged, passwordGiven, nonceGiven, credentialsGiven, Verdict, goes, refused}
-use Rattle.journal.specs.Journal.{Journal, unchanged, journalCall, journalFed, fedReads}
+use Rattle.journal.specs.Calls.{Call, bytesOffered, streamEnded, replyTaken, replyGiven, objectGiven, bodyGiven, bodyFailed, abortAcknowledged, passwordGiven, nonceGiven, credentialsGiven, Verdict, goes, refused, Fed, stepBy}
+use Rattle.journal.specs.Journal.{Journal, unchanged, journalCall, journalFed, fedTakes, fedReads}
 use Rattle.incoming.specs.Frame.{framed}
 use Rattle.model.specs.Step.{Stores, Stepped, Called, called, Done, done, after, ends, repliesCode, limitOf}
-use Rattle.model.specs.Guard.{refuse, sound, shortTables, longRealm, awaitNumber, sameAwait, fits, checked}
+use Rattle.model.specs.Guard.{refuse, short, sound, shortTables, longRealm, awaitNumber, sameAwait, fits, checked}
 use Rattle.model.specs.Calls.{offers, bytesOfferedStep, streamEndedStep, replyTakenStep, replyChecked, replyGivenStep, objectFor, objectGivenStep, bodyFor, bodyGivenStep, bodyFailedStep, abortAcknowledgedStep, passwordGivenStep, nonceGivenStep, credentialsWith, credentialsGivenStep}
 use Rattle.model.specs.Object.{goesOn}
 use Rattle.model.specs.Connect.{passwordAnswer, nonceAnswer}
-use Rattle.model.specs.Runs.{State, keeps, stepOf, stateOf}
-use Rattle.model.specs.Refusals.{Waits, roomIn, told, expected, bad, shortStores, lacks, verdict, verdictAt, verdictOf}
+use Rattle.model.specs.Runs.{State, keeps, stepOf, stateOf, lacks}
+use Rattle.model.specs.Refusals.{Waits, roomIn, told, expected, bad, verdict, verdictOf, fedCall, fedBy}
+use Rattle.model.specs.Replies.{Late, lateAfter, replySize}
+use Rattle.journal.specs.Srm.{Mode, dueIn, modeAfter}
 use Rattle.model.specs.Theorem.{Kept}
 use Rattle.server.specs.Numbers.{refusalNumber}
 use Rattle.server.specs.declared.CallKind.{CallKind}
@@ -34,6 +36,8 @@ use Rattle.server.specs.declared.Await.the-variants as await
 use Rattle.server.specs.declared.Engine.{Engine}
 use Rattle.model.proofs.Fit.{not-short, waitsOf, Seated, tables-long, is-sound, Fine}
 use Rattle.model.proofs.Coupling.{Coupled, Told}
+use Rattle.model.proofs.Sizes.{Brief, LateAt, Sized, brief-sized}
+use Rattle.model.proofs.Speaks.{ModeAt, Spoken}
 
 -- ---- moments
 
@@ -160,36 +164,56 @@ kept s c true y = refl
 kept s c false true = refl
 kept s c false false = refl
 
+-- what a call is lent is too short, by the engine's own settings
+abbrev pub lacksIn : State → Call → Bool
+lacksIn s c = lacks (s .engine .settings) c (s .stores) (s .tables)
+
+abbrev pub verdictAt : Waits → State → Call → Verdict
+verdictAt w s c = verdict (lacksIn s c) w c
+
 abbrev atMoment : State → Call → Bool
 atMoment s c = sound (s .engine) && fits (kindOf c) (s .engine .awaits)
 
 step-is : (s : State) (c : Call)
-    → stepOf s c ≡ pick (lacks c s) (refuses refusal.StoreTooShort s) (pick (atMoment s c) (goFor s c) (refuses refusal.WrongMoment s))
+    → stepOf s c ≡ pick (lacksIn s c) (refuses refusal.StoreTooShort s) (pick (atMoment s c) (goFor s c) (refuses refusal.WrongMoment s))
 unfolding bytesOfferedStep streamEndedStep replyTakenStep replyGivenStep objectGivenStep bodyGivenStep bodyFailedStep abortAcknowledgedStep passwordGivenStep nonceGivenStep credentialsGivenStep
-step-is s (bytesOffered i) = kept s (bytesOffered i) (lacks (bytesOffered i) s) (atMoment s (bytesOffered i))
-step-is s streamEnded = kept s streamEnded (lacks streamEnded s) (atMoment s streamEnded)
-step-is s replyTaken = kept s replyTaken (lacks replyTaken s) (atMoment s replyTaken)
+step-is s (bytesOffered i) = kept s (bytesOffered i) (lacksIn s (bytesOffered i)) (atMoment s (bytesOffered i))
+step-is s streamEnded = kept s streamEnded (lacksIn s streamEnded) (atMoment s streamEnded)
+step-is s replyTaken = kept s replyTaken (lacksIn s replyTaken) (atMoment s replyTaken)
 step-is s (replyGiven code hs) = refl
-step-is s (objectGiven hs b) = kept s (objectGiven hs b) (lacks (objectGiven hs b) s) (atMoment s (objectGiven hs b))
-step-is s (bodyGiven d) = kept s (bodyGiven d) (lacks (bodyGiven d) s) (atMoment s (bodyGiven d))
-step-is s bodyFailed = kept s bodyFailed (lacks bodyFailed s) (atMoment s bodyFailed)
-step-is s abortAcknowledged = kept s abortAcknowledged (lacks abortAcknowledged s) (atMoment s abortAcknowledged)
-step-is s (passwordGiven p) = kept s (passwordGiven p) (lacks (passwordGiven p) s) (atMoment s (passwordGiven p))
-step-is s (nonceGiven n) = kept s (nonceGiven n) (lacks (nonceGiven n) s) (atMoment s (nonceGiven n))
-step-is s (credentialsGiven c) = kept s (credentialsGiven c) (lacks (credentialsGiven c) s) (atMoment s (credentialsGiven c))
+step-is s (objectGiven hs b) = kept s (objectGiven hs b) (lacksIn s (objectGiven hs b)) (atMoment s (objectGiven hs b))
+step-is s (bodyGiven d) = kept s (bodyGiven d) (lacksIn s (bodyGiven d)) (atMoment s (bodyGiven d))
+step-is s bodyFailed = kept s bodyFailed (lacksIn s bodyFailed) (atMoment s bodyFailed)
+step-is s abortAcknowledged = kept s abortAcknowledged (lacksIn s abortAcknowledged) (atMoment s abortAcknowledged)
+step-is s (passwordGiven p) = kept s (passwordGiven p) (lacksIn s (passwordGiven p)) (atMoment s (passwordGiven p))
+step-is s (nonceGiven n) = kept s (nonceGiven n) (lacksIn s (nonceGiven n)) (atMoment s (nonceGiven n))
+step-is s (credentialsGiven c) = kept s (credentialsGiven c) (lacksIn s (credentialsGiven c)) (atMoment s (credentialsGiven c))
 
 -- ---- a call's result agrees with the verdict that is due and with the journal's entry
 
 abbrev pub doneOf : Called → Done
 doneOf m = done (m .took .engine) (m .took .outcome) (m .stores)
 
+-- what the journal is fed of it
+abbrev pub fedAt : State → Verdict → Call → Fed
+fedAt s v c = fedBy v c (getD (s .stores .reply) 0 0)
+
+abbrev pub fedGoing : State → Call → Fed
+fedGoing s c = fedCall c (getD (s .stores .reply) 0 0)
+
 pub record Agree (w : Waits) (s : State) (c : Call) (v : Verdict) (m : Called) : Type 0 where
   pub due : verdictOf (m .took .outcome) ≡ v
+  pub settings : m .took .engine .settings ≡ s .engine .settings
   pub seated : Seated (stateOf (s .realm) m)
   pub waits : told w (m .took .outcome) ≡ waitsOf (m .took .engine .awaits) (m .took .engine .operation)
   pub unmoved : (n : ℕ) → v ≡ refused n → stateOf (s .realm) m ≡ s
-  pub journal : (j : Journal) → Coupled (s .tables) (s .engine) (s .stores) j → Kept (fedReads j c v)
-      → Told (m .tables) (doneOf m) (journalFed j c v (getD (s .stores .reply) 0 0))
+  pub count : (j : Journal) → Coupled (s .tables) (s .engine) (s .stores) j → m .took .taken ≡ fedTakes j (fedAt s v c)
+  pub journal : (j : Journal) → Coupled (s .tables) (s .engine) (s .stores) j → Kept (fedReads j (fedAt s v c))
+      → Told (m .tables) (doneOf m) (journalFed j (fedAt s v c))
+  pub sized : (j : Journal) (late : Late) → Coupled (s .tables) (s .engine) (s .stores) j → LateAt (s .engine) (s .stores) late
+      → replySize late j (fedAt s v c) ≤ 65535 → Sized (doneOf m) (lateAfter late j (fedAt s v c))
+  pub spoken : (j : Journal) (o : Mode) → Coupled (s .tables) (s .engine) (s .stores) j → ModeAt (s .engine .operation) o → Kept (fedReads j (fedAt s v c))
+      → Spoken (doneOf m) (dueIn o j (fedAt s v c)) (modeAfter o j (fedAt s v c))
 
 -- the same of a call that leaves the table store
 abbrev pub AgreeKept : Waits → State → Call → Verdict → Stepped → Type 0
@@ -199,8 +223,13 @@ abbrev pub Agrees : Waits → State → Call → Type 0
 Agrees w s c = Agree w s c (verdictAt w s c) (stepOf s c)
 
 -- the journal's step where the call goes
-pub fed-goes : (j : Journal) (c : Call) (b : ℕ) → j .ended ≡ false → journalFed j c goes b ≡ journalCall j c b
-fed-goes j c b e = ap (λ (t : Bool). pick t (unchanged j) (journalCall j c b)) e
+pub fed-goes : (j : Journal) (c : Call) → j .ended ≡ false → journalFed j (stepBy c) ≡ journalCall j c
+fed-goes j c e = ap (λ (t : Bool). pick t (unchanged j) (journalCall j c)) e
+
+-- a call that offers no bytes takes none, ended or not
+pub none-taken : (t : Bool) → _≡_ {A = ℕ} 0 (pick t 0 0)
+none-taken true = refl
+none-taken false = refl
 
 module _ (w : Waits) (s : State) (h : Seated s) (k : w ≡ waitsOf (s .engine .awaits) (s .engine .operation)) (c : Call) where
   abbrev e : Engine
@@ -215,40 +244,70 @@ module _ (w : Waits) (s : State) (h : Seated s) (k : w ≡ waitsOf (s .engine .a
   abbrev fitted : Bool
   fitted = fitting c (waitsOf (e .awaits) (e .operation))
 
-  -- a call that goes, and leaves `u` in the table store
+  -- what a call that goes leads to has no reply that is too long, if the journal says so
+  abbrev pub SizedBy : (Journal → Late → Type 0) → Type 0
+  SizedBy p =
+      (j : Journal) (late : Late) → Coupled (s .tables) e st j → LateAt e st late → replySize late j (fedGoing s c) ≤ 65535 → p j late
+
+  -- and does what is due
+  abbrev pub SpokenBy : Done → Type 0
+  SpokenBy d =
+      (j : Journal) (o : Mode) → Coupled (s .tables) e st j → ModeAt (e .operation) o → Kept (fedReads j (fedGoing s c))
+      → Spoken d (dueIn o j (fedGoing s c)) (modeAfter o j (fedGoing s c))
+
+  -- a call that goes, takes `t` bytes, and leaves `u` in the table store
   pub agree-tabled : (d : Done) (t : ℕ) (u : List ℕ) → Fine e d → length u ≡ length (s .tables)
-      → ((j : Journal) → Coupled (s .tables) e st j → Kept (fedReads j c goes) → Told u d (journalFed j c goes (getD (st .reply) 0 0)))
+      → ((j : Journal) → Coupled (s .tables) e st j → t ≡ fedTakes j (fedGoing s c))
+      → ((j : Journal) → Coupled (s .tables) e st j → Kept (fedReads j (fedGoing s c)) → Told u d (journalFed j (fedGoing s c)))
+      → SizedBy (λ j late. Sized d (lateAfter late j (fedGoing s c))) → SpokenBy d
       → Agree w s c goes (called (after t d) u)
-  agree-tabled d t u f l g =
+  agree-tabled d t u f l n g z a =
       record {
         due = f .goes;
+        settings = f .settings;
         seated = record { sits = f .sits; tables = rw l (h .tables); realm = rw (f .settings) (h .realm) };
         waits = f .waits w;
         unmoved = λ n i. absurd (let z : _≡_ {A = ℕ} 0 1 = cc in omega arith);
+        count = n;
         journal = g;
+        sized = z;
+        spoken = a;
       }
 
   -- a call that goes
   pub agree-goes : (t : ℕ) (d : Done) → Fine e d
-      → ((j : Journal) → Coupled (s .tables) e st j → Kept (fedReads j c goes) → Told (s .tables) d (journalFed j c goes (getD (st .reply) 0 0)))
+      → ((j : Journal) → Coupled (s .tables) e st j → t ≡ fedTakes j (fedGoing s c))
+      → ((j : Journal) → Coupled (s .tables) e st j → Kept (fedReads j (fedGoing s c)) → Told (s .tables) d (journalFed j (fedGoing s c)))
+      → SizedBy (λ j late. Brief d) → SpokenBy d
       → AgreeKept w s c goes (after t d)
-  agree-goes t d f g = agree-tabled d t (s .tables) f refl g
+  agree-goes t d f n g z a = agree-tabled d t (s .tables) f refl n g (λ j late x y l. brief-sized d (lateAfter late j (fedGoing s c)) (z j late x y l)) a
 
   -- a call that is refused
   pub agree-refused : (r : Refusal) → AgreeKept w s c (refused (refusalNumber r)) (refuse r e st)
-  agree-refused r = record { due = refl; seated = h; waits = k; unmoved = λ m i. refl; journal = λ j x y. record { given = refl; after = x } }
+  agree-refused r =
+      record {
+        due = refl;
+        settings = refl;
+        seated = h;
+        waits = k;
+        unmoved = λ m i. refl;
+        count = λ j x. refl;
+        journal = λ j x y. record { given = refl; after = x; ends = λ i. refl };
+        sized = λ j late x y l. record { small = refl; waiting = y };
+        spoken = λ j o x y l. record { obeys = refl; mode = y };
+      }
 
   -- nothing that is lent is too short
-  enough : lacks c s ≡ false
+  enough : lacksIn s c ≡ false
   enough = go c
     where
-      long : shortStores s ≡ false
+      long : short (limitOf e) st ≡ false
       long = not-short (limitOf e) st (h .sits .base .room)
 
-      both : (shortTables (s .tables) || shortStores s) ≡ false
+      both : (shortTables (s .tables) || short (limitOf e) st) ≡ false
       both = rw (tables-long (s .tables) (h .tables)) long
 
-      go : (x : Call) → lacks x s ≡ false
+      go : (x : Call) → lacksIn s x ≡ false
       go (bytesOffered i) = both
       go streamEnded = long
       go replyTaken = long

@@ -15,7 +15,7 @@ use Rattle.packet.specs.declared.opcode.Opcode.{Opcode}
 use Rattle.packet.specs.declared.opcode.Opcode.the-variants as op
 use Rattle.packet.proofs.OpcodeLaws.{same-equal}
 use Rattle.journal.specs.Record.{joined, carriedBy, keptByGet}
-use Rattle.journal.specs.Journal.{Opened, nothing, trailing, sending, draining, busy as busyOpened, trails as trailsRead, firstRead, Journal, Entry, unchanged, after, end, putRead, dropped, stopped, requestRead, packetRead, keptWith, keptRead}
+use Rattle.journal.specs.Journal.{Opened, nothing, sending, draining, busy as busyOpened, Journal, Entry, unchanged, after, end, endsWith, putRead, dropped, stopped, requestRead, packetRead, keptWith, keptRead, trailing, trails as trailsRead, firstRead}
 use Rattle.incoming.specs.Survey.{surveyOf}
 use Rattle.incoming.specs.declared.survey.Survey.{Survey}
 use Rattle.connection.specs.Reply.{front}
@@ -63,7 +63,7 @@ idle-quiet (Connecting c f n) i = refl
 idle-quiet (Draining c) i = refl
 
 -- engine and journal tell what trails a Put by the same rule
-trails-same : (r : Packet) → trails r ≡ trailsRead r
+pub trails-same : (r : Packet) → trails r ≡ trailsRead r
 unfolding trails trailsRead
 trails-same r = refl
 
@@ -77,7 +77,7 @@ module _ (ts : List ℕ) (e : Engine) (s : Stores) (j : Journal) (f : Fixed ts (
     interrupts-told : Told ts (interrupts e s) (stopped j)
     interrupts-told =
         told-done ts e (e .peer) Nothing await.Last (outcome.Reply (length (packetBytes (sentCode 0x40) [] [])))
-        (withReply s (front (packetBytes (sentCode 0x40) [] []) (s .reply))) (end j) [] refl refl
+        (withReply s (front (packetBytes (sentCode 0x40) [] []) (s .reply))) (end j) [] refl refl refl
 
     -- of an operation that is open, a packet of its opcode or of another; the premise on kept headers is for the first
     goes-on : (o : Opcode) (d : Done) (y : Entry) (k : List ℕ) → length (pick (sameOpcode (r .opcode) o) k []) ≤ 65535
@@ -159,11 +159,11 @@ module _ (ts : List ℕ) (e : Engine) (s : Stores) (j : Journal) (f : Fixed ts (
       → (q : List ℕ) (x : Option Packet) → requestOf (take (e .length) (s .packet)) ≡ x → length (keptRead (j .opened) x) ≤ 65535
       → Told ts (readAs x e q s ts) (packetRead x j)
   read-told o w c q none i k =
-      subst (λ (t : Bool). Told ts (unreadable e q s) (unchanged (pick t (end j) (after j none (j .opened))))) (sym (busy-same (limitOf e) (e .operation) (s .headers) (s .body) (j .opened) w))
+      subst (λ (t : Bool). Told ts (unreadable e q s) (pick t (endsWith 4 j) (unchanged (after j none (j .opened))))) (sym (busy-same (limitOf e) (e .operation) (s .headers) (s .body) (j .opened) w))
       (go (busy (e .operation)) refl)
     where
       go : (t : Bool) → busy (e .operation) ≡ t
-          → Told ts (pick t (ends e (e .peer) why.Unreadable s) (repliesCode e (e .peer) (e .operation) (pick (unknownByte (firstByte (getD q 0 0))) 0x51 0x40) s)) (unchanged (pick t (end j) (after j none (j .opened))))
+          → Told ts (pick t (ends e (e .peer) why.Unreadable s) (repliesCode e (e .peer) (e .operation) (pick (unknownByte (firstByte (getD q 0 0))) 0x51 0x40) s)) (pick t (endsWith 4 j) (unchanged (after j none (j .opened))))
       go true m = told-ends ts e (e .peer) s (end j) why.Unreadable
       go false m =
           told-replies ts e (e .peer) s (after j none (j .opened)) (e .operation)
@@ -180,5 +180,5 @@ module _ (ts : List ℕ) (e : Engine) (s : Stores) (j : Journal) (f : Fixed ts (
           (pick t (dropped j r) (requestRead (j .opened) j r))
       go true m =
           told-done ts e (e .peer) Nothing await.Acknowledgement (outcome.Request (request.Abort (e .length))) s (after j (some r) nothing) []
-          (held-after ts e s j f r Nothing nothing s refl) refl
+          (held-after ts e s j f r Nothing nothing s refl) refl refl
       go false m = inside-told r i short (e .operation) (j .opened) w c k m

@@ -1,36 +1,41 @@
--- The records theorem. For every list of calls from an accepted start, the state and the stores passed on: the calls refused are those
--- that are due to be, the records handed over are the journal's, and those are exactly the records of the Put forms. By induction over the
--- list: each call agrees with what is due and with the journal.
+-- The records theorem, by induction over a run: each call agrees with what is due and with the journal.
 -- Assumes nothing.
 use mathlib.Core.Path.{_≡_, refl, sym, ap, ap₂, _∙_, subst}
-use mathlib.Core.List.{List, [], _∷_, _++_}
+use mathlib.Core.List.{List, [], _∷_, _++_, map}
 use mathlib.Core.Bool.{false}
+use mathlib.Core.Option.{Option}
+use Prim.Native.Nat.{ℕ}
 use native.Mathlib.Omega.{arith}
+use lib.ListN.{getD}
 use Rattle.journal.specs.Record.{Record}
-use Rattle.journal.specs.Calls.{Call, bytesOffered, streamEnded, replyTaken, replyGiven, objectGiven, bodyGiven, bodyFailed, abortAcknowledged, passwordGiven, nonceGiven, credentialsGiven, Verdict}
+use Rattle.journal.specs.Calls.{Call, bytesOffered, streamEnded, replyTaken, replyGiven, objectGiven, bodyGiven, bodyFailed, abortAcknowledged, passwordGiven, nonceGiven, credentialsGiven, Verdict, Fed}
+use Rattle.journal.specs.Journal.{Journal, fresh, journalStep, journalRecords, journalCounts, journalEnds, Marked, fedReads, packets}
 use Rattle.journal.specs.Checks.{windowOf}
-use Rattle.journal.specs.Journal.{Journal, fresh, journalStep, journalRecords, Marked, fedReads, packets}
 use Rattle.journal.specs.PutForm.{Exactly}
 use Rattle.connection.specs.Peer.{peerWith}
-use Rattle.model.specs.Step.{engineWith}
+use Rattle.model.specs.Step.{Called, engineWith}
 use Rattle.model.specs.Guard.{longRealm}
 use Rattle.model.specs.Calls.{started}
-use Rattle.model.specs.Runs.{State, stepOf, nextState, records, Started, Octet, AllOctets}
-use Rattle.model.specs.Refusals.{Waits, bytes, told, verdictAt, due, returned, fedAt, feedOf}
-use Rattle.model.specs.Theorem.{settingsOf, Kept, RecordsTheorem, Refusals, Unmoved, RefusedUnmoved}
+use Rattle.model.specs.Runs.{State, Performed, calledIn, next, OffersOctets, Says, Ran, records, Started, lacks, seen}
+use Rattle.model.specs.Refusals.{Waits, bytes, told, verdict, verdictOf, endOf, fedBy, dueFrom, feedFrom}
+use Rattle.model.specs.Replies.{Late, lateAfter, RepliesFrom}
+use Rattle.journal.specs.Srm.{Mode, modeAfter, duesFrom}
+use Rattle.model.specs.Theorem.{settingsOf, journalOf, fed, Kept, AllObey, Unmoved, RecordsTheorem}
 use Rattle.server.specs.declared.Settings.{Settings}
 use Rattle.server.specs.declared.Engine.{Engine}
 use Rattle.connection.proofs.Standings.{fresh-fits}
 use Rattle.journal.proofs.Forms.{put-forms}
 use Rattle.model.proofs.Fit.{room, waitsOf, none-begun, Sits, Seated, tables-room}
 use Rattle.model.proofs.Coupling.{Coupled}
-use Rattle.model.proofs.Moments.{Agrees}
+use Rattle.model.proofs.Sizes.{early, LateAt, early-late}
+use Rattle.model.proofs.Speaks.{ModeAt}
+use Rattle.model.proofs.Moments.{verdictAt, Agree, Agrees}
 use Rattle.model.proofs.FromPeer.{bytes-agree, end-agrees, taken-agrees}
 use Rattle.model.proofs.FromHost.{reply-agrees, object-agrees, body-agrees, body-failed-agrees, acknowledge-agrees, password-agrees, nonce-agrees, credentials-agree}
 
 -- ---- a call
 
-pub step-agrees : (w : Waits) (s : State) → Seated s → w ≡ waitsOf (s .engine .awaits) (s .engine .operation) → (c : Call) → Octet c
+step-agrees : (w : Waits) (s : State) → Seated s → w ≡ waitsOf (s .engine .awaits) (s .engine .operation) → (c : Call) → OffersOctets c
     → Agrees w s c
 step-agrees w s h k (bytesOffered i) o = bytes-agree w s h k i o
 step-agrees w s h k streamEnded o = end-agrees w s h k
@@ -44,46 +49,81 @@ step-agrees w s h k (passwordGiven p) o = password-agrees w s h k p
 step-agrees w s h k (nonceGiven n) o = nonce-agrees w s h k n
 step-agrees w s h k (credentialsGiven c) o = credentials-agree w s h k c
 
--- ---- a list of calls
+-- what holds between two calls of a run from an accepted start with the settings `st`
+pub record Between (st : Settings) (w : Waits) (s : State) : Type 0 where
+  pub settings : s .engine .settings ≡ st
+  pub seated : Seated s
+  pub waits : w ≡ waitsOf (s .engine .awaits) (s .engine .operation)
 
-run-refused : (cs : List Call) (w : Waits) (s : State) → Seated s → w ≡ waitsOf (s .engine .awaits) (s .engine .operation)
-    → AllOctets cs → returned s cs ≡ due w s cs
-run-refused [] w s h k o = refl
-run-refused (c ∷ cs) w s h k o =
-    let a = step-agrees w s h k c (o .0) in
-    ap₂ (λ (x : Verdict) (y : List Verdict). x ∷ y) (a .due) (run-refused cs (told w (stepOf s c .took .outcome)) (nextState s c) (a .seated) (a .waits) (o .1))
+module _ (st : Settings) (w : Waits) (s : State) (b : Between st w s) (x : Performed) (says : Says s x) where
+  -- the verdict that is due, by what the host sees
+  abbrev pub dueAt : Verdict
+  dueAt = verdict (lacks st (x .call) (s .stores) (s .tables)) w (x .call)
 
-run-unmoved : (cs : List Call) (w : Waits) (s : State) → Seated s → w ≡ waitsOf (s .engine .awaits) (s .engine .operation)
-    → AllOctets cs → Unmoved s cs
-run-unmoved [] w s h k o = tt
-run-unmoved (c ∷ cs) w s h k o =
-    let a = step-agrees w s h k c (o .0) in (
+  abbrev pub fedTo : Fed
+  fedTo = fedBy dueAt (x .call) (getD (s .stores .reply) 0 0)
+
+  pub performed-agrees : Agree w s (x .call) dueAt (calledIn x)
+  performed-agrees =
+      subst (λ (y : Settings). Agree w s (x .call) (verdict (lacks y (x .call) (s .stores) (s .tables)) w (x .call)) (calledIn x)) (b .settings)
+      (subst (λ (m : Called). Agree w s (x .call) (verdictAt w s (x .call)) m) (sym (says .step)) (step-agrees w s (b .seated) (b .waits) (x .call) (says .octets)))
+
+  pub between-next : Between st (told w (x .result .outcome)) (next s x)
+  between-next =
+      let a = performed-agrees in record { settings = a .settings ∙ b .settings; seated = a .seated; waits = a .waits }
+
+-- ---- a run
+
+run-refused : (st : Settings) (xs : List Performed) (w : Waits) (s : State) → Between st w s → Ran s xs
+    → map (λ (x : Performed). verdictOf (x .result .outcome)) xs ≡ dueFrom w (seen st s xs)
+run-refused st [] w s b r = refl
+run-refused st (x ∷ xs) w s b r =
+    ap₂ (λ (v : Verdict) (vs : List Verdict). v ∷ vs) (performed-agrees st w s b x (r .0) .due)
+    (run-refused st xs (told w (x .result .outcome)) (next s x) (between-next st w s b x (r .0)) (r .1))
+
+run-unmoved : (st : Settings) (xs : List Performed) (w : Waits) (s : State) → Between st w s → Ran s xs → Unmoved s xs
+run-unmoved st [] w s b r = tt
+run-unmoved st (x ∷ xs) w s b r =
+    let a = performed-agrees st w s b x (r .0) in (
       λ n i. a .unmoved n (sym (a .due) ∙ i),
-      run-unmoved cs (told w (stepOf s c .took .outcome)) (nextState s c) (a .seated) (a .waits) (o .1),
+      run-unmoved st xs (told w (x .result .outcome)) (next s x) (between-next st w s b x (r .0)) (r .1),
     )
 
 pub kept-both : (l m : List Marked) → Kept (l ++ m) → Kept l × Kept m
 kept-both [] m k = (tt, k)
 kept-both (x ∷ l) m k = let b = kept-both l m (k .1) in ((k .0, b .0), b .1)
 
-run-entered : (cs : List Call) (w : Waits) (s : State) (j : Journal) → Seated s
-    → w ≡ waitsOf (s .engine .awaits) (s .engine .operation) → Coupled (s .tables) (s .engine) (s .stores) j
-    → AllOctets cs → Kept (packets j (feedOf w s cs)) → records s cs ≡ journalRecords j (feedOf w s cs)
+-- what engine and journal agree on along a run, with the journal `j` before it; for the ends it is also asked how long replies are
+record Along (st : Settings) (w : Waits) (s : State) (j : Journal) (xs : List Performed) : Type 0 where
+  journal : records xs ≡ journalRecords j (feedFrom w (seen st s xs))
+  counts : map (λ (x : Performed). x .result .taken) xs ≡ journalCounts j (feedFrom w (seen st s xs))
+  srm : (m : Mode) → ModeAt (s .engine .operation) m → AllObey (duesFrom m j (feedFrom w (seen st s xs))) xs
+  ends : (late : Late) → LateAt (s .engine) (s .stores) late → RepliesFrom late j (feedFrom w (seen st s xs))
+      → map (λ (x : Performed). endOf (x .result .outcome)) xs ≡ journalEnds j (feedFrom w (seen st s xs))
+
+run-along : (st : Settings) (xs : List Performed) (w : Waits) (s : State) (j : Journal) → Between st w s → Ran s xs
+    → Coupled (s .tables) (s .engine) (s .stores) j → Kept (packets j (feedFrom w (seen st s xs))) → Along st w s j xs
 unfolding journalStep
-run-entered [] w s j h k x o p = refl
-run-entered (c ∷ cs) w s j h k x o p =
-    let a = step-agrees w s h k c (o .0) in
-    let b = kept-both (fedReads j c (verdictAt w s c))
-    (packets (journalStep j (fedAt w s c) .next) (feedOf (told w (stepOf s c .took .outcome)) (nextState s c) cs)) p in
-    let t = a .journal j x (b .0) in
-    ap₂ (λ (l m : List Record). l ++ m) (t .given)
-    (run-entered cs (told w (stepOf s c .took .outcome)) (nextState s c) (journalStep j (fedAt w s c) .next) (a .seated) (a .waits) (t .after) (o .1)
-    (b .1))
+run-along st [] w s j b r c k = record { journal = refl; counts = refl; srm = λ m y. tt; ends = λ late y z. refl }
+run-along st (x ∷ xs) w s j b r c k =
+    let a = performed-agrees st w s b x (r .0) in
+    let f = fedTo st w s b x (r .0) in
+    let both = kept-both (fedReads j f) (packets (journalStep j f .next) (feedFrom (told w (x .result .outcome)) (seen st (next s x) xs))) k in
+    let t = a .journal j c (both .0) in
+    let later = run-along st xs (told w (x .result .outcome)) (next s x) (journalStep j f .next) (between-next st w s b x (r .0)) (r .1) (t .after) (both .1) in
+    record {
+      journal = ap₂ (λ (l m : List Record). l ++ m) (t .given) (later .journal);
+      counts = ap₂ (λ (n : ℕ) (l : List ℕ). n ∷ l) (a .count j c) (later .counts);
+      srm = λ m y. let spoken = a .spoken j m c y (both .0) in (spoken .obeys, later .srm (modeAfter m j f) (spoken .mode));
+      ends = λ late y z.
+          let sized = a .sized j late c y (z .0) in
+          ap₂ (λ (n : Option ℕ) (l : List (Option ℕ)). n ∷ l) (t .ends (sized .small)) (later .ends (lateAfter late j f) (sized .waiting) (z .1));
+    }
 
 -- ---- from an accepted start
 
 module _ (st : Settings) (s : State) (h : Started st s) where
-  pub start-seated : Seated s
+  start-seated : Seated s
   unfolding started engineWith
   start-seated =
       record {
@@ -98,36 +138,41 @@ module _ (st : Settings) (s : State) (h : Started st s) where
         realm = subst (λ (e : Engine). longRealm (e .settings) (s .realm) ≡ false) (sym (h .fresh)) (h .realm);
       }
 
-  pub start-waits : bytes ≡ waitsOf (s .engine .awaits) (s .engine .operation)
+  start-waits : bytes ≡ waitsOf (s .engine .awaits) (s .engine .operation)
   unfolding started engineWith
   start-waits = sym (ap (λ (e : Engine). waitsOf (e .awaits) (e .operation)) (h .fresh))
 
-  pub start-coupled : Coupled (s .tables) (s .engine) (s .stores) (fresh (settingsOf st))
+  pub start-between : Between st bytes s
+  unfolding started engineWith
+  start-between = record { settings = ap (λ (e : Engine). e .settings) (h .fresh); seated = start-seated; waits = start-waits }
+
+  pub start-coupled : Coupled (s .tables) (s .engine) (s .stores) (journalOf st)
   unfolding started engineWith peerWith windowOf
   start-coupled =
-      subst (λ (e : Engine). Coupled (s .tables) e (s .stores) (fresh (settingsOf st))) (sym (h .fresh))
+      subst (λ (e : Engine). Coupled (s .tables) e (s .stores) (journalOf st)) (sym (h .fresh))
       (record { fixed = record { settings = refl; past = []; standing = refl; window = refl; ended = refl }; begun = refl; opened = refl })
 
--- each call is refused exactly where it is due to be
-pub refusals : Refusals
-refusals st s h cs o = run-refused cs bytes s (start-seated st s h) (start-waits st s h) o
+  start-early : LateAt (s .engine) (s .stores) (λ c. 0)
+  unfolding started engineWith
+  start-early = early-late (s .engine) (s .stores) (λ c. 0) (ap (λ (e : Engine). early (e .awaits)) (h .fresh))
 
--- Said for whoever asks what a refused call leaves, and cited by no other proof.
-pub refused-unmoved : RefusedUnmoved
-refused-unmoved st s h cs o = run-unmoved cs bytes s (start-seated st s h) (start-waits st s h) o
+  start-mode : ModeAt (s .engine .operation) (record { on = false; asked = false; wait = false })
+  unfolding started engineWith
+  start-mode = subst (λ (e : Engine). ModeAt (e .operation) (record { on = false; asked = false; wait = false })) (sym (h .fresh)) tt
 
--- the records that are handed over are the journal's
-pub in-journal : (st : Settings) (s : State) → Started st s → (cs : List Call) → AllOctets cs
-    → Kept (packets (fresh (settingsOf st)) (feedOf bytes s cs))
-    → records s cs ≡ journalRecords (fresh (settingsOf st)) (feedOf bytes s cs)
-in-journal st s h cs o k = run-entered cs bytes s (fresh (settingsOf st)) (start-seated st s h) (start-waits st s h) (start-coupled st s h) o k
-
--- and so exactly the Put forms of the packets
 pub records-theorem : RecordsTheorem
-records-theorem st s h cs o k =
-    let i = in-journal st s h cs o k in
+records-theorem st s h xs r =
+    let b = start-between st s h in
+    let along = run-along st xs bytes s (journalOf st) b r (start-coupled st s h) in
     record {
-      journal = i;
-      forms = subst (Exactly (st .«max_object_size») (packets (fresh (settingsOf st)) (feedOf bytes s cs))) (sym i)
-          (put-forms (settingsOf st) (feedOf bytes s cs));
+      refusals = run-refused st xs bytes s b r;
+      unmoved = run-unmoved st xs bytes s b r;
+      agrees = λ k. record {
+        journal = along k .journal;
+        forms = subst (Exactly (st .«max_object_size») (packets (journalOf st) (fed st s xs))) (sym (along k .journal))
+            (put-forms (settingsOf st) (fed st s xs));
+        counts = along k .counts;
+        srm = along k .srm (record { on = false; asked = false; wait = false }) (start-mode st s h);
+      };
+      ends = λ k z. along k .ends (λ c. 0) (start-early st s h) z;
     }

@@ -16,7 +16,7 @@ use Rattle.model.specs.Step.{Stores}
 use Rattle.model.specs.Calls.{started}
 use Rattle.server.specs.Settings.{defaultSettings}
 use Rattle.server.specs.declared.Settings.{Settings}
-use Rattle.model.specs.Runs.{State, stepOf, nextState, records}
+use Rattle.model.specs.Runs.{State, stepOf, stateOf, handed}
 use Rattle.server.specs.declared.Outcome.{Outcome}
 use Rattle.server.specs.declared.Outcome.the-variants as outcome
 
@@ -49,6 +49,15 @@ freshWith st =
 -- a fresh engine with a Put limit and else the source's settings
 abbrev pub freshState : ℕ → State
 freshState limit = freshWith (defaultSettings limit)
+
+-- the state after a call, by the model's step
+abbrev pub nextState : State → Call → State
+nextState s c = stateOf (s .realm) (stepOf s c)
+
+-- the records that calls hand over
+abbrev pub recordsBy : State → List Call → List Record
+recordsBy s [] = []
+recordsBy s (c ∷ cs) = handed (stepOf s c .took .outcome) (stepOf s c .stores) ++ recordsBy (nextState s c) cs
 
 -- the replies that calls make
 abbrev pub replyIn : Outcome → Stores → List (List ℕ)
@@ -83,8 +92,8 @@ unfoldable pub comesOf : Given → Comes
 comesOf (byte b) = operation (firstByte b)
 comesOf (counter ids c) = id (newId ids c)
 comesOf (text s) = scalars (scalars16 s)
-comesOf (calls limit cs) = session (replies (freshState limit) cs) (records (freshState limit) cs)
-comesOf (refusing limit cs) = session (replies (freshWith (refusingSettings limit)) cs) (records (freshWith (refusingSettings limit)) cs)
+comesOf (calls limit cs) = session (replies (freshState limit) cs) (recordsBy (freshState limit) cs)
+comesOf (refusing limit cs) = session (replies (freshWith (refusingSettings limit)) cs) (recordsBy (freshWith (refusingSettings limit)) cs)
 
 -- a row of the table
 pub record Row : Type 0 where

@@ -1,6 +1,6 @@
--- The count of wrong passwords (docs/PROTOCOL.md#eight-wrong): after every list of calls from an accepted start, the window in the engine's
+-- The count of wrong passwords (docs/PROTOCOL.md#eight-wrong): after every run of calls from an accepted start, the window in the engine's
 -- state counts the wrong checks among the last 64 of the journal's history, which goes back to the start; and this history keeps the rule,
--- so that a client that keeps connecting passes the test after at most 57 stops. The same is claimed over the functions' contracts.
+-- so that a client that keeps connecting passes the test after at most 57 stops. Of a run only the functions' contracts are known.
 use Prim.Native.Nat.{ℕ, _≤_}
 use mathlib.Core.Path.{_≡_}
 use mathlib.Core.List.{List, [], _∷_, _++_}
@@ -8,25 +8,22 @@ use mathlib.Core.Bool.{Bool, true, false, _||_, not}
 use lib.Count.{ones}
 use lib.Dec.{leb}
 use lib.ListN.{take, replicate}
-use Rattle.journal.specs.Calls.{Call, Verdict}
-use Rattle.journal.specs.Record.{Record}
 use Rattle.journal.specs.Checks.{Check, stop, windowLength, mostWrong, wrongs, Ruled}
-use Rattle.journal.specs.Journal.{Journal, journalAfter, fresh, packets}
+use Rattle.journal.specs.Journal.{Journal, journalAfter, packets}
 use Rattle.server.specs.declared.Await.the-variants as await
 use Rattle.server.specs.declared.Engine.{Engine}
 use Rattle.server.specs.declared.Settings.{Settings}
 use Rattle.server.specs.declared.CallResult.{CallResult}
 use Rattle.model.specs.Step.{Stores}
 use Rattle.model.specs.Guard.{sameAwait}
-use Rattle.model.specs.Runs.{State, nextState, Started, AllOctets}
-use Rattle.model.specs.Refusals.{bytes, feedOf}
-use Rattle.model.specs.Theorem.{settingsOf, Kept}
-use Rattle.model.specs.Contracts.{state, Ran, none, call, Accepted}
+use Rattle.model.specs.Runs.{State, Performed, next, Ran, Started}
+use Rattle.model.specs.Theorem.{journalOf, fed, Kept}
+use Rattle.model.specs.Contracts.{state, Accepted}
 
--- The state after a list of calls.
-abbrev pub ranTo : State → List Call → State
+-- The state after a run.
+abbrev pub ranTo : State → List Performed → State
 ranTo s [] = s
-ranTo s (c ∷ cs) = ranTo (nextState s c) cs
+ranTo s (x ∷ xs) = ranTo (next s x) xs
 
 -- Whether the engine goes on: it has not ended, and does not end with the reply that waits.
 abbrev pub live : Engine → Bool
@@ -43,21 +40,15 @@ pub record Counted (e : Engine) (j : Journal) : Type 0 where
   -- After 57 the next Connect passes the test.
   pub passes : live e ≡ true → (h : List Check) → j .standing .checks ≡ replicate 57 stop ++ h → leb mostWrong (ones (e .peer .window)) ≡ false
 
--- The claim over the model, for every accepted start and every list of calls.
+-- The claim, for every accepted start and every run of calls from there.
 abbrev pub EightWrong : Type 0
 EightWrong =
-    (st : Settings) (s : State) → Started st s → (cs : List Call) → AllOctets cs → Kept (packets (fresh (settingsOf st)) (feedOf bytes s cs))
-    → Counted (ranTo s cs .engine) (journalAfter (fresh (settingsOf st)) (feedOf bytes s cs))
+    (st : Settings) (s : State) → Started st s → (xs : List Performed) → Ran s xs → Kept (packets (journalOf st) (fed st s xs))
+    → Counted (ranTo s xs .engine) (journalAfter (journalOf st) (fed st s xs))
 
--- The state after a run of which only the contracts are known.
-abbrev pub lastOf : {s : State} {cs : List Call} {vs : List Verdict} {ls : List Record} → Ran s cs vs ls → State
-lastOf {s} none = s
-lastOf (call c r t u e h) = lastOf h
-
--- The claim over contracts.
+-- The claim from the contract of a start.
 abbrev pub ContractsCount : Type 0
 ContractsCount =
-    (st : Settings) (l : List ℕ) (s t : Stores) (u : List ℕ) (r : CallResult) (cs : List Call) (vs : List Verdict) (ls : List Record)
-    → Accepted st l s r t u → AllOctets cs → (h : Ran (state l r t u) cs vs ls)
-    → Kept (packets (fresh (settingsOf st)) (feedOf bytes (state l r t u) cs))
-    → Counted (lastOf h .engine) (journalAfter (fresh (settingsOf st)) (feedOf bytes (state l r t u) cs))
+    (st : Settings) (l : List ℕ) (s t : Stores) (u : List ℕ) (r : CallResult) (xs : List Performed) → Accepted st l s r t u
+    → Ran (state l r t u) xs → Kept (packets (journalOf st) (fed st (state l r t u) xs))
+    → Counted (ranTo (state l r t u) xs .engine) (journalAfter (journalOf st) (fed st (state l r t u) xs))

@@ -1,7 +1,8 @@
 -- The model, by the same file names as the engine, in the order in which they build on one another: what a step leads to (`Step`), the last
 -- packet read again (`Request`), operations, objects and Connect, a packet's way (`Dispatch`), refusals (`Guard`) and the calls (`Calls`).
--- Then lists of calls (`Runs`), which calls are due to be refused (`Refusals`), the records theorem over the model (`Theorem`) and over the
--- functions' contracts (`Contracts`), the count of wrong passwords (`EightWrong`), and the proved cases (`Cases`).
+-- Then what a host sees of a call, and which calls are due to be refused (`Refusals`), lists of calls (`Runs`), the sizes of replies
+-- (`Replies`), the records theorem (`Theorem`), the same from the contract of a start (`Contracts`), the count of wrong passwords
+-- (`EightWrong`), and the proved cases (`Cases`).
 pub mod Step
 pub mod Request
 pub mod Operation
@@ -10,8 +11,9 @@ pub mod Connect
 pub mod Dispatch
 pub mod Guard
 pub mod Calls
-pub mod Runs
 pub mod Refusals
+pub mod Runs
+pub mod Replies
 pub mod Theorem
 pub mod Contracts
 pub mod EightWrong

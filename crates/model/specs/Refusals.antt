@@ -1,19 +1,49 @@
--- Which calls are due to be refused, and with which number (docs/PROTOCOL.md#refusals): by the lengths of the lent stores (10), by what waits
--- since the last call that was not refused (9), and by the answer itself (8). The engine's state is not asked.
+-- What a host sees of a call, and what follows from that alone: which calls are due to be refused, and with which number
+-- (docs/PROTOCOL.md#refusals), and what the journal is fed (docs/PROTOCOL.md#journal). A call is due to be refused by the lengths of the
+-- stores that it is lent (10), by what waits since the last call that was not refused (9), and by the answer itself (8). Neither the
+-- engine's state nor a store is in the type of anything here. What this file shares with the model, and so cannot tell wrong, are the tests
+-- of an answer: `badReply`, `badHeaders` and `longUser` (README, "What must be believed").
 use Prim.Native.Nat.{ℕ}
 use mathlib.Core.List.{List, [], _∷_}
 use mathlib.Core.Bool.{Bool, true, false, _&&_, _||_}
-use lib.ListN.{length, getD}
+use mathlib.Core.Option.{Option, none, some}
+use lib.ListN.{length}
 use lib.Dec.{eqb, leb}
 use Rattle.base.specs.Pick.{pick}
-use Rattle.journal.specs.Calls.{Call, bytesOffered, streamEnded, replyTaken, replyGiven, objectGiven, bodyGiven, bodyFailed, abortAcknowledged, passwordGiven, nonceGiven, credentialsGiven, Credentials, Verdict, goes, refused, Fed}
-use Rattle.model.specs.Guard.{short, shortTables, badReply, badHeaders, longUser}
-use Rattle.model.specs.Runs.{State, stepOf, nextState}
-use Rattle.server.specs.Numbers.{refusalNumber}
+use Rattle.journal.specs.Calls.{Call, bytesOffered, streamEnded, replyTaken, replyGiven, objectGiven, bodyGiven, bodyFailed, abortAcknowledged, passwordGiven, nonceGiven, credentialsGiven, Verdict, goes, refused, Fed, noStep, stepBy, replySent}
+use Rattle.model.specs.Guard.{badReply, badHeaders, longUser}
+use Rattle.server.specs.Numbers.{refusalNumber, endNumber}
 use Rattle.server.specs.declared.HostRequest.{HostRequest}
 use Rattle.server.specs.declared.HostRequest.the-variants as request
 use Rattle.server.specs.declared.Outcome.{Outcome}
 use Rattle.server.specs.declared.Outcome.the-variants as outcome
+
+-- ---- what a host sees
+
+-- What a host sees of a call: the call by its arguments, whether a store that it lent was too short, how many bytes the call reports as
+-- taken, what it answers, and the first byte of the reply store at the call, which is that of the reply if the call is `replyTaken`.
+pub record Seen : Type 0 where
+  pub call : Call
+  pub short : Bool
+  pub taken : ℕ
+  pub outcome : Outcome
+  pub reply : ℕ
+
+-- The verdict that an outcome tells.
+abbrev pub verdictOf : Outcome → Verdict
+verdictOf (outcome.Refused r) = refused (refusalNumber r)
+verdictOf outcome.WantsBytes = goes
+verdictOf (outcome.Reply n) = goes
+verdictOf (outcome.Request r) = goes
+verdictOf (outcome.End n) = goes
+
+-- The number with which the engine ends, if it does.
+abbrev pub endOf : Outcome → Option ℕ
+endOf (outcome.End n) = some (endNumber n)
+endOf outcome.WantsBytes = none
+endOf (outcome.Reply n) = none
+endOf (outcome.Request r) = none
+endOf (outcome.Refused r) = none
 
 -- ---- what waits: bytes, that a reply is taken, an answer, nothing any more
 
@@ -108,51 +138,39 @@ bad (nonceGiven n) = false
 unfoldable pub verdict : Bool → Waits → Call → Verdict
 verdict s w c = pick s (refused 10) (pick (expected c w) (pick (bad c) (refused 8) goes) (refused 9))
 
--- Whether what a call is lent is too short: the four stores, and for the calls that are lent it the table store.
-abbrev pub shortStores : State → Bool
-shortStores s = short (s .engine .settings .«max_object_size») (s .stores)
+-- ---- along a list of calls, from where `w` waits
 
-abbrev pub lacks : Call → State → Bool
-lacks (bytesOffered i) s = shortTables (s .tables) || shortStores s
-lacks (replyGiven code hs) s = shortTables (s .tables) || shortStores s
-lacks streamEnded s = shortStores s
-lacks replyTaken s = shortStores s
-lacks (objectGiven hs b) s = shortStores s
-lacks (bodyGiven d) s = shortStores s
-lacks bodyFailed s = shortStores s
-lacks abortAcknowledged s = shortStores s
-lacks (passwordGiven p) s = shortStores s
-lacks (nonceGiven n) s = shortStores s
-lacks (credentialsGiven c) s = shortStores s
+-- The verdicts that are due.
+abbrev pub dueFrom : Waits → List Seen → List Verdict
+dueFrom w [] = []
+dueFrom w (x ∷ xs) = verdict (x .short) w (x .call) ∷ dueFrom (told w (x .outcome)) xs
 
--- The verdict by what is lent.
-abbrev pub verdictAt : Waits → State → Call → Verdict
-verdictAt w s c = verdict (lacks c s) w c
+-- What the journal is fed of a call that goes: the first byte of the reply goes with a reply taken, and with no other call.
+abbrev pub fedCall : Call → ℕ → Fed
+fedCall replyTaken b = replySent b
+fedCall (bytesOffered i) b = stepBy (bytesOffered i)
+fedCall streamEnded b = stepBy streamEnded
+fedCall (replyGiven code hs) b = stepBy (replyGiven code hs)
+fedCall (objectGiven hs has) b = stepBy (objectGiven hs has)
+fedCall (bodyGiven d) b = stepBy (bodyGiven d)
+fedCall bodyFailed b = stepBy bodyFailed
+fedCall abortAcknowledged b = stepBy abortAcknowledged
+fedCall (passwordGiven p) b = stepBy (passwordGiven p)
+fedCall (nonceGiven n) b = stepBy (nonceGiven n)
+fedCall (credentialsGiven c) b = stepBy (credentialsGiven c)
 
--- The verdict that a result tells.
-abbrev pub verdictOf : Outcome → Verdict
-verdictOf (outcome.Refused r) = refused (refusalNumber r)
-verdictOf outcome.WantsBytes = goes
-verdictOf (outcome.Reply n) = goes
-verdictOf (outcome.Request r) = goes
-verdictOf (outcome.End n) = goes
+abbrev pub fedBy : Verdict → Call → ℕ → Fed
+fedBy (refused n) c b = noStep
+fedBy goes c b = fedCall c b
 
--- ---- along a list of calls
+abbrev pub feedFrom : Waits → List Seen → List Fed
+feedFrom w [] = []
+feedFrom w (x ∷ xs) = fedBy (verdict (x .short) w (x .call)) (x .call) (x .reply) ∷ feedFrom (told w (x .outcome)) xs
 
--- The verdicts that are due along a list of calls.
-abbrev pub due : Waits → State → List Call → List Verdict
-due w s [] = []
-due w s (c ∷ cs) = verdictAt w s c ∷ due (told w (stepOf s c .took .outcome)) (nextState s c) cs
+-- The verdicts that are due along a list of calls from an accepted start, and what the journal is fed of them. It is fed the verdicts that
+-- are due, and not those that were returned.
+abbrev pub due : List Seen → List Verdict
+due xs = dueFrom bytes xs
 
--- The verdicts that the results give.
-abbrev pub returned : State → List Call → List Verdict
-returned s [] = []
-returned s (c ∷ cs) = verdictOf (stepOf s c .took .outcome) ∷ returned (nextState s c) cs
-
--- What the journal is fed of a call: the call, whether it is due to be refused, and the first byte of the reply that waits.
-abbrev pub fedAt : Waits → State → Call → Fed
-fedAt w s c = record { call = c; verdict = verdictAt w s c; reply = getD (s .stores .reply) 0 0 }
-
-abbrev pub feedOf : Waits → State → List Call → List Fed
-feedOf w s [] = []
-feedOf w s (c ∷ cs) = fedAt w s c ∷ feedOf (told w (stepOf s c .took .outcome)) (nextState s c) cs
+abbrev pub feed : List Seen → List Fed
+feed xs = feedFrom bytes xs

@@ -1,15 +1,17 @@
--- A list of calls on one engine, each getting the state and the stores as the call before left them, and the records that it hands over.
+-- A list of calls on one engine, each getting the state and the stores as the call before left them: what is known of each call, the records
+-- that it hands over, and what the host sees of it.
 use Prim.Native.Nat.{ℕ, _<_}
 use mathlib.Core.Path.{_≡_}
 use mathlib.Core.List.{List, [], _∷_, _++_}
-use mathlib.Core.Bool.{false}
+use mathlib.Core.Bool.{Bool, false, _||_}
 use mathlib.Core.Option.{Option, none, some}
 use lib.ListN.{getD, take}
 use Rattle.journal.specs.Record.{Record}
 use Rattle.journal.specs.Calls.{Call, bytesOffered, streamEnded, replyTaken, replyGiven, objectGiven, bodyGiven, bodyFailed, abortAcknowledged, passwordGiven, nonceGiven, credentialsGiven}
-use Rattle.model.specs.Step.{Stores, Stepped, Called, called}
+use Rattle.model.specs.Step.{Stores, Stepped, stepped, Called, called}
 use Rattle.model.specs.Calls.{bytesOfferedStep, streamEndedStep, replyTakenStep, replyGivenStep, objectGivenStep, bodyGivenStep, bodyFailedStep, abortAcknowledgedStep, passwordGivenStep, nonceGivenStep, credentialsGivenStep, started}
 use Rattle.model.specs.Guard.{short, shortTables, longRealm}
+use Rattle.model.specs.Refusals.{Seen}
 use Rattle.server.specs.declared.Settings.{Settings}
 use Rattle.server.specs.declared.Engine.{Engine}
 use Rattle.server.specs.declared.Body.{Body}
@@ -18,6 +20,7 @@ use Rattle.server.specs.declared.HostRequest.{HostRequest}
 use Rattle.server.specs.declared.HostRequest.the-variants as request
 use Rattle.server.specs.declared.Outcome.{Outcome}
 use Rattle.server.specs.declared.Outcome.the-variants as outcome
+use Rattle.server.specs.declared.CallResult.{CallResult}
 
 -- The state and all that is lent, between two calls: the four stores, the table store, and the realm, which no call writes.
 pub record State : Type 0 where
@@ -48,8 +51,54 @@ stepOf s (credentialsGiven c) = keeps s (credentialsGivenStep (s .engine) c (s .
 abbrev pub stateOf : List ℕ → Called → State
 stateOf l m = record { engine = m .took .engine; stores = m .stores; tables = m .tables; realm = l }
 
-abbrev pub nextState : State → Call → State
-nextState s c = stateOf (s .realm) (stepOf s c)
+-- ---- a run
+
+-- A call that was performed: its arguments, its result, and the four stores and the table store afterwards.
+pub record Performed : Type 0 where
+  pub call : Call
+  pub result : CallResult
+  pub stores : Stores
+  pub tables : List ℕ
+
+abbrev pub performed : Call → CallResult → Stores → List ℕ → Performed
+performed c r t u = record { call = c; result = r; stores = t; tables = u }
+
+-- What a call returned and left, as the model's steps have it.
+abbrev pub calledIn : Performed → Called
+calledIn x = called (stepped (x .result) (x .stores)) (x .tables)
+
+-- The state after a call that was performed in the state `s`.
+abbrev pub next : State → Performed → State
+next s x = stateOf (s .realm) (calledIn x)
+
+-- The list is one of bytes.
+abbrev pub Octets : List ℕ → Type 0
+Octets l = (k : ℕ) → getD l k 0 < 256
+
+-- The bytes that a call offers are bytes.
+abbrev pub OffersOctets : Call → Type 0
+OffersOctets (bytesOffered i) = Octets i
+OffersOctets streamEnded = Unit {0}
+OffersOctets replyTaken = Unit {0}
+OffersOctets (replyGiven code hs) = Unit {0}
+OffersOctets (objectGiven hs b) = Unit {0}
+OffersOctets (bodyGiven d) = Unit {0}
+OffersOctets bodyFailed = Unit {0}
+OffersOctets abortAcknowledged = Unit {0}
+OffersOctets (passwordGiven p) = Unit {0}
+OffersOctets (nonceGiven n) = Unit {0}
+OffersOctets (credentialsGiven c) = Unit {0}
+
+-- What a call's contract says of it: its result and the stores afterwards are the model's step, and the bytes that it was offered are bytes.
+-- A call that is not lent the table store leaves it.
+pub record Says (s : State) (x : Performed) : Type 0 where
+  pub step : calledIn x ≡ stepOf s (x .call)
+  pub octets : OffersOctets (x .call)
+
+-- A run: each call is what its contract says, in the state that the call before left.
+abbrev pub Ran : State → List Performed → Type 0
+Ran s [] = Unit {0}
+Ran s (x ∷ xs) = Says s x × Ran (next s x) xs
 
 -- ---- handing over: a call returns the Put request, with its kept headers and its body bytes or none (docs/PROTOCOL.md#handing-over)
 
@@ -80,10 +129,41 @@ handed (outcome.Reply n) s = []
 handed (outcome.End n) s = []
 handed (outcome.Refused n) s = []
 
--- The records that a list of calls hands over, in order.
-abbrev pub records : State → List Call → List Record
-records s [] = []
-records s (c ∷ cs) = handed (stepOf s c .took .outcome) (stepOf s c .stores) ++ records (nextState s c) cs
+-- The records that a run hands over, in order.
+abbrev pub records : List Performed → List Record
+records [] = []
+records (x ∷ xs) = handed (x .result .outcome) (x .stores) ++ records xs
+
+-- ---- what the host sees
+
+-- What a call is lent is too short: one of the four stores, or, for the calls that are lent it, the table store.
+abbrev pub lacks : Settings → Call → Stores → List ℕ → Bool
+lacks st (bytesOffered i) s t = shortTables t || short (st .«max_object_size») s
+lacks st (replyGiven code hs) s t = shortTables t || short (st .«max_object_size») s
+lacks st streamEnded s t = short (st .«max_object_size») s
+lacks st replyTaken s t = short (st .«max_object_size») s
+lacks st (objectGiven hs b) s t = short (st .«max_object_size») s
+lacks st (bodyGiven d) s t = short (st .«max_object_size») s
+lacks st bodyFailed s t = short (st .«max_object_size») s
+lacks st abortAcknowledged s t = short (st .«max_object_size») s
+lacks st (passwordGiven p) s t = short (st .«max_object_size») s
+lacks st (nonceGiven n) s t = short (st .«max_object_size») s
+lacks st (credentialsGiven c) s t = short (st .«max_object_size») s
+
+-- What the host that set `st` sees of a call that it made with the stores of `s`.
+abbrev pub seenOf : Settings → State → Performed → Seen
+seenOf st s x =
+    record {
+      call = x .call;
+      short = lacks st (x .call) (s .stores) (s .tables);
+      taken = x .result .taken;
+      outcome = x .result .outcome;
+      reply = getD (s .stores .reply) 0 0;
+    }
+
+abbrev pub seen : Settings → State → List Performed → List Seen
+seen st s [] = []
+seen st s (x ∷ xs) = seenOf st s x ∷ seen st (next s x) xs
 
 -- ---- the accepted starts: a fresh engine with these settings, stores that are long enough, and a realm that is not too long
 pub record Started (st : Settings) (s : State) : Type 0 where
@@ -91,25 +171,3 @@ pub record Started (st : Settings) (s : State) : Type 0 where
   pub realm : longRealm st (s .realm) ≡ false
   pub tables : shortTables (s .tables) ≡ false
   pub room : short (st .«max_object_size») (s .stores) ≡ false
-
--- Whether a list is one of bytes.
-abbrev pub Octets : List ℕ → Type 0
-Octets l = (k : ℕ) → getD l k 0 < 256
-
--- The bytes of a call are bytes.
-abbrev pub Octet : Call → Type 0
-Octet (bytesOffered i) = Octets i
-Octet streamEnded = Unit {0}
-Octet replyTaken = Unit {0}
-Octet (replyGiven code hs) = Octets hs
-Octet (objectGiven hs b) = Octets hs
-Octet (bodyGiven d) = Unit {0}
-Octet bodyFailed = Unit {0}
-Octet abortAcknowledged = Unit {0}
-Octet (passwordGiven p) = Unit {0}
-Octet (nonceGiven n) = Unit {0}
-Octet (credentialsGiven c) = Unit {0}
-
-abbrev pub AllOctets : List Call → Type 0
-AllOctets [] = Unit {0}
-AllOctets (c ∷ cs) = Octet c × AllOctets cs

@@ -1,18 +1,25 @@
--- The records theorem (the mission's demand 3): for every accepted start and every list of calls, the records handed over are the journal's
--- and exactly those of the Put forms of the packets. Beside it: calls are refused exactly if they are due to be, and then change nothing.
+-- The records theorem (the mission's demand 3). It is a single claim about a list of calls: for every accepted start and every run of calls
+-- from there, what the calls return and hand over is what the journal says, which is fed what the host sees and nothing of the engine.
+-- Journal and model share how packets are read (`requestOf`, `readHeaders`), which headers are kept (`isBody`, `isSrm`), the ids (`member`,
+-- `newId`, `without`), `isEnable`, `responseIn` and `verified`. The theorem cannot tell these wrong; README, "What must be believed", says
+-- what guards each.
 use Prim.Native.Nat.{ℕ, _≤_}
 use mathlib.Core.Path.{_≡_}
-use mathlib.Core.List.{List, [], _∷_}
-use mathlib.Core.Bool.{_&&_}
-use lib.ListN.{length}
-use Rattle.journal.specs.Calls.{Call, refused}
-use Rattle.journal.specs.Journal.{Settings as JournalSettings, journalRecords, fresh, packets, Marked, keptAfter}
+use mathlib.Core.List.{List, [], _∷_, map}
+use mathlib.Core.Bool.{Bool, true, false, _&&_}
+use lib.ListN.{length, take}
+use Rattle.journal.specs.Calls.{Fed, refused}
+use Rattle.journal.specs.Journal.{Journal, Settings as JournalSettings, fresh, journalRecords, journalCounts, journalEnds, packets, Marked, keptAfter}
 use Rattle.journal.specs.PutForm.{Exactly}
-use Rattle.model.specs.Runs.{State, stepOf, nextState, records, Started, AllOctets}
-use Rattle.model.specs.Refusals.{bytes, verdictOf, due, returned, feedOf}
+use Rattle.model.specs.Refusals.{verdictOf, endOf, due, feed}
+use Rattle.model.specs.Replies.{Replies}
+use Rattle.journal.specs.Srm.{Due, silent, continues, speaks, continueReply, dues}
+use Rattle.model.specs.Runs.{State, Performed, next, Ran, records, Started, seen}
 use Rattle.server.specs.declared.Settings.{Settings}
+use Rattle.server.specs.declared.Outcome.{Outcome}
+use Rattle.server.specs.declared.Outcome.the-variants as outcome
 
--- The settings that the journal keeps.
+-- The settings that the journal keeps, and the journal of a fresh engine with these settings.
 abbrev pub settingsOf : Settings → JournalSettings
 settingsOf st =
     record {
@@ -23,31 +30,63 @@ settingsOf st =
       refuses = st .«refuse_trailing»;
     }
 
--- The one premise of the records theorem: kept headers stay within 65,535 bytes.
+abbrev pub journalOf : Settings → Journal
+journalOf st = fresh (settingsOf st)
+
+-- What the journal is fed of a run from the state `s`.
+abbrev pub fed : Settings → State → List Performed → List Fed
+fed st s xs = feed (seen st s xs)
+
+-- The premise on kept headers: they stay within 65,535 bytes.
 abbrev pub Kept : List Marked → Type 0
 Kept [] = Unit {0}
 Kept (m ∷ ms) = (length (keptAfter m) ≤ 65535) × Kept ms
 
--- What holds after a list of calls: the records handed over are the journal's, and exactly those of the Put forms of the packets.
-pub record Holds (st : Settings) (s : State) (cs : List Call) : Type 0 where
-  pub journal : records s cs ≡ journalRecords (fresh (settingsOf st)) (feedOf bytes s cs)
-  pub forms : Exactly (st .«max_object_size») (packets (fresh (settingsOf st)) (feedOf bytes s cs)) (records s cs)
-
--- The records theorem (the mission's demand 3), for every accepted start and every list of calls.
-abbrev pub RecordsTheorem : Type 0
-RecordsTheorem =
-    (st : Settings) (s : State) → Started st s → (cs : List Call) → AllOctets cs
-    → Kept (packets (fresh (settingsOf st)) (feedOf bytes s cs)) → Holds st s cs
-
--- A call is refused exactly if it is due to be, with the number that is due.
-abbrev pub Refusals : Type 0
-Refusals = (st : Settings) (s : State) → Started st s → (cs : List Call) → AllOctets cs → returned s cs ≡ due bytes s cs
-
 -- A refused call changes nothing.
-abbrev pub Unmoved : State → List Call → Type 0
+abbrev pub Unmoved : State → List Performed → Type 0
 Unmoved s [] = Unit {0}
-Unmoved s (c ∷ cs) =
-    ((n : ℕ) → verdictOf (stepOf s c .took .outcome) ≡ refused n → nextState s c ≡ s) × Unmoved (nextState s c) cs
+Unmoved s (x ∷ xs) = ((n : ℕ) → verdictOf (x .result .outcome) ≡ refused n → next s x ≡ s) × Unmoved (next s x) xs
 
-abbrev pub RefusedUnmoved : Type 0
-RefusedUnmoved = (st : Settings) (s : State) → Started st s → (cs : List Call) → AllOctets cs → Unmoved s cs
+-- A call does what is due, by its outcome and the reply store afterwards: it wants bytes, or it makes that Continue, or it does not want
+-- bytes.
+abbrev pub wantsBytes : Outcome → Bool
+wantsBytes outcome.WantsBytes = true
+wantsBytes (outcome.Reply n) = false
+wantsBytes (outcome.Request r) = false
+wantsBytes (outcome.End n) = false
+wantsBytes (outcome.Refused r) = false
+
+abbrev pub Obeys : Due → Outcome → List ℕ → Type 0
+Obeys silent o y = o ≡ outcome.WantsBytes
+Obeys (continues g) o y = (o ≡ outcome.Reply (length (continueReply g))) × (take (length (continueReply g)) y ≡ continueReply g)
+Obeys speaks o y = wantsBytes o ≡ false
+
+abbrev pub AllObey : List Due → List Performed → Type 0
+AllObey [] [] = Unit {0}
+AllObey [] (x ∷ xs) = ⊥
+AllObey (d ∷ ds) [] = ⊥
+AllObey (d ∷ ds) (x ∷ xs) = Obeys d (x .result .outcome) (x .stores .reply) × AllObey ds xs
+
+-- What holds of a run if kept headers stay within 65,535 bytes.
+pub record Agrees (st : Settings) (s : State) (xs : List Performed) : Type 0 where
+  -- The records handed over are the journal's, and exactly those of the Put forms of the packets.
+  pub journal : records xs ≡ journalRecords (journalOf st) (fed st s xs)
+  pub forms : Exactly (st .«max_object_size») (packets (journalOf st) (fed st s xs)) (records xs)
+  -- Each call reports as many bytes as the journal says were taken.
+  pub counts : map (λ (x : Performed). x .result .taken) xs ≡ journalCounts (journalOf st) (fed st s xs)
+  -- A reply is made, and Single Response Mode granted, where its definition says so.
+  pub srm : AllObey (dues (journalOf st) (fed st s xs)) xs
+
+-- What holds of a run `xs` of calls, from the state `s` of an accepted start with the settings `st`.
+pub record Upholds (st : Settings) (s : State) (xs : List Performed) : Type 0 where
+  -- A call is refused exactly if it is due to be, with the number that is due; and then it changes nothing.
+  pub refusals : map (λ (x : Performed). verdictOf (x .result .outcome)) xs ≡ due (seen st s xs)
+  pub unmoved : Unmoved s xs
+  pub agrees : Kept (packets (journalOf st) (fed st s xs)) → Agrees st s xs
+  -- The engine ends in the calls in which the journal says so, and with its number, if replies stay within 65,535 bytes too.
+  pub ends : Kept (packets (journalOf st) (fed st s xs)) → Replies (journalOf st) (fed st s xs)
+      → map (λ (x : Performed). endOf (x .result .outcome)) xs ≡ journalEnds (journalOf st) (fed st s xs)
+
+-- The records theorem, from every state that an accepted start leaves.
+abbrev pub RecordsTheorem : Type 0
+RecordsTheorem = (st : Settings) (s : State) → Started st s → (xs : List Performed) → Ran s xs → Upholds st s xs

@@ -34,7 +34,6 @@ use show::put_line;
 use show::shown_line;
 use show::state_line;
 use state::Replay;
-use state::Shown;
 use state::after_call;
 use state::begun;
 use state::settled;
@@ -175,7 +174,7 @@ fn print_shown<'a>(
     let shown = s.shown;
     let line = shown_line(s.lent, shown, peer);
     let n = put_line(out, s.n, line, tables, packet, headers, body, reply);
-    with_shown(with_output(s, n), Shown::Nothing)
+    with_shown(with_output(s, n), false, false)
 }
 
 // The two lines after a call: what it returned, and the state if one stands after it.

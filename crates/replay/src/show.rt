@@ -563,9 +563,11 @@ fn own_line(p: Peer) -> Line {
 
 // The line that is to be shown, or none.
 pub(crate) fn shown_line(lent: Lent, shown: Shown, p: Peer) -> Line {
-    match shown {
-        Shown::Stores => stores_line(lent),
-        Shown::Own => own_line(p),
-        Shown::Nothing => no_line(no_values(0)),
+    if shown.stores {
+        return stores_line(lent);
     }
+    if shown.own {
+        return own_line(p);
+    }
+    no_line(no_values(0))
 }

@@ -34,10 +34,9 @@ pub struct Lines {
 }
 
 // What a line prints that makes no call: the stores, or what of the state no transcript of the original has.
-pub enum Shown {
-    Nothing,
-    Stores,
-    Own,
+pub struct Shown {
+    pub stores: bool,
+    pub own: bool,
 }
 
 pub struct Replay {
@@ -78,6 +77,13 @@ fn no_bytes() -> Stream {
     }
 }
 
+fn nothing_shown() -> Shown {
+    Shown {
+        stores: false,
+        own: false,
+    }
+}
+
 // Returns `call` with no byte strings.
 pub(crate) fn bare(call: Call) -> Decoded {
     Decoded {
@@ -98,7 +104,7 @@ pub(crate) fn begun() -> Replay {
         n: 0,
         longest: 512,
         hold: false,
-        shown: Shown::Nothing,
+        shown: nothing_shown(),
         over: false,
     }
 }
@@ -185,8 +191,9 @@ fn with_hold(s: Replay) -> Replay {
 }
 
 // The state with what is to be printed.
-pub(crate) fn with_shown(s: Replay, shown: Shown) -> Replay {
+pub(crate) fn with_shown(s: Replay, stores: bool, own: bool) -> Replay {
     let mut r = s;
+    let shown = Shown { stores, own };
     r.shown = shown;
     r
 }
@@ -278,8 +285,8 @@ fn settled_alone(s: Replay, c: Command, w: &[u8]) -> Replay {
         Command::Longest => with_longest(s, number(w)),
         Command::Stores => with_lent(s, w),
         Command::Hold => with_hold(s),
-        Command::Show => with_shown(s, Shown::Stores),
-        Command::Inspect => with_shown(s, Shown::Own),
+        Command::Show => with_shown(s, true, false),
+        Command::Inspect => with_shown(s, false, true),
         _ => s,
     }
 }

@@ -5,6 +5,7 @@ use mathlib.Core.Path.{_≡_, ap, _∙_}
 use Rattle.incoming.specs.declared.frame.Frame.{Frame}
 use Rattle.model.specs.Step.{Stores, Stepped, stores, stepped}
 use Rattle.model.specs.Guard.{refuse}
+use Rattle.model.specs.Runs.{Octets}
 use Rattle.model.specs.Calls.{withPacket, framedAs, bytesOfferedStep}
 use Rattle.server.specs.declared.CallResult.{CallResult}
 use Rattle.server.specs.declared.Refusal.{Refusal}
@@ -21,6 +22,10 @@ start k = k .before .before .before .before .before .before .before
 -- the stores that are lent
 abbrev lent : tie.After-guard-lent → Stores
 lent k = let a = start k .args in stores (a .packet .now) (a .headers .now) (a .body .now) (a .reply .now)
+
+-- what is offered are bytes, as is known of a slice of bytes
+octets : (k : tie.After-guard-lent) → Octets (start k .args .input .now)
+octets k i = k .before .before .before .before .before .before .shared-slice-known .given i .fits
 
 -- the guard says that the call may proceed
 abbrev passed : tie.After-enum-told → tie.After-guard-lent
@@ -52,9 +57,11 @@ returns : tie.Need-returns
 unfolding bytesOfferedStep
 returns c =
     let k = c .before .before .before .before in
-    let e = start k .args .e in
-    ap (λ (r : CallResult). stepped r (lent k)) (c .refuse .ensures)
-    ∙ turned-lent kind.FromPeer e (lent k) _ (λ (q : Refusal). refuse q e (lent k)) _ _ _ (k .guard-lent .ensures) (c .before .before .refusal .given .1)
+    let e = start k .args .e in (
+      ap (λ (r : CallResult). stepped r (lent k)) (c .refuse .ensures)
+          ∙ turned-lent kind.FromPeer e (lent k) _ (λ (q : Refusal). refuse q e (lent k)) _ _ _ (k .guard-lent .ensures) (c .before .before .refusal .given .1),
+      octets k,
+    )
 
 enum-told : tie.Need-enum-told
 enum-told c = search needs
@@ -111,7 +118,7 @@ same-length c = search needs
 returns-2 : tie.Need-returns-2
 returns-2 c =
     let r = c .before .before .before .before .before in
-    ending r _ _ (c .before .enum-told2 .given .1) (ap (λ (x : CallResult). stepped x (read r)) (c .more .ensures))
+    (ending r _ _ (c .before .enum-told2 .given .1) (ap (λ (x : CallResult). stepped x (read r)) (c .more .ensures)), octets (passed (r .before .before)))
 
 same-length-2 : tie.Need-same-length-2
 same-length-2 c = search needs
@@ -120,9 +127,11 @@ returns-3 : tie.Need-returns-3
 returns-3 c =
     let t = c .before .before .before in
     let r = t .before .before .before .before in
-    let e = start (passed (r .before .before)) .args .e in
-    ending r _ _ (t .enum-told3 .given .1)
-    (taken-after _ _ _ (read r) _ (c .with-taken .ensures) (short-took e _ _ (read r) (c .before .took .ensures) (c .before .before .ends .ensures)))
+    let e = start (passed (r .before .before)) .args .e in (
+      ending r _ _ (t .enum-told3 .given .1)
+          (taken-after _ _ _ (read r) _ (c .with-taken .ensures) (short-took e _ _ (read r) (c .before .took .ensures) (c .before .before .ends .ensures))),
+      octets (passed (r .before .before)),
+    )
 
 same-length-3 : tie.Need-same-length-3
 same-length-3 c = omega (arith, c .before .before .before .before .before .before .before .before .before .before .before .before .before .before .before .packet .given)
@@ -140,7 +149,8 @@ returns-4 : tie.Need-returns-4
 returns-4 c =
     let d = c .before .before .before .before .before .before .before in
     let t = d .before .before .before .before .before in
-    ending (t .before .before .before .before) _ _ (t .enum-told4 .given .1) (taken-after _ _ _ _ _ (c .with-taken2 .ensures) (d .packet-done .ensures))
+    let r = t .before .before .before .before in
+    (ending r _ _ (t .enum-told4 .given .1) (taken-after _ _ _ _ _ (c .with-taken2 .ensures) (d .packet-done .ensures)), octets (passed (r .before .before)))
 
 pub bytes-offered-spec : {M : Type 1} → statement M
 bytes-offered-spec =
