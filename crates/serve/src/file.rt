@@ -15,10 +15,13 @@ ghost use mathlib.Core.Path.{_≡_};
 ghost use mathlib.Core.Bool.{true};
 ghost use Rattle.serve.specs.Name.{fileName};
 
-// A program that is running cannot be opened for writing (Linux's number of that error).
+// Linux's numbers of two errors that `libc` has no name for: a socket cannot be opened, and a program that is running cannot be opened for
+// writing.
+const ENXIO: i32 = 6;
+
 const ETXTBSY: i32 = 26;
 
-// The first n bytes, or all where there are fewer.
+// The first n bytes, or all if there are fewer.
 pub(crate) fn front(s: &[u8], n: usize) -> &[u8] {
     if n <= s.len() { &s[0..n] } else { s }
 }
@@ -176,12 +179,11 @@ pub enum Opened {
     Code(u8),
 }
 
-// Returns the code of the reply where a file cannot be opened.
+// Returns the code of the reply if a file cannot be opened.
 fn refusal_of(error: i32) -> u8 {
     match error {
         libc::ENOENT => NOT_FOUND,
-        libc::EACCES | libc::EPERM | libc::EISDIR | libc::ELOOP => FORBIDDEN,
-        6 => FORBIDDEN,
+        libc::EACCES | libc::EPERM | libc::EISDIR | libc::ELOOP | ENXIO => FORBIDDEN,
         _ => INTERNAL_SERVER_ERROR,
     }
 }

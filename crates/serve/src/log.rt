@@ -138,18 +138,10 @@ pub(crate) fn own_reply(opcode: u8, code: u8) {
 // An operation that was open when the session ended. Nothing is stored of a Put that is cut off.
 pub(crate) fn cut_off(operation: Operation) {
     match operation {
-        Operation::Putting {
-            gathered: _,
-            srm: _,
-        } => {
+        Operation::Putting { .. } => {
             io::write_all(STDERR_FILENO, b"put cut off\n");
         }
-        Operation::Sending {
-            outgoing: _,
-            chunk: _,
-            srm: _,
-            wait: _,
-        } => {
+        Operation::Sending { .. } => {
             io::write_all(STDERR_FILENO, b"get cut off\n");
         }
         _ => {}

@@ -62,6 +62,30 @@ fn tell(before: Operation, outcome: Outcome, opcode: u8, code: u8) {
     }
 }
 
+// Offers the peer's bytes, and tells what they led to.
+fn hear(
+    e: Engine,
+    rest: Rest,
+    file: i32,
+    input: &mut [u8; INPUT],
+    tables: &mut [u64; 320],
+    packet: &mut [u8; 65535],
+    headers: &mut [u8; 65535],
+    body: &mut [u8; 1048576],
+    reply: &mut [u8; 65535],
+) -> Serving {
+    let step = feed(e, rest, input, tables, packet, headers, body, reply);
+    let took = step.took;
+    let before = e.operation;
+    let outcome = took.outcome;
+    tell(before, outcome, packet[0], reply[0]);
+    Serving {
+        step,
+        file,
+        lost: false,
+    }
+}
+
 // Sends the reply, and says that it was taken only if it was. A reply that cannot be sent ends the session.
 fn send(
     e: Engine,
@@ -108,18 +132,7 @@ fn turn(
     let e = last.engine;
     let outcome = last.outcome;
     match outcome {
-        Outcome::WantsBytes => {
-            let step = feed(e, rest, input, tables, packet, headers, body, reply);
-            let took = step.took;
-            let operation = e.operation;
-            let next = took.outcome;
-            tell(operation, next, packet[0], reply[0]);
-            Serving {
-                step,
-                file,
-                lost: false,
-            }
-        }
+        Outcome::WantsBytes => hear(e, rest, file, input, tables, packet, headers, body, reply),
         Outcome::Reply { length } => send(e, length, s, packet, headers, body, reply),
         Outcome::Request(request) => after_answer(
             answer(
