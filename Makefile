@@ -1,4 +1,4 @@
-.PHONY: help run test check serve interop oracle compare planted perf mutants
+.PHONY: help run test check serve interop faults oracle compare planted perf mutants
 
 # Bare `make` says what there is, and runs nothing. The times are those of two cores; what is proved stays proved until a file changes.
 help:
@@ -6,7 +6,8 @@ help:
 	@echo 'make run       proves the bench and plays a session through the engine, line by line   Rattle (rt)            9 minutes, then at once'
 	@echo 'make test      the gate: proves all from nothing, refuses wrong programs, runs all     Rattle                 30 minutes'
 	@echo 'make check     what needs no prover: trace, edits, contracts, stored sessions          python3                5 seconds'
-	@echo 'make serve     a server of the files in a folder: DIR=./served PORT=6500               Rattle, socat          10 minutes, then at once'
+	@echo 'make serve     a server of the files in a folder: DIR=./served PORT=6500               Rattle, python3        10 minutes, then at once'
+	@echo 'make faults    that server with slow and full disks, kills, many and silent clients    Rattle, cc, root       12 minutes, then 2'
 	@echo 'make interop   stock clients put and get files at that server                          Rattle, root, Debian   11 minutes, then 1'
 	@echo 'make oracle    builds the original Rust with a driver, for comparison                  cargo, OBEX_SRC        2 minutes'
 	@echo 'make compare   port beside original: questions, then sessions: N=1000000 SEED=1        the oracle, Rattle     13 minutes, then 2'
@@ -31,16 +32,21 @@ test:
 check:
 	@tools/check-all
 
-# A server of the files in DIR, behind a socket of the loopback. PORT=number DIR=folder, which may have spaces in its name.
+# A server of the files in DIR, behind a socket of the loopback (tools/serve). PORT=number, DIR=folder, which may have spaces in its name;
+# IDLE=seconds after which a silent client is left, 0 for never; CLIENTS=how many at once; KEEP=1 refuses a Put whose Name a file has.
 PORT ?= 6500
 DIR ?= ./served
+IDLE ?= 600
+CLIENTS ?= 256
 serve: export SERVED := $(DIR)
-serve: export PROGRAM := $(CURDIR)/target/bin/serve
 serve:
 	@tools/progress check serve >&2
-	@mkdir -p "$$SERVED"
-	@echo "serving $$SERVED at 127.0.0.1:$(PORT)"
-	@cd "$$SERVED" && exec socat TCP-LISTEN:$(PORT),bind=127.0.0.1,reuseaddr,fork 'SYSTEM:exec \"$$PROGRAM\"'
+	@exec tools/serve --port $(PORT) --dir "$$SERVED" --idle $(IDLE) --clients $(CLIENTS) $(if $(KEEP),--keep)
+
+# The server on a bad day: slow and full disks, limits, kills, many and silent clients, odd names. Last line: 'faults: N of N'.
+faults:
+	@tools/progress check serve >&2
+	@tools/faults
 
 # Stock clients against the server. Last line: 'interop: N of N'.
 interop:
@@ -62,9 +68,9 @@ compare: oracle
 planted: oracle
 	@tools/compare-planted $(N) $(SEED)
 
-# Throughput beside the original and OpenSSL.
+# Throughput beside the original, OpenSSL and libopenobex.
 perf: oracle
-	@tools/progress check load digest_c archive_c >&2
+	@tools/progress check load serve digest_c archive_c >&2
 	@tools/perf
 
 # The wrong programs that are not in the gate: the prover must refuse each. NAME=crate for one crate. Last line: 'N refused, 0 alive'.

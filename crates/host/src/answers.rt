@@ -1,4 +1,6 @@
-// A host that keeps nothing: it answers with codes without headers, and has no password and no credentials.
+// A host that keeps nothing: it answers with codes without headers, and has no password and no credentials. A nonce is the kernel's.
+use digest::md5::Octets16;
+use digest::md5::octets16_at;
 use engine::calls;
 use packet::response::NOT_IMPLEMENTED;
 use packet::response::SUCCESS;
@@ -7,7 +9,7 @@ use server::Engine;
 use server::HostRequest;
 ghost use mathlib.Core.Path.{_≡_};
 ghost use Rattle.model.specs.Step.{stepped, called, stores};
-ghost use Rattle.host.specs.Answers.{callFor, callBy, answered};
+ghost use Rattle.host.specs.Answers.{kindFor, Answers};
 
 // Which call answers a request.
 pub enum Kind {
@@ -15,13 +17,29 @@ pub enum Kind {
     Acknowledge,
     NoPassword,
     NoCredentials,
-    // The engine asks for a nonce only with authentication and for body bytes only of an object. This host has neither.
-    Never,
+    Nonce,
+    // The engine asks for body bytes only of an object, and this host gives none; if it is asked, it says that no body can be read.
+    NoBody,
+}
+
+// Sixteen bytes of the kernel's, or none.
+enum Drawn {
+    Fresh(Octets16),
+    Missing,
+}
+
+// Draws a nonce. The kernel gives no sixteen bytes twice, as far as anybody can tell.
+fn draw() -> Drawn {
+    let mut bytes = [0u8; 16];
+    if libc::getentropy(&mut bytes) == 0 {
+        return Drawn::Fresh(octets16_at(&bytes, 0));
+    }
+    Drawn::Missing
 }
 
 // Returns which call answers `request`.
 fn kind_of(request: HostRequest) -> Kind
-    ensures { λ r. ⌜ callBy r ≡ callFor request ⌝ }
+    ensures { λ r. ⌜ r ≡ kindFor request ⌝ }
 {
     match request {
         HostRequest::Connect { length: _ } => Kind::Reply(SUCCESS),
@@ -38,19 +56,19 @@ fn kind_of(request: HostRequest) -> Kind
         HostRequest::Session { kept: _ } => Kind::Reply(NOT_IMPLEMENTED),
         HostRequest::UserDefined { opcode: _, kept: _ } => Kind::Reply(NOT_IMPLEMENTED),
         HostRequest::Password { user_id: _ } => Kind::NoPassword,
-        HostRequest::Nonce => Kind::Never,
+        HostRequest::Nonce => Kind::Nonce,
         HostRequest::Credentials {
             nonce: _,
             user_id_required: _,
             read_only: _,
             realm: _,
         } => Kind::NoCredentials,
-        HostRequest::Read { room: _ } => Kind::Never,
+        HostRequest::Read { room: _ } => Kind::NoBody,
     }
 }
 
-// Answers `request` with the call that is due. The stores are arrays, since a program's stores have lengths that are known; the engine is lent
-// them whole.
+// Answers `request` with the call that is due. If the kernel has no random bytes for a nonce, no call can answer, and the one that is made is
+// refused. The stores are arrays, since a program's stores have lengths that are known; the engine is lent them whole.
 pub fn answer(
     e: Engine,
     request: HostRequest,
@@ -60,8 +78,9 @@ pub fn answer(
     body: &mut [u8; 1048576],
     reply: &mut [u8; 65535],
 ) -> CallResult
-    ensures { λ r. ⌜ called (stepped r (stores (now (packet .exit)) (now (headers .exit)) (now (body .exit)) (now (reply .exit)))) (now (tables .exit))
-        ≡ answered (callFor request) e (stores (now (packet .entry)) (now (headers .entry)) (now (body .entry)) (now (reply .entry))) (now (tables .entry)) ⌝ }
+    ensures { λ r. ⌜ Answers (kindFor request) e (stores (now (packet .entry)) (now (headers .entry)) (now (body .entry)) (now (reply .entry)))
+        (now (tables .entry)) (called (stepped r (stores (now (packet .exit)) (now (headers .exit)) (now (body .exit)) (now (reply .exit))))
+        (now (tables .exit))) ⌝ }
 {
     match kind_of(request) {
         Kind::Reply(code) => calls::reply_given(e, code, b"", tables, packet, headers, body, reply),
@@ -78,6 +97,10 @@ pub fn answer(
             body,
             reply,
         ),
-        Kind::Never => calls::body_failed(e, packet, headers, body, reply),
+        Kind::Nonce => match draw() {
+            Drawn::Fresh(n) => calls::nonce_given(e, n, b"", packet, headers, body, reply),
+            Drawn::Missing => calls::body_failed(e, packet, headers, body, reply),
+        },
+        Kind::NoBody => calls::body_failed(e, packet, headers, body, reply),
     }
 }

@@ -1,6 +1,8 @@
-// Offering the peer's bytes to the engine. Bytes that the engine does not take are offered again.
+// Offering the peer's bytes to the engine. Bytes that the engine does not take are offered again. A read of standard input that fails is
+// reported on standard error, and the engine is told that the stream has ended: no more bytes will come.
 use engine::calls;
-use lines::input::read;
+use libc::STDERR_FILENO;
+use libc::STDIN_FILENO;
 use server::CallResult;
 use server::Engine;
 use server::Outcome;
@@ -8,6 +10,7 @@ use server::end_number;
 use server::refusal_number;
 ghost use mathlib.Core.Path.{_≡_};
 ghost use lib.ListN.{length};
+ghost use Prim.Native.Nat.{_≤_};
 ghost use Rattle.host.specs.Rest.{Within, endedBy};
 
 // The part of the input store that was read and that the engine has not taken yet.
@@ -36,6 +39,64 @@ pub fn over(outcome: Outcome) -> u8
     }
 }
 
+// How many bytes at the front of an input store stay unused, if it is as long as `INPUT`. A program's stores lie close together, and some
+// processors copy at a tenth of their speed if the target lies a few bytes behind the source, counted from the start of a page; half a
+// page between the two avoids that (docs/PERFORMANCE.md).
+const LEAD: usize = 2048;
+
+// How long an input store is of which a read of standard input fills 65,536 bytes.
+pub const INPUT: usize = 67584;
+
+// How often a read is tried again that a signal has interrupted.
+const TRIES: usize = 1000;
+
+// Reads standard input once. A process that is stopped and continued may find its read interrupted, which is no failure.
+fn read_once(s: &mut [u8]) -> isize {
+    let mut got = libc::read(STDIN_FILENO, s);
+    let mut tries = TRIES;
+    while tries > 0 {
+        if got >= 0 {
+            return got;
+        }
+        if os::errno() != libc::EINTR {
+            return got;
+        }
+        got = libc::read(STDIN_FILENO, s);
+        tries -= 1;
+    }
+    got
+}
+
+// Tells on standard error that standard input could not be read, and why. A socket whose time is up says that it should be tried again.
+fn report_input() {
+    if os::errno() == libc::EAGAIN {
+        io::write_all(STDERR_FILENO, b"input: nothing came in time\n");
+        return;
+    }
+    os::fail(b"input");
+}
+
+// Returns how many bytes were read. None were if the stream has ended or cannot be read; the latter is reported.
+fn read(s: &mut [u8]) -> usize
+    ensures { λ r. ⌜ r ≤ length (now (s .exit)) ⌝ }
+{
+    let got = read_once(s);
+    if got < 0 {
+        report_input();
+    }
+    io::count(got, s)
+}
+
+// Returns where a read of standard input begins in a store of `len` bytes.
+fn front_of(len: usize) -> usize
+    ensures { λ r. ⌜ r ≤ len ⌝ }
+{
+    if len < INPUT {
+        return 0;
+    }
+    LEAD
+}
+
 // Reads standard input once if nothing is left. If nothing is left after that, the stream has ended.
 fn refilled(rest: Rest, input: &mut [u8]) -> Rest
     ensures { λ r. ⌜ Within r (length (now (input .exit))) ⌝ }
@@ -45,8 +106,9 @@ fn refilled(rest: Rest, input: &mut [u8]) -> Rest
             return rest;
         }
     }
-    let end = read(input);
-    Rest { at: 0, end }
+    let at = front_of(input.len());
+    let n = read(&mut input[at..]);
+    Rest { at, end: at + n }
 }
 
 // Returns what is left of `rest` once `taken` bytes of it are taken. A call never takes more than it was offered.

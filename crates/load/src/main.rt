@@ -18,12 +18,13 @@ use server::default_settings;
 use std::num::wrapping_add_usize;
 
 // The stores are arrays of known lengths, so that the proof need not be told that no call changes them. The table store is longer than the
-// engine asks.
+// engine asks. So are the packet, header and reply stores: arrays of 65,535 bytes side by side begin a byte apart, counted from the start of a
+// page, and some processors copy at a tenth of their speed between two such places (docs/PERFORMANCE.md).
 const READ: usize = 65536;
 
 const TABLES: usize = 320;
 
-const PACKET: usize = 65535;
+const PACKET: usize = 66535;
 
 const BODY: usize = 65536;
 

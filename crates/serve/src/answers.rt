@@ -10,6 +10,9 @@ use server::CallResult;
 use server::Engine;
 use server::HostRequest;
 
+// How many bytes of a file are read at most at once: a packet never has room for more.
+pub const CHUNK: usize = 65536;
+
 // What the answer's call returned, and the file that is being sent from then on, or -1.
 pub struct Answered {
     pub took: CallResult,
@@ -91,6 +94,9 @@ fn read_some(fd: i32, room: usize, store: &mut [u8]) -> isize {
 
 // Returns the file that is sent on. A file that cannot be read, or gives no more bytes, is closed.
 fn file_after(fd: i32, got: isize) -> i32 {
+    if got < 0 {
+        log::get_failed();
+    }
     if got <= 0 {
         return file::closed(fd);
     }
@@ -114,21 +120,22 @@ fn give_bytes(
     calls::body_given(e, &store[..k], packet, headers, body, reply)
 }
 
-// Answers with the next bytes of the file.
+// Answers with the next bytes of the file, as many as the reply has room for. `chunk` is where they are read to.
 fn read(
     e: Engine,
     fd: i32,
     room: usize,
+    chunk: &mut [u8; CHUNK],
     packet: &mut [u8; 65535],
     headers: &mut [u8; 65535],
     body: &mut [u8; 1048576],
     reply: &mut [u8; 65535],
 ) -> Answered {
-    let mut store = [0u8; 65536];
-    let got = read_some(fd, room, &mut store);
+    let got = read_some(fd, room, chunk);
+    let file = file_after(fd, got);
     Answered {
-        took: give_bytes(e, got, &store, packet, headers, body, reply),
-        file: file_after(fd, got),
+        took: give_bytes(e, got, chunk, packet, headers, body, reply),
+        file,
     }
 }
 
@@ -158,6 +165,7 @@ pub(crate) fn answer(
     e: Engine,
     request: HostRequest,
     file: i32,
+    chunk: &mut [u8; CHUNK],
     tables: &mut [u64; 320],
     packet: &mut [u8; 65535],
     headers: &mut [u8; 65535],
@@ -173,7 +181,7 @@ pub(crate) fn answer(
             file,
         },
         HostRequest::Get { kept } => get(e, kept, tables, packet, headers, body, reply),
-        HostRequest::Read { room } => read(e, file, room, packet, headers, body, reply),
+        HostRequest::Read { room } => read(e, file, room, chunk, packet, headers, body, reply),
         _ => Answered {
             took: plain(e, request, tables, packet, headers, body, reply),
             file: file::closed(file),

@@ -4,12 +4,16 @@ use crate::file::front;
 use host::names::put_name;
 use libc::STDERR_FILENO;
 use lines::output;
+use packet::response::CONFLICT;
+use packet::response::CONTINUE_BYTE;
 use packet::response::FORBIDDEN;
 use packet::response::INTERNAL_SERVER_ERROR;
 use packet::response::NOT_FOUND;
 use packet::response::NOT_IMPLEMENTED;
 use packet::response::SUCCESS;
+use packet::response::SUCCESS_BYTE;
 use server::HostRequest;
+use server::Operation;
 
 fn write(out: &[u8], n: usize) {
     io::write_all(STDERR_FILENO, front(out, n));
@@ -49,6 +53,7 @@ fn put_code(out: &mut [u8], n: usize, code: u8) -> usize {
     match code {
         FORBIDDEN => output::put(out, n, b" refused 43"),
         NOT_FOUND => output::put(out, n, b" not found 44"),
+        CONFLICT => output::put(out, n, b" there already 49"),
         INTERNAL_SERVER_ERROR => output::put(out, n, b" failed 50"),
         NOT_IMPLEMENTED => output::put(out, n, b" without a body 51"),
         _ => n,
@@ -89,6 +94,58 @@ pub(crate) fn get(name: &[u8], opened: Opened) {
     let c = put_code(&mut out, b, code_of(opened));
     let n = output::put(&mut out, c, b"\n");
     write(&out, n);
+}
+
+// A file whose bytes could not be read on.
+pub(crate) fn get_failed() {
+    os::fail(b"read");
+    io::write_all(STDERR_FILENO, b"get failed 50\n");
+}
+
+// Returns which line of the names in `own_reply` is that of a packet's first byte.
+fn line_of(opcode: u8) -> usize {
+    match opcode {
+        0x80 => 1,
+        0x81 => 2,
+        0x02 | 0x82 => 3,
+        0x03 | 0x83 => 4,
+        0x85 => 5,
+        0x06 | 0x86 => 6,
+        0x87 => 7,
+        0xFF => 8,
+        _ => 0,
+    }
+}
+
+// A reply that the engine gave without asking: a Put over the limit, a packet that cannot be read. `opcode` is the packet's first byte, `code`
+// the reply's. That a Put may go on is no news.
+pub(crate) fn own_reply(opcode: u8, code: u8) {
+    if code == CONTINUE_BYTE {
+        return;
+    }
+    if code == SUCCESS_BYTE {
+        return;
+    }
+    let names = b"packet\nconnect\ndisconnect\nput\nget\nset_path\naction\nsession\nabort\n";
+    let mut out = [0u8; 32];
+    let a = output::put_line_at(&mut out, 0, names, line_of(opcode));
+    let b = output::put(&mut out, a, b" refused ");
+    let c = output::put_byte(&mut out, b, code % 128);
+    let n = output::put(&mut out, c, b"\n");
+    write(&out, n);
+}
+
+// An operation that was open when the session ended. Nothing is stored of a Put that is cut off.
+pub(crate) fn cut_off(operation: Operation) {
+    match operation {
+        Operation::Putting { .. } => {
+            io::write_all(STDERR_FILENO, b"put cut off\n");
+        }
+        Operation::Sending { .. } => {
+            io::write_all(STDERR_FILENO, b"get cut off\n");
+        }
+        _ => {}
+    }
 }
 
 // A request by its name alone.

@@ -18,7 +18,7 @@ fn stored(done: text::Decoded, len: usize) -> usize
     }
 }
 
-// The text of the first Name at the front of the store. None where it is missing, or longer than the store.
+// The text of the first Name at the front of the store. None if it is missing, or longer than the store.
 pub(crate) fn name_in(headers: &[u8], store: &mut [u8]) -> usize
     ensures { λ r. ⌜ r ≤ length (now (store .exit)) ⌝ }
 {

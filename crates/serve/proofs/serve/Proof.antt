@@ -4,10 +4,12 @@ use Rattle.serve.proofs.serve.Statement.{statement}
 use Rattle.serve.proofs.serve.Tie as tie
 
 abbrev Inv-loop : tie.InvT-loop
-Inv-loop input₀ tables₀ packet₀ headers₀ body₀ reply₀ s₀ left₀ input tables packet headers body reply s left = Unit {0}
+Inv-loop input₀ chunk₀ tables₀ packet₀ headers₀ body₀ reply₀ s₀ left₀ input chunk tables packet headers body reply s left =
+    Unit {0}
 
 abbrev μ-loop : tie.MeasureT-loop
-μ-loop input₀ tables₀ packet₀ headers₀ body₀ reply₀ s₀ left₀ input tables packet headers body reply s left = left
+μ-loop input₀ chunk₀ tables₀ packet₀ headers₀ body₀ reply₀ s₀ left₀ input chunk tables packet headers body reply s left =
+    left
 
 settings-requires : tie.Need-settings-requires Inv-loop μ-loop
 settings-requires c κs = search needs
@@ -24,8 +26,8 @@ after-call-requires c κs = search needs
 loop-holds : tie.Need-loop-holds Inv-loop μ-loop
 loop-holds c = search needs
 
-over-requires : tie.Need-over-requires Inv-loop μ-loop
-over-requires c κs = search needs
+end-of-requires : tie.Need-end-of-requires Inv-loop μ-loop
+end-of-requires c κs = search needs
 
 end-requires : tie.Need-end-requires Inv-loop μ-loop
 end-requires c κs = search needs
@@ -59,7 +61,7 @@ serve-spec =
     start-requires
     after-call-requires
     loop-holds
-    over-requires
+    end-of-requires
     end-requires
     returns
     turn-requires

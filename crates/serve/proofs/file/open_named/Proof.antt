@@ -7,8 +7,8 @@ use Rattle.serve.proofs.file.open_named.Tie as tie
 is-file-name-requires : tie.Need-is-file-name-requires
 is-file-name-requires c κs = search needs
 
-open-file-requires : tie.Need-open-file-requires
-open-file-requires c κs = sym (c .before .is-file-name .ensures) ∙ c .if1 .taken
+open-plain-requires : tie.Need-open-plain-requires
+open-plain-requires c κs = sym (c .before .is-file-name .ensures) ∙ c .if1 .taken
 
 returns : tie.Need-returns
 returns c = search needs
@@ -16,9 +16,6 @@ returns c = search needs
 returns-2 : tie.Need-returns-2
 returns-2 c = search needs
 
-returns-3 : tie.Need-returns-3
-returns-3 c = search needs
-
 pub open-named-spec : {M : Type 1} → statement M
 open-named-spec =
-    tie.close (tie.spec is-file-name-requires open-file-requires returns returns-2 returns-3)
+    tie.close (tie.spec is-file-name-requires open-plain-requires returns returns-2)

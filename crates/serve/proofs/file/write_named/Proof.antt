@@ -16,9 +16,6 @@ returns c = search needs
 returns-2 : tie.Need-returns-2
 returns-2 c = search needs
 
-returns-3 : tie.Need-returns-3
-returns-3 c = search needs
-
 pub write-named-spec : {M : Type 1} → statement M
 write-named-spec =
-    tie.close (tie.spec is-file-name-requires write-requires returns returns-2 returns-3)
+    tie.close (tie.spec is-file-name-requires write-requires returns returns-2)
