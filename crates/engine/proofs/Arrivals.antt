@@ -43,7 +43,7 @@ use Rattle.model.specs.Calls.{framedAs, withPacket, offers, bytesOfferedStep}
 use Rattle.model.specs.Operation.{gathers}
 use Rattle.model.specs.Guard.{soundOperation}
 use Rattle.engine.specs.Step.{planned, endsPlan, Written, carried, tookBy}
-use Rattle.engine.specs.Dispatch.{isTrailing, isMissing, trailedBy, unreadableRoute, headingRoute, routeAs, packetRoute, acts, withTaken}
+use Rattle.engine.specs.Dispatch.{isTrailing, isMissing, trailedBy, unreadableRoute, headingRoute, routeAs, packetRoute, acts, withTaken, openRoute, insideRoute}
 use Rattle.engine.specs.Operation.{keepOf, fromOf, kindPlan, actsGathered}
 use Rattle.server.specs.declared.CallKind.the-variants as kind
 use Rattle.server.specs.declared.End.the-variants as end
@@ -51,6 +51,7 @@ use Rattle.server.specs.declared.Engine.{Engine}
 use Rattle.server.specs.declared.CallResult.{CallResult}
 use Rattle.engine.specs.declared.step.Plan.{Plan}
 use Rattle.engine.specs.declared.operation.GatherKind.{GatherKind}
+use Rattle.engine.specs.declared.dispatch.Heading.{Heading}
 use Rattle.engine.specs.declared.dispatch.Route.{Route}
 use Rattle.engine.proofs.Guards.{GoesLent}
 use Rattle.engine.proofs.Ready.{Ready, ready}
@@ -66,6 +67,17 @@ not-trailing (GatheringOp o g) k = refl
 not-trailing (Connecting c f n) k = refl
 not-trailing (Draining code) k = refl
 not-trailing Trailing k = absurd (miss (0 ∷ 2 ∷ 3 ∷ 4 ∷ 5 ∷ 6 ∷ 7 ∷ []) 1 tt k)
+
+-- with no operation open, a packet that does not trail is judged as new, whether what trails is refused or not
+pub open-way : (o : Operation) (e : Engine) (h : Heading) → OneOf (0 ∷ 1 ∷ []) (tagOf the-type o) → insideRoute o e h ≡ openRoute e h
+open-way Nothing e h k = refl
+open-way Trailing e h k = refl
+open-way (Putting g srm) e h k = absurd (miss (0 ∷ 1 ∷ []) 2 tt k)
+open-way (Getting g srm confirm wait) e h k = absurd (miss (0 ∷ 1 ∷ []) 3 tt k)
+open-way (Sending o c srm wait) e h k = absurd (miss (0 ∷ 1 ∷ []) 4 tt k)
+open-way (GatheringOp o g) e h k = absurd (miss (0 ∷ 1 ∷ []) 5 tt k)
+open-way (Connecting c f n) e h k = absurd (miss (0 ∷ 1 ∷ []) 6 tt k)
+open-way (Draining code) e h k = absurd (miss (0 ∷ 1 ∷ []) 7 tt k)
 
 -- a packet that is no request goes the way of the unreadable
 no-request : (e : Engine) (q t : List ℕ) → requestOf q ≡ none

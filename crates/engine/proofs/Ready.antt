@@ -108,8 +108,7 @@ module _ (e : Engine) (q : List ℕ) (r : Packet) (known trails : Bool) where
 
     inside-ready : (o : Operation) → soundOperation (limitOf e) o ≡ true → Ready (insideRoute o e (headingOf r known trails)) e q (r .headers)
     inside-ready Nothing s = open-ready
-    inside-ready Trailing s =
-        ready-pick e q (r .headers) trails _ _ (λ _. ready-pick e q (r .headers) (r .final) _ _ (λ _. tt) tt) open-ready
+    inside-ready Trailing s = open-ready
     inside-ready (Putting g srm) s = ready-pick e q (r .headers) (sameOpcode (r .opcode) op.Put) _ _ (λ h. (from-open op.Put h, s)) tt
     inside-ready (Getting g srm confirm wait) s = ready-pick e q (r .headers) (sameOpcode (r .opcode) op.Get) _ _ (λ h. (from-open op.Get h, s)) tt
     inside-ready (Sending o c srm wait) s = ready-pick e q (r .headers) (sameOpcode (r .opcode) op.Get) _ _ (λ h. (c, s)) tt
@@ -119,7 +118,9 @@ module _ (e : Engine) (q : List ℕ) (r : Packet) (known trails : Bool) where
 
     heading-ready : soundOperation (limitOf e) (e .operation) ≡ true → Ready (headingRoute e (headingOf r known trails)) e q (r .headers)
     unfolding headingRoute
-    heading-ready s = ready-pick e q (r .headers) (sameOpcode (r .opcode) op.Abort) _ _ (λ _. tt) (inside-ready (e .operation) s)
+    heading-ready s =
+        ready-pick e q (r .headers) (sameOpcode (r .opcode) op.Abort) _ _ (λ _. tt)
+        (ready-pick e q (r .headers) trails _ _ (λ _. ready-pick e q (r .headers) (r .final) _ _ (λ _. tt) tt) (inside-ready (e .operation) s))
 
 pub ready : (e : Engine) (q t : List ℕ) → soundOperation (limitOf e) (e .operation) ≡ true → Ready (packetRoute e q t) e q (headersIn (requestOf q))
 unfolding packetRoute

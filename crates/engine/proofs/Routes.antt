@@ -1,6 +1,6 @@
 -- Acting on the way that a packet goes is the model's step. Assumes nothing.
 use mathlib.Core.Path.{_≡_, refl, sym, ap, _∙_}
-use mathlib.Core.Bool.{Bool, true, false, _&&_, not}
+use mathlib.Core.Bool.{Bool, true, false, _&&_, not, true≢false}
 use mathlib.Core.List.{List, []}
 use mathlib.Core.Option.{Option, none, some}
 use Prim.Native.Nat.{ℕ}
@@ -31,7 +31,7 @@ use Rattle.model.specs.Request.{lastPacket, lastHeaders, clientResponse, userPl
 use Rattle.model.specs.Connect.{verifies, connectPacket}
 use Rattle.model.specs.Operation.{nothingGathered, gathers, putPacket, getPacket, headersPacket}
 use Rattle.model.specs.Dispatch.{Rejection, admits, rejects, rejection, knownIn, drains, rejected, dispatches, admittedAs, dispatch, interrupts, trails, inside, busy, readAs, lengthOf, packetDone}
-use Rattle.engine.specs.Dispatch.{headingOf, askRoute, codeRoute, keepRoute, isTrailing, admissionOf, rejectedRoute, putRoute, getRoute, headersRoute, dispatchRoute, admittedRoute, openRoute, interruptsRoute, insideRoute, headingRoute, routeAs, packetRoute, simplePlan, acts}
+use Rattle.engine.specs.Dispatch.{headingOf, askRoute, codeRoute, keepRoute, trailedRoute, isTrailing, admissionOf, rejectedRoute, putRoute, getRoute, headersRoute, dispatchRoute, admittedRoute, openRoute, interruptsRoute, insideRoute, headingRoute, routeAs, packetRoute, simplePlan, acts}
 use Rattle.engine.specs.Operation.{keepOf, kindPlan, actsGathered}
 use Rattle.engine.specs.Connect.{answeredRead, answeredAs, verifiesPlan, carries, stopsBy, limitedPlan, connectPlan}
 use Rattle.server.specs.declared.Operation.{Operation}
@@ -58,6 +58,10 @@ pick-acts : (t : Bool) {x y : Route} {e : Engine} {q : List ℕ} {s : Stores} {d
     → Acts (pick t x y) e q s (pick t d f)
 pick-acts true a b = a
 pick-acts false a b = b
+
+skip-acts : (t : Bool) (x : Route) {y : Route} {e : Engine} {q : List ℕ} {s : Stores} {d : Done} → t ≡ false → Acts y e q s d → Acts (pick t x y) e q s d
+skip-acts true x h a = absurd (true≢false h)
+skip-acts false x h a = a
 
 -- ---- steps of few bytes
 
@@ -179,21 +183,27 @@ module _ (e : Engine) (r : Packet) (s : Stores) (open-id trailed : Bool) (known 
   trailed-acts i true = code-acts e (lastPacket e s) s 0x4D
   trailed-acts i false = keep-acts e (lastPacket e s) s Trailing i 0x4D
 
+  -- what trails a Put goes before what is open
   inside-acts : (o : Operation) → e .operation ≡ o → trailed ≡ (isTrailing o && trails r)
-      → Acts (insideRoute o e (headingOf r open-id trailed)) e (lastPacket e s) s (inside o e r (surveyOf (some (r .headers))) open-id s)
-  inside-acts Nothing i j = open-acts
-  inside-acts Trailing i j =
-      rw (sym j) (pick-acts trailed (trailed-acts i (r .final)) open-acts)
-  inside-acts (Putting g srm) i j = pick-acts (sameOpcode (r .opcode) op.Put) (put-acts g srm false) (interrupts-acts e (lastPacket e s) s)
-  inside-acts (Getting g srm confirm wait) i j = pick-acts (sameOpcode (r .opcode) op.Get) (get-acts g srm confirm) (interrupts-acts e (lastPacket e s) s)
+      → Acts (pick trailed (trailedRoute (r .final)) (insideRoute o e (headingOf r open-id trailed))) e (lastPacket e s) s
+      (inside o e r (surveyOf (some (r .headers))) open-id s)
+  inside-acts Nothing i j = skip-acts trailed (trailedRoute (r .final)) j open-acts
+  inside-acts Trailing i j = rw (sym j) (pick-acts trailed (trailed-acts i (r .final)) open-acts)
+  inside-acts (Putting g srm) i j =
+      skip-acts trailed (trailedRoute (r .final)) j (pick-acts (sameOpcode (r .opcode) op.Put) (put-acts g srm false) (interrupts-acts e (lastPacket e s) s))
+  inside-acts (Getting g srm confirm wait) i j =
+      skip-acts trailed (trailedRoute (r .final)) j (pick-acts (sameOpcode (r .opcode) op.Get) (get-acts g srm confirm) (interrupts-acts e (lastPacket e s) s))
   inside-acts (Sending o c srm wait) i j =
-      pick-acts (sameOpcode (r .opcode) op.Get)
+      skip-acts trailed (trailedRoute (r .final)) j
+      (pick-acts (sameOpcode (r .opcode) op.Get)
       {x = Send o srm (surveyOf (some (r .headers)) .wait)}
       (record { is = refl })
-      (interrupts-acts e (lastPacket e s) s)
-  inside-acts (GatheringOp o g) i j = pick-acts (sameOpcode (r .opcode) o) (headers-acts o g) (interrupts-acts e (lastPacket e s) s)
-  inside-acts (Connecting c f n) i j = interrupts-acts e (lastPacket e s) s
-  inside-acts (Draining code) i j = pick-acts (r .final) (code-acts e (lastPacket e s) s code) (drain-acts e (lastPacket e s) s code)
+      (interrupts-acts e (lastPacket e s) s))
+  inside-acts (GatheringOp o g) i j =
+      skip-acts trailed (trailedRoute (r .final)) j (pick-acts (sameOpcode (r .opcode) o) (headers-acts o g) (interrupts-acts e (lastPacket e s) s))
+  inside-acts (Connecting c f n) i j = skip-acts trailed (trailedRoute (r .final)) j (interrupts-acts e (lastPacket e s) s)
+  inside-acts (Draining code) i j =
+      skip-acts trailed (trailedRoute (r .final)) j (pick-acts (r .final) (code-acts e (lastPacket e s) s code) (drain-acts e (lastPacket e s) s code))
 
 -- ---- any packet
 

@@ -140,10 +140,6 @@ drainingRoute h code = pick (h .«is_final») (codeRoute code) (Plain (brief.Dra
 abbrev pub trailedRoute : Bool → Route
 trailedRoute final = pick final (codeRoute response.requestedEntityTooLarge) (keepRoute response.requestedEntityTooLarge)
 
--- While the engine refuses what trails a Put, any other packet goes its way as with nothing open.
-abbrev pub trailingRoute : Engine → Heading → Route
-trailingRoute e h = pick (h .trails) (trailedRoute (h .«is_final»)) (openRoute e h)
-
 -- The engine refuses what trails a Put that was too long.
 abbrev pub isTrailing : Operation → Bool
 isTrailing Trailing = true
@@ -165,10 +161,10 @@ isMissing (place.At from to) = false
 abbrev pub trailedBy : Operation → Opcode → List ℕ → Bool
 trailedBy o c q = isTrailing o && (sameOpcode c op.Put && isMissing (firstPlace header-id.name q 3))
 
--- The engine decides by the operation that is open.
+-- The engine decides by the operation that is open. While it refuses what trails a Put, any other packet goes its way as with nothing open.
 abbrev pub insideRoute : Operation → Engine → Heading → Route
 insideRoute Nothing e h = openRoute e h
-insideRoute Trailing e h = trailingRoute e h
+insideRoute Trailing e h = openRoute e h
 insideRoute (Putting g srm) e h = continuedRoute h op.Put (putRoute h g srm false)
 insideRoute (Getting g srm confirm wait) e h = continuedRoute h op.Get (getRoute h g srm confirm)
 insideRoute (Sending o c srm wait) e h = continuedRoute h op.Get (sendRoute h o srm)
@@ -176,11 +172,11 @@ insideRoute (GatheringOp o g) e h = continuedRoute h o (headersRoute h o g)
 insideRoute (Connecting c f n) e h = interruptsRoute
 insideRoute (Draining code) e h = drainingRoute h code
 
--- An Abort goes before all else.
+-- An Abort goes before all else, and what trails a Put before what is open.
 unfoldable pub headingRoute : Engine → Heading → Route
 headingRoute e h =
     pick (sameOpcode (h .opcode) op.Abort) (askRoute await.Acknowledgement (request.Abort (e .length)))
-    (insideRoute (e .operation) e h)
+    (pick (h .trails) (trailedRoute (h .«is_final»)) (insideRoute (e .operation) e h))
 
 -- An unreadable packet ends the engine inside an operation. Otherwise it gets 0x51 if its first byte is `unknown`, else 0x40, and what is
 -- open stays.

@@ -3,7 +3,7 @@
 ghost use mathlib.Core.Path.{_≡_};
 ghost use Prim.Native.Nat.{_≤_, ℕ};
 ghost use Rattle.model.specs.Dispatch.{rejection as rejectionOf, knownIn, drains as drainsOf, confirms as confirmsOf, busy as busyWith, unknownByte, lengthOf, packetDone};
-ghost use Rattle.engine.specs.Dispatch.{admissionOf, unauthorizedFor, codeRoute, keepRoute, askRoute, drainedBy, rejectedRoute, putRoute, getRoute, sendRoute, headersRoute, dispatchRoute, openRoute, interruptsRoute, continuedRoute, drainingRoute, trailedRoute, trailingRoute, trailedBy, insideRoute, headingRoute, unreadableRoute, simplePlan, packetRoute, acts, withTaken, moreTook};
+ghost use Rattle.engine.specs.Dispatch.{admissionOf, unauthorizedFor, codeRoute, keepRoute, askRoute, drainedBy, rejectedRoute, putRoute, getRoute, sendRoute, headersRoute, dispatchRoute, openRoute, interruptsRoute, continuedRoute, drainingRoute, trailedRoute, trailedBy, insideRoute, headingRoute, unreadableRoute, simplePlan, packetRoute, acts, withTaken, moreTook};
 ghost use mathlib.Core.Bool.{true};
 ghost use mathlib.Core.List.{List};
 ghost use lib.ListN.{length};
@@ -345,7 +345,8 @@ fn draining(h: Heading, code: u8) -> Route
     Route::Plain(Simple::Drain { code })
 }
 
-// The way of a packet that trails a Put that was too long: it gets 0x4D as the Put did, and a final one is the last of them.
+// The way of a packet that trails a Put that was too long (docs/PROTOCOL.md#trailing): it gets 0x4D as the Put did, and a final one is the
+// last of them.
 fn trailed(is_final: bool) -> Route
     ensures { λ r. ⌜ r ≡ trailedRoute «is_final» ⌝ }
 {
@@ -355,25 +356,13 @@ fn trailed(is_final: bool) -> Route
     keep_code(response::REQUESTED_ENTITY_TOO_LARGE)
 }
 
-// The way of a packet while the engine refuses what trails a Put that was too long (docs/PROTOCOL.md#trailing). A packet that does not
-// trail is judged as with nothing open.
-fn trailing(e: Engine, h: Heading) -> Route
-    ensures { λ r. ⌜ r ≡ trailingRoute e h ⌝ }
-{
-    if h.trails {
-        return trailed(h.is_final);
-    }
-    open_route(e, h)
-}
-
-// The way of a packet by what is open.
+// The way of a packet by what is open. What does not trail a Put that was too long is judged as with nothing open; both come to one call,
+// since a second one would keep the compiler from inlining it.
 fn inside(e: Engine, h: Heading) -> Route
     ensures { λ r. ⌜ r ≡ insideRoute (e .operation) e h ⌝ }
 {
     let operation = e.operation;
     match operation {
-        Operation::Nothing => open_route(e, h),
-        Operation::Trailing => trailing(e, h),
         Operation::Putting { gathered, srm } => next_request(
             h,
             Opcode::Put,
@@ -402,10 +391,12 @@ fn inside(e: Engine, h: Heading) -> Route
             length: _,
         } => interrupts(),
         Operation::Draining { code } => draining(h, code),
+        _ => open_route(e, h),
     }
 }
 
-// The way of a readable packet. An Abort goes before all else: it is answered in every state.
+// The way of a readable packet. An Abort goes before all else: it is answered in every state. What trails a Put that was too long is
+// refused before admission is tested.
 pub(crate) fn heading_route(e: Engine, h: Heading) -> Route
     ensures { λ r. ⌜ r ≡ headingRoute e h ⌝ }
 {
@@ -415,6 +406,9 @@ pub(crate) fn heading_route(e: Engine, h: Heading) -> Route
             Await::Acknowledgement,
             HostRequest::Abort { length: e.length },
         );
+    }
+    if h.trails {
+        return trailed(h.is_final);
     }
     inside(e, h)
 }

@@ -1,19 +1,10 @@
--- `engine::dispatch::inside` meets its contract: the arms of the code are those of the definition. Assumes nothing.
+-- `engine::dispatch::inside` meets its contract: the arms of the code are those of the definition, and the last one holds the two with no
+-- operation open. Assumes nothing.
+use mathlib.Core.Path.{sym, _∙_}
 use borrow.Author.Needs.{needs}
+use Rattle.engine.proofs.Arrivals.{open-way}
 use Rattle.engine.proofs.dispatch.inside.Statement.{statement}
 use Rattle.engine.proofs.dispatch.inside.Tie as tie
-
-enum-told : tie.Need-enum-told
-enum-told c = search needs
-
-open-route-requires : tie.Need-open-route-requires
-open-route-requires c κs = search needs
-
-enum-told-2 : tie.Need-enum-told-2
-enum-told-2 c = search needs
-
-trailing-requires : tie.Need-trailing-requires
-trailing-requires c κs = search needs
 
 enum-known-operation : tie.Need-enum-known-operation
 enum-known-operation c = search needs
@@ -51,8 +42,8 @@ headers-route-requires c κs = search needs
 next-request-requires-4 : tie.Need-next-request-requires-4
 next-request-requires-4 c κs = search needs
 
-enum-told-3 : tie.Need-enum-told-3
-enum-told-3 c = search needs
+enum-told : tie.Need-enum-told
+enum-told c = search needs
 
 interrupts-requires : tie.Need-interrupts-requires
 interrupts-requires c κs = search needs
@@ -63,38 +54,34 @@ enum-known-operation-5 c = search needs
 draining-requires : tie.Need-draining-requires
 draining-requires c κs = search needs
 
+open-route-requires : tie.Need-open-route-requires
+open-route-requires c κs = search needs
+
 returns : tie.Need-returns
-returns c = simp (c .before .enum-told .given .1, c .open-route .ensures)
+returns c = simp (c .before .before .before .operation .given .1, c .next-request .ensures, c .before .put-route .ensures)
 
 returns-2 : tie.Need-returns-2
-returns-2 c = simp (c .before .enum-told2 .given .1, c .trailing .ensures)
+returns-2 c = simp (c .before .before .before .operation2 .given .1, c .next-request2 .ensures, c .before .get-route .ensures)
 
 returns-3 : tie.Need-returns-3
-returns-3 c = simp (c .before .before .before .operation .given .1, c .next-request .ensures, c .before .put-route .ensures)
+returns-3 c = simp (c .before .before .before .operation3 .given .1, c .next-request3 .ensures, c .before .send-route .ensures)
 
 returns-4 : tie.Need-returns-4
-returns-4 c = simp (c .before .before .before .operation2 .given .1, c .next-request2 .ensures, c .before .get-route .ensures)
+returns-4 c = simp (c .before .before .before .operation4 .given .1, c .next-request4 .ensures, c .before .headers-route .ensures)
 
 returns-5 : tie.Need-returns-5
-returns-5 c = simp (c .before .before .before .operation3 .given .1, c .next-request3 .ensures, c .before .send-route .ensures)
+returns-5 c = simp (c .before .enum-told .given .1, c .interrupts .ensures)
 
 returns-6 : tie.Need-returns-6
-returns-6 c = simp (c .before .before .before .operation4 .given .1, c .next-request4 .ensures, c .before .headers-route .ensures)
+returns-6 c = simp (c .before .before .operation5 .given .1, c .draining .ensures)
 
 returns-7 : tie.Need-returns-7
-returns-7 c = simp (c .before .enum-told3 .given .1, c .interrupts .ensures)
-
-returns-8 : tie.Need-returns-8
-returns-8 c = simp (c .before .before .operation5 .given .1, c .draining .ensures)
+returns-7 c = let x = c .before .before .args in c .open-route .ensures ∙ sym (open-way (x .e .operation) (x .e) (x .h) (c .before .match .keys7))
 
 pub inside-spec : {M : Type 1} → statement M
 inside-spec =
     tie.close
     (tie.spec
-    enum-told
-    open-route-requires
-    enum-told-2
-    trailing-requires
     enum-known-operation
     put-route-requires
     next-request-requires
@@ -107,15 +94,15 @@ inside-spec =
     enum-known-operation-4
     headers-route-requires
     next-request-requires-4
-    enum-told-3
+    enum-told
     interrupts-requires
     enum-known-operation-5
     draining-requires
+    open-route-requires
     returns
     returns-2
     returns-3
     returns-4
     returns-5
     returns-6
-    returns-7
-    returns-8)
+    returns-7)
