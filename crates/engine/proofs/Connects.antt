@@ -1,7 +1,7 @@
 -- The client's response by its place in a Connect packet. Assumes nothing.
 use mathlib.Core.Path.{_≡_, refl, sym, ap, _∙_}
 use mathlib.Core.List.{List, [], _∷_}
-use mathlib.Core.Bool.{true}
+use mathlib.Core.Bool.{Bool, true, false, _&&_, true≢false}
 use mathlib.Core.Option.{Option, none, some}
 use Prim.Native.Nat.{ℕ, _+_, _^_, _<_}
 use native.Mathlib.Omega.{arith}
@@ -30,8 +30,10 @@ use Rattle.server.specs.declared.Engine.{Engine}
 use Rattle.server.specs.declared.Operation.the-variants.{Nothing}
 use Rattle.server.specs.declared.Await.the-variants as await
 use Rattle.server.specs.declared.HostRequest.the-variants as request
-use Rattle.engine.specs.Step.{asksPlan}
-use Rattle.engine.specs.Connect.{answeredRead, answeredAs, answeredBy, verifiesPlan, carries, Below}
+use Rattle.base.specs.Pick.{pick}
+use Rattle.connection.specs.Peer.{checkedPeer}
+use Rattle.engine.specs.Step.{asksPlan, fieldsPlan}
+use Rattle.engine.specs.Connect.{answeredRead, answeredAs, answeredBy, asked, verifiesBy, questionOf, questionPlan, verifiesPlan, carries, stopsBy, limitedPlan, Below}
 use Rattle.engine.specs.declared.connect.Answered.{Answered}
 use Rattle.engine.proofs.connect.Answered.{the-type}
 use Rattle.engine.specs.declared.connect.Answered.the-variants.{Missing, Unreadable, User}
@@ -81,9 +83,34 @@ is-carried Missing k = absurd (miss (1 ∷ 2 ∷ []) 0 tt k)
 is-carried Unreadable k = refl
 is-carried (User u) k = refl
 
-pub not-read : (e : Engine) (p : Peer) (c : Challenge) (a : Answered) → OneOf (0 ∷ 1 ∷ []) (tagOf the-type a)
-    → verifiesPlan e p c a ≡ asksPlan e p Nothing await.Nonce request.Nonce
-not-read e p Absent a k = refl
-not-read e p (Stored n) Missing k = refl
-not-read e p (Stored n) Unreadable k = refl
-not-read e p (Stored n) (User u) k = absurd (miss (0 ∷ 1 ∷ []) 2 tt k)
+pub not-read : (c : Challenge) (a : Answered) → OneOf (0 ∷ 1 ∷ []) (tagOf the-type a) → verifiesBy c a ≡ asked await.Nonce request.Nonce
+not-read Absent a k = refl
+not-read (Stored n) Missing k = refl
+not-read (Stored n) Unreadable k = refl
+not-read (Stored n) (User u) k = absurd (miss (0 ∷ 1 ∷ []) 2 tt k)
+
+-- a Connect that is not stopped leads to the question
+pub not-stopped : (e : Engine) (p : Peer) (a : Answered) → (e .settings .authentication && stopsBy (p .window) a) ≡ false
+    → questionPlan e p (questionOf (e .settings .authentication) (p .challenge) a (e .length)) ≡ limitedPlan e p a
+unfolding limitedPlan
+not-stopped e p a = go (e .settings .authentication) (stopsBy (p .window) a)
+  where
+    go : (t u : Bool) → (t && u) ≡ false
+        → questionPlan e p (questionOf t (p .challenge) a (e .length))
+        ≡ pick t (pick u (fieldsPlan e (checkedPeer p false) 0x53) (verifiesPlan e p (p .challenge) a)) (asksPlan e p Nothing await.Connect (request.Connect (e .length)))
+    go true true k = absurd (true≢false k)
+    go true false k = refl
+    go false u k = refl
+
+-- and one that is stopped to the reply
+pub is-stopped : (e : Engine) (p : Peer) (a : Answered) → (e .settings .authentication && stopsBy (p .window) a) ≡ true
+    → fieldsPlan e (checkedPeer p false) 0x53 ≡ limitedPlan e p a
+unfolding limitedPlan
+is-stopped e p a = go (e .settings .authentication) (stopsBy (p .window) a)
+  where
+    go : (t u : Bool) → (t && u) ≡ true
+        → fieldsPlan e (checkedPeer p false) 0x53
+        ≡ pick t (pick u (fieldsPlan e (checkedPeer p false) 0x53) (verifiesPlan e p (p .challenge) a)) (asksPlan e p Nothing await.Connect (request.Connect (e .length)))
+    go true true k = refl
+    go true false k = absurd (true≢false (sym k))
+    go false u k = absurd (true≢false (sym k))

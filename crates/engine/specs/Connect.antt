@@ -31,9 +31,11 @@ use Rattle.engine.specs.Step.{asksPlan, fieldsPlan, Written, written, to
 use Rattle.engine.specs.Guard.{refusedWith}
 use Rattle.server.specs.declared.Operation.{Operation}
 use Rattle.server.specs.declared.Operation.the-variants.{Nothing, Trailing, Putting, Getting, Sending, Gathering as GatheringOp, Connecting, Draining}
+use Rattle.server.specs.declared.Await.{Await}
 use Rattle.server.specs.declared.Await.the-variants as await
 use Rattle.server.specs.declared.Refusal.the-variants as refusal
 use Rattle.server.specs.declared.Engine.{Engine}
+use Rattle.server.specs.declared.HostRequest.{HostRequest}
 use Rattle.server.specs.declared.HostRequest.the-variants as request
 use Rattle.server.specs.declared.CallResult.{CallResult}
 use Rattle.connection.specs.declared.reply.Sent.the-variants as sent
@@ -45,6 +47,7 @@ use Rattle.packet.specs.declared.tlv.Found.the-variants as place
 use Rattle.connection.specs.declared.peer.Challenge.{Challenge}
 use Rattle.connection.specs.declared.peer.Challenge.the-variants.{Stored, Absent}
 use Rattle.engine.specs.declared.connect.Answered.{Answered}
+use Rattle.engine.specs.declared.connect.Question.{Question}
 use Rattle.engine.specs.declared.connect.Answered.the-variants.{Missing, Unreadable, User}
 use Rattle.engine.specs.declared.dispatch.Route.the-variants.{Connect}
 
@@ -67,12 +70,27 @@ abbrev pub Below : ℕ → Found → Type 0
 Below n place.Missing = Unit {0}
 Below n (place.At a b) = (a ≤ b) × (n + b < 2 ^ 64)
 
+-- Makes a `Question`.
+abbrev pub asked : Await → HostRequest → Question
+asked a r = record { awaits = a; request = r }
+
 -- If a challenge is stored and the client's response can be read, the engine asks the host for the password. Otherwise it asks for a nonce.
+abbrev pub verifiesBy : Challenge → Answered → Question
+verifiesBy Absent a = asked await.Nonce request.Nonce
+verifiesBy (Stored n) Missing = asked await.Nonce request.Nonce
+verifiesBy (Stored n) Unreadable = asked await.Nonce request.Nonce
+verifiesBy (Stored n) (User u) = asked await.Password (request.Password u)
+
+-- What the host is asked about a Connect that is not stopped: the client is checked if a password is required, and else the host decides.
+abbrev pub questionOf : Bool → Challenge → Answered → ℕ → Question
+questionOf authentication c a n = pick authentication (verifiesBy c a) (asked await.Connect (request.Connect n))
+
+-- The engine asks a question.
+abbrev pub questionPlan : Engine → Peer → Question → Plan
+questionPlan e p q = asksPlan e p Nothing (q .awaits) (q .request)
+
 abbrev pub verifiesPlan : Engine → Peer → Challenge → Answered → Plan
-verifiesPlan e p Absent a = asksPlan e p Nothing await.Nonce request.Nonce
-verifiesPlan e p (Stored n) Missing = asksPlan e p Nothing await.Nonce request.Nonce
-verifiesPlan e p (Stored n) Unreadable = asksPlan e p Nothing await.Nonce request.Nonce
-verifiesPlan e p (Stored n) (User u) = asksPlan e p Nothing await.Password (request.Password u)
+verifiesPlan e p c a = questionPlan e p (verifiesBy c a)
 
 -- A Connect carries a response, readable or not.
 abbrev pub carries : Answered → Bool

@@ -10,7 +10,7 @@ ghost use Rattle.packet.specs.AuthWrite.{given, overlong};
 ghost use Rattle.connection.specs.Pieces.{answeredIn, credentialsOf};
 ghost use Rattle.model.specs.Request.{realmIn, placedAt};
 ghost use Rattle.engine.specs.Step.{written};
-ghost use Rattle.engine.specs.Connect.{answering, accepting, headersOf, srmAskedBy, connectReplies, acceptedHeaders, answerFor, challengedBy, acceptedBy, Below, answeredBy, verifiesPlan, stopsBy, limitedPlan, connectPlan, passwordPlan, repliedLink, credentialsBy};
+ghost use Rattle.engine.specs.Connect.{answering, accepting, headersOf, srmAskedBy, connectReplies, acceptedHeaders, answerFor, challengedBy, acceptedBy, Below, answeredBy, verifiesBy, questionOf, stopsBy, limitedPlan, connectPlan, passwordPlan, repliedLink, credentialsBy};
 ghost use Rattle.connection.specs.Peer.{linked, answers};
 ghost use Rattle.packet.specs.Packet.{requestOf};
 ghost use Rattle.journal.specs.Journal.{headersOf as headersIn};
@@ -304,35 +304,45 @@ fn client_response(p: &[u8]) -> Answered
     Answered::User(placed(start, user))
 }
 
-// If the client has answered a stored challenge, asks the host for the password. Otherwise asks it for a nonce, to challenge the client
-// (again).
-fn verifies(e: Engine, peer: Peer, challenge: Challenge, a: Answered) -> Plan
-    ensures { λ r. ⌜ r ≡ verifiesPlan e peer challenge a ⌝ }
+// What the engine asks the host, and what it waits for then.
+pub(crate) struct Question {
+    pub awaits: Await,
+    pub request: HostRequest,
+}
+
+// If the client has answered a stored challenge, the engine asks the host for the password. Otherwise it asks for a nonce, to challenge the
+// client (again).
+fn verifies(challenge: Challenge, a: Answered) -> Question
+    ensures { λ r. ⌜ r ≡ verifiesBy challenge a ⌝ }
 {
     let Challenge::Stored(_) = challenge else {
-        return asks(
-            e,
-            peer,
-            Operation::Nothing,
-            Await::Nonce,
-            HostRequest::Nonce,
-        );
+        return Question {
+            awaits: Await::Nonce,
+            request: HostRequest::Nonce,
+        };
     };
     match a {
-        Answered::User(user_id) => asks(
-            e,
-            peer,
-            Operation::Nothing,
-            Await::Password,
-            HostRequest::Password { user_id },
-        ),
-        _ => asks(
-            e,
-            peer,
-            Operation::Nothing,
-            Await::Nonce,
-            HostRequest::Nonce,
-        ),
+        Answered::User(user_id) => Question {
+            awaits: Await::Password,
+            request: HostRequest::Password { user_id },
+        },
+        _ => Question {
+            awaits: Await::Nonce,
+            request: HostRequest::Nonce,
+        },
+    }
+}
+
+// What the host is asked about a Connect that is not stopped: the client is checked if a password is required, and else the host decides.
+fn connect_question(authentication: bool, challenge: Challenge, a: Answered, length: usize) -> Question
+    ensures { λ r. ⌜ r ≡ questionOf authentication challenge a length ⌝ }
+{
+    if authentication {
+        return verifies(challenge, a);
+    }
+    Question {
+        awaits: Await::Connect,
+        request: HostRequest::Connect { length },
     }
 }
 
@@ -347,25 +357,31 @@ fn is_stopped(window: u64, a: Answered) -> bool
     }
 }
 
-// Goes on after the client's packet limit is set: stops the Connect or checks the client if the settings ask for a password, else asks the
-// host whether it accepts the Connect.
+// Whether a Connect is stopped, which only happens if a password is required.
+fn is_refused(authentication: bool, window: u64, a: Answered) -> bool
+    ensures { λ r. ⌜ r ≡ (authentication && stopsBy window a) ⌝ }
+{
+    if !authentication {
+        return false;
+    }
+    is_stopped(window, a)
+}
+
+// Goes on after the client's packet limit is set: stops the Connect, checks the client, or asks the host whether it accepts the Connect. All
+// questions to the host come to one call, since each further one leaves more copies of the state behind.
 fn limited_plan(e: Engine, peer: Peer, a: Answered) -> Plan
     ensures { λ r. ⌜ r ≡ limitedPlan e peer a ⌝ }
 {
-    if e.settings.authentication {
-        if is_stopped(peer.window, a) {
-            return fields(e, with_check(peer, false), SERVICE_UNAVAILABLE);
-        }
-        let challenge = peer.challenge;
-        return verifies(e, peer, challenge, a);
+    let settings = e.settings;
+    let authentication = settings.authentication;
+    if is_refused(authentication, peer.window, a) {
+        return fields(e, with_check(peer, false), SERVICE_UNAVAILABLE);
     }
-    asks(
-        e,
-        peer,
-        Operation::Nothing,
-        Await::Connect,
-        HostRequest::Connect { length: e.length },
-    )
+    let challenge = peer.challenge;
+    let q = connect_question(authentication, challenge, a, e.length);
+    let awaits = q.awaits;
+    let request = q.request;
+    asks(e, peer, Operation::Nothing, awaits, request)
 }
 
 // Handles a Connect packet: sets the client's packet limit before the window and the password are looked at, as the source does.
