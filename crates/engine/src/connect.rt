@@ -334,7 +334,12 @@ fn verifies(challenge: Challenge, a: Answered) -> Question
 }
 
 // What the host is asked about a Connect that is not stopped: the client is checked if a password is required, and else the host decides.
-fn connect_question(authentication: bool, challenge: Challenge, a: Answered, length: usize) -> Question
+fn connect_question(
+    authentication: bool,
+    challenge: Challenge,
+    a: Answered,
+    length: usize,
+) -> Question
     ensures { λ r. ⌜ r ≡ questionOf authentication challenge a length ⌝ }
 {
     if authentication {
