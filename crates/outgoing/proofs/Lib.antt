@@ -5,3 +5,4 @@ pub mod Fitting
 pub mod Sent
 pub mod Holding
 pub mod BodyRuns
+pub mod ObjectRuns
