@@ -6,3 +6,4 @@ pub mod Sent
 pub mod Holding
 pub mod BodyRuns
 pub mod ObjectRuns
+pub mod ObjectExamples

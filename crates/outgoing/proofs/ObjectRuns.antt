@@ -209,8 +209,12 @@ module _ (capacity total : ℕ) (store : List ℕ) (reads : Reads) (low : 252 �
         let to = w .to in
         let n = header-at-within s sent (w .id) (w .encoding) (w .from) to (w .here) in
         let l : length (bytesOf h) ≡ to - sent = ap length (w .bytes) ∙ part-length s sent to (n .1) in
-        rw (next-there sent z, fill-step total capacity s sent 3 z (w .id) (w .encoding) (w .from) to (w .here),
-        le-ltb capacity (to - sent) (omega arith), le-ltb (capacity + 3) (3 + (to - sent)) (omega arith))
+        rw (
+          next-there sent z,
+          fill-step total capacity s sent 3 z (w .id) (w .encoding) (w .from) to (w .here),
+          le-ltb capacity (to - sent) (omega arith),
+          le-ltb (capacity + 3) (3 + (to - sent)) (omega arith),
+        )
         (header-goes h hs ih total sent false sent 3 [] z w (omega (arith, length-front)) refl (holds-none z long) (omega arith))
 
     header-run : (h : Header) (hs : List Header) → HeadersRun hs → (f s₀ : ℕ) (lead : Bool) (sent at : ℕ) (content y : List ℕ)
@@ -243,14 +247,18 @@ module _ (capacity total : ℕ) (store : List ℕ) (reads : Reads) (low : 252 �
             rw (lt-ltb capacity (w .to - sent) (omega (arith, l, ltb-true capacity (length (bytesOf h)) te)))
             (run-refuse capacity store reads (bodyBytes body) (there sent false) y)
         go false true te ue =
-            rw (le-ltb capacity (w .to - sent) (omega (arith, l, ltb-false capacity (length (bytesOf h)) te)),
-            lt-ltb (capacity + 3) (at + (w .to - sent)) (omega (arith, l, ltb-true capacity (length content + length (bytesOf h)) ue)))
+            rw (
+              le-ltb capacity (w .to - sent) (omega (arith, l, ltb-false capacity (length (bytesOf h)) te)),
+              lt-ltb (capacity + 3) (at + (w .to - sent)) (omega (arith, l, ltb-true capacity (length content + length (bytesOf h)) ue)),
+            )
             (run-send capacity store reads (bodyBytes body) (there sent false) at y (packet false content) (packetsFrom capacity (bytesOf h) hs body)
             (holds-packet false at y content p hold)
             (header-waits h hs ih sent (prefixed false at y) w (prefixed-long false at y (hold .long)) (ltb-false capacity (length (bytesOf h)) te)))
         go false false te ue =
-            rw (le-ltb capacity (w .to - sent) (omega (arith, l, ltb-false capacity (length (bytesOf h)) te)),
-            le-ltb (capacity + 3) (at + (w .to - sent)) (omega (arith, l, ltb-false capacity (length content + length (bytesOf h)) ue)))
+            rw (
+              le-ltb capacity (w .to - sent) (omega (arith, l, ltb-false capacity (length (bytesOf h)) te)),
+              le-ltb (capacity + 3) (at + (w .to - sent)) (omega (arith, l, ltb-false capacity (length content + length (bytesOf h)) ue)),
+            )
             (header-goes h hs ih f s₀ lead sent at content y w k p hold (ltb-false capacity (length content + length (bytesOf h)) ue))
 
     some-run : (h : Header) (hs : List Header) → HeadersRun hs → HeadersRun (h ∷ hs)
