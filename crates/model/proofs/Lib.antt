@@ -18,3 +18,4 @@ pub mod FromHost
 pub mod Records
 pub mod Contracts
 pub mod EightWrong
+pub mod ObjectSent

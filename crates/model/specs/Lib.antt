@@ -17,4 +17,5 @@ pub mod Replies
 pub mod Theorem
 pub mod Contracts
 pub mod EightWrong
+pub mod ObjectSent
 pub mod Cases

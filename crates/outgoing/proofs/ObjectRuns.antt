@@ -20,7 +20,6 @@ use Rattle.packet.specs.declared.header.HeaderAt.{HeaderAt}
 use Rattle.packet.specs.declared.header.HeaderAt.the-variants.{At, Unreadable, End}
 use Rattle.packet.specs.Placed.{laid}
 use Rattle.packet.proofs.Laid.{set-laid}
-use Rattle.packet.proofs.TextForms.{octets-take}
 use Rattle.packet.proofs.HeaderBytes.{part-length, header-at-bytes, header-at-within}
 use Rattle.outgoing.specs.declared.object.Outgoing.{Outgoing}
 use Rattle.outgoing.specs.Object.{Filled, empty, full, tooLarge, Filling, filling, fillAt, fill, leadAt, leadStore, fillPacket, made, prefixed, reading, refusing, sending, beginChunk, bodyAfter, nextOf, nextPacket}
@@ -176,7 +175,7 @@ module _ (capacity total : ℕ) (store : List ℕ) (reads : Reads) (low : 252 �
       rw (fill-none f capacity (take total store) sent at y w)
       (body-after capacity total store reads low top sent w body content y at p h)
 
-  module _ (fits : total ≤ length store) (octets : Octets store) where
+  module _ (fits : total ≤ length store) (octets : Octets (take total store)) where
     length-front : length (take total store) ≡ total
     length-front = length-take-le total store fits
 
@@ -266,7 +265,7 @@ module _ (capacity total : ℕ) (store : List ℕ) (reads : Reads) (low : 252 �
     some-run h hs ih j zero s₀ lead sent at content y e k p b hold = absurd (omega arith)
     some-run h hs ih j (suc f) s₀ lead sent at content y e k p b hold =
         let s = take total store in
-        let w = one-left j s sent h hs (octets-take store total octets) e in
+        let w = one-left j s sent h hs octets e in
         rw (fill-step f capacity s sent at y (w .id) (w .encoding) (w .from) (w .to) (w .here))
         (header-run h hs ih f s₀ lead sent at content y w k p b hold (ltb capacity (length (bytesOf h))) (ltb capacity (length content + length (bytesOf h)))
         refl refl)

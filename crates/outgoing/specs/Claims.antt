@@ -74,7 +74,7 @@ Runs capacity store reads left m ps = (n : ℕ) × ((k : ℕ) → n ≤ k → ru
 -- Whatever headers stand at the front of the header store, and however the host reads the body, the packets sent are those of the object.
 abbrev pub SentAsPackets : Type 0
 SentAsPackets = (capacity total : ℕ) (granted : Bool) (store reply : List ℕ) (headers : List Header) (body : Option (List ℕ)) (reads : Reads)
-    → 252 ≤ capacity → capacity ≤ maxCapacity → maxPacket ≤ length reply → total ≤ length store → Octets store
+    → 252 ≤ capacity → capacity ≤ maxCapacity → maxPacket ≤ length reply → total ≤ length store → Octets (take total store)
     → readHeaders (take total store) 0 ≡ some headers
     → Runs capacity store reads (bodyBytes body) (nextPacket capacity (fresh total granted (hasBody body)) store reply)
     (packetsOf capacity granted headers body)
