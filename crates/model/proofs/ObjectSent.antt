@@ -64,8 +64,9 @@ abbrev sendingTo : Engine → Outgoing → Chunk → Bool → Bool → Await →
 sendingTo e o c srm wait a n = engineWith (e .settings) (e .peer) (Sending o c srm wait) a 0 n
 
 asks-on : (e : Engine) (o : Outgoing) (c : Chunk) (srm wait : Bool) (n x y z : ℕ) (rest : List ℕ) (s : Stores) (t : List ℕ)
-    → offers (sendingTo e o c srm wait await.Bytes n) (framed (x ∷ y ∷ z ∷ rest) 0 0 goOn) s t
-    ≡ after 3 (sendsNext (sendingTo e o c srm wait await.Bytes 3) o srm false (withPacket s (0x83 ∷ 0x00 ∷ 0x03 ∷ rest)))
+    → let taken = offers (sendingTo e o c srm wait await.Bytes n) (framed (x ∷ y ∷ z ∷ rest) 0 0 goOn) s t .took .taken in
+    offers (sendingTo e o c srm wait await.Bytes n) (framed (x ∷ y ∷ z ∷ rest) 0 0 goOn) s t
+    ≡ after taken (sendsNext (sendingTo e o c srm wait await.Bytes 3) o srm false (withPacket s (0x83 ∷ 0x00 ∷ 0x03 ∷ rest)))
 unfolding engineWith framed frameEnd packetDone requestOf named firstByte readHeaders walk headerAt sameOpcode surveyOf first
 asks-on e o c srm wait n x y z rest s t = refl
 
@@ -128,13 +129,15 @@ module _ (reads : Reads) (t : List ℕ) (tables : shortTables t ≡ false) where
   -- a request that is read between two replies
   offered-more : (e : Engine) (s : Stores) (o : Outgoing) (c : Chunk) (srm wait : Bool) (n : ℕ) → (w : Three (s .packet))
       → Sits (sendingTo e o c srm wait await.Bytes n) s
-      → bytesOfferedStep (sendingTo e o c srm wait await.Bytes n) goOn s t
-      ≡ after 3 (sendsNext (sendingTo e o c srm wait await.Bytes 3) o srm false (withPacket s (0x83 ∷ 0x00 ∷ 0x03 ∷ w .rest)))
+      → (taken : ℕ) × (bytesOfferedStep (sendingTo e o c srm wait await.Bytes n) goOn s t
+      ≡ after taken (sendsNext (sendingTo e o c srm wait await.Bytes 3) o srm false (withPacket s (0x83 ∷ 0x00 ∷ 0x03 ∷ w .rest))))
   unfolding bytesOfferedStep engineWith
   offered-more e s o c srm wait n w h =
-      let x = sendingTo e o c srm wait await.Bytes n in
-      rw (tables, not-short (limitOf x) s (h .base .room), is-sound x s h, w .is)
-      (asks-on e o c srm wait n (w .a) (w .b) (w .c) (w .rest) s t)
+      let x = sendingTo e o c srm wait await.Bytes n in (
+        offers x (framed (w .a ∷ w .b ∷ w .c ∷ w .rest) 0 0 goOn) s t .took .taken,
+        rw (tables, not-short (limitOf x) s (h .base .room), is-sound x s h, w .is)
+            (asks-on e o c srm wait n (w .a) (w .b) (w .c) (w .rest) s t),
+      )
 
   module _ (k : ℕ) (ih : Follows k) (x : ℕ) (left : List ℕ) (srm wait : Bool) (e : Engine) (s : Stores) (o : Outgoing) (m : Made) (ps : Packets)
       (b : Base e s) (l : o .total ≤ 65535) (w : SendsFrom o (s .reply) m) where
@@ -179,10 +182,11 @@ module _ (reads : Reads) (t : List ℕ) (tables : shortTables t ≡ false) where
         } in
         let f : Sits (sendingTo e q c srm wait await.Bytes (e .length)) z =
         record { base = record { room = h .base .room; peer = h .base .peer; last = h .base .last }; begun = none-begun (z .packet); counts = h .counts; shape = refl } in
+        let y = offered-more e z q c srm wait (e .length) v f in
         next-call left left (after 0 (wants (sendingTo e q c srm wait await.Taken (e .length)) (e .peer) (Sending q c srm wait) z))
-        (after 3 (sendsNext e′ q srm false s′)) qs qs
-        (next-follows 3 false e′ s′ qs b′ refl refl refl r)
-        (λ j u. ap (repliesFrom reads t j left) (offered-more e z q c srm wait (e .length) v f) ∙ u)
+        (after (y .0) (sendsNext e′ q srm false s′)) qs qs
+        (next-follows (y .0) false e′ s′ qs b′ refl refl refl r)
+        (λ j u. ap (repliesFrom reads t j left) (y .1) ∙ u)
 
     follows-by : (n : Next) → m .packet .next ≡ n → Fine e (sendsMade e srm wait n m s)
         → runBy (capacityOf e) (s .headers) reads n m left (run (capacityOf e) (s .headers) reads k) ≡ some ps
