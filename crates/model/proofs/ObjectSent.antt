@@ -248,7 +248,7 @@ object-given : (e : Engine) (s : Stores) (g : Gathered) (srm confirm wait : Bool
     (sendsPacket e (srm || confirm) wait (nextPacket (capacityOf e) (fresh (length hs) confirm has) (front hs (s .headers)) (s .reply))
     (withHeaders s (front hs (s .headers))))
 unfolding objectGivenStep sendsNext
-object-given e s g srm confirm wait hs has a h w o y = rw (a, h, w, o, y)
+object-given e s g srm confirm wait hs has a h w o y = rw (a, h, w, o, y) refl
 
 pub get-sends : GetSends
 get-sends e s tables g srm confirm wait hs headers body reads a ta h most w o y octets e′ =
