@@ -1,7 +1,7 @@
 -- Theorems over the definitions of specs/. `Cases`: the table. The rest proves the records theorem (`Records`): what holds of the engine
 -- alone (`Fit`, `Steps`), how it stands to the journal (`Coupling`), how long replies are (`Sizes`), packets (`Gathers`, `Dispatch`,
 -- `Packets`), Single Response Mode (`Speaks`), the host's answers (`Answers`), and the calls (`Moments`, `FromPeer`, `FromHost`).
--- `Contracts`: the same from the contract of a start. `EightWrong`: the count of wrong passwords.
+-- `Contracts`: the same from the contract of a start. `EightWrong`: the count of wrong passwords. `ObjectSent`: the replies to a Get.
 pub mod Cases
 pub mod Fit
 pub mod Steps
@@ -18,3 +18,4 @@ pub mod FromHost
 pub mod Records
 pub mod Contracts
 pub mod EightWrong
+pub mod ObjectSent
