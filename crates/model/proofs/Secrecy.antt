@@ -1,8 +1,8 @@
 -- A step depends on a password by the check alone: if the check comes out alike, the steps are equal, and so is all that follows.
 -- Credentials that nobody asked for are refused whatever they are. Assumes nothing.
 use mathlib.Core.Path.{_≡_, refl, sym, ap, ap₂, _∙_, subst}
-use mathlib.Core.List.{List, [], _∷_, map}
-use mathlib.Core.Bool.{Bool, true, false, _&&_, and-false, true≢false}
+use mathlib.Core.List.{List, [], _∷_}
+use mathlib.Core.Bool.{Bool, true, false, and-false, true≢false}
 use mathlib.Core.Option.{Option, some}
 use Prim.Native.Nat.{ℕ}
 use Rattle.base.specs.Pick.{pick}
@@ -20,7 +20,6 @@ use Rattle.server.specs.declared.Await.{Await}
 use Rattle.server.specs.declared.Await.the-variants as await
 use Rattle.server.specs.declared.CallKind.{CallKind}
 use Rattle.server.specs.declared.CallKind.the-variants as kind
-use Rattle.server.specs.declared.CallResult.{CallResult}
 use Rattle.server.specs.declared.Engine.{Engine}
 use Rattle.server.specs.declared.HostRequest.{HostRequest}
 use Rattle.server.specs.declared.HostRequest.the-variants as request
