@@ -2,6 +2,7 @@
 -- alone (`Fit`, `Steps`), how it stands to the journal (`Coupling`), how long replies are (`Sizes`), packets (`Gathers`, `Dispatch`,
 -- `Packets`), Single Response Mode (`Speaks`), the host's answers (`Answers`), and the calls (`Moments`, `FromPeer`, `FromHost`).
 -- `Contracts`: the same from the contract of a start. `EightWrong`: the count of wrong passwords. `ObjectSent`: the replies to a Get.
+-- `Secrecy`: passwords leave no trace.
 pub mod Cases
 pub mod Fit
 pub mod Steps
@@ -19,3 +20,4 @@ pub mod Records
 pub mod Contracts
 pub mod EightWrong
 pub mod ObjectSent
+pub mod Secrecy

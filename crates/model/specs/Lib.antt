@@ -2,7 +2,7 @@
 -- packet read again (`Request`), operations, objects and Connect, a packet's way (`Dispatch`), refusals (`Guard`) and the calls (`Calls`).
 -- Then what a host sees of a call, and which calls are due to be refused (`Refusals`), lists of calls (`Runs`), the sizes of replies
 -- (`Replies`), the records theorem (`Theorem`), the same from the contract of a start (`Contracts`), the count of wrong passwords
--- (`EightWrong`), the replies to a Get (`ObjectSent`), and the proved cases (`Cases`).
+-- (`EightWrong`), the replies to a Get (`ObjectSent`), the proved cases (`Cases`), and that passwords leave no trace (`Secrecy`).
 pub mod Step
 pub mod Request
 pub mod Operation
@@ -19,3 +19,4 @@ pub mod Contracts
 pub mod EightWrong
 pub mod ObjectSent
 pub mod Cases
+pub mod Secrecy
