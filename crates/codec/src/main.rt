@@ -459,6 +459,7 @@ fn put_written(done: Wrote, store: &[u8], id: u8, text: &[u8]) {
             put_refused(id, text);
             put(b">");
         }
+        Wrote::BadValue => put(b"bad"),
         Wrote::Short => put(b"short"),
     }
 }
@@ -485,7 +486,7 @@ fn show_short(id: u8, v: &[u8], is_rewritten: bool) {
 
 fn show_long(id: u8, v: &[u8], is_rewritten: bool) {
     let mut text = [0u8; 200000];
-    let mut store = [0u8; 66000];
+    let mut store = [0u8; 401000];
     show(id, v, is_rewritten, &mut text, &mut store);
 }
 
@@ -614,6 +615,10 @@ fn put_done(done: Wrote, store: &[u8], refusal: &[u8], size: usize) {
             }
         }
         Wrote::TooLong => {
+            put(refusal);
+            put_number(size);
+        }
+        Wrote::BadValue => {
             put(refusal);
             put_number(size);
         }
