@@ -34,6 +34,7 @@ use packet::tlv;
 use packet::tlv::Found;
 use packet::tlv::TagAt;
 use packet::tlv::Wrote;
+use walk::Count;
 ghost use Prim.Native.Nat.{_≤_, _<_};
 ghost use lib.ListN.{length};
 
@@ -459,6 +460,7 @@ fn put_written(done: Wrote, store: &[u8], id: u8, text: &[u8]) {
             put_refused(id, text);
             put(b">");
         }
+        Wrote::BadValue => put(b"bad"),
         Wrote::Short => put(b"short"),
     }
 }
@@ -485,7 +487,7 @@ fn show_short(id: u8, v: &[u8], is_rewritten: bool) {
 
 fn show_long(id: u8, v: &[u8], is_rewritten: bool) {
     let mut text = [0u8; 200000];
-    let mut store = [0u8; 66000];
+    let mut store = [0u8; 401000];
     show(id, v, is_rewritten, &mut text, &mut store);
 }
 
@@ -495,20 +497,6 @@ fn show_header(id: u8, v: &[u8], is_rewritten: bool) {
     } else {
         show_long(id, v, is_rewritten);
     }
-}
-
-fn count_headers(s: &[u8]) -> usize {
-    let mut n = 0;
-    let mut at = 0;
-    while at < s.len() {
-        let p = header_piece(s, at);
-        if p.end <= at {
-            return n;
-        }
-        at = p.end;
-        n += 1;
-    }
-    n
 }
 
 fn each_header(s: &[u8], is_rewritten: bool) {
@@ -525,9 +513,9 @@ fn each_header(s: &[u8], is_rewritten: bool) {
     }
 }
 
-// Headers that fill the bytes: how many, their values, what the writers give for them, and whether that is the same.
-fn put_headers(s: &[u8]) {
-    put_number(count_headers(s));
+// The `n` headers that fill the bytes: how many, their values, what the writers give for them, and whether that is the same.
+fn put_read_headers(n: usize, s: &[u8]) {
+    put_number(n);
     each_header(s, false);
     put(b" = ");
     if s.len() == 0 {
@@ -541,11 +529,10 @@ fn put_headers(s: &[u8]) {
     }
 }
 
-fn headers(s: &[u8]) {
-    if header::is_readable(s, 0) {
-        put_headers(s);
-    } else {
-        put(b"unreadable");
+fn put_headers(s: &[u8]) {
+    match walk::len(s, 0) {
+        Count::Headers(n) => put_read_headers(n, s),
+        Count::Unreadable => put(b"unreadable"),
     }
 }
 
@@ -614,6 +601,10 @@ fn put_done(done: Wrote, store: &[u8], refusal: &[u8], size: usize) {
             }
         }
         Wrote::TooLong => {
+            put(refusal);
+            put_number(size);
+        }
+        Wrote::BadValue => {
             put(refusal);
             put_number(size);
         }
@@ -885,7 +876,7 @@ fn answer_one(q: Question, a: &[u8]) {
         Question::Code => code(byte_at(a, 0)),
         Question::Length => packet_length(a),
         Question::Tags => tags(a),
-        Question::Headers => headers(a),
+        Question::Headers => put_headers(a),
         Question::Packet => parsed(a),
         Question::Challenge => challenge(a),
         Question::ResponseList => response_list(a),

@@ -15,11 +15,13 @@ use Rattle.digest.specs.declared.md5.Octets16.{Octets16}
 use Rattle.digest.proofs.Octets.{length-octets16}
 use Rattle.packet.specs.Header.{Header, encodingOf, headerAt, part, bytesOf}
 use Rattle.packet.specs.HeaderWriter.{tooLong, leadBytes, header, putHeader}
-use Rattle.packet.specs.Tags.{Putting, putting, bytesAt, writeTags}
+use Rattle.packet.specs.Tags.{bytesAt, writeTags}
 use Rattle.packet.specs.Auth.{responseTags, challengeTags}
 use Rattle.packet.specs.AuthWrite.{given, overlong, writeDigestResponse, writeChallenge}
-use Rattle.packet.specs.Placed.{laid, placed}
+use Rattle.packet.specs.Placed.{Putting, putting, laid, placed}
 use Rattle.packet.specs.declared.tlv.Wrote.{Wrote}
+use Rattle.packet.specs.declared.store.LengthField.{LengthField}
+use Rattle.packet.specs.declared.store.LengthField.the-variants.{OneByte, TwoBytes}
 use Rattle.packet.specs.declared.tlv.Found.{Found}
 use Rattle.packet.specs.declared.tlv.Found.the-variants as place
 use Rattle.packet.specs.declared.auth.Named.{Named}
@@ -61,14 +63,21 @@ puts-more y z w a b at n m r p q =
 pub puts-nothing : (y : List ℕ) (at : ℕ) → Puts y at [] at y
 puts-nothing y at = record { next-is = omega arith; store = sym (laid-nothing y at) }
 
+-- ---- bytes that a writer places
+
+-- bytes that fit are laid there
+pub placed-laid : (d z bytes : List ℕ) (at : ℕ) (r : Wrote) (f : LengthField) (forbidden : Bool) → forbidden ≡ false → at + length bytes ≤ length d
+    → putting r z ≡ placed d at f forbidden bytes → z ≡ laid d at bytes
+unfolding placed
+placed-laid d z bytes at r f forbidden o h e = ap (λ (p : Putting). p .store) (rw (o, le-ltb (length d) (at + length bytes) h) at e)
+
 -- ---- a header by the packet's writer
 
 -- a header that fits is laid there
 pub header-laid : (d z : List ℕ) (at : ℕ) (h : Header) (r : Wrote) → tooLong (encodingOf (h .id)) (length (h .value)) ≡ false
     → at + length (bytesOf h) ≤ length d → putting r z ≡ putHeader d at h → z ≡ laid d at (bytesOf h)
 unfolding putHeader
-header-laid d z at h r s f e =
-    ap (λ (p : Putting). p .store) (rw (s, le-ltb (length d) (at + length (bytesOf h)) f) at e)
+header-laid d z at h r s f e = placed-laid d z (bytesOf h) at r TwoBytes (tooLong (encodingOf (h .id)) (length (h .value))) s f e
 
 -- a header of bytes: its id, its length and its value
 pub bytes-length : (id : ℕ) (v : List ℕ) → ltb id 64 ≡ false → ltb id 128 ≡ true → length (bytesOf (header id v)) ≡ 3 + length v
@@ -114,17 +123,13 @@ answer-bytes-length (nonce.Nonce n) has user password =
 
 -- ---- tags that fit
 
-pub placed-laid : (d z bytes : List ℕ) (at : ℕ) (r : Wrote) (forbidden : Bool) → forbidden ≡ false → at + length bytes ≤ length d
-    → putting r z ≡ placed d at forbidden bytes → z ≡ laid d at bytes
-unfolding placed
-placed-laid d z bytes at r f o h e = ap (λ (p : Putting). p .store) (rw (o, le-ltb (length d) (at + length bytes) h) at e)
-
 -- a header of tags: what stands before them, and then they
-pub tags-laid : (y z w v : List ℕ) (at id size : ℕ) (r : Wrote) (forbidden : Bool) → ltb id 64 ≡ false → ltb id 128 ≡ true → length v ≡ size - 3 → at + 3 + length v ≤ length y
-    → z ≡ laid y at (leadBytes Bytes id (size - 3)) → forbidden ≡ false → putting r w ≡ placed z (at + 3) forbidden v → w ≡ laid y at (bytesOf (header id v))
-tags-laid y z w v at id size r forbidden a b l h s o p =
+pub tags-laid : (y z w v : List ℕ) (at id size : ℕ) (r : Wrote) (f : LengthField) (forbidden : Bool) → ltb id 64 ≡ false → ltb id 128 ≡ true
+    → length v ≡ size - 3 → at + 3 + length v ≤ length y → z ≡ laid y at (leadBytes Bytes id (size - 3)) → forbidden ≡ false
+    → putting r w ≡ placed z (at + 3) f forbidden v → w ≡ laid y at (bytesOf (header id v))
+tags-laid y z w v at id size r f forbidden a b l h s o p =
     let lz : length z ≡ length y = ap length s ∙ length-laid y (leadBytes Bytes id (size - 3)) at (omega arith) in
-    placed-laid z w v (at + 3) r forbidden o (omega arith) p
+    placed-laid z w v (at + 3) r f forbidden o (omega arith) p
     ∙ ap (λ (d : List ℕ). laid d (at + 3) v) s
     ∙ laid-append y (leadBytes Bytes id (size - 3)) v at (at + 3) refl h
     ∙ rw (← l, bytes-lead id v a b)
@@ -176,7 +181,7 @@ module _ (y user password : List ℕ) (at : ℕ) (n : Octets16) (has : Bool) (m 
       record {
         next-is = omega (arith, bytes);
         store =
-            tags-laid y z w v at 0x4E size r (overlong (given has user)) refl refl l (omega (arith, h, l)) s o p
+            tags-laid y z w v at 0x4E size r OneByte (overlong (given has user)) refl refl l (omega (arith, h, l)) s o p
             ∙ ap (λ (k : Named). laid y at (answerBytes k (given has user) password)) (sym e);
       }
 
@@ -322,5 +327,5 @@ unfolding challengeHeader writeChallenge
 challenge-laid y z w n o has charset realm size r f q room s p =
     let v = writeTags (challengeTags (octets16 n) o (given has (charset ∷ realm))) in
     let l : length v ≡ size - 3 = omega (arith, q, challenge-tags-length n o has charset realm) in
-    tags-laid y z w v 7 0x4D size r (overlong (given has (charset ∷ realm))) refl refl l
+    tags-laid y z w v 7 0x4D size r OneByte (overlong (given has (charset ∷ realm))) refl refl l
     (omega (arith, room .small, room .store, bytes-length 0x4D v refl refl)) s f p

@@ -17,7 +17,8 @@ use Rattle.digest.proofs.Octets.{length-octets16, numbers-octets}
 use Rattle.packet.specs.declared.auth.DigestResponse.{DigestResponse}
 use Rattle.packet.specs.declared.auth.DigestResponse.the-variants.{Response, Unreadable}
 use Rattle.packet.specs.declared.tlv.Wrote.{Wrote}
-use Rattle.packet.specs.Tags.{writeTag, writeTags, putTag, putting}
+use Rattle.packet.specs.Tags.{writeTag, writeTags, putTag}
+use Rattle.packet.specs.Placed.{putting}
 use Rattle.packet.specs.Auth.{optionalTag, realmTag, userTag, challengeTags, answerTags, responseTags, responseFrom, responseOf, challengeFrom, challengeOf, userIdRequired, readOnly, matches, hasUser}
 use Rattle.packet.specs.Placed.{laid}
 use Rattle.packet.specs.Flags.{flagBits}

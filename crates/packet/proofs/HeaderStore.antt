@@ -17,13 +17,13 @@ use Rattle.packet.specs.declared.header.HeaderEncoding.{HeaderEncoding}
 use Rattle.packet.specs.declared.header.HeaderEncoding.the-variants.{Unicode, Bytes, U8, U32}
 use Rattle.packet.proofs.tlv.Wrote.{the-type}
 use Rattle.packet.specs.declared.tlv.Wrote.{Wrote}
-use Rattle.packet.specs.declared.tlv.Wrote.the-variants.{Written, TooLong, Short}
-use Rattle.packet.specs.Tags.{Putting, putting}
-use Rattle.packet.specs.Placed.{laid}
+use Rattle.packet.specs.declared.tlv.Wrote.the-variants.{Written, TooLong, BadValue, Short}
+use Rattle.packet.specs.declared.store.LengthField.the-variants.{TwoBytes}
+use Rattle.packet.specs.Placed.{Putting, putting, laid, roomOf, placed}
 use Rattle.packet.specs.Header.{Header, encodingOf, leadOf, lengthField, bytesOf}
 use Rattle.packet.specs.HeaderWriter.{tooLong, putHeader, roomFor, leadBytes, startBy, startHeader}
-use Rattle.packet.proofs.HeaderBytes.{pick-no, lead-some}
-use Rattle.packet.proofs.Laid.{sets-laid, written-not}
+use Rattle.packet.proofs.HeaderBytes.{lead-some}
+use Rattle.packet.proofs.Laid.{granted, sets-laid, written-not}
 
 -- ---- what stands before the value
 
@@ -75,25 +75,25 @@ bytes-length h =
 abbrev pub putBy : Wrote → List ℕ → ℕ → List ℕ → Putting
 putBy (Written n) d at bytes = putting (Written n) (laid d at bytes)
 putBy TooLong d at bytes = putting TooLong d
+putBy BadValue d at bytes = putting BadValue d
 putBy Short d at bytes = putting Short d
 
 pick-put : (x y : Bool) (n : ℕ) (d : List ℕ) (at : ℕ) (bytes : List ℕ)
-    → pick x (putting TooLong d) (pick y (putting Short d) (putting (Written n) (laid d at bytes)))
-    ≡ putBy (pick x TooLong (pick y Short (Written n))) d at bytes
+    → pick x (putting Short d) (pick y (putting TooLong d) (putting (Written n) (laid d at bytes)))
+    ≡ putBy (pick x Short (pick y TooLong (Written n))) d at bytes
 pick-put true y n d at bytes = refl
 pick-put false true n d at bytes = refl
 pick-put false false n d at bytes = refl
 
 pub put-room : (d : List ℕ) (at : ℕ) (h : Header)
     → putHeader d at h ≡ putBy (roomFor (encodingOf (h .id)) (length d) at (length (h .value))) d at (bytesOf h)
-unfolding putHeader roomFor
+unfolding putHeader placed roomFor roomOf
 put-room d at h =
     let e = encodingOf (h .id) in
-    let n : at + length (bytesOf h) ≡ at + leadOf e + length (h .value) = omega (arith, bytes-length h) in
-    ap (λ (m : ℕ). pick (tooLong e (length (h .value))) (putting TooLong d)
-    (pick (ltb (length d) m) (putting Short d) (putting (Written m) (laid d at (bytesOf h))))) n
-    ∙ pick-put (tooLong e (length (h .value))) (ltb (length d) (at + leadOf e + length (h .value)))
-    (at + leadOf e + length (h .value)) d at (bytesOf h)
+    let n = leadOf e + length (h .value) in
+    ap (λ (m : ℕ). pick (ltb (length d) (at + m)) (putting Short d)
+    (pick (tooLong e (length (h .value))) (putting TooLong d) (putting (Written (at + m)) (laid d at (bytesOf h))))) (bytes-length h)
+    ∙ pick-put (ltb (length d) (at + n)) (tooLong e (length (h .value))) (at + n) d at (bytesOf h)
 
 -- a header that is written fits
 pub record Fitting (e : HeaderEncoding) (len at n end : ℕ) : Type 0 where
@@ -104,21 +104,15 @@ pub record Fitting (e : HeaderEncoding) (len at n end : ℕ) : Type 0 where
 pub room-written : (e : HeaderEncoding) (len at n end : ℕ) → roomFor e len at n ≡ Written end → Fitting e len at n end
 unfolding roomFor
 room-written e len at n end q =
-    let z = Written end in
-    let p1 = pick-no (tooLong e n) TooLong _ z q (λ w. let q : _≡_ {A = ℕ} 0 1 = cc in omega arith) in
-    let p2 = pick-no (ltb len (at + leadOf e + n)) Short _ z (p1 .1) (λ w. let q : _≡_ {A = ℕ} 0 1 = cc in omega arith) in
-    let r = p2 .1 in
-    let k : at + leadOf e + n ≡ end = cc in
-    let l : at + leadOf e + n ≤ len = ltb-false _ _ (p2 .0) in
-    record { ends = sym k; fits = omega arith; short = p1 .0 }
+    let g = granted len at (leadOf e + n) end TwoBytes (tooLong e n) (sym q) in
+    record { ends = omega (arith, g .next-is); fits = omega (arith, g .next-is, g .fits); short = g .allowed }
 
 -- values longer than any store
 none-for : (e : HeaderEncoding) (len at m n : ℕ) → len < 2 ^ 64 → 2 ^ 64 - 1 ≤ m → 2 ^ 64 - 1 ≤ n → roomFor e len at m ≡ roomFor e len at n
-unfolding roomFor
-none-for Unicode len at m n h j k = simp (lt-ltb 65535 (3 + m) (omega arith), lt-ltb 65535 (3 + n) (omega arith))
-none-for Bytes len at m n h j k = simp (lt-ltb 65535 (3 + m) (omega arith), lt-ltb 65535 (3 + n) (omega arith))
-none-for U8 len at m n h j k = simp (lt-ltb len (at + 1 + m) (omega arith), lt-ltb len (at + 1 + n) (omega arith))
-none-for U32 len at m n h j k = simp (lt-ltb len (at + 1 + m) (omega arith), lt-ltb len (at + 1 + n) (omega arith))
+unfolding roomFor roomOf
+none-for e len at m n h j k =
+    let s = lead-some e in
+    simp (lt-ltb len (at + (leadOf e + m)) (omega arith), lt-ltb len (at + (leadOf e + n)) (omega arith))
 
 -- a value longer than any store is as short of room as the longest that can be counted
 pub room-most : (e : HeaderEncoding) (len at n : ℕ) → len < 2 ^ 64 → roomFor e len at (min n (2 ^ 64 - 1)) ≡ roomFor e len at n
@@ -134,10 +128,11 @@ room-most e len at n h = by (ltb (2 ^ 64 - 1) n) refl
         let m : min n (2 ^ 64 - 1) ≡ n = omega arith in
         rw m refl
 
-pub refused-start : (d : List ℕ) (at : ℕ) (lead : List ℕ) (a r : Wrote) → OneOf (1 ∷ 2 ∷ []) (tagOf the-type r) → a ≡ r
+pub refused-start : (d : List ℕ) (at : ℕ) (lead : List ℕ) (a r : Wrote) → OneOf (1 ∷ 2 ∷ 3 ∷ []) (tagOf the-type r) → a ≡ r
     → putting r d ≡ startBy a d at lead
 refused-start d at lead a (Written end) k q = absurd (written-not end k)
 refused-start d at lead a TooLong k q = rw q refl
+refused-start d at lead a BadValue k q = rw q refl
 refused-start d at lead a Short k q = rw q refl
 
 -- ---- a header started: what stands before its value, and room for it
@@ -175,10 +170,11 @@ module _ (d d₁ : List ℕ) (at : ℕ) (h : Header) (n : ℕ) (r : Wrote) (s : 
             store-is = y ∙ ap (λ (n : ℕ). sets d at (leadBytes e (h .id) n)) size;
           }
       by TooLong w x y = let z : _≡_ {A = ℕ} 0 1 = cc in absurd (omega arith)
+      by BadValue w x y = let z : _≡_ {A = ℕ} 0 1 = cc in absurd (omega arith)
       by Short w x y = let z : _≡_ {A = ℕ} 0 1 = cc in absurd (omega arith)
 
   -- a header that is refused changes nothing
-  pub put-refused : OneOf (1 ∷ 2 ∷ []) (tagOf the-type r) → putting r d₁ ≡ putHeader d at h
+  pub put-refused : OneOf (1 ∷ 2 ∷ 3 ∷ []) (tagOf the-type r) → putting r d₁ ≡ putHeader d at h
   unfolding startHeader
   put-refused k = by (roomFor e (length d) at n) refl (ap (λ (p : Putting). p .answer) s) (ap (λ (p : Putting). p .store) s)
     where
@@ -190,8 +186,9 @@ module _ (d d₁ : List ℕ) (at : ℕ) (h : Header) (n : ℕ) (r : Wrote) (s : 
 
       by : (a : Wrote) → roomFor e (length d) at n ≡ a → r ≡ startBy a d at (leadBytes e (h .id) n) .answer
           → d₁ ≡ startBy a d at (leadBytes e (h .id) n) .store → putting r d₁ ≡ putHeader d at h
-      by (Written m) w x y = absurd (written-not m (subst (λ (r : Wrote). OneOf (1 ∷ 2 ∷ []) (tagOf the-type r)) x k))
+      by (Written m) w x y = absurd (written-not m (subst (λ (r : Wrote). OneOf (1 ∷ 2 ∷ 3 ∷ []) (tagOf the-type r)) x k))
       by TooLong w x y = refused TooLong w (rw (x, y) refl)
+      by BadValue w x y = refused BadValue w (rw (x, y) refl)
       by Short w x y = refused Short w (rw (x, y) refl)
 
 -- a header that is written: the value after what stands before it

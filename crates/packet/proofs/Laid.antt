@@ -15,9 +15,11 @@ use borrow.Author.Tests.{le-ltb, ltb-false}
 use Rattle.base.specs.Pick.{pick}
 use Rattle.packet.proofs.tlv.Wrote.{the-type}
 use Rattle.packet.specs.declared.tlv.Wrote.{Wrote}
-use Rattle.packet.specs.declared.tlv.Wrote.the-variants.{Written, TooLong, Short}
-use Rattle.packet.specs.Tags.{Putting, putting, writeTag, putTag}
-use Rattle.packet.specs.Placed.{laid, roomOf, placed}
+use Rattle.packet.specs.declared.tlv.Wrote.the-variants.{Written, TooLong, BadValue, Short}
+use Rattle.packet.specs.declared.store.LengthField.{LengthField}
+use Rattle.packet.specs.declared.store.LengthField.the-variants.{OneByte, TwoBytes}
+use Rattle.packet.specs.Tags.{writeTag, putTag}
+use Rattle.packet.specs.Placed.{Putting, putting, numbered, overlongFor, overlongNumber, laid, roomOf, placed}
 
 pub length-laid : (d l : List ℕ) (at : ℕ) → at + length l ≤ length d → length (laid d at l) ≡ length d
 length-laid d l at h = length-paste d at l (length l) h (omega arith)
@@ -56,9 +58,10 @@ set-laid d at x h = set-split d at x h ∙ simp (append-assoc, add-one)
 -- a tag that fits
 pub put-laid : (store v after : List ℕ) (at t : ℕ) (r : Wrote) → length v ≤ 255 → at + 2 + length v ≤ length store
     → putting r after ≡ putTag store at t v → after ≡ laid store at (writeTag (record { tag = t; value = v }))
-unfolding putTag
+unfolding putTag placed
 put-laid store v after at t r s h e =
-    ap (λ (p : Putting). p .store) (rw (le-ltb 255 (length v) s, le-ltb (length store) (at + 2 + length v) h) at e)
+    let n = length (writeTag (record { tag = t; value = v })) in
+    ap (λ (p : Putting). p .store) (rw (le-ltb 255 (length v) s, le-ltb (length store) (at + n) (omega arith)) at e)
 
 -- what a place that was granted tells
 pub record Granted (len at need next : ℕ) (forbidden : Bool) : Type 0 where
@@ -66,46 +69,61 @@ pub record Granted (len at need next : ℕ) (forbidden : Bool) : Type 0 where
   pub fits : at + need ≤ len
   pub next-is : next ≡ at + need
 
-granted-by : (len at need next : ℕ) (forbidden x : Bool) → ltb len (at + need) ≡ x
-    → Written next ≡ pick x Short (pick forbidden TooLong (Written (at + need))) → Granted len at need next forbidden
-granted-by len at need next f true p e = let z : _≡_ {A = ℕ} 0 1 = cc in absurd (omega arith)
-granted-by len at need next true false p e = let z : _≡_ {A = ℕ} 0 1 = cc in absurd (omega arith)
-granted-by len at need next false false p e = record { allowed = refl; fits = ltb-false len (at + need) p; next-is = cc }
+overlong-no : (next : ℕ) (f : LengthField) → Written next ≡ overlongFor f → ⊥
+overlong-no next OneByte e = let z : _≡_ {A = ℕ} 0 1 = cc in omega arith
+overlong-no next TwoBytes e = let z : _≡_ {A = ℕ} 0 1 = cc in omega arith
 
-pub granted : (len at need next : ℕ) (forbidden : Bool) → Written next ≡ roomOf len at need forbidden → Granted len at need next forbidden
+granted-by : (len at need next : ℕ) (f : LengthField) (forbidden x : Bool) → ltb len (at + need) ≡ x
+    → Written next ≡ pick x Short (pick forbidden (overlongFor f) (Written (at + need))) → Granted len at need next forbidden
+granted-by len at need next f y true p e = let z : _≡_ {A = ℕ} 0 1 = cc in absurd (omega arith)
+granted-by len at need next f true false p e = absurd (overlong-no next f e)
+granted-by len at need next f false false p e = record { allowed = refl; fits = ltb-false len (at + need) p; next-is = cc }
+
+pub granted : (len at need next : ℕ) (f : LengthField) (forbidden : Bool) → Written next ≡ roomOf len at need f forbidden
+    → Granted len at need next forbidden
 unfolding roomOf
-granted len at need next f e = granted-by len at need next f (ltb len (at + need)) refl e
+granted len at need next f forbidden e = granted-by len at need next f forbidden (ltb len (at + need)) refl e
 
 -- a refused answer is none that says what was written
-pub written-not : (end : ℕ) → OneOf (1 ∷ 2 ∷ []) (tagOf the-type (Written end)) → ⊥
+pub written-not : (end : ℕ) → OneOf (1 ∷ 2 ∷ 3 ∷ []) (tagOf the-type (Written end)) → ⊥
 written-not end (inl k) = omega arith
-written-not end (inr k) = omega arith
+written-not end (inr (inl k)) = omega arith
+written-not end (inr (inr k)) = omega arith
 
 -- the answers
-placed-as : (store bytes : List ℕ) (at next : ℕ) (forbidden : Bool) → Written next ≡ roomOf (length store) at (length bytes) forbidden
-    → putting (Written next) (laid store at bytes) ≡ placed store at forbidden bytes
+placed-as : (store bytes : List ℕ) (at next : ℕ) (l : LengthField) (forbidden : Bool) → Written next ≡ roomOf (length store) at (length bytes) l forbidden
+    → putting (Written next) (laid store at bytes) ≡ placed store at l forbidden bytes
 unfolding placed
-placed-as store bytes at next f e =
-    let g = granted (length store) at (length bytes) next f e in
+placed-as store bytes at next l f e =
+    let g = granted (length store) at (length bytes) next l f e in
     rw (le-ltb (length store) (at + length bytes) (g .fits), g .allowed, g .next-is)
 
-refused-by : (store bytes : List ℕ) (at : ℕ) (x y : Bool) (r : Wrote) → OneOf (1 ∷ 2 ∷ []) (tagOf the-type r)
-    → r ≡ pick x Short (pick y TooLong (Written (at + length bytes)))
-    → putting r store ≡ pick x (putting Short store) (pick y (putting TooLong store) (putting (Written (at + length bytes)) (laid store at bytes)))
-refused-by store bytes at true y r k e = ap (λ (r : Wrote). putting r store) e
-refused-by store bytes at false true r k e = ap (λ (r : Wrote). putting r store) e
-refused-by store bytes at false false r k e =
-    absurd (written-not (at + length bytes) (subst (λ (r : Wrote). OneOf (1 ∷ 2 ∷ []) (tagOf the-type r)) e k))
+-- the number that the definition says is that of the answer
+overlong-number : (l : LengthField) (store : List ℕ) → putting (overlongFor l) store ≡ numbered (overlongNumber l) (overlongFor l) store
+overlong-number OneByte store = refl
+overlong-number TwoBytes store = refl
+
+refused-by : (store bytes : List ℕ) (at : ℕ) (l : LengthField) (x y : Bool) (r : Wrote) → OneOf (1 ∷ 2 ∷ 3 ∷ []) (tagOf the-type r)
+    → r ≡ pick x Short (pick y (overlongFor l) (Written (at + length bytes)))
+    → putting r store
+    ≡ pick x (numbered 10 Short store)
+    (pick y (numbered (overlongNumber l) (overlongFor l) store) (numbered 0 (Written (at + length bytes)) (laid store at bytes)))
+refused-by store bytes at l true y r k e = ap (λ (r : Wrote). putting r store) e
+refused-by store bytes at l false true r k e = ap (λ (r : Wrote). putting r store) e ∙ overlong-number l store
+refused-by store bytes at l false false r k e =
+    absurd (written-not (at + length bytes) (subst (λ (r : Wrote). OneOf (1 ∷ 2 ∷ 3 ∷ []) (tagOf the-type r)) e k))
 
 -- as the code says them, which has the length and the test as values of its own
-pub placed-written : (store bytes after : List ℕ) (at need next : ℕ) (f g : Bool) → length bytes ≡ need → g ≡ f
-    → Written next ≡ roomOf (length store) at need g → after ≡ laid store at bytes → putting (Written next) after ≡ placed store at f bytes
-placed-written store bytes after at need next f g n q e a = ap (putting (Written next)) a ∙ placed-as store bytes at next f (rw (n, ← q) e)
+pub placed-written : (store bytes after : List ℕ) (at need next : ℕ) (l : LengthField) (f g : Bool) → length bytes ≡ need → g ≡ f
+    → Written next ≡ roomOf (length store) at need l g → after ≡ laid store at bytes → putting (Written next) after ≡ placed store at l f bytes
+placed-written store bytes after at need next l f g n q e a =
+    ap (putting (Written next)) a ∙ placed-as store bytes at next l f (rw (n, ← q) e)
 
-pub placed-refused : (store bytes : List ℕ) (at need : ℕ) (f g : Bool) (r : Wrote) → OneOf (1 ∷ 2 ∷ []) (tagOf the-type r) → length bytes ≡ need → g ≡ f
-    → r ≡ roomOf (length store) at need g → putting r store ≡ placed store at f bytes
+pub placed-refused : (store bytes : List ℕ) (at need : ℕ) (l : LengthField) (f g : Bool) (r : Wrote)
+    → OneOf (1 ∷ 2 ∷ 3 ∷ []) (tagOf the-type r) → length bytes ≡ need → g ≡ f → r ≡ roomOf (length store) at need l g
+    → putting r store ≡ placed store at l f bytes
 unfolding placed roomOf
-placed-refused store bytes at need f g r k n q e = refused-by store bytes at (ltb (length store) (at + length bytes)) f r k (rw (n, ← q) e)
+placed-refused store bytes at need l f g r k n q e = refused-by store bytes at l (ltb (length store) (at + length bytes)) f r k (rw (n, ← q) e)
 
 -- one byte behind what was laid
 pub set-more : (d l : List ℕ) (at next x : ℕ) → at + length l ≡ next → next < length d → set (laid d at l) next x ≡ laid d at (l ++ (x ∷ []))

@@ -13,6 +13,7 @@ pub mod SameBytes
 pub mod TextForms
 pub mod TextStore
 pub mod CanonicalLaws
+pub mod Rewriting
 pub mod HeaderRows
 pub mod LowBits
 pub mod Laid

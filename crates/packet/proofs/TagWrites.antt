@@ -15,8 +15,9 @@ use Rattle.packet.specs.declared.tlv.TagAt.{TagAt}
 use Rattle.packet.specs.declared.tlv.TagAt.the-variants.{At, Bad, End}
 use Rattle.packet.specs.declared.tlv.Found.{Found}
 use Rattle.packet.specs.declared.tlv.Found.the-variants as found
-use Rattle.packet.specs.declared.tlv.Wrote.the-variants.{Written, TooLong, Short}
-use Rattle.packet.specs.Tags.{Tag, Tags, unreadable, tagList, push, tagsBy, tags, tagAt, counts, lastFrom, lastIn, lastUnder, bytesAt, lastBytes, lastOf, writeTag, writeTags, Putting, putting, putTag}
+use Rattle.packet.specs.declared.tlv.Wrote.the-variants.{Written, BadValue, Short}
+use Rattle.packet.specs.Tags.{Tag, Tags, unreadable, tagList, push, tagsBy, tags, tagAt, counts, lastFrom, lastIn, lastUnder, bytesAt, lastBytes, lastOf, writeTag, writeTags, putTag}
+use Rattle.packet.specs.Placed.{Putting, putting, numbered, laid, placed}
 use Rattle.packet.proofs.TagLaws.{by-cursor, tags-end, tags-cons}
 
 -- ---- there and back
@@ -172,31 +173,32 @@ pub record Done (store v : List ℕ) (at t n : ℕ) (after : List ℕ) : Type 0 
   pub stored : after ≡ paste store at (writeTag (record { tag = t; value = v })) (suc (suc (length v)))
 
 done-by : (store v : List ℕ) (at t n : ℕ) (after : List ℕ) (x y : Bool)
-    → ltb 255 (length v) ≡ x → ltb (length store) (at + 2 + length v) ≡ y
-    → pick x (putting TooLong store)
-    (pick y (putting Short store)
-    (putting (Written (at + 2 + length v)) (paste store at (writeTag (record { tag = t; value = v })) (suc (suc (length v))))))
+    → ltb (length store) (at + suc (suc (length v))) ≡ x → ltb 255 (length v) ≡ y
+    → pick x (numbered 10 Short store)
+    (pick y (numbered 8 BadValue store)
+    (numbered 0 (Written (at + suc (suc (length v)))) (laid store at (writeTag (record { tag = t; value = v })))))
     ≡ putting (Written n) after → Done store v at t n after
 done-by store v at t n after true y p q e =
-    let z : TooLong ≡ Written n = ap (λ (x : Putting). x .answer) e in
-    let w : _≡_ {A = ℕ} 0 1 = cc in absurd (omega arith)
-done-by store v at t n after false true p q e =
     let z : Short ≡ Written n = ap (λ (x : Putting). x .answer) e in
     let w : _≡_ {A = ℕ} 0 1 = cc in absurd (omega arith)
+done-by store v at t n after false true p q e =
+    let z : BadValue ≡ Written n = ap (λ (x : Putting). x .answer) e in
+    let w : _≡_ {A = ℕ} 0 1 = cc in absurd (omega arith)
 done-by store v at t n after false false p q e =
-    let z : Written (at + 2 + length v) ≡ Written n = ap (λ (x : Putting). x .answer) e in
-    let m : at + 2 + length v ≡ n = cc in
-    let h : at + 2 + length v ≤ length store = ltb-false (length store) (at + 2 + length v) q in
+    let z : Written (at + suc (suc (length v))) ≡ Written n = ap (λ (x : Putting). x .answer) e in
+    let m : at + suc (suc (length v)) ≡ n = cc in
+    let h : at + suc (suc (length v)) ≤ length store = ltb-false (length store) (at + suc (suc (length v))) p in
     record {
-      small = ltb-false 255 (length v) p;
-      next = sym m;
+      small = ltb-false 255 (length v) q;
+      next = omega arith;
       fits = omega arith;
       stored = sym (ap (λ (x : Putting). x .store) e);
     }
 
 pub done : (store v : List ℕ) (at t n : ℕ) (after : List ℕ) → putTag store at t v ≡ putting (Written n) after → Done store v at t n after
-unfolding putTag
-done store v at t n after e = done-by store v at t n after (ltb 255 (length v)) (ltb (length store) (at + 2 + length v)) refl refl e
+unfolding putTag placed
+done store v at t n after e =
+    done-by store v at t n after (ltb (length store) (at + suc (suc (length v)))) (ltb 255 (length v)) refl refl e
 
 -- after tags written up to a place, a tag written there is one more of them
 pub put-appends : (store v : List ℕ) (at t n : ℕ) (after : List ℕ) (ts : List Tag)

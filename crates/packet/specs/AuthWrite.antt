@@ -9,9 +9,10 @@ use lib.Dec.{ltb}
 use Rattle.digest.specs.Md5.{octets16}
 use Rattle.digest.specs.declared.md5.Octets16.{Octets16}
 use Rattle.packet.specs.Limits.{maxTagValue}
-use Rattle.packet.specs.Tags.{writeTags, Putting}
+use Rattle.packet.specs.declared.store.LengthField.the-variants.{OneByte}
+use Rattle.packet.specs.Tags.{writeTags}
 use Rattle.packet.specs.Auth.{challengeTags, responseTags}
-use Rattle.packet.specs.Placed.{placed}
+use Rattle.packet.specs.Placed.{Putting, placed}
 
 -- What is there if a flag says so.
 abbrev pub given : Bool → List ℕ → Option (List ℕ)
@@ -26,8 +27,8 @@ overlong (some v) = ltb maxTagValue (length v)
 
 -- A challenge's tag list goes to `at` of the store: nonce, options, and the realm with its charset in front.
 unfoldable pub writeChallenge : List ℕ → ℕ → Octets16 → ℕ → Option (List ℕ) → Putting
-writeChallenge store at nonce options realm = placed store at (overlong realm) (writeTags (challengeTags (octets16 nonce) options realm))
+writeChallenge store at nonce options realm = placed store at OneByte (overlong realm) (writeTags (challengeTags (octets16 nonce) options realm))
 
 -- A response's tag list goes to `at` of the store: digest, the user id if there is one, and the nonce.
 unfoldable pub writeDigestResponse : List ℕ → ℕ → Octets16 → Option (List ℕ) → List ℕ → Putting
-writeDigestResponse store at nonce user password = placed store at (overlong user) (writeTags (responseTags (octets16 nonce) user password))
+writeDigestResponse store at nonce user password = placed store at OneByte (overlong user) (writeTags (responseTags (octets16 nonce) user password))

@@ -6,7 +6,6 @@ use Prim.Native.Nat.{ℕ, _+_}
 use lib.Dec.{ltb}
 use lib.ListN.{length}
 use lib.Seq.{sets}
-use Rattle.base.specs.Pick.{pick}
 use Rattle.base.specs.Bytes.{bytes16}
 use Rattle.text.specs.Unicode.{lossy}
 use Rattle.text.specs.Text.{asciiText}
@@ -15,10 +14,10 @@ use Rattle.packet.specs.declared.header.HeaderEncoding.the-variants.{Uni
 use Rattle.packet.specs.declared.header.TextForm.{TextForm}
 use Rattle.packet.specs.declared.header.TextForm.the-variants.{Wide, Ended, Bare}
 use Rattle.packet.specs.declared.tlv.Wrote.{Wrote}
-use Rattle.packet.specs.declared.tlv.Wrote.the-variants.{Written, TooLong, Short}
+use Rattle.packet.specs.declared.tlv.Wrote.the-variants.{Written, TooLong, BadValue, Short}
+use Rattle.packet.specs.declared.store.LengthField.the-variants.{TwoBytes}
 use Rattle.packet.specs.Limits.{maxPacket}
-use Rattle.packet.specs.Tags.{Putting, putting}
-use Rattle.packet.specs.Placed.{laid}
+use Rattle.packet.specs.Placed.{Putting, putting, placed, roomOf}
 use Rattle.packet.specs.Canonical.{terminated16}
 use Rattle.packet.specs.Header.{Header, encodingOf, leadOf, bytesOf}
 
@@ -29,26 +28,15 @@ tooLong Bytes n = ltb maxPacket (3 + n)
 tooLong U8 n = false
 tooLong U32 n = false
 
--- The header `h` goes to `at` of the store. Its bytes follow the encoding of its id, whatever the value is. A length over the field is told
--- before a store that is too short.
+-- The header `h` goes to `at` of the store. Its bytes follow the encoding of its id, whatever the value is.
 unfoldable pub putHeader : List ℕ → ℕ → Header → Putting
-putHeader store at h =
-    let bytes = bytesOf h in
-    pick (tooLong (encodingOf (h .id)) (length (h .value))) (putting TooLong store)
-    (pick (ltb (length store) (at + length bytes)) (putting Short store)
-    (putting (Written (at + length bytes)) (laid store at bytes)))
-
--- The number of an answer: 7, a header over 65,535 bytes; 10, a store too short; none (0) if the header was written.
-abbrev pub putNumber : Wrote → ℕ
-putNumber (Written n) = 0
-putNumber TooLong = 7
-putNumber Short = 10
+putHeader store at h = placed store at TwoBytes (tooLong (encodingOf (h .id)) (length (h .value))) (bytesOf h)
 
 -- ---- the parts of the writer
 
 -- The answer by numbers alone: the encoding, the store's length, the place, and the value's length.
 unfoldable pub roomFor : HeaderEncoding → ℕ → ℕ → ℕ → Wrote
-roomFor e len at n = pick (tooLong e n) TooLong (pick (ltb len (at + leadOf e + n)) Short (Written (at + leadOf e + n)))
+roomFor e len at n = roomOf len at (leadOf e + n) TwoBytes (tooLong e n)
 
 -- What stands before a value of `n` bytes: the id, and the length field if there is one.
 abbrev pub leadBytes : HeaderEncoding → ℕ → ℕ → List ℕ
@@ -65,6 +53,7 @@ header id v = record { id = id; value = v }
 abbrev pub startBy : Wrote → List ℕ → ℕ → List ℕ → Putting
 startBy (Written end) d at lead = putting (Written end) (sets d at lead)
 startBy TooLong d at lead = putting TooLong d
+startBy BadValue d at lead = putting BadValue d
 startBy Short d at lead = putting Short d
 
 -- Room is made at `at` for a header with a value of `n` bytes, and what stands before the value is written.

@@ -12,6 +12,7 @@ pub mod HeaderList
 pub mod Packet
 pub mod Auth
 pub mod Canonical
+pub mod Rewriting
 pub mod HeaderWriter
 pub mod Flags
 pub mod AuthRead

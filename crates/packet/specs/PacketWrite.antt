@@ -15,9 +15,9 @@ use Rattle.packet.specs.Limits.{maxPacket, minPacket, obexVersion}
 use Rattle.packet.specs.FirstByte.{byteOf}
 use Rattle.packet.specs.Codes.{sentCode}
 use Rattle.packet.specs.Flags.{flagBits}
-use Rattle.packet.specs.Tags.{Putting}
+use Rattle.packet.specs.declared.store.LengthField.the-variants.{TwoBytes}
 use Rattle.packet.specs.Packet.{packetBytes}
-use Rattle.packet.specs.Placed.{placed}
+use Rattle.packet.specs.Placed.{Putting, placed}
 
 -- Connect's four bytes: version, flags and limit; by default version 1.0, no flags, and the smallest limit.
 abbrev pub connectBytes : Fields → List ℕ
@@ -54,7 +54,7 @@ parameterBytes (Parameters v f m) = v ∷ f ∷ bytes16 m
 
 -- A packet goes to the front of the store. A store that is too short (10) is told before a packet over 65,535 bytes (7).
 unfoldable pub writePacket : List ℕ → List ℕ → Putting
-writePacket store packet = placed store 0 (ltb maxPacket (length packet)) packet
+writePacket store packet = placed store 0 TwoBytes (ltb maxPacket (length packet)) packet
 
 -- A request goes to the front of the store.
 abbrev pub writeRequest : List ℕ → Opcode → Bool → Fields → List ℕ → Putting

@@ -6,15 +6,14 @@ use mathlib.Core.Option.{Option, none, some}
 use Prim.Native.Nat.{ℕ, zero, suc, _+_, _-_}
 use lib.Dec.{eqb, ltb, leb}
 use lib.ListN.{length, getD, take, drop}
-use lib.Seq.{paste}
 use Rattle.base.specs.Pick.{pick}
 use Rattle.packet.specs.Limits.{maxTagValue}
 use Rattle.packet.specs.declared.tlv.TagAt.{TagAt}
 use Rattle.packet.specs.declared.tlv.TagAt.the-variants as at-a-place
 use Rattle.packet.specs.declared.tlv.Found.{Found}
 use Rattle.packet.specs.declared.tlv.Found.the-variants as found
-use Rattle.packet.specs.declared.tlv.Wrote.{Wrote}
-use Rattle.packet.specs.declared.tlv.Wrote.the-variants.{Written, TooLong, Short}
+use Rattle.packet.specs.declared.store.LengthField.the-variants.{OneByte}
+use Rattle.packet.specs.Placed.{Putting, placed}
 
 -- ---- the list that a payload is
 
@@ -120,19 +119,6 @@ unfoldable pub writeTags : List Tag → List ℕ
 writeTags [] = []
 writeTags (t ∷ ts) = writeTag t ++ writeTags ts
 
--- A writer's answer, and the store afterwards.
-pub record Putting : Type 0 where
-  pub answer : Wrote
-  pub store : List ℕ
-
--- Makes a `Putting`.
-abbrev pub putting : Wrote → List ℕ → Putting
-putting r s = record { answer = r; store = s }
-
--- A tag goes to `at` of the store. A length is one byte; a tag that is refused leaves the store as it was.
+-- A tag goes to `at` of the store. Its length is one byte.
 unfoldable pub putTag : List ℕ → ℕ → ℕ → List ℕ → Putting
-putTag store at t v =
-    let bytes = writeTag (record { tag = t; value = v }) in
-    pick (ltb maxTagValue (length v)) (putting TooLong store)
-    (pick (ltb (length store) (at + 2 + length v)) (putting Short store)
-    (putting (Written (at + 2 + length v)) (paste store at bytes (length bytes))))
+putTag store at t v = placed store at OneByte (ltb maxTagValue (length v)) (writeTag (record { tag = t; value = v }))

@@ -10,14 +10,15 @@ ghost use lib.Dec.{ltb};
 ghost use Rattle.base.specs.Pick.{pick};
 ghost use Rattle.digest.specs.Md5.{octets16};
 ghost use Rattle.packet.specs.Limits.{maxTagValue};
-ghost use Rattle.packet.specs.Tags.{tags, lastValue, writeTags, putting};
+ghost use Rattle.packet.specs.Tags.{tags, lastValue, writeTags};
 ghost use Rattle.packet.specs.Auth.{realmPlace, same, answers, realmTag, userTag, challengeTags, answerTags};
-ghost use Rattle.packet.specs.Placed.{laid};
+ghost use Rattle.packet.specs.Placed.{laid, putting};
 ghost use Rattle.packet.specs.Flags.{flagBits};
 ghost use Rattle.packet.specs.AuthWrite.{given, overlong, writeChallenge, writeDigestResponse};
 ghost use Rattle.packet.specs.AuthRead.{bytesNamed, sixteenOr, sixteenIn, sixteenAt, tagZero, optionsAt, readResponse, readChallenge, isFilled, verifies};
 use crate::flags::flag_bits;
 use crate::limits::MAX_TAG_VALUE;
+use crate::store::LengthField;
 use crate::store::room;
 use crate::tlv::Found;
 use crate::tlv::TagAt;
@@ -336,7 +337,7 @@ pub fn write_challenge(
 {
     let n = value.len() + 1;
     let need = 21 + tag_len(has_realm, n);
-    let answer = room(store.len(), at, need, is_long(has_realm, n));
+    let answer = room(store.len(), at, need, LengthField::OneByte, is_long(has_realm, n));
     let Wrote::Written(next) = answer else {
         return answer;
     };
@@ -386,7 +387,13 @@ pub fn respond(
         ≡ writeDigestResponse (now (store .entry)) at nonce (given «has_user» (now (user .entry))) (now (password .entry)) ⌝ }
 {
     let need = 36 + tag_len(has_user, user.len());
-    let answer = room(store.len(), at, need, is_long(has_user, user.len()));
+    let answer = room(
+        store.len(),
+        at,
+        need,
+        LengthField::OneByte,
+        is_long(has_user, user.len()),
+    );
     let Wrote::Written(next) = answer else {
         return answer;
     };

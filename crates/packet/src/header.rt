@@ -15,8 +15,7 @@ ghost use Rattle.packet.specs.Header.{encodingOf, leadOf, sizeAt, tagged
 ghost use Rattle.packet.specs.HeaderIds as header-id;
 ghost use Rattle.packet.specs.HeaderList.{readableFrom};
 ghost use Rattle.packet.specs.HeaderWriter.{tooLong, putHeader, roomFor, leadBytes, header, startHeader, textValue};
-ghost use Rattle.packet.specs.Placed.{laid};
-ghost use Rattle.packet.specs.Tags.{putting};
+ghost use Rattle.packet.specs.Placed.{laid, putting};
 use crate::action::is_action;
 use crate::header_id::ACTION_ID;
 use crate::header_id::APPLICATION_PARAMETERS;
@@ -292,13 +291,11 @@ fn is_too_long(e: HeaderEncoding, n: usize) -> bool
     }
 }
 
-// Tells whether a header with a value of `n` bytes fits at `at` of a store of `len` bytes, and where it ends.
+// Tells whether a header with a value of `n` bytes fits at `at` of a store of `len` bytes, and where it ends. A store that is too short is
+// told before a header that is too long.
 fn room(e: HeaderEncoding, len: usize, at: usize, n: usize) -> Wrote
     ensures { λ r. ⌜ r ≡ roomFor e len at n ⌝ }
 {
-    if is_too_long(e, n) {
-        return Wrote::TooLong;
-    }
     if len < at {
         return Wrote::Short;
     }
@@ -308,6 +305,9 @@ fn room(e: HeaderEncoding, len: usize, at: usize, n: usize) -> Wrote
     }
     if len - at - first < n {
         return Wrote::Short;
+    }
+    if is_too_long(e, n) {
+        return Wrote::TooLong;
     }
     Wrote::Written(at + first + n)
 }

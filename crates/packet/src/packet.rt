@@ -5,8 +5,7 @@ ghost use mathlib.Core.List.{_∷_};
 ghost use Prim.Native.Nat.{_+_, _≤_, _<_};
 ghost use lib.ListN.{length, getD, take};
 ghost use Rattle.base.specs.Bytes.{bytes16};
-ghost use Rattle.packet.specs.Tags.{putting};
-ghost use Rattle.packet.specs.Placed.{laid};
+ghost use Rattle.packet.specs.Placed.{laid, putting};
 ghost use Rattle.packet.specs.Packet.{fieldsOf, prefixOf, connectLimit, packetBytes};
 ghost use Rattle.packet.specs.PacketWrite.{connectBytes, setPathByte, fieldBytes, filled4, parameterBytes, writePacket, writeRequest, writeResponse};
 ghost use Rattle.packet.specs.PacketRead.{packetHead, packetLength, parsePacket, parseFront, flagsOf};
@@ -19,6 +18,7 @@ use crate::opcode::Opcode;
 use crate::opcode::from_byte;
 use crate::opcode::to_byte;
 use crate::response;
+use crate::store::LengthField;
 use crate::store::room;
 use crate::tlv::Wrote;
 use base::be16_at;
@@ -256,7 +256,7 @@ fn write_packet(store: &mut [u8], byte: u8, fields: [u8; 4], n: usize, headers: 
         ≡ writePacket (now (store .entry)) (packetBytes byte (take n fields) (now (headers .entry))) ⌝ }
 {
     let need = PACKET_PREFIX_LENGTH + n + headers.len();
-    let answer = room(store.len(), 0, need, MAX_PACKET < need);
+    let answer = room(store.len(), 0, need, LengthField::TwoBytes, MAX_PACKET < need);
     let Wrote::Written(next) = answer else {
         return answer;
     };

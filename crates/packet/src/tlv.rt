@@ -2,8 +2,11 @@
 // Session Parameters carry a sequence of tag, length and value. The reader is a cursor: it takes a slice and a place and returns an enum.
 // The writer appends one tag to a lent store.
 ghost use mathlib.Core.Path.{_≡_};
-ghost use Rattle.packet.specs.Tags.{tagAt, isTagList, counts, lastUnder, lastValue, putTag, putting};
+ghost use Rattle.packet.specs.Tags.{tagAt, isTagList, counts, lastUnder, lastValue, putTag};
+ghost use Rattle.packet.specs.Placed.{putting};
 use crate::limits::MAX_TAG_VALUE;
+use crate::store::LengthField;
+use crate::store::room;
 use base::copy_into;
 use base::wide;
 
@@ -23,13 +26,15 @@ pub enum Found {
     Missing,
 }
 
-// What became of bytes that were to be written.
+// What became of bytes that were to be written. Each case has its number in `wroteNumber` (specs/Placed).
 pub enum Wrote {
     // The bytes were written, and end at this place.
     Written(usize),
-    // A length field cannot say how long the value is: one byte says at most 255, two say 65,535.
+    // 7: a header or a packet is longer than the two bytes of its length field can say.
     TooLong,
-    // The store is too short.
+    // 8: a value is longer than the one byte of a tag's length can say.
+    BadValue,
+    // 10: the store is too short. This is told before the two above.
     Short,
 }
 
@@ -132,17 +137,12 @@ pub fn put_tag(store: &mut [u8], at: usize, tag: u8, value: &[u8]) -> Wrote
     ensures { λ r. ⌜ putting r (now (store .exit)) ≡ putTag (now (store .entry)) at tag (now (value .entry)) ⌝ }
 {
     let n = value.len();
-    if MAX_TAG_VALUE < n {
-        return Wrote::TooLong;
-    }
-    if store.len() < at {
-        return Wrote::Short;
-    }
-    if store.len() - at < n + 2 {
-        return Wrote::Short;
-    }
+    let answer = room(store.len(), at, 2 + n, LengthField::OneByte, MAX_TAG_VALUE < n);
+    let Wrote::Written(next) = answer else {
+        return answer;
+    };
     store[at] = tag;
     store[at + 1] = n as u8;
     copy_into(store, at + 2, value);
-    Wrote::Written(at + 2 + n)
+    Wrote::Written(next)
 }

@@ -38,20 +38,25 @@ encoded Utf16 c = utf16 c
 unfoldable pub recoded : Form → Form → List ℕ → List ℕ
 recoded from to s = joined (encoded to) (codes (piecesOf from s))
 
--- A writer's answer, and the store afterwards.
-pub record Stored : Type 0 where
-  pub answer : Decoded
-  pub store : List ℕ
-
--- Makes a `Stored`.
-abbrev pub stored : Decoded → List ℕ → Stored
-stored a d = record { answer = a; store = d }
-
--- The text `t` goes to the front of the store `d`; if `d` is too short, nothing changes.
-unfoldable pub storeText : List ℕ → List ℕ → Stored
-storeText t d = pick (ltb (length d) (length t)) (stored Short d) (stored (Written (length t)) (t ++ drop (length t) d))
-
 -- The number of an answer: 10, the store is too short; none (0) if the text was written.
 abbrev pub decodedNumber : Decoded → ℕ
 decodedNumber (Written n) = 0
 decodedNumber Short = 10
+
+-- A writer's answer, its number, and the store afterwards.
+pub record Stored : Type 0 where
+  pub answer : Decoded
+  pub number : ℕ
+  pub store : List ℕ
+
+-- What a writer promises, by its answer `a` and the store `d` afterwards.
+abbrev pub stored : Decoded → List ℕ → Stored
+stored a d = record { answer = a; number = decodedNumber a; store = d }
+
+-- What the definition says: the answer `a` with the number `n`, and the store `d`.
+abbrev pub numbered : ℕ → Decoded → List ℕ → Stored
+numbered n a d = record { answer = a; number = n; store = d }
+
+-- The text `t` goes to the front of the store `d`; if `d` is too short, nothing changes.
+unfoldable pub storeText : List ℕ → List ℕ → Stored
+storeText t d = pick (ltb (length d) (length t)) (numbered 10 Short d) (numbered 0 (Written (length t)) (t ++ drop (length t) d))

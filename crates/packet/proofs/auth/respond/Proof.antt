@@ -7,6 +7,7 @@ use mathlib.Core.List.{List}
 use lib.ListN.{length}
 use Rattle.digest.specs.Md5.{octets16, requestDigest}
 use Rattle.digest.proofs.Octets.{length-octets16}
+use Rattle.packet.specs.declared.store.LengthField.the-variants.{OneByte}
 use Rattle.packet.specs.Tags.{writeTags}
 use Rattle.packet.specs.Auth.{answerTags, responseTags}
 use Rattle.packet.specs.Placed.{laid}
@@ -55,7 +56,8 @@ returns c =
     let l = r .before in
     let x = l .before .before .before .before .before .args in
     let user = given (x .has-user) (x .user .now) in
-    placed-refused (x .store .now) (writeTags (responseTags (octets16 (x .nonce)) user (x .password .now))) (x .at) _ (overlong user) _ _ (c .match .keys2)
+    placed-refused (x .store .now) (writeTags (responseTags (octets16 (x .nonce)) user (x .password .now))) (x .at) _ OneByte (overlong user) _ _
+    (c .match .keys2)
     (size (l .before) _ (length-request (octets16 (x .nonce)) (x .password .now))) (long l) (r .room .ensures)
 
 request-digest-requires : tie.Need-request-digest-requires
@@ -66,7 +68,7 @@ put-response-requires c κs =
     let r = c .before .before .before .before .before in
     let l = r .before in
     let d = c .before .request-digest .result in
-    let g = granted _ _ _ _ _ (sym (c .before .before .before .answer .given .1) ∙ r .room .ensures) in
+    let g = granted _ _ _ _ _ _ (sym (c .before .before .before .answer .given .1) ∙ r .room .ensures) in
     (sym (long l) ∙ g .allowed, omega (arith, size (l .before) (octets16 d) (length-octets16 d), g .fits))
 
 same-length : tie.Need-same-length
@@ -82,7 +84,7 @@ returns-2 c =
     let x = l .before .before .before .before .before .args in
     let user = given (x .has-user) (x .user .now) in
     let digest = requestDigest (octets16 (x .nonce)) (x .password .now) in
-    placed-written (x .store .now) (writeTags (responseTags (octets16 (x .nonce)) user (x .password .now))) _ (x .at) _ _ (overlong user) _
+    placed-written (x .store .now) (writeTags (responseTags (octets16 (x .nonce)) user (x .password .now))) _ (x .at) _ _ OneByte (overlong user) _
     (size (l .before) digest (length-request (octets16 (x .nonce)) (x .password .now))) (long l)
     (sym (a .answer .given .1) ∙ r .room .ensures)
     (c .before .before .put-response .ensures

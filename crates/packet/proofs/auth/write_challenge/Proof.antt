@@ -7,6 +7,7 @@ use mathlib.Core.List.{_∷_}
 use lib.ListN.{length}
 use Rattle.digest.specs.Md5.{octets16}
 use Rattle.digest.proofs.Octets.{length-octets16}
+use Rattle.packet.specs.declared.store.LengthField.the-variants.{OneByte}
 use Rattle.packet.specs.Tags.{writeTags}
 use Rattle.packet.specs.Auth.{challengeTags}
 use Rattle.packet.specs.Placed.{laid}
@@ -59,7 +60,8 @@ returns c =
     let x = l .before .before .before .before .args in
     let bits = flagBits (x .user-id-required) (x .read-only) in
     let realm = given (x .has-realm) (x .charset ∷ x .value .now) in
-    placed-refused (x .store .now) (writeTags (challengeTags (octets16 (x .nonce)) bits realm)) (x .at) _ (overlong realm) _ _ (c .match .keys2)
+    placed-refused (x .store .now) (writeTags (challengeTags (octets16 (x .nonce)) bits realm)) (x .at) _ OneByte (overlong realm) _ _
+    (c .match .keys2)
     (size (l .before) bits) (long l) (r .room .ensures)
 
 flag-bits-requires : tie.Need-flag-bits-requires
@@ -69,7 +71,7 @@ put-challenge-requires : tie.Need-put-challenge-requires
 put-challenge-requires c κs =
     let r = c .before .before .before .before .before in
     let l = r .before in
-    let g = granted _ _ _ _ _ (sym (c .before .before .before .answer .given .1) ∙ r .room .ensures) in
+    let g = granted _ _ _ _ _ _ (sym (c .before .before .before .answer .given .1) ∙ r .room .ensures) in
     (sym (long l) ∙ g .allowed, omega (arith, size (l .before) (c .before .flag-bits .result), g .fits))
 
 same-length : tie.Need-same-length
@@ -85,7 +87,8 @@ returns-2 c =
     let x = l .before .before .before .before .args in
     let bits = flagBits (x .user-id-required) (x .read-only) in
     let realm = given (x .has-realm) (x .charset ∷ x .value .now) in
-    placed-written (x .store .now) (writeTags (challengeTags (octets16 (x .nonce)) bits realm)) _ (x .at) _ _ (overlong realm) _ (size (l .before) bits) (long l)
+    placed-written (x .store .now) (writeTags (challengeTags (octets16 (x .nonce)) bits realm)) _ (x .at) _ _ OneByte (overlong realm) _
+    (size (l .before) bits) (long l)
     (sym (a .answer .given .1) ∙ r .room .ensures)
     (c .before .before .put-challenge .ensures
     ∙ ap (λ (n : ℕ). laid (x .store .now) (x .at) (writeTags (challengeTags (octets16 (x .nonce)) n realm))) (o .flag-bits .ensures))

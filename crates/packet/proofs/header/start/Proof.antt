@@ -5,7 +5,7 @@ use lib.ListN.{length}
 use lib.Seq.{sets}
 use Rattle.packet.specs.declared.header.HeaderEncoding.{HeaderEncoding}
 use Rattle.packet.specs.declared.tlv.Wrote.the-variants.{Written}
-use Rattle.packet.specs.Tags.{putting}
+use Rattle.packet.specs.Placed.{putting}
 use Rattle.packet.specs.Header.{encodingOf}
 use Rattle.packet.specs.HeaderWriter.{roomFor, leadBytes, startHeader}
 use Rattle.packet.proofs.HeaderStore.{room-written, refused-start}

@@ -7,6 +7,7 @@ use mathlib.Core.Path.{_≡_, _∙_, sym, ap}
 use lib.ListN.{length, take}
 use lib.Seq.{length-take-le}
 use lib.Dec.{ltb}
+use Rattle.packet.specs.declared.store.LengthField.the-variants.{TwoBytes}
 use Rattle.packet.specs.Packet.{packetBytes}
 use Rattle.packet.specs.PacketWrite.{writePacket}
 use Rattle.packet.proofs.Laid.{granted, placed-written, placed-refused}
@@ -43,7 +44,7 @@ returns c =
     let k = c .before in
     let x = k .before .before .before .args in
     let p = packetBytes (x .byte) (take (x .n) (x .t3)) (x .headers .now) in
-    placed-refused (x .store .now) p 0 _ (ltb 65535 (length p)) _ _ (c .match .keys2) (size k) (sym (ap (ltb 65535) (size k))) (k .room .ensures)
+    placed-refused (x .store .now) p 0 _ TwoBytes (ltb 65535 (length p)) _ _ (c .match .keys2) (size k) (sym (ap (ltb 65535) (size k))) (k .room .ensures)
 
 array-share-prefix-fields : tie.Need-array-share-prefix-fields
 array-share-prefix-fields c = search needs
@@ -56,7 +57,7 @@ put-packet-requires c κs =
     let k = c .before .before .before .before .before in
     let x = k .before .before .before .args in
     let need = 3 + x .n + length (x .headers .now) in
-    let g = granted (length (x .store .now)) 0 need _ (ltb 65535 need) (sym (c .before .before .before .answer .given .1) ∙ k .room .ensures) in
+    let g = granted (length (x .store .now)) 0 need _ TwoBytes (ltb 65535 need) (sym (c .before .before .before .answer .given .1) ∙ k .room .ensures) in
     (omega (arith, g .fits, taken k), omega (arith, ltb-false 65535 need (g .allowed), taken k))
 
 same-length : tie.Need-same-length
@@ -69,7 +70,7 @@ returns-2 c =
     let k = a .before .before in
     let x = k .before .before .before .args in
     let p = packetBytes (x .byte) (take (x .n) (x .t3)) (x .headers .now) in
-    placed-written (x .store .now) p _ 0 _ _ (ltb 65535 (length p)) _ (size k) (sym (ap (ltb 65535) (size k)))
+    placed-written (x .store .now) p _ 0 _ _ TwoBytes (ltb 65535 (length p)) _ (size k) (sym (ap (ltb 65535) (size k)))
     (sym (a .answer .given .1) ∙ k .room .ensures) (c .before .before .put-packet .ensures)
 
 pub write-packet-spec : {M : Type 1} → statement M
