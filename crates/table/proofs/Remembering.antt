@@ -162,8 +162,22 @@ remembered-more x n t l r = go (ltb n 32) refl
         ∙ ap (λ (z : List Octets16). x ∷ z) (sym (take-joined 31 (take n (drop 64 t)) (take n (drop 96 t))
         ∙ ap₂ joined (take-take 31 n (drop 64 t) (omega arith)) (take-take 31 n (drop 96 t) (omega arith))))
 
--- the nonces depend on what stands from place 64 on
-pub remembered-same : (n : ℕ) (t u : List ℕ) → drop 64 t ≡ drop 64 u → remembered n t ≡ remembered n u
+-- a count of 32 at most stays one
+pub counted-few : (n : ℕ) → n ≤ 32 → counted n ≤ 32
+unfolding counted
+counted-few n l = go (ltb n 32) refl
+  where
+    go : (b : Bool) → ltb n 32 ≡ b → pick b (n + 1) n ≤ 32
+    go true e = let k : n < 32 = ltb-true _ _ e in omega arith
+    go false e = l
+
+-- ---- two stores that remember the same
+
+abbrev pub SameNonces : List ℕ → List ℕ → Type 0
+SameNonces t u = (n : ℕ) → n ≤ 32 → remembered n t ≡ remembered n u
+
+-- they do if they differ in front of place 64 alone
+pub same-behind : (t u : List ℕ) → drop 64 t ≡ drop 64 u → SameNonces t u
 unfolding remembered
-remembered-same n t u e =
+same-behind t u e n l =
     ap₂ (λ (a b : List ℕ). joined (take n a) (take n b)) e (sym (drop-drop 32 64 t) ∙ ap (drop 32) e ∙ drop-drop 32 64 u)
