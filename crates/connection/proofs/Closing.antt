@@ -84,7 +84,7 @@ module _ (ids₀ : List ℕ) (x i : ℕ) (ids : List ℕ) (kept : ℕ) (h : i < 
 
 abbrev withCount : Peer → ℕ → Peer
 withCount p n =
-    peerWith n (p .«next_connection_id») (p .«remote_max_packet_length») (p .«srm_enabled») (p .authenticated) (p .challenge) (p .window)
+    peerWith n (p .«next_connection_id») (p .«remote_max_packet_length») (p .«srm_enabled») (p .authenticated) (p .challenge) (p .window) (p .nonces)
 
 module _ (p : Peer) (t : List ℕ) where
   left-none : (l : List ℕ) → length l ≡ 0 → clearedPeer p ≡ leftPeer p l

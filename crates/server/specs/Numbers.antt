@@ -1,4 +1,4 @@
--- The numbers of ends and refusals (docs/PROTOCOL.md#ends, #refusals): 1 to 7 end the engine, 8 to 10 refuse a call.
+-- The numbers of ends and refusals (docs/PROTOCOL.md#ends, #refusals): 1 to 7 end the engine, 8 to 10 and 15 refuse a call.
 use Prim.Native.Nat.{ℕ}
 use Rattle.server.specs.declared.End.{End}
 use Rattle.server.specs.declared.End.the-variants as end
@@ -18,3 +18,4 @@ abbrev pub refusalNumber : Refusal → ℕ
 refusalNumber refusal.BadAnswer = 8
 refusalNumber refusal.WrongMoment = 9
 refusalNumber refusal.StoreTooShort = 10
+refusalNumber refusal.NonceUsed = 15
