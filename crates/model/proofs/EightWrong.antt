@@ -143,7 +143,7 @@ run-counted st (y ∷ xs) w s j b r x k p =
     let f = fedTo st w s b y (r .0) in
     let both = kept-both (fedReads j f) (packets (journalStep j f .next) (feedFrom (told w (y .result .outcome)) (seen st (next s y) xs))) p in
     run-counted st xs (told w (y .result .outcome)) (next s y) (journalStep j f .next) (between-next st w s b y (r .0)) (r .1)
-    (a .journal j x (both .0) .after)
+    (a .journal j x .after)
     (step-ruled j k f (checks-few (lacks st (y .call) (s .stores) (s .tables)) w s j (b .waits) x (y .call) (getD (s .stores .reply) 0 0))) (both .1)
 
 -- the count is that of the history from the start, which keeps the rule

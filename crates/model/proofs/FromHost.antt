@@ -41,7 +41,7 @@ use Rattle.server.specs.declared.Engine.{Engine}
 use Rattle.outgoing.proofs.Sent.{body-sends}
 use Rattle.model.proofs.Fit.{and-left, and-right, or-left, or-right, room-headers, IsGetting, IsSending, IsConnecting, Shape, roomOf, waitsOf, Base, Seated, Fine, fine-code}
 use Rattle.model.proofs.Steps.{OutgoingFits, outgoing-within, sends-next-fine, sends-packet-fine, reply-fine, password-fine, nonce-fine, connect-sends-fine}
-use Rattle.model.proofs.Coupling.{KeptOpen, OpenedAt, Held, AskedBy, connects, Coupled, Told, ToldTabled, tabled-told-pick, told-code}
+use Rattle.model.proofs.Coupling.{KeptOpen, OpenedAt, Held, AskedBy, connects, Coupled, Told, told-follows, ToldTabled, tabled-told-pick, told-code}
 use Rattle.model.proofs.Sizes.{early, Brief, brief-done, packet-brief, next-brief, password-brief, sends-brief, sends-connect-brief, nonce-brief, LateIn, LateAt, Sized, brief-sized, sized-pick, connect-sized}
 use Rattle.model.proofs.Speaks.{ModeAt, Spoken, spoken-done, next-spoken, packet-spoken, speaks-spoken, reply-speaks, password-speaks, nonce-speaks, connect-sends-speaks}
 use Rattle.model.proofs.Gathers.{next-told, fails-told, sends-told as made-told}
@@ -87,7 +87,7 @@ module _ (w : Waits) (s : State) (h : Seated s) (k : w ≡ waitsOf (s .engine .a
       → SizedBy w s h k c (λ j late. Brief d) → SpokenBy w s h k c d
       → AgreeKept w s c (pick b (refused 8) goes) (checked b e st d)
   checked-agrees c true d f n g z a = agree-refused w s h k c refusal.BadAnswer
-  checked-agrees c false d f n g z a = agree-goes w s h k c 0 d (f refl) (λ j x. n j) (λ j x u. g refl j x) z a
+  checked-agrees c false d f n g z a = agree-goes w s h k c 0 d (f refl) (λ j x. n j) (λ j x. told-follows (g refl j x)) z a
 
   -- ---- a reply
 
@@ -176,7 +176,7 @@ module _ (w : Waits) (s : State) (h : Seated s) (k : w ≡ waitsOf (s .engine .a
         go r false i =
             let f = reply-fine e st (h .sits .base) ts (h .tables) code hs (reply-headers-fit code hs i) in
             agree-tabled w s h k (replyGiven code hs) (replyAnswer e code hs st ts .done) 0 (replyAnswer e code hs st ts .tables) (f .done) (f .tables)
-            (λ j x. none-taken (j .ended)) (λ j x u. reply-told r j x) (λ j late x y l. reply-sized r j x l)
+            (λ j x. none-taken (j .ended)) (λ j x. told-follows (reply-told r j x)) (λ j late x y l. reply-sized r j x l)
             (λ j o x y l. speaks-spoken _ o (reply-speaks e st code hs ts))
 
   -- ---- an object
@@ -243,9 +243,9 @@ module _ (w : Waits) (s : State) (h : Seated s) (k : w ≡ waitsOf (s .engine .a
         subst (λ (t : Bool). AgreeKept w s (bodyGiven d) (pick t goes (refused 9)) (after 0 (sendsPacket e srm wait (givenBody o c d (st .reply)) st))) (sym (le-leb (length d) (c .room) within))
         (agree-goes w s h k (bodyGiven d) 0 _ (sends-packet-fine e st (h .sits .base) o srm wait (givenBody o c d (st .reply)) (y .total) m)
         (λ j x. none-taken (j .ended))
-        (λ j x u. let l = body-held at j x in
-        entered (bodyGiven d) j _ (l .fixed .ended)
-        (made-told ts e st j (l .fixed) (l .begun) (body-open at j x) o srm wait (givenBody o c d (st .reply)) m))
+        (λ j x. let l = body-held at j x in
+        told-follows (entered (bodyGiven d) j _ (l .fixed .ended)
+        (made-told ts e st j (l .fixed) (l .begun) (body-open at j x) o srm wait (givenBody o c d (st .reply)) m)))
         (λ j late x y l. packet-brief e st srm wait (givenBody o c d (st .reply)))
         (λ j q x u l. let i : ModeAt (Sending o c srm wait) q = subst (λ (a : Operation). ModeAt a q) is u in
         packet-spoken e st srm wait (givenBody o c d (st .reply)) q (i .0) (i .1)))
@@ -271,8 +271,8 @@ module _ (w : Waits) (s : State) (h : Seated s) (k : w ≡ waitsOf (s .engine .a
       (λ r. let at = same-await (e .awaits) await.Body r in
       agree-goes w s h k bodyFailed 0 _ (fine-code e st (h .sits .base) (e .peer) 0x50 st (h .sits .base .peer) (h .sits .base .room))
       (λ j x. none-taken (j .ended))
-      (λ j x u. let l = body-held at j x in entered bodyFailed j _ (l .fixed .ended)
-      (fails-told ts e st j (l .fixed) (l .begun) (body-open at j x) (st .reply)))
+      (λ j x. let l = body-held at j x in told-follows (entered bodyFailed j _ (l .fixed .ended)
+      (fails-told ts e st j (l .fixed) (l .begun) (body-open at j x) (st .reply))))
       (λ j late x y l. brief-done e (e .peer) Nothing await.Taken 0 (e .length) _ _ refl refl)
       (λ j o x y l. spoken-done e (e .peer) Nothing await.Taken 0 (e .length) _ _ speaks o refl tt))
 
@@ -284,8 +284,8 @@ module _ (w : Waits) (s : State) (h : Seated s) (k : w ≡ waitsOf (s .engine .a
       agrees w s h k abortAcknowledged
       (λ r. agree-goes w s h k abortAcknowledged 0 _ (fine-code e st (h .sits .base) (e .peer) 0x20 st (h .sits .base .peer) (h .sits .base .room))
       (λ j x. none-taken (j .ended))
-      (λ j x u. let y = coupled-at w s h k await.Acknowledgement j (same-await (e .awaits) await.Acknowledgement r) x in
-      entered abortAcknowledged j _ (y .fixed .ended) (told-code ts e (e .peer) st j 0x20 y))
+      (λ j x. let y = coupled-at w s h k await.Acknowledgement j (same-await (e .awaits) await.Acknowledgement r) x in
+      told-follows (entered abortAcknowledged j _ (y .fixed .ended) (told-code ts e (e .peer) st j 0x20 y)))
       (λ j late x y l. brief-done e (e .peer) Nothing await.Taken 0 (e .length) _ _ refl refl)
       (λ j o x y l. spoken-done e (e .peer) Nothing await.Taken 0 (e .length) _ _ speaks o refl tt))
 
@@ -295,8 +295,8 @@ module _ (w : Waits) (s : State) (h : Seated s) (k : w ≡ waitsOf (s .engine .a
       agrees w s h k (passwordGiven p)
       (λ r. agree-goes w s h k (passwordGiven p) 0 _ (password-fine e st (h .sits .base) p)
       (λ j x. none-taken (j .ended))
-      (λ j x u. let y = coupled-at w s h k await.Password j (same-await (e .awaits) await.Password r) x in
-      entered (passwordGiven p) j _ (y .0 .held .fixed .ended) (password-told ts e st j op.Connect (y .0) refl p))
+      (λ j x. let y = coupled-at w s h k await.Password j (same-await (e .awaits) await.Password r) x in
+      told-follows (entered (passwordGiven p) j _ (y .0 .held .fixed .ended) (password-told ts e st j op.Connect (y .0) refl p)))
       (λ j late x y l. password-brief e st p)
       (λ j o x y l. speaks-spoken _ o (password-speaks e st p)))
 
@@ -308,8 +308,8 @@ module _ (w : Waits) (s : State) (h : Seated s) (k : w ≡ waitsOf (s .engine .a
       (λ r. subst (λ (b : Bool). AgreeKept w s (nonceGiven n) goes (checked b e st (nonceAnswer e n (s .realm) st))) (sym (h .realm))
       (agree-goes w s h k (nonceGiven n) 0 _ (nonce-fine e st (h .sits .base) n (s .realm))
       (λ j x. none-taken (j .ended))
-      (λ j x u. let y = coupled-at w s h k await.Nonce j (same-await (e .awaits) await.Nonce r) x in
-      entered (nonceGiven n) j _ (y .held .fixed .ended) (nonce-told ts e st j op.Connect y n (s .realm)))
+      (λ j x. let y = coupled-at w s h k await.Nonce j (same-await (e .awaits) await.Nonce r) x in
+      told-follows (entered (nonceGiven n) j _ (y .held .fixed .ended) (nonce-told ts e st j op.Connect y n (s .realm))))
       (λ j late x y l. nonce-brief e st n (s .realm) (h .realm))
       (λ j o x y l. speaks-spoken _ o (nonce-speaks e st n (s .realm)))))
 

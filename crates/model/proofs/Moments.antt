@@ -35,7 +35,7 @@ use Rattle.server.specs.declared.Await.{Await}
 use Rattle.server.specs.declared.Await.the-variants as await
 use Rattle.server.specs.declared.Engine.{Engine}
 use Rattle.model.proofs.Fit.{not-short, waitsOf, Seated, tables-long, is-sound, Fine}
-use Rattle.model.proofs.Coupling.{Coupled, Told}
+use Rattle.model.proofs.Coupling.{Coupled, Follows, told-follows}
 use Rattle.model.proofs.Sizes.{Brief, LateAt, Sized, brief-sized}
 use Rattle.model.proofs.Speaks.{ModeAt, Spoken}
 
@@ -208,8 +208,8 @@ pub record Agree (w : Waits) (s : State) (c : Call) (v : Verdict) (m : Called) :
   pub waits : told w (m .took .outcome) ≡ waitsOf (m .took .engine .awaits) (m .took .engine .operation)
   pub unmoved : (n : ℕ) → v ≡ refused n → stateOf (s .realm) m ≡ s
   pub count : (j : Journal) → Coupled (s .tables) (s .engine) (s .stores) j → m .took .taken ≡ fedTakes j (fedAt s v c)
-  pub journal : (j : Journal) → Coupled (s .tables) (s .engine) (s .stores) j → Kept (fedReads j (fedAt s v c))
-      → Told (m .tables) (doneOf m) (journalFed j (fedAt s v c))
+  pub journal : (j : Journal) → Coupled (s .tables) (s .engine) (s .stores) j
+      → Follows (Kept (fedReads j (fedAt s v c))) (m .tables) (doneOf m) (journalFed j (fedAt s v c))
   pub sized : (j : Journal) (late : Late) → Coupled (s .tables) (s .engine) (s .stores) j → LateAt (s .engine) (s .stores) late
       → replySize late j (fedAt s v c) ≤ 65535 → Sized (doneOf m) (lateAfter late j (fedAt s v c))
   pub spoken : (j : Journal) (o : Mode) → Coupled (s .tables) (s .engine) (s .stores) j → ModeAt (s .engine .operation) o → Kept (fedReads j (fedAt s v c))
@@ -258,7 +258,7 @@ module _ (w : Waits) (s : State) (h : Seated s) (k : w ≡ waitsOf (s .engine .a
   -- a call that goes, takes `t` bytes, and leaves `u` in the table store
   pub agree-tabled : (d : Done) (t : ℕ) (u : List ℕ) → Fine e d → length u ≡ length (s .tables)
       → ((j : Journal) → Coupled (s .tables) e st j → t ≡ fedTakes j (fedGoing s c))
-      → ((j : Journal) → Coupled (s .tables) e st j → Kept (fedReads j (fedGoing s c)) → Told u d (journalFed j (fedGoing s c)))
+      → ((j : Journal) → Coupled (s .tables) e st j → Follows (Kept (fedReads j (fedGoing s c))) u d (journalFed j (fedGoing s c)))
       → SizedBy (λ j late. Sized d (lateAfter late j (fedGoing s c))) → SpokenBy d
       → Agree w s c goes (called (after t d) u)
   agree-tabled d t u f l n g z a =
@@ -277,7 +277,7 @@ module _ (w : Waits) (s : State) (h : Seated s) (k : w ≡ waitsOf (s .engine .a
   -- a call that goes
   pub agree-goes : (t : ℕ) (d : Done) → Fine e d
       → ((j : Journal) → Coupled (s .tables) e st j → t ≡ fedTakes j (fedGoing s c))
-      → ((j : Journal) → Coupled (s .tables) e st j → Kept (fedReads j (fedGoing s c)) → Told (s .tables) d (journalFed j (fedGoing s c)))
+      → ((j : Journal) → Coupled (s .tables) e st j → Follows (Kept (fedReads j (fedGoing s c))) (s .tables) d (journalFed j (fedGoing s c)))
       → SizedBy (λ j late. Brief d) → SpokenBy d
       → AgreeKept w s c goes (after t d)
   agree-goes t d f n g z a = agree-tabled d t (s .tables) f refl n g (λ j late x y l. brief-sized d (lateAfter late j (fedGoing s c)) (z j late x y l)) a
@@ -292,7 +292,7 @@ module _ (w : Waits) (s : State) (h : Seated s) (k : w ≡ waitsOf (s .engine .a
         waits = k;
         unmoved = λ m i. refl;
         count = λ j x. refl;
-        journal = λ j x y. record { given = refl; after = x; ends = λ i. refl };
+        journal = λ j x. told-follows (record { given = refl; after = x; ends = λ i. refl });
         sized = λ j late x y l. record { small = refl; waiting = y };
         spoken = λ j o x y l. record { obeys = refl; mode = y };
       }

@@ -109,7 +109,7 @@ run-along st (x ∷ xs) w s j b r c k =
     let a = performed-agrees st w s b x (r .0) in
     let f = fedTo st w s b x (r .0) in
     let both = kept-both (fedReads j f) (packets (journalStep j f .next) (feedFrom (told w (x .result .outcome)) (seen st (next s x) xs))) k in
-    let t = a .journal j c (both .0) in
+    let t = a .journal j c .told (both .0) in
     let later = run-along st xs (told w (x .result .outcome)) (next s x) (journalStep j f .next) (between-next st w s b x (r .0)) (r .1) (t .after) (both .1) in
     record {
       journal = ap₂ (λ (l m : List Record). l ++ m) (t .given) (later .journal);
