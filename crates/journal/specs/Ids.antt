@@ -1,6 +1,6 @@
 -- Connection ids (docs/PROTOCOL.md#connection-ids): the open ones are a list of at most 64 numbers. The source's set has no bound.
 use mathlib.Core.Path.{_≡_}
-use mathlib.Core.Bool.{Bool, _||_}
+use mathlib.Core.Bool.{Bool, true, false, _&&_, _||_}
 use mathlib.Core.List.{List, [], _∷_}
 use Prim.Native.Nat.{ℕ, zero, suc, _+_, _%_, _^_}
 use lib.Dec.{eqb}
@@ -16,6 +16,16 @@ without x (y ∷ ys) = pick (eqb x y) (without x ys) (y ∷ without x ys)
 unfoldable pub withoutAll : List ℕ → List ℕ → List ℕ
 withoutAll [] ids = ids
 withoutAll (x ∷ l) ids = withoutAll l (without x ids)
+
+-- Every number of the list is one of the ids.
+unfoldable pub allOpen : List ℕ → List ℕ → Bool
+allOpen [] ids = true
+allOpen (x ∷ l) ids = member x ids && allOpen l ids
+
+-- A number occurs twice in the list.
+unfoldable pub repeats : List ℕ → Bool
+repeats [] = false
+repeats (x ∷ l) = member x l || repeats l
 
 -- The number that the source reserves as an invalid connection id.
 abbrev pub invalidId : ℕ

@@ -235,6 +235,12 @@ pub enum Refusal {
     WrongMoment,
     // 10: a lent store is too short.
     StoreTooShort,
+    // 19: over 64 ids are to be closed together.
+    TooManyIds,
+    // 20: an id that is to be closed is not open.
+    IdNotOpen,
+    // 21: an id that is to be closed occurs twice.
+    IdRepeated,
 }
 
 // What a call tells the host to do next.
@@ -281,5 +287,8 @@ pub fn refusal_number(refusal: Refusal) -> u8
         Refusal::BadAnswer => 8,
         Refusal::WrongMoment => 9,
         Refusal::StoreTooShort => 10,
+        Refusal::TooManyIds => 19,
+        Refusal::IdNotOpen => 20,
+        Refusal::IdRepeated => 21,
     }
 }
