@@ -14,7 +14,8 @@ use Rattle.journal.specs.Ids.{without}
 use Rattle.connection.specs.declared.peer.Peer.{Peer}
 use Rattle.connection.specs.Peer.{peerWith, closedTables}
 use Rattle.connection.specs.Reply.{front}
-use Rattle.connection.proofs.Front.{front-length, front-behind, front-set}
+use Rattle.table.proofs.Remembering.{SameNonces, same-behind}
+use Rattle.connection.proofs.Front.{front-length, front-behind, front-set, front-drop}
 
 pub without-shorter : (x : ℕ) (l : List ℕ) → length (without x l) ≤ length l
 unfolding without
@@ -78,7 +79,7 @@ module _ (ids₀ : List ℕ) (x i : ℕ) (ids : List ℕ) (kept : ℕ) (h : i < 
   pub closed-skips : getD ids i 0 ≡ x → Closed ids₀ x (i + 1) ids kept
   closed-skips e = record { count = rw (skips e) (c .count); store = rw (skips e) (c .store) }
 
--- ---- the table store once an id was closed; above this crate these two laws alone are known of it
+-- ---- the table store once an id was closed; above this crate these three laws alone are known of it
 
 -- the ids that are left stand at its front
 pub closed-front : (x n : ℕ) (t : List ℕ) → n ≤ length t → take (length (without x (take n t))) (closedTables x n t) ≡ without x (take n t)
@@ -90,7 +91,13 @@ pub closed-length : (x n : ℕ) (t : List ℕ) → n ≤ length t → length (cl
 unfolding closedTables
 closed-length x n t h = front-length (without x (take n t)) t (omega (arith, without-shorter x (take n t), length-take n t))
 
+-- the nonces stand behind the ids, and stay
+pub closed-nonces : (x n : ℕ) (t : List ℕ) → n ≤ 64 → SameNonces (closedTables x n t) t
+unfolding closedTables
+closed-nonces x n t h =
+    same-behind _ t (front-drop (without x (take n t)) t 64 (omega (arith, without-shorter x (take n t), length-take n t)))
+
 -- the peer with `n` ids open and all else as it was
 abbrev pub withCount : Peer → ℕ → Peer
 withCount p n =
-    peerWith n (p .«next_connection_id») (p .«remote_max_packet_length») (p .«srm_enabled») (p .authenticated) (p .challenge) (p .window)
+    peerWith n (p .«next_connection_id») (p .«remote_max_packet_length») (p .«srm_enabled») (p .authenticated) (p .challenge) (p .window) (p .nonces)

@@ -20,6 +20,13 @@ front-behind q y i h =
     ∙ getD-drop (length q) y (i - length q) 0
     ∙ ap (λ (k : ℕ). getD y k 0) (sym n)
 
+-- a store's places from `n` on, if no more than `n` stand at its front
+pub front-drop : (q y : List ℕ) (n : ℕ) → length q ≤ n → drop n (front q y) ≡ drop n y
+front-drop q y n h =
+    let m : n ≡ length q + (n - length q) = omega arith in
+    ap (λ (k : ℕ). drop k (front q y)) m ∙ drop-append-add q (drop (length q) y) (n - length q) ∙ drop-drop (n - length q) (length q) y
+    ∙ ap (λ (k : ℕ). drop k y) (sym m)
+
 -- one more
 pub front-set : (q y : List ℕ) (x : ℕ) → length q < length y → set (front q y) (length q) x ≡ front (q ++ (x ∷ [])) y
 front-set q y x h =

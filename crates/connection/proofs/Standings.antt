@@ -8,7 +8,7 @@ use Prim.Native.Nat.{ℕ, _+_, _%_, _^_, _≤_, _<_}
 use native.Mathlib.Omega.{arith}
 use native.Mathlib.Numerals.{add-one}
 use lib.ListN.{length, length-take, length-set, take, set}
-use lib.Seq.{take-suc-set, length-take-le}
+use lib.Seq.{take-suc-set, drop-set-lt, length-take-le}
 use lib.Dec.{leb, ltb, eqb}
 use lib.Count.{ones}
 use borrow.Author.Tests.{leb-false, ltb-false, ne-eqb}
@@ -23,8 +23,10 @@ use Rattle.connection.specs.declared.peer.Challenge.{Challenge}
 use Rattle.connection.specs.declared.peer.Challenge.the-variants.{Stored, Absent}
 use Rattle.connection.specs.declared.peer.Peer.{Peer}
 use Rattle.connection.specs.Peer.{peerWith, idsOf, Linked, freshPeer, atLeast255, limited, checkedPeer, verifiedPeer, challengedPeer, opened, searched, openedFor, clearedPeer, leftPeer, closedTables, disconnectedPeer}
+use Rattle.table.specs.Nonces.{counted}
 use Rattle.journal.proofs.Checked.{counts}
-use Rattle.connection.proofs.Closing.{without-shorter, closed-front, closed-length, withCount}
+use Rattle.table.proofs.Remembering.{SameNonces, same-behind, counted-few}
+use Rattle.connection.proofs.Closing.{without-shorter, closed-front, closed-length, closed-nonces, withCount}
 
 abbrev pub challengeBytes : Challenge → Option (List ℕ)
 challengeBytes Absent = none
@@ -42,11 +44,17 @@ standingOf p t h =
       checks = h;
     }
 
--- the bounds of a peer's counts
-pub record PeerFits (p : Peer) : Type 0 where
+-- the bounds of a peer's counts, of which `m` is that of the nonces
+pub record PeerFits (m : ℕ) (p : Peer) : Type 0 where
   pub count : p .count ≤ 64
   pub least : 255 ≤ p .«remote_max_packet_length»
   pub most : p .«remote_max_packet_length» ≤ 65535
+  pub nonces : p .nonces ≡ m
+  pub few : m ≤ 32
+
+-- by the peer's own count of nonces
+pub own-fits : {m : ℕ} {p : Peer} → PeerFits m p → PeerFits (p .nonces) p
+own-fits f = record { count = f .count; least = f .least; most = f .most; nonces = refl; few = rw (f .nonces) (f .few) }
 
 -- ---- the operations
 
@@ -105,6 +113,11 @@ pub limited-window : (p : Peer) (n : ℕ) → limited p n .window ≡ p .window
 unfolding peerWith
 limited-window p n = refl
 
+-- the open ids, which is all that a standing has of the table store, do not change with what stands behind place 64
+pub tables-standing : (p : Peer) (t u : List ℕ) (h : List Check) → idsOf p u ≡ idsOf p t → standingOf p u h ≡ standingOf p t h
+tables-standing p t u h e =
+    ap (λ (l : List ℕ). record { authenticated = p .authenticated; challenge = challengeBytes (p .challenge); ids = l; next = p .«next_connection_id»; srm = p .«srm_enabled»; checks = h }) e
+
 pub challenged-window : (p : Peer) (n : Octets16) → challengedPeer p n .window ≡ p .window
 unfolding peerWith
 challenged-window p n = refl
@@ -138,57 +151,67 @@ too-many p h e = ap (λ (w : ℕ). leb mostWrong (ones w)) e ∙ ap (leb mostWro
 
 -- ---- the bounds are kept
 
-pub fresh-fits : PeerFits freshPeer
+pub fresh-fits : PeerFits 0 freshPeer
 unfolding peerWith
-fresh-fits = record { count = omega arith; least = omega arith; most = omega arith }
+fresh-fits = record { count = omega arith; least = omega arith; most = omega arith; nonces = refl; few = omega arith }
 
-pub limited-fits : (p : Peer) (n : ℕ) → n ≤ 65535 → PeerFits p → PeerFits (limited p n)
+pub limited-fits : {m : ℕ} (p : Peer) (n : ℕ) → n ≤ 65535 → PeerFits m p → PeerFits m (limited p n)
 unfolding peerWith
-limited-fits p n h f = record { count = f .count; least = go (ltb n 255) refl .0; most = go (ltb n 255) refl .1 }
+limited-fits p n h f = record { count = f .count; least = go (ltb n 255) refl .0; most = go (ltb n 255) refl .1; nonces = f .nonces; few = f .few }
   where
     go : (t : Bool) → ltb n 255 ≡ t → (255 ≤ atLeast255 n) × (atLeast255 n ≤ 65535)
     go true e = rw e (omega arith, omega arith)
     go false e = rw e (ltb-false _ _ e, h)
 
--- the ids and the peer's limit are as they were
-same-fits : (p : Peer) (next : ℕ) (srm auth : Bool) (ch : Challenge) (w : ℕ) → PeerFits p
-    → PeerFits (peerWith (p .count) next (p .«remote_max_packet_length») srm auth ch w)
+-- the ids, the nonces and the peer's limit are as they were
+same-fits : {m : ℕ} (p : Peer) (next : ℕ) (srm auth : Bool) (ch : Challenge) (w : ℕ) → PeerFits m p
+    → PeerFits m (peerWith (p .count) next (p .«remote_max_packet_length») srm auth ch w (p .nonces))
 unfolding peerWith
-same-fits p next srm auth ch w f = record { count = f .count; least = f .least; most = f .most }
+same-fits p next srm auth ch w f = record { count = f .count; least = f .least; most = f .most; nonces = f .nonces; few = f .few }
 
-pub checked-fits : (p : Peer) (b : Bool) → PeerFits p → PeerFits (checkedPeer p b)
+pub checked-fits : {m : ℕ} (p : Peer) (b : Bool) → PeerFits m p → PeerFits m (checkedPeer p b)
 checked-fits p b f =
     same-fits p (p .«next_connection_id») (p .«srm_enabled») (p .authenticated) (p .challenge) (shifted (p .window) b) f
 
-pub verified-fits : (p : Peer) → PeerFits p → PeerFits (verifiedPeer p)
+pub verified-fits : {m : ℕ} (p : Peer) → PeerFits m p → PeerFits m (verifiedPeer p)
 verified-fits p f = same-fits p (p .«next_connection_id») (p .«srm_enabled») true Absent (p .window) f
 
-pub challenged-fits : (p : Peer) (n : Octets16) → PeerFits p → PeerFits (challengedPeer p n)
-challenged-fits p n f = same-fits p (p .«next_connection_id») (p .«srm_enabled») false (Stored n) (p .window) f
-
-pub left-fits : (p : Peer) (n : ℕ) → PeerFits p → n ≤ 64 → PeerFits (leftPeer p n)
+-- a challenge adds a nonce
+pub challenged-fits : {m : ℕ} (p : Peer) (n : Octets16) → PeerFits m p → PeerFits (counted m) (challengedPeer p n)
 unfolding peerWith
-left-fits p n f h = go (eqb n 0)
+challenged-fits {m} p n f =
+    record { count = f .count; least = f .least; most = f .most; nonces = ap counted (f .nonces); few = counted-few m (f .few) }
+
+pub left-fits : {m : ℕ} (p : Peer) (n : ℕ) → PeerFits m p → n ≤ 64 → PeerFits m (leftPeer p n)
+unfolding peerWith
+left-fits {m} p n f h = go (eqb n 0)
   where
-    go : (b : Bool) → PeerFits (pick b (clearedPeer p) (withCount p n))
-    go true = record { count = omega arith; least = omega arith; most = omega arith }
-    go false = record { count = h; least = f .least; most = f .most }
+    go : (b : Bool) → PeerFits m (pick b (clearedPeer p) (withCount p n))
+    go true = record { count = omega arith; least = omega arith; most = omega arith; nonces = f .nonces; few = f .few }
+    go false = record { count = h; least = f .least; most = f .most; nonces = f .nonces; few = f .few }
 
 -- no more ids are left than were open
-few-left : (p : Peer) (t : List ℕ) (x : ℕ) → PeerFits p → length (without x (idsOf p t)) ≤ 64
+few-left : {m : ℕ} (p : Peer) (t : List ℕ) (x : ℕ) → PeerFits m p → length (without x (idsOf p t)) ≤ 64
 few-left p t x f = omega (arith, without-shorter x (idsOf p t), length-take (p .count) t, f .count)
 
-pub disconnected-fits : (p : Peer) (t : List ℕ) (v : Option (List ℕ)) → PeerFits p → PeerFits (disconnectedPeer p t v .peer)
+pub disconnected-fits : {m : ℕ} (p : Peer) (t : List ℕ) (v : Option (List ℕ)) → PeerFits m p → PeerFits m (disconnectedPeer p t v .peer)
 unfolding disconnectedPeer
 disconnected-fits p t none f = left-fits p 0 f (omega arith)
 disconnected-fits p t (some v) f = left-fits p (length (without (be32 v 0) (idsOf p t))) f (few-left p t (be32 v 0) f)
 
 -- the table store keeps its length
-pub disconnected-length : (p : Peer) (t : List ℕ) (v : Option (List ℕ)) → PeerFits p → 64 ≤ length t
+pub disconnected-length : {m : ℕ} (p : Peer) (t : List ℕ) (v : Option (List ℕ)) → PeerFits m p → 64 ≤ length t
     → length (disconnectedPeer p t v .tables) ≡ length t
 unfolding disconnectedPeer
 disconnected-length p t none f h = refl
 disconnected-length p t (some v) f h = closed-length (be32 v 0) (p .count) t (omega (arith, f .count))
+
+-- and the nonces that it remembers
+pub disconnected-nonces : {m : ℕ} (p : Peer) (t : List ℕ) (v : Option (List ℕ)) → PeerFits m p → SameNonces (disconnectedPeer p t v .tables) t
+unfolding disconnectedPeer
+disconnected-nonces p t none f = λ n l. refl
+disconnected-nonces p t (some v) f =
+    closed-nonces (be32 v 0) (p .count) t (f .count)
 
 -- ---- an id is opened
 
@@ -196,9 +219,10 @@ disconnected-length p t (some v) f h = closed-length (be32 v 0) (p .count) t (om
 abbrev OpensAs : Peer → List ℕ → List Check → Standing → Option Linked → Type 0
 OpensAs p t h s none = s ≡ standingOf p t h
 OpensAs p t h s (some q) =
-    (standingIn q h ≡ s) × PeerFits (q .peer) × (length (q .tables) ≡ length t) × (q .peer .window ≡ p .window)
+    (standingIn q h ≡ s) × PeerFits (p .nonces) (q .peer) × (length (q .tables) ≡ length t) × (q .peer .window ≡ p .window)
+    × SameNonces (q .tables) t
 
-module _ (p : Peer) (t : List ℕ) (past : List Check) (srm : Bool) (f : PeerFits p) (room : 64 ≤ length t) where
+module _ (p : Peer) (t : List ℕ) (past : List Check) (srm : Bool) (f : PeerFits (p .nonces) p) (room : 64 ≤ length t) where
   opened-as : (id next : ℕ) → OpensAs p t past (openId (standingOf p t past) srm id next) (opened p t srm id next)
   unfolding opened openId peerWith
   opened-as id next = go (member id (idsOf p t)) (leb 64 (p .count)) refl refl
@@ -211,24 +235,29 @@ module _ (p : Peer) (t : List ℕ) (past : List Check) (srm : Bool) (f : PeerFit
 
       go : (x u : Bool) → member id (idsOf p t) ≡ x → leb 64 (p .count) ≡ u
           → OpensAs p t past (openId (standingOf p t past) srm id next) (opened p t srm id next)
-      go true u m e = rw m (refl, same-fits p (p .«next_connection_id») srm (p .authenticated) (p .challenge) (p .window) f, refl, refl)
+      go true u m e = rw m (refl, same-fits p (p .«next_connection_id») srm (p .authenticated) (p .challenge) (p .window) f, refl, refl, λ n l. refl)
       go false true m e = rw (m, size, e) refl
       go false false m e =
           let h : p .count < 64 = leb-false _ _ e in
-          rw (m, size, e, added h)
-          (refl, record { count = omega arith; least = f .least; most = f .most }, length-set t (p .count) id, refl)
+          rw (m, size, e, added h) (
+            refl,
+            record { count = omega arith; least = f .least; most = f .most; nonces = refl; few = f .few },
+            length-set t (p .count) id,
+            refl,
+            same-behind _ t (drop-set-lt 64 t (p .count) id h),
+          )
 
   opens-as : (a v : Option (List ℕ)) → OpensAs p t past (opensFor (standingOf p t past) srm a v) (openedFor p t srm a v)
   unfolding peerWith
   opens-as (some i) v = opened-as (be32 i 0) (p .«next_connection_id»)
   opens-as none (some v) = opened-as (searched p t) ((searched p t + 1) % 2 ^ 32)
-  opens-as none none = (refl, same-fits p (p .«next_connection_id») srm (p .authenticated) (p .challenge) (p .window) f, refl, refl)
+  opens-as none none = (refl, same-fits p (p .«next_connection_id») srm (p .authenticated) (p .challenge) (p .window) f, refl, refl, λ n l. refl)
 
   pub opened-standing : (q : Linked) (a v : Option (List ℕ)) → openedFor p t srm a v ≡ some q
       → standingIn q past ≡ opensFor (standingOf p t past) srm a v
   opened-standing q a v e = (rw e at (opens-as a v)) .0
 
-  pub opened-fits : (q : Linked) (a v : Option (List ℕ)) → openedFor p t srm a v ≡ some q → PeerFits (q .peer)
+  pub opened-fits : (q : Linked) (a v : Option (List ℕ)) → openedFor p t srm a v ≡ some q → PeerFits (p .nonces) (q .peer)
   opened-fits q a v e = (rw e at (opens-as a v)) .1
 
   -- the table store keeps its length
@@ -237,6 +266,10 @@ module _ (p : Peer) (t : List ℕ) (past : List Check) (srm : Bool) (f : PeerFit
 
   pub opened-window : (q : Linked) (a v : Option (List ℕ)) → openedFor p t srm a v ≡ some q → q .peer .window ≡ p .window
   opened-window q a v e = (rw e at (opens-as a v)) .3
+
+  -- and the nonces that it remembers
+  pub opened-nonces : (q : Linked) (a v : Option (List ℕ)) → openedFor p t srm a v ≡ some q → SameNonces (q .tables) t
+  opened-nonces q a v e = (rw e at (opens-as a v)) .4
 
   pub full-standing : (a v : Option (List ℕ)) → openedFor p t srm a v ≡ none → opensFor (standingOf p t past) srm a v ≡ standingOf p t past
   full-standing a v e = rw e at (opens-as a v)

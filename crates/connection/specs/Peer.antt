@@ -12,6 +12,7 @@ use Rattle.packet.specs.Limits.{minPacket, maxConnections}
 pub use Rattle.packet.specs.Header.{present as isGiven}
 use Rattle.journal.specs.Ids.{member, without, newId}
 use Rattle.journal.specs.Checks.{shifted}
+use Rattle.table.specs.Nonces.{counted}
 use Rattle.connection.specs.Reply.{front}
 use Rattle.connection.specs.declared.peer.Challenge.{Challenge}
 use Rattle.connection.specs.declared.peer.Challenge.the-variants.{Stored, Absent}
@@ -22,10 +23,11 @@ use Rattle.connection.specs.declared.peer.Opening.{Opening}
 use Rattle.connection.specs.declared.peer.Answer.{Answer}
 
 -- The one definition that lists the fields; it is shut, so that proofs do not write them all out.
-unfoldable pub peerWith : ℕ → ℕ → ℕ → Bool → Bool → Challenge → ℕ → Peer
-peerWith n next remote srm auth ch w =
+unfoldable pub peerWith : ℕ → ℕ → ℕ → Bool → Bool → Challenge → ℕ → ℕ → Peer
+peerWith n next remote srm auth ch w m =
     record {
       count = n;
+      nonces = m;
       window = w;
       «next_connection_id» = next;
       «remote_max_packet_length» = remote;
@@ -46,9 +48,9 @@ pub record Linked : Type 0 where
 abbrev pub linked : Peer → List ℕ → Linked
 linked p t = record { peer = p; tables = t }
 
--- A fresh engine's peer: nothing is open, the counter is at 1, and the limit is the smallest.
+-- A fresh engine's peer: nothing is open or remembered, the counter is at 1, and the limit is the smallest.
 abbrev pub freshPeer : Peer
-freshPeer = peerWith 0 1 minPacket false false Absent 0
+freshPeer = peerWith 0 1 minPacket false false Absent 0 0
 
 -- A limit that a Connect names, at least 255.
 abbrev pub atLeast255 : ℕ → ℕ
@@ -57,35 +59,37 @@ atLeast255 n = pick (ltb n minPacket) minPacket n
 -- The peer once a Connect named the limit `n`.
 abbrev pub limited : Peer → ℕ → Peer
 limited p n =
-    peerWith (p .count) (p .«next_connection_id») (atLeast255 n) (p .«srm_enabled») (p .authenticated) (p .challenge) (p .window)
+    peerWith (p .count) (p .«next_connection_id») (atLeast255 n) (p .«srm_enabled») (p .authenticated) (p .challenge) (p .window) (p .nonces)
 
 -- The peer with this authentication and challenge.
 abbrev pub authenticatedPeer : Peer → Bool → Challenge → Peer
 authenticatedPeer p auth ch =
-    peerWith (p .count) (p .«next_connection_id») (p .«remote_max_packet_length») (p .«srm_enabled») auth ch (p .window)
+    peerWith (p .count) (p .«next_connection_id») (p .«remote_max_packet_length») (p .«srm_enabled») auth ch (p .window) (p .nonces)
 
 -- The peer with one check of a password more in its window, and nothing else changed (docs/PROTOCOL.md#eight-wrong).
 abbrev pub checkedPeer : Peer → Bool → Peer
 checkedPeer p wrong =
     peerWith (p .count) (p .«next_connection_id») (p .«remote_max_packet_length») (p .«srm_enabled») (p .authenticated) (p .challenge)
-    (shifted (p .window) wrong)
+    (shifted (p .window) wrong) (p .nonces)
 
 -- The peer after a right password: the challenge is used up.
 abbrev pub verifiedPeer : Peer → Peer
 verifiedPeer p = authenticatedPeer p true Absent
 
--- The peer once a challenge with the nonce `n` was sent.
+-- The peer once a challenge with the nonce `n` was sent: there is one more that the table store remembers, up to 32
+-- (docs/PROTOCOL.md#nonces).
 abbrev pub challengedPeer : Peer → Octets16 → Peer
-challengedPeer p n = authenticatedPeer p false (Stored n)
+challengedPeer p n =
+    peerWith (p .count) (p .«next_connection_id») (p .«remote_max_packet_length») (p .«srm_enabled») false (Stored n) (p .window) (counted (p .nonces))
 
 -- The peer with Single Response Mode (SRM) on or off.
 abbrev pub srmPeer : Peer → Bool → Peer
 srmPeer p srm =
-    peerWith (p .count) (p .«next_connection_id») (p .«remote_max_packet_length») srm (p .authenticated) (p .challenge) (p .window)
+    peerWith (p .count) (p .«next_connection_id») (p .«remote_max_packet_length») srm (p .authenticated) (p .challenge) (p .window) (p .nonces)
 
 -- The peer with one id more, a counter and SRM.
 abbrev pub addedPeer : Peer → Bool → ℕ → Peer
-addedPeer p srm next = peerWith (p .count + 1) next (p .«remote_max_packet_length») srm (p .authenticated) (p .challenge) (p .window)
+addedPeer p srm next = peerWith (p .count + 1) next (p .«remote_max_packet_length») srm (p .authenticated) (p .challenge) (p .window) (p .nonces)
 
 -- The id is opened if it is not open yet, behind those that are, with the counter `next`; `none` if it is a 65th.
 unfoldable pub opened : Peer → List ℕ → Bool → ℕ → ℕ → Option Linked
@@ -103,15 +107,15 @@ openedFor p t srm (some v) target = opened p t srm (be32 v 0) (p .«next_connect
 openedFor p t srm none (some v) = opened p t srm (searched p t) ((searched p t + 1) % 2 ^ 32)
 openedFor p t srm none none = some (linked (srmPeer p srm) t)
 
--- All is cleared, but not the counter, the challenge and the window.
+-- All is cleared, but not the counter, the challenge, the window and the nonces.
 abbrev pub clearedPeer : Peer → Peer
-clearedPeer p = peerWith 0 (p .«next_connection_id») minPacket false false (p .challenge) (p .window)
+clearedPeer p = peerWith 0 (p .«next_connection_id») minPacket false false (p .challenge) (p .window) (p .nonces)
 
 -- The peer with `n` ids left open; if none is left, all is cleared.
 abbrev pub leftPeer : Peer → ℕ → Peer
 leftPeer p n =
     pick (eqb n 0) (clearedPeer p)
-    (peerWith n (p .«next_connection_id») (p .«remote_max_packet_length») (p .«srm_enabled») (p .authenticated) (p .challenge) (p .window))
+    (peerWith n (p .«next_connection_id») (p .«remote_max_packet_length») (p .«srm_enabled») (p .authenticated) (p .challenge) (p .window) (p .nonces))
 
 -- The table store once the id `x` was closed, of the first `n`: those that are left stand at its front, in their order.
 unfoldable pub closedTables : ℕ → ℕ → List ℕ → List ℕ

@@ -12,6 +12,7 @@ use crate::checks::pushed;
 use digest::md5::Octets16;
 use packet::limits::MAX_CONNECTIONS;
 use packet::limits::MIN_PACKET;
+use table::nonces::counted;
 
 // The number that is reserved as an invalid connection id.
 const INVALID_ID: u32 = 0xFFFFFFFF;
@@ -26,6 +27,8 @@ pub enum Challenge {
 // to the calls that look at them, so that a state of few bytes goes from call to call.
 pub struct Peer {
     pub count: usize,
+    // How many nonces the table store remembers, at most 32; nothing clears them.
+    pub nonces: usize,
     // The last 64 checks of passwords, a set bit for each wrong one, the latest the lowest bit.
     pub window: u64,
     // The counter from which the search for a new id counts up.
@@ -161,6 +164,7 @@ fn with_authentication(peer: Peer, authenticated: bool, challenge: Challenge) ->
 {
     Peer {
         count: peer.count,
+        nonces: peer.nonces,
         window: peer.window,
         next_connection_id: peer.next_connection_id,
         remote_max_packet_length: peer.remote_max_packet_length,
@@ -186,11 +190,13 @@ pub fn verified(peer: Peer) -> Peer
     with_authentication(peer, true, Challenge::Absent)
 }
 
-// Stores the nonce of a new challenge; the peer is no longer authenticated.
+// Stores the nonce of a new challenge, which is one more that is remembered; the peer is no longer authenticated.
 pub fn challenged(peer: Peer, nonce: Octets16) -> Peer
     ensures { λ r. ⌜ r ≡ challengedPeer peer nonce ⌝ }
 {
-    with_authentication(peer, false, Challenge::Stored(nonce))
+    let mut r = with_authentication(peer, false, Challenge::Stored(nonce));
+    r.nonces = counted(peer.nonces);
+    r
 }
 
 // Returns the peer with Single Response Mode (SRM) on or off; the rest stays.
@@ -270,7 +276,7 @@ pub fn opened_for(
     }
 }
 
-// Clears all connections, SRM, authentication and the peer's limit; the counter, the challenge and the window stay.
+// Clears all connections, SRM, authentication and the peer's limit; the counter, the challenge, the window and the nonces stay.
 fn cleared(peer: Peer) -> Peer
     ensures { λ r. ⌜ r ≡ clearedPeer peer ⌝ }
 {

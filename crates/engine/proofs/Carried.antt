@@ -19,7 +19,7 @@ use Rattle.engine.proofs.Guards.{Goes, guardedIn, turned}
 use Rattle.engine.proofs.Plans.{Carries}
 use Rattle.engine.specs.Guard.{refusedWith}
 use Rattle.model.specs.Step.{Stepped, stepped, after, Stores, Done, withReply, capacityOf, sent}
-use Rattle.model.specs.Guard.{guarded, checked}
+use Rattle.model.specs.Guard.{guarded}
 use Rattle.model.specs.Object.{sendsMade, sendsPacket}
 use Rattle.engine.specs.declared.step.ShortReply.{ShortReply}
 use Rattle.engine.specs.declared.step.ShortReply.the-variants.{Silent}
@@ -76,10 +76,6 @@ silent-call kind e s d p q r g h k m is =
     ∙ ap (λ (x : Done). after 0 x) (is .is)
     ∙ sym (g .whole (after 0 d))
 
--- an answer that the host may give is taken
-pub checked-goes : (b : Bool) (e : Engine) (s : Stores) (d : Done) → b ≡ false → after 0 d ≡ checked b e s d
-checked-goes b e s d h = ap (λ (t : Bool). checked t e s d) (sym h)
-
 -- what was sent, and nothing more to write
 pub took-sent : (e : Engine) (p : Peer) (q : Option (List ℕ)) (z : Sent) (s : Stores) → z ≡ sentInto q (s .reply)
     → stepped (tookBy (sentPlan e p (z .answer))) (withReply s (z .reply)) ≡ after 0 (sent e p q s)
@@ -96,9 +92,9 @@ sent-written e p code fields hs y n z x r h i k m =
     ap (λ (t : CallResult). written t (z .reply)) (m ∙ ap (λ (x : Plan). tookBy x) k)
     ∙ ap (λ (z : Sent). sentBy e p z) (h ∙ ap (λ (n : ℕ). sentInto (sendBytes n code fields hs) y) i)
 
-pub sent-call : (kind : CallKind) (e : Engine) (s : Stores) (p : Peer) (q : Option (List ℕ)) (z : Sent) (x : Plan) (r : CallResult) → Goes kind e s
+-- the same among the stores
+pub sent-stepped : (e : Engine) (s : Stores) (p : Peer) (q : Option (List ℕ)) (z : Sent) (x : Plan) (r : CallResult)
     → z ≡ sentInto q (s .reply) → x ≡ sentPlan e p (z .answer) → r ≡ tookBy x
-    → stepped r (withReply s (z .reply)) ≡ guarded kind e s (after 0 (sent e p q s))
-sent-call kind e s p q z x r g h k m =
+    → stepped r (withReply s (z .reply)) ≡ after 0 (sent e p q s)
+sent-stepped e s p q z x r h k m =
     ap (λ (y : CallResult). stepped y (withReply s (z .reply))) (m ∙ ap (λ (y : Plan). tookBy y) k) ∙ took-sent e p q z s h
-    ∙ sym (g .whole (after 0 (sent e p q s)))

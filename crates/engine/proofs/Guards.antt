@@ -26,6 +26,7 @@ pub record Bounds (e : Engine) : Type 0 where
   pub length : e .length ≤ 65535
   pub count : e .peer .count ≤ 64
   pub remote : 255 ≤ e .peer .«remote_max_packet_length»
+  pub nonces : e .peer .nonces ≤ 32
   pub operation : soundOperation (limitOf e) (e .operation) ≡ true
 
 pub bounds : (e : Engine) → sound e ≡ true → Bounds e
@@ -35,12 +36,14 @@ bounds e k =
     let b = and-right (leb (e .length) 65535) _ a in
     let c = and-right (leb (e .peer .count) 64) _ b in
     let d = and-right (leb 255 (e .peer .«remote_max_packet_length»)) _ c in
+    let f = and-right (leb (e .peer .nonces) 32) _ d in
     record {
       begun = ltb-true _ _ (and-left _ _ k);
       length = leb-true _ _ (and-left _ _ a);
       count = leb-true _ _ (and-left _ _ b);
       remote = leb-true _ _ (and-left _ _ c);
-      operation = d;
+      nonces = leb-true _ _ (and-left _ _ d);
+      operation = f;
     }
 
 -- bytes at the front of a store that is long
@@ -118,7 +121,7 @@ module _ (k : CallKind) (e : Engine) (s : Stores) where
 -- ---- the guard of a call that is lent the table store
 
 abbrev pub lackIn : ℕ → Stores → List ℕ → Bool
-lackIn limit s t = ltb (length t) 64 || shortIn limit s
+lackIn limit s t = ltb (length t) 128 || shortIn limit s
 
 pub same-lack : (limit : ℕ) (s : Stores) (t : List ℕ) (b : Bool) → lackIn limit s t ≡ b → (shortTables t || short limit s) ≡ b
 unfolding short shortBy shortTables
@@ -130,7 +133,8 @@ guardedLentIn k e s t = guardedLent k e (length t) (length (s .packet)) (length 
 -- what such a call knows where it goes on
 pub record GoesLent (k : CallKind) (e : Engine) (s : Stores) (t : List ℕ) : Type 0 where
   pub goes : Goes k e s
-  pub tables : 64 ≤ length t
+  pub tables : 128 ≤ length t
+  pub ids : 64 ≤ length t
   pub enough : (shortTables t || short (limitOf e) s) ≡ false
   pub fitted : (sound e && fits k (e .awaits)) ≡ true
 
@@ -162,10 +166,12 @@ module _ (k : CallKind) (e : Engine) (s : Stores) (t : List ℕ) where
       by true v h i q = let z : Refuse refusal.StoreTooShort ≡ Proceed = simp h at q in absurd (no-refusal _ (sym z))
       by false false h i q = let z : Refuse refusal.WrongMoment ≡ Proceed = simp (h, i) at q in absurd (no-refusal _ (sym z))
       by false true h i q =
-          let long : shortIn (limitOf e) s ≡ false = or-right (ltb (length t) 64) _ h in
+          let long : shortIn (limitOf e) s ≡ false = or-right (ltb (length t) 128) _ h in
+          let room : 128 ≤ length t = ltb-false _ _ (or-left _ _ h) in
           record {
             goes = going k e s Proceed (sym (simp (long, i))) refl;
-            tables = ltb-false _ _ (or-left _ _ h);
+            tables = room;
+            ids = omega arith;
             enough = same-lack (limitOf e) s t false h;
             fitted = i;
           }

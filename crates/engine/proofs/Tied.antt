@@ -140,15 +140,15 @@ pub password-says : (t l : List ℕ) (κs : Lfts 5) (a : ArgsD password_given.si
     (stores (now (q .0)) (now (q .1 .0)) (now (q .1 .1 .0)) (now (q .1 .1 .1 .0))) t)
 password-says t l κs a r x h = record { step = ap (λ (m : Stepped). called m t) h; octets = tt }
 
-pub nonce-says : (t : List ℕ) (κs : Lfts 5) (a : ArgsD nonce_given.signature κs) (r : ResD nonce_given.signature κs)
-    (x : AtExit (endedOf 5 nonce-given-kinds.ps nonce-given-kinds.r) κs)
+pub nonce-says : (κs : Lfts 6) (a : ArgsD nonce_given.signature κs) (r : ResD nonce_given.signature κs)
+    (x : AtExit (endedOf 6 nonce-given-kinds.ps nonce-given-kinds.r) κs)
     → nonce-given-reads.Learnt κs a r x
     → let p = a .1 .1 .1 in
     let q = x .1 .1 .1 in
-    Says (before t (now (a .1 .1 .0)) (a .0) (stores (now (p .0)) (now (p .1 .0)) (now (p .1 .1 .0)) (now (p .1 .1 .1 .0))))
+    Says (before (now (p .0)) (now (a .1 .1 .0)) (a .0) (stores (now (p .1 .0)) (now (p .1 .1 .0)) (now (p .1 .1 .1 .0)) (now (p .1 .1 .1 .1 .0))))
     (performed (nonceGiven (a .1 .0)) r
-    (stores (now (q .0)) (now (q .1 .0)) (now (q .1 .1 .0)) (now (q .1 .1 .1 .0))) t)
-nonce-says t κs a r x h = record { step = ap (λ (m : Stepped). called m t) h; octets = tt }
+    (stores (now (q .1 .0)) (now (q .1 .1 .0)) (now (q .1 .1 .1 .0)) (now (q .1 .1 .1 .1 .0))) (now (q .0)))
+nonce-says κs a r x h = record { step = h; octets = tt }
 
 pub reply-says : (l : List ℕ) (κs : Lfts 6) (a : ArgsD reply_given.signature κs) (r : ResD reply_given.signature κs)
     (x : AtExit (endedOf 6 reply-given-kinds.ps reply-given-kinds.r) κs)

@@ -4,7 +4,7 @@ use Prim.Native.Nat.{ℕ}
 use mathlib.Core.Bool.{Bool, _&&_, _||_}
 use lib.Dec.{ltb}
 use Rattle.base.specs.Pick.{pick}
-use Rattle.packet.specs.Limits.{maxConnections}
+use Rattle.table.specs.Places.{tableLength}
 use Rattle.model.specs.Step.{limitOf}
 use Rattle.model.specs.Guard.{sound, fits}
 use Rattle.server.specs.declared.CallKind.{CallKind}
@@ -29,7 +29,7 @@ guardedBy k e p h b y =
 -- The guard of a call that is lent the table store tests its length `t` too.
 unfoldable pub guardedLent : CallKind → Engine → ℕ → ℕ → ℕ → ℕ → ℕ → Guarded
 guardedLent k e t p h b y =
-    pick (ltb t maxConnections || shortBy (limitOf e) p h b y) (Refuse refusal.StoreTooShort)
+    pick (ltb t tableLength || shortBy (limitOf e) p h b y) (Refuse refusal.StoreTooShort)
     (pick (sound e && fits k (e .awaits)) Proceed (Refuse refusal.WrongMoment))
 
 -- A refused call returns the state as it was.
@@ -39,4 +39,8 @@ refusedWith r e = record { engine = e; taken = 0; outcome = outcome.Refused r }
 -- The guard refuses a start for a short store before it looks whether the realm is too `long`.
 unfoldable pub guardedStart : ℕ → Bool → ℕ → ℕ → ℕ → ℕ → ℕ → Guarded
 guardedStart limit long t p h b y =
-    pick (ltb t maxConnections || shortBy limit p h b y) (Refuse refusal.StoreTooShort) (pick long (Refuse refusal.BadAnswer) Proceed)
+    pick (ltb t tableLength || shortBy limit p h b y) (Refuse refusal.StoreTooShort) (pick long (Refuse refusal.BadAnswer) Proceed)
+
+-- The guard refuses a nonce if the realm is too `long`, then if the nonce was `used`.
+unfoldable pub guardedNonce : Bool → Bool → Guarded
+guardedNonce long used = pick long (Refuse refusal.BadAnswer) (pick used (Refuse refusal.NonceUsed) Proceed)

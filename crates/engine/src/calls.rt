@@ -23,6 +23,7 @@ use crate::dispatch::with_taken;
 use crate::guard::Guarded;
 use crate::guard::guard;
 use crate::guard::guard_lent;
+use crate::guard::guard_nonce;
 use crate::guard::guard_start;
 use crate::guard::is_bad_headers;
 use crate::guard::is_bad_reply;
@@ -59,6 +60,8 @@ use server::Operation;
 use server::Outcome;
 use server::Refusal;
 use server::Settings;
+use table::nonces::is_used;
+use table::nonces::remember;
 
 // Starts an engine with `settings`, and with the bytes of `realm` if the settings say that there is one. The start is refused with
 // `StoreTooShort`, or with `BadAnswer` if the realm is longer than 254 bytes; the state that comes back has then ended.
@@ -398,23 +401,27 @@ pub fn password_given(
 }
 
 // Gives a fresh nonce for a challenge. The engine replies with 0x41 and the challenge, which carries the bytes of `realm` if the settings
-// say that there is a realm. The host lends the same bytes as to the start; over 254 bytes are refused with `BadAnswer`, as there.
+// say that there is a realm. The host lends the same bytes as to the start; over 254 bytes are refused with `BadAnswer`, as there. A nonce
+// that is one of the last 32 taken, which stand in `tables`, is refused with `NonceUsed`.
 pub fn nonce_given(
     e: Engine,
     n: Octets16,
     realm: &[u8],
+    tables: &mut [u64],
     packet: &mut [u8],
     headers: &mut [u8],
     body: &mut [u8],
     reply: &mut [u8],
 ) -> CallResult
-    ensures { λ r. ⌜ stepped r (stores (now (packet .exit)) (now (headers .exit)) (now (body .exit)) (now (reply .exit)))
+    ensures { λ r. ⌜ called (stepped r (stores (now (packet .exit)) (now (headers .exit)) (now (body .exit)) (now (reply .exit))))
+        (now (tables .exit))
         ≡ nonceGivenStep e n (now (realm .entry)) (stores (now (packet .entry)) (now (headers .entry)) (now (body .entry))
-        (now (reply .entry))) ⌝ }
+        (now (reply .entry))) (now (tables .entry)) ⌝ }
 {
-    if let Guarded::Refuse(refusal) = guard(
+    if let Guarded::Refuse(refusal) = guard_lent(
         e,
         CallKind::NonceGiven,
+        tables.len(),
         packet.len(),
         headers.len(),
         body.len(),
@@ -422,9 +429,12 @@ pub fn nonce_given(
     ) {
         return refuse(e, refusal);
     }
-    if is_long_realm(e.settings.has_realm, realm.len()) {
-        return refuse(e, Refusal::BadAnswer);
+    let long = is_long_realm(e.settings.has_realm, realm.len());
+    let used = is_used(&tables[..], e.peer.nonces, n);
+    if let Guarded::Refuse(refusal) = guard_nonce(long, used) {
+        return refuse(e, refusal);
     }
+    remember(tables, n);
     let peer = challenged(e.peer, n);
     let sent = send_challenge(e.settings, realm, peer.remote_max_packet_length, n, reply);
     took(sent_plan(e, peer, sent))

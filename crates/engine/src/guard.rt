@@ -5,7 +5,7 @@ ghost use Rattle.server.specs.declared.CallKind.the-variants as kind;
 ghost use mathlib.Core.Bool.{_&&_};
 ghost use lib.Dec.{ltb};
 ghost use Rattle.packet.specs.Limits.{maxRealm};
-ghost use Rattle.engine.specs.Guard.{shortBy, guardedBy, guardedLent, guardedStart, refusedWith};
+ghost use Rattle.engine.specs.Guard.{shortBy, guardedBy, guardedLent, guardedStart, guardedNonce, refusedWith};
 use incoming::gather::Gathered;
 use outgoing::object::Chunk;
 use outgoing::object::Outgoing;
@@ -23,6 +23,8 @@ use server::Engine;
 use server::Operation;
 use server::Outcome;
 use server::Refusal;
+use table::TABLE_LENGTH;
+use table::nonces::MAX_NONCES;
 
 // A number for each thing awaited, by which two of them are told apart.
 fn await_number(a: Await) -> u8
@@ -197,6 +199,9 @@ pub(crate) fn is_sound(e: Engine) -> bool
     if e.peer.remote_max_packet_length < MIN_PACKET {
         return false;
     }
+    if e.peer.nonces > MAX_NONCES {
+        return false;
+    }
     let operation = e.operation;
     sound_operation(e.settings.max_object_size, operation)
 }
@@ -232,7 +237,7 @@ pub(crate) fn guard(
     Guarded::Refuse(Refusal::WrongMoment)
 }
 
-// Returns the refusal of a call that is lent the table store too, which holds 64 numbers, or says that it may proceed.
+// Returns the refusal of a call that is lent the table store too, which holds 128 numbers, or says that it may proceed.
 pub(crate) fn guard_lent(
     e: Engine,
     k: CallKind,
@@ -244,7 +249,7 @@ pub(crate) fn guard_lent(
 ) -> Guarded
     ensures { λ r. ⌜ r ≡ guardedLent k e tables packet headers body reply ⌝ }
 {
-    if tables < MAX_CONNECTIONS {
+    if tables < TABLE_LENGTH {
         return Guarded::Refuse(Refusal::StoreTooShort);
     }
     guard(e, k, packet, headers, body, reply)
@@ -272,7 +277,7 @@ pub(crate) fn guard_start(
 ) -> Guarded
     ensures { λ r. ⌜ r ≡ guardedStart limit long tables packet headers body reply ⌝ }
 {
-    if tables < MAX_CONNECTIONS {
+    if tables < TABLE_LENGTH {
         return Guarded::Refuse(Refusal::StoreTooShort);
     }
     if is_short(limit, packet, headers, body, reply) {
@@ -280,6 +285,19 @@ pub(crate) fn guard_start(
     }
     if long {
         return Guarded::Refuse(Refusal::BadAnswer);
+    }
+    Guarded::Proceed
+}
+
+// Returns the refusal of a nonce, or says that it may be taken: a realm that is too long comes before a nonce that was used.
+pub(crate) fn guard_nonce(long: bool, used: bool) -> Guarded
+    ensures { λ r. ⌜ r ≡ guardedNonce long used ⌝ }
+{
+    if long {
+        return Guarded::Refuse(Refusal::BadAnswer);
+    }
+    if used {
+        return Guarded::Refuse(Refusal::NonceUsed);
     }
     Guarded::Proceed
 }

@@ -75,6 +75,7 @@ fn fresh_peer() -> Peer
 {
     Peer {
         count: 0,
+        nonces: 0,
         window: 0,
         next_connection_id: 1,
         remote_max_packet_length: MIN_PACKET,

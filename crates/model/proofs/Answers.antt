@@ -20,7 +20,7 @@ use Rattle.journal.specs.Checks.{Check, right, wrong}
 use Rattle.journal.specs.Journal.{Settings as JournalSettings, Standing, Opened, Journal, unchanged, stands, asksSrm, opensFor, connected, disconnected, replyTo, replyLast, replied, passesWith, responseIn, passes, headersOf, passwordChecked, challenged, listOf}
 use Rattle.incoming.specs.Survey.{surveyOf}
 use Rattle.connection.specs.Reply.{fieldsOf, sendBytes, front}
-use Rattle.connection.specs.Peer.{Linked, checkedPeer, verifiedPeer, challengedPeer, openedFor, disconnectedPeer}
+use Rattle.connection.specs.Peer.{idsOf, Linked, checkedPeer, verifiedPeer, challengedPeer, openedFor, disconnectedPeer}
 use Rattle.connection.specs.ConnectReply.{answeredChallenge}
 use Rattle.connection.specs.declared.peer.Challenge.{Challenge}
 use Rattle.connection.specs.declared.peer.Challenge.the-variants.{Stored, Absent}
@@ -36,7 +36,7 @@ use Rattle.server.specs.declared.Await.the-variants as await
 use Rattle.server.specs.declared.Engine.{Engine}
 use Rattle.server.specs.declared.HostRequest.the-variants as request
 use Rattle.server.specs.declared.Outcome.the-variants as outcome
-use Rattle.connection.proofs.Standings.{PeerFits, challengeBytes, standingOf, verified-standing, challenged-standing, disconnected-standing, opened-standing, full-standing, wrong-standing, Windowed, challenged-window, disconnected-window, checked-window, verified-window, opened-window}
+use Rattle.connection.proofs.Standings.{PeerFits, challengeBytes, standingOf, tables-standing, verified-standing, challenged-standing, disconnected-standing, opened-standing, full-standing, wrong-standing, Windowed, challenged-window, disconnected-window, checked-window, verified-window, opened-window}
 use Rattle.model.proofs.Coupling.{Held, AskedBy, Told, ToldTabled, told-done, told-too-large, told-replies}
 
 -- ---- a reply that is sent, or is too long
@@ -117,7 +117,7 @@ module _ (ts : List ℕ) (e : Engine) (s : Stores) (j : Journal) (o : Opcode) (w
       ap (λ (x : JournalSettings). connected x (j .standing) (w .request .headers) code answer) (w .held .fixed .settings)
       ∙ ap₂ (λ (x : Standing) (y : List Header). connected (settingsOf (e .settings)) x y code answer) (w .held .fixed .standing) headers-are
 
-  module _ (f : PeerFits (e .peer)) (room : 64 ≤ length ts) (code : ℕ) (hs : List ℕ) where
+  module _ (f : PeerFits (e .peer .nonces) (e .peer)) (room : 64 ≤ length ts) (code : ℕ) (hs : List ℕ) where
     -- the ConnectionID that the host's answer names
     abbrev named : Option (List ℕ)
     named = first 0xCB (listOf (readHeaders hs 0))
@@ -208,11 +208,14 @@ module _ (ts : List ℕ) (e : Engine) (s : Stores) (j : Journal) (o : Opcode) (w
           refl
           refl
 
-  pub nonce-told : (n : Octets16) (l : List ℕ) → Told ts (nonceAnswer e n l s) (unchanged (stands j (challenged (j .standing) (octets16 n))))
+  -- over a table store `u` in which the nonce is remembered, and the ids are as before
+  pub nonce-told : (u : List ℕ) → idsOf (e .peer) u ≡ idsOf (e .peer) ts → (n : Octets16) (l : List ℕ)
+      → Told u (nonceAnswer e n l s) (unchanged (stands j (challenged (j .standing) (octets16 n))))
   unfolding nonceAnswer
-  nonce-told n l =
-      sends-connect-told ts e s (challengedPeer (e .peer) n) (stands j (challenged (j .standing) (octets16 n)))
-      (held-stands ts s (challengedPeer (e .peer) n) _ past
-      (ap (λ (x : Standing). challenged x (octets16 n)) (w .held .fixed .standing) ∙ sym (challenged-standing (e .peer) ts past n))
+  nonce-told u i n l =
+      sends-connect-told u e s (challengedPeer (e .peer) n) (stands j (challenged (j .standing) (octets16 n)))
+      (held-stands u s (challengedPeer (e .peer) n) _ past
+      (ap (λ (x : Standing). challenged x (octets16 n)) (w .held .fixed .standing ∙ sym (tables-standing (e .peer) ts u past i))
+      ∙ sym (challenged-standing (e .peer) u past n))
       (challenged-window (e .peer) n ∙ w .held .fixed .window))
       0x41 _

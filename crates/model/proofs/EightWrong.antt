@@ -25,7 +25,7 @@ use Rattle.server.specs.declared.Settings.{Settings}
 use Rattle.model.specs.Step.{Stores}
 use Rattle.model.specs.Guard.{sameAwait}
 use Rattle.model.specs.Runs.{State, Performed, next, Ran, lacks, seen}
-use Rattle.model.specs.Refusals.{Waits, bytes, password, sameWait, told, expected, bad, verdict, fedBy, feedFrom}
+use Rattle.model.specs.Refusals.{Waits, password, sameWait, expected, Known, atStart, learns, judged, verdict, fedBy, feedFrom}
 use Rattle.model.specs.Theorem.{journalOf, Kept}
 use Rattle.model.specs.Contracts.{state}
 use Rattle.model.specs.EightWrong.{ranTo, live, Counted, EightWrong, ContractsCount}
@@ -82,16 +82,16 @@ password-await await.Body o e = absurd (false≢true e)
 password-await await.Nothing o e = absurd (false≢true e)
 
 -- a call that goes is one that is waited for
-goes-expected : (s t b : Bool) → pick s (refused 10) (pick t (pick b (refused 8) goes) (refused 9)) ≡ goes → t ≡ true
-goes-expected true t b e = absurd (let z : _≡_ {A = ℕ} 0 1 = cc in omega arith)
-goes-expected false true b e = refl
-goes-expected false false b e = absurd (let z : _≡_ {A = ℕ} 0 1 = cc in omega arith)
+goes-expected : (s t : Bool) (v : Verdict) → pick s (refused 10) (pick t v (refused 9)) ≡ goes → t ≡ true
+goes-expected true t v e = absurd (let z : _≡_ {A = ℕ} 0 1 = cc in omega arith)
+goes-expected false true v e = refl
+goes-expected false false v e = absurd (let z : _≡_ {A = ℕ} 0 1 = cc in omega arith)
 
-goes-awaited : (short : Bool) (w : Waits) (a : Await) (o : Operation) → w ≡ waitsOf a o → (p : Option (List ℕ))
+goes-awaited : (short : Bool) (w : Known) (a : Await) (o : Operation) → w .waits ≡ waitsOf a o → (p : Option (List ℕ))
     → verdict short w (passwordGiven p) ≡ goes → a ≡ await.Password
 unfolding verdict expected
 goes-awaited short w a o k p e =
-    password-await a o (ap (λ (x : Waits). sameWait x password) (sym k) ∙ goes-expected short (sameWait w password) (bad (passwordGiven p)) e)
+    password-await a o (ap (λ (x : Waits). sameWait x password) (sym k) ∙ goes-expected short (sameWait (w .waits) password) (judged (passwordGiven p) w) e)
 
 -- what the journal is fed as a password is one that goes
 fed-password : (c : Call) (v : Verdict) (b : ℕ) (p : Option (List ℕ)) → fedBy v c b ≡ stepBy (passwordGiven p) → (c ≡ passwordGiven p) × (v ≡ goes)
@@ -108,7 +108,7 @@ fed-password (passwordGiven q) goes b p e = (cc, refl)
 fed-password (nonceGiven n) goes b p e = (cc, refl)
 fed-password (credentialsGiven d) goes b p e = (cc, refl)
 
-checks-few : (short : Bool) (w : Waits) (s : State) (j : Journal) → w ≡ waitsOf (s .engine .awaits) (s .engine .operation)
+checks-few : (short : Bool) (w : Known) (s : State) (j : Journal) → w .waits ≡ waitsOf (s .engine .awaits) (s .engine .operation)
     → Coupled (s .tables) (s .engine) (s .stores) j → (c : Call) (b : ℕ) (p : Option (List ℕ))
     → fedBy (verdict short w c) c b ≡ stepBy (passwordGiven p) → tooMany (j .standing .checks) ≡ false
 checks-few short w s j k x c b p i =
@@ -133,7 +133,7 @@ counted s j x k =
         window-at (s .tables) (e .awaits) (e .operation) (e .settings) (e .peer) (e .begun) (e .length) (s .stores) j x
         (live-at (sameAwait (e .awaits) await.Last) (sameAwait (e .awaits) await.Nothing) l)
 
-run-counted : (st : Settings) (xs : List Performed) (w : Waits) (s : State) (j : Journal) → Between st w s → Ran s xs
+run-counted : (st : Settings) (xs : List Performed) (w : Known) (s : State) (j : Journal) → Between st w s → Ran s xs
     → Coupled (s .tables) (s .engine) (s .stores) j → Ruled (j .standing .checks) → Kept (packets j (feedFrom w (seen st s xs)))
     → Counted (ranTo s xs .engine) (journalAfter j (feedFrom w (seen st s xs)))
 unfolding journalStep
@@ -141,14 +141,14 @@ run-counted st [] w s j b r x k p = counted s j x k
 run-counted st (y ∷ xs) w s j b r x k p =
     let a = performed-agrees st w s b y (r .0) in
     let f = fedTo st w s b y (r .0) in
-    let both = kept-both (fedReads j f) (packets (journalStep j f .next) (feedFrom (told w (y .result .outcome)) (seen st (next s y) xs))) p in
-    run-counted st xs (told w (y .result .outcome)) (next s y) (journalStep j f .next) (between-next st w s b y (r .0)) (r .1)
+    let both = kept-both (fedReads j f) (packets (journalStep j f .next) (feedFrom (learns w (y .call) (y .result .outcome)) (seen st (next s y) xs))) p in
+    run-counted st xs (learns w (y .call) (y .result .outcome)) (next s y) (journalStep j f .next) (between-next st w s b y (r .0)) (r .1)
     (a .journal j x .after)
-    (step-ruled j k f (checks-few (lacks st (y .call) (s .stores) (s .tables)) w s j (b .waits) x (y .call) (getD (s .stores .reply) 0 0))) (both .1)
+    (step-ruled j k f (checks-few (lacks st (y .call) (s .stores) (s .tables)) w s j (b .knows .waits) x (y .call) (getD (s .stores .reply) 0 0))) (both .1)
 
 -- the count is that of the history from the start, which keeps the rule
 pub eight-wrong : EightWrong
-eight-wrong st s h xs r k = run-counted st xs bytes s (journalOf st) (start-between st s h) r (start-coupled st s h) tt k
+eight-wrong st s h xs r k = run-counted st xs atStart s (journalOf st) (start-between st s h) r (start-coupled st s h) tt k
 
 pub contracts-count : ContractsCount
 contracts-count st l s t u r xs a h k = eight-wrong st (state l r t u) (accepted-started st l s t u r a) xs h k

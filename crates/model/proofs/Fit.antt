@@ -34,7 +34,8 @@ use Rattle.server.specs.declared.HostRequest.{HostRequest}
 use Rattle.server.specs.declared.Outcome.{Outcome}
 use Rattle.server.specs.declared.Outcome.the-variants as outcome
 use Rattle.connection.proofs.Front.{front-length}
-use Rattle.connection.proofs.Standings.{PeerFits}
+use Rattle.connection.proofs.Standings.{PeerFits, own-fits}
+use Rattle.table.proofs.Remembering.{SameNonces}
 use Rattle.incoming.proofs.Frames.{Octets}
 
 -- ---- tests
@@ -171,7 +172,7 @@ waitsOf await.Nothing o = nothing
 -- whatever is awaited
 pub record Base (e : Engine) (s : Stores) : Type 0 where
   pub room : Room (limitOf e) s
-  pub peer : PeerFits (e .peer)
+  pub peer : PeerFits (e .peer .nonces) (e .peer)
   pub last : e .length ≤ 65535
 
 -- the bytes of a packet begun
@@ -198,84 +199,96 @@ is-sound e s h =
       le-leb _ _ (h .base .last),
       le-leb _ _ (h .base .peer .count),
       le-leb _ _ (h .base .peer .least),
+      le-leb _ _ (h .base .peer .few),
       h .counts,
     )
 
 -- and all that is lent
 pub record Seated (s : State) : Type 0 where
   pub sits : Sits (s .engine) (s .stores)
-  pub tables : 64 ≤ length (s .tables)
+  pub tables : 128 ≤ length (s .tables)
   pub realm : longRealm (s .engine .settings) (s .realm) ≡ false
 
-pub tables-room : (t : List ℕ) → shortTables t ≡ false → 64 ≤ length t
+pub tables-room : (t : List ℕ) → shortTables t ≡ false → 128 ≤ length t
 unfolding shortTables
 tables-room t h = ltb-false _ _ h
 
-pub tables-long : (t : List ℕ) → 64 ≤ length t → shortTables t ≡ false
+pub tables-long : (t : List ℕ) → 128 ≤ length t → shortTables t ≡ false
 unfolding shortTables
 tables-long t h = le-ltb _ _ h
 
+-- there is room for the ids
+pub ids-room : (s : State) → Seated s → 64 ≤ length (s .tables)
+ids-room s h = omega (arith, h .tables)
+
 -- ---- what a step leads to
 
--- of an engine `e`, whose settings stay
-pub record Fine (e : Engine) (d : Done) : Type 0 where
+-- of an engine `e`, whose settings stay, and which has `n` nonces afterwards
+pub record FineWith (n : ℕ) (e : Engine) (d : Done) : Type 0 where
   pub settings : d .engine .settings ≡ e .settings
+  pub nonces : d .engine .peer .nonces ≡ n
   pub sits : Sits (d .engine) (d .stores)
   pub waits : (w : Waits) → told w (d .outcome) ≡ waitsOf (d .engine .awaits) (d .engine .operation)
   pub goes : verdictOf (d .outcome) ≡ goes
+
+-- as many as before
+abbrev pub Fine : Engine → Done → Type 0
+Fine e d = FineWith (e .peer .nonces) e d
 
 pub fine-pick : (e : Engine) (t : Bool) (a b : Done) → Fine e a → Fine e b → Fine e (pick t a b)
 fine-pick e true a b x y = x
 fine-pick e false a b x y = y
 
--- the same of a step that may write the table store, which keeps its length
+-- the same of a step that may write the table store, which keeps its length and its nonces
 pub record FineTabled (e : Engine) (t : List ℕ) (x : DoneTabled) : Type 0 where
   pub done : Fine e (x .done)
   pub tables : length (x .tables) ≡ length t
+  pub nonces : SameNonces (x .tables) t
 
 pub tabled-pick : (e : Engine) (t : List ℕ) (b : Bool) (x y : DoneTabled) → FineTabled e t x → FineTabled e t y → FineTabled e t (pick b x y)
 tabled-pick e t true x y f g = f
 tabled-pick e t false x y f g = g
 
 module _ (e : Engine) (s : Stores) (h : Base e s) where
-  pub fine-done : (p : Peer) (o : Operation) (a : Await) (c : Outcome) (z : Stores) → PeerFits p → Room (limitOf e) z
+  pub fine-done : {n : ℕ} (p : Peer) (o : Operation) (a : Await) (c : Outcome) (z : Stores) → PeerFits n p → Room (limitOf e) z
       → soundOperation (limitOf e) o ≡ true → Shape a o
-      → ((w : Waits) → told w c ≡ waitsOf a o) → verdictOf c ≡ goes → Fine e (done (engineWith (e .settings) p o a 0 (e .length)) c z)
+      → ((w : Waits) → told w c ≡ waitsOf a o) → verdictOf c ≡ goes → FineWith n e (done (engineWith (e .settings) p o a 0 (e .length)) c z)
   unfolding engineWith
   fine-done p o a c z f r k x w g =
       record {
         settings = refl;
-        sits = record { base = record { room = r; peer = f; last = h .last }; begun = none-begun (z .packet); counts = k; shape = x };
+        nonces = f .nonces;
+        sits = record { base = record { room = r; peer = own-fits f; last = h .last }; begun = none-begun (z .packet); counts = k; shape = x };
         waits = w;
         goes = g;
       }
 
-  pub fine-wants : (p : Peer) (o : Operation) (z : Stores) → PeerFits p → Room (limitOf e) z → soundOperation (limitOf e) o ≡ true
+  pub fine-wants : (p : Peer) (o : Operation) (z : Stores) → PeerFits (e .peer .nonces) p → Room (limitOf e) z → soundOperation (limitOf e) o ≡ true
       → Shape await.Bytes o
       → Fine e (wants e p o z)
   fine-wants p o z f r k x = fine-done p o await.Bytes outcome.WantsBytes z f r k x (λ w. refl) refl
 
-  pub fine-asks : (p : Peer) (a : Await) (q : HostRequest) (z : Stores) → PeerFits p → Room (limitOf e) z → Shape a Nothing → asked q ≡ waitsOf a Nothing
+  pub fine-asks : (p : Peer) (a : Await) (q : HostRequest) (z : Stores) → PeerFits (e .peer .nonces) p → Room (limitOf e) z → Shape a Nothing → asked q ≡ waitsOf a Nothing
       → Fine e (asks e p Nothing a q z)
   fine-asks p a q z f r x w = fine-done p Nothing a (outcome.Request q) z f r refl x (λ v. w) refl
 
-  pub fine-ends : (p : Peer) (x : End) (z : Stores) → PeerFits p → Room (limitOf e) z → Fine e (ends e p x z)
+  pub fine-ends : {n : ℕ} (p : Peer) (x : End) (z : Stores) → PeerFits n p → Room (limitOf e) z → FineWith n e (ends e p x z)
   fine-ends p x z f r = fine-done p Nothing await.Nothing (outcome.End x) z f r refl refl (λ w. refl) refl
 
-  pub fine-replies : (p : Peer) (o : Operation) (a : Await) (q : List ℕ) (z : Stores) → PeerFits p → Room (limitOf e) z
+  pub fine-replies : {n : ℕ} (p : Peer) (o : Operation) (a : Await) (q : List ℕ) (z : Stores) → PeerFits n p → Room (limitOf e) z
       → soundOperation (limitOf e) o ≡ true → Shape a o
-      → taking ≡ waitsOf a o → length q ≤ 65535 → Fine e (replies e p o a q z)
+      → taking ≡ waitsOf a o → length q ≤ 65535 → FineWith n e (replies e p o a q z)
   fine-replies p o a q z f r k x w l =
       fine-done p o a (outcome.Reply (length q)) (withReply z (front q (z .reply))) f
       (room-reply (limitOf e) z (front q (z .reply)) (front-length q (z .reply) (omega (arith, r .reply))) r) k x (λ v. w) refl
 
   -- a reply of a code, with the operation `o` open afterwards
-  pub fine-code-in : (p : Peer) (o : Operation) (code : ℕ) (z : Stores) → PeerFits p → Room (limitOf e) z → soundOperation (limitOf e) o ≡ true
+  pub fine-code-in : (p : Peer) (o : Operation) (code : ℕ) (z : Stores) → PeerFits (e .peer .nonces) p → Room (limitOf e) z → soundOperation (limitOf e) o ≡ true
       → Shape await.Taken o → Fine e (repliesCode e p o code z)
   unfolding packetBytes
   fine-code-in p o code z f r k x = fine-replies p o await.Taken (packetBytes (sentCode code) [] []) z f r k x refl (omega arith)
 
-  pub fine-code : (p : Peer) (code : ℕ) (z : Stores) → PeerFits p → Room (limitOf e) z → Fine e (repliesCode e p Nothing code z)
+  pub fine-code : (p : Peer) (code : ℕ) (z : Stores) → PeerFits (e .peer .nonces) p → Room (limitOf e) z → Fine e (repliesCode e p Nothing code z)
   fine-code p code z f r = fine-code-in p Nothing code z f r refl refl
 
   pub fine-continues : (o : Operation) (grant : Bool) (z : Stores) → Room (limitOf e) z → soundOperation (limitOf e) o ≡ true → Shape await.Taken o

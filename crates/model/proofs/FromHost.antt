@@ -1,11 +1,12 @@
 -- The host's answers: each such call agrees with what is due and with the journal. Assumes nothing.
 use mathlib.Core.Path.{_≡_, refl, sym, ap, _∙_, subst}
-use mathlib.Core.List.{List, []}
+use mathlib.Core.List.{List, [], _∷_}
 use mathlib.Core.Bool.{Bool, true, false, _||_, not}
 use mathlib.Core.Option.{Option, none, some}
-use Prim.Native.Nat.{ℕ, _+_, _≤_, _<_}
+use Prim.Native.Nat.{ℕ, suc, _+_, _≤_, _<_}
 use native.Mathlib.Omega.{arith}
 use lib.ListN.{length, getD, take}
+use lib.Seq.{take-take}
 use lib.Dec.{ltb, leb, eqb}
 use borrow.Author.Tests.{ltb-true, ltb-false, leb-true, eqb-true, eqb-false, lt-leb, le-leb}
 use Rattle.base.specs.Pick.{pick}
@@ -22,13 +23,14 @@ use Rattle.outgoing.specs.Object.{bodyGiven as givenBody}
 use Rattle.outgoing.specs.declared.object.Outgoing.{Outgoing}
 use Rattle.outgoing.specs.declared.object.Chunk.{Chunk}
 use Rattle.connection.specs.Reply.{front}
+use Rattle.table.specs.Nonces.{rememberedWith, remembered, among}
 use Rattle.model.specs.Step.{DoneTabled, called, Stores, withHeaders, Done, after, limitOf, sends}
 use Rattle.model.specs.Connect.{nonceAnswer, connectSends}
 use Rattle.model.specs.Guard.{refuse, sameAwait, fits, badHeaders, badReply, checked, longUser, soundOperation}
 use Rattle.model.specs.Object.{sendsPacket, sendsNext, objectOf}
 use Rattle.model.specs.Calls.{replyAnswer, objectFor, bodyFor, credentialsWith}
 use Rattle.model.specs.Runs.{State, keeps}
-use Rattle.model.specs.Refusals.{Waits, roomIn, bad}
+use Rattle.model.specs.Refusals.{roomIn, Known, noted, bad, used}
 use Rattle.journal.specs.Srm.{speaks, Mode, objectMode}
 use Rattle.model.specs.Replies.{connectSize, lastSize, answerSize, Late, lateBy}
 use Rattle.server.specs.declared.Operation.{Operation}
@@ -39,15 +41,20 @@ use Rattle.server.specs.declared.Await.{Await}
 use Rattle.server.specs.declared.Await.the-variants as await
 use Rattle.server.specs.declared.Engine.{Engine}
 use Rattle.outgoing.proofs.Sent.{body-sends}
-use Rattle.model.proofs.Fit.{and-left, and-right, or-left, or-right, room-headers, IsGetting, IsSending, IsConnecting, Shape, roomOf, waitsOf, Base, Seated, Fine, fine-code}
+use Rattle.table.proofs.Remembering.{remembered-length, remembered-front, remembered-more}
+use Rattle.model.proofs.Fit.{and-left, and-right, or-left, or-right, room-headers, IsGetting, IsSending, IsConnecting, Shape, roomOf, waitsOf, Base, Seated, ids-room, Fine, fine-code}
 use Rattle.model.proofs.Steps.{OutgoingFits, outgoing-within, sends-next-fine, sends-packet-fine, reply-fine, password-fine, nonce-fine, connect-sends-fine}
 use Rattle.model.proofs.Coupling.{KeptOpen, OpenedAt, Held, AskedBy, connects, Coupled, Told, told-follows, ToldTabled, tabled-told-pick, told-code}
 use Rattle.model.proofs.Sizes.{early, Brief, brief-done, packet-brief, next-brief, password-brief, sends-brief, sends-connect-brief, nonce-brief, LateIn, LateAt, Sized, brief-sized, sized-pick, connect-sized}
 use Rattle.model.proofs.Speaks.{ModeAt, Spoken, spoken-done, next-spoken, packet-spoken, speaks-spoken, reply-speaks, password-speaks, nonce-speaks, connect-sends-speaks}
 use Rattle.model.proofs.Gathers.{next-told, fails-told, sends-told as made-told}
 use Rattle.model.proofs.Answers.{sends-told, connect-sends-told, connect-told, disconnect-told, password-told, nonce-told}
-use Rattle.model.proofs.Moments.{same-await, or-second, fedGoing, SizedBy, SpokenBy, Agree, AgreeKept, Agrees, fed-goes, none-taken, agree-tabled, agree-goes, agree-refused, agrees}
+use Rattle.model.proofs.Moments.{same-await, or-second, fedGoing, SizedBy, SpokenBy, Knows, Agree, AgreeKept, Agrees, fed-goes, none-taken, agree-tabled, agree-goes, agree-refused, agrees}
 use Rattle.model.proofs.FromPeer.{coupled-at}
+
+-- the first of a list whose rest was cut already
+take-again : {A : Type 0} (m : ℕ) (x : A) (l : List A) → take (suc m) (x ∷ take (suc m) l) ≡ take (suc m) (x ∷ l)
+take-again {A} m x l = ap (λ (r : List A). x ∷ r) (take-take m (suc m) l (omega arith))
 
 -- an answer's headers that are not refused fit the header store
 pub headers-fit : (hs : List ℕ) → badHeaders hs ≡ false → length hs ≤ 65535
@@ -58,7 +65,7 @@ pub reply-headers-fit : (code : ℕ) (hs : List ℕ) → badReply code hs ≡ fa
 unfolding badReply
 reply-headers-fit code hs b = headers-fit hs (or-right (not (isCode code)) _ b)
 
-module _ (w : Waits) (s : State) (h : Seated s) (k : w ≡ waitsOf (s .engine .awaits) (s .engine .operation)) where
+module _ (w : Known) (s : State) (h : Seated s) (k : Knows w s) where
   abbrev e : Engine
   e = s .engine
 
@@ -78,16 +85,19 @@ module _ (w : Waits) (s : State) (h : Seated s) (k : w ≡ waitsOf (s .engine .a
       subst (λ (o : Operation). OpenedAt (limitOf e) o (st .headers) (st .body) (j .opened)) (shape-at await.Get at .is) w
 
   -- the journal's step, on a journal that has not ended
+  entered-over : (u : List ℕ) (c : Call) (j : Journal) (d : Done) → j .ended ≡ false → Told u d (journalCall j c) → Told u d (journalFed j (stepBy c))
+  entered-over u c j d i x = subst (Told u d) (sym (fed-goes j c i)) x
+
   entered : (c : Call) (j : Journal) (d : Done) → j .ended ≡ false → Told ts d (journalCall j c) → Told ts d (journalFed j (stepBy c))
-  entered c j d i x = subst (Told ts d) (sym (fed-goes j c i)) x
+  entered c j d i x = entered-over ts c j d i x
 
   -- an answer that may be refused with 8
-  checked-agrees : (c : Call) (b : Bool) (d : Done) → (b ≡ false → Fine e d) → ((j : Journal) → 0 ≡ fedTakes j (fedGoing s c))
+  checked-agrees : (c : Call) → noted c goes (w .nonces) ≡ w .nonces → (b : Bool) (d : Done) → (b ≡ false → Fine e d) → ((j : Journal) → 0 ≡ fedTakes j (fedGoing s c))
       → (b ≡ false → (j : Journal) → Coupled ts e st j → Told ts d (journalFed j (fedGoing s c)))
       → SizedBy w s h k c (λ j late. Brief d) → SpokenBy w s h k c d
       → AgreeKept w s c (pick b (refused 8) goes) (checked b e st d)
-  checked-agrees c true d f n g z a = agree-refused w s h k c refusal.BadAnswer
-  checked-agrees c false d f n g z a = agree-goes w s h k c 0 d (f refl) (λ j x. n j) (λ j x. told-follows (g refl j x)) z a
+  checked-agrees c q true d f n g z a = agree-refused w s h k c refusal.BadAnswer
+  checked-agrees c q false d f n g z a = agree-goes w s h k c q 0 d (f refl) (λ j x. n j) (λ j x. told-follows (g refl j x)) z a
 
   -- ---- a reply
 
@@ -120,10 +130,10 @@ module _ (w : Waits) (s : State) (h : Seated s) (k : w ≡ waitsOf (s .engine .a
     reply-told r j x =
         tabled-told-pick (sameAwait (e .awaits) await.Connect) _ _ _
         (λ m. let y = coupled-at w s h k await.Connect j (same-await (e .awaits) await.Connect m) x in
-        entered-tabled j _ (y .held .fixed .ended) (connect-told ts e st j op.Connect y (h .sits .base .peer) (h .tables) code hs refl))
+        entered-tabled j _ (y .held .fixed .ended) (connect-told ts e st j op.Connect y (h .sits .base .peer) (ids-room s h) code hs refl))
         (λ m. tabled-told-pick (sameAwait (e .awaits) await.Disconnect) _ _ _
         (λ n. let y = coupled-at w s h k await.Disconnect j (same-await (e .awaits) await.Disconnect n) x in
-        entered-tabled j _ (y .held .fixed .ended) (disconnect-told ts e st j op.Disconnect y (h .sits .base .peer) (h .tables) code hs refl))
+        entered-tabled j _ (y .held .fixed .ended) (disconnect-told ts e st j op.Disconnect y (h .sits .base .peer) (ids-room s h) code hs refl))
         (λ n. plain-reply (sameAwait (e .awaits) await.Get) refl (λ o. same-await (e .awaits) await.Reply (reply-left m n o)) j x))
       where
         reply-left : sameAwait (e .awaits) await.Connect ≡ false → sameAwait (e .awaits) await.Disconnect ≡ false
@@ -157,7 +167,7 @@ module _ (w : Waits) (s : State) (h : Seated s) (k : w ≡ waitsOf (s .engine .a
     unfolding replyAnswer
     reply-sized r j x l =
         sized-pick (sameAwait (e .awaits) await.Connect) _ _ (lateBy (j .last) j hs)
-        (λ m. connect-sized ts e st j (coupled-at w s h k await.Connect j (same-await (e .awaits) await.Connect m) x) code hs (h .sits .base .peer) (h .tables) l)
+        (λ m. connect-sized ts e st j (coupled-at w s h k await.Connect j (same-await (e .awaits) await.Connect m) x) code hs (h .sits .base .peer) (ids-room s h) l)
         (λ m. sized-pick (sameAwait (e .awaits) await.Disconnect) _ _ (lateBy (j .last) j hs)
         (λ n. let y = coupled-at w s h k await.Disconnect j (same-await (e .awaits) await.Disconnect n) x in
         brief-sized _ (lateBy (j .last) j hs) (sends-brief e st _ code hs (subst (λ (n : ℕ). n ≤ 65535) (plain-size j (y .held .opened) (disconnects j y)) l)))
@@ -165,7 +175,7 @@ module _ (w : Waits) (s : State) (h : Seated s) (k : w ≡ waitsOf (s .engine .a
         (plain-sized (sameAwait (e .awaits) await.Get) refl (λ o. same-await (e .awaits) await.Reply (or-second _ _ (or-second _ _ (or-second _ _ r m) n) o)) j x l)))
 
     pub reply-agrees : Agrees w s (replyGiven code hs)
-    unfolding bad
+    unfolding bad used
     reply-agrees =
         agrees w s h k (replyGiven code hs) (λ r. go r (badReply code hs) refl)
       where
@@ -174,8 +184,9 @@ module _ (w : Waits) (s : State) (h : Seated s) (k : w ≡ waitsOf (s .engine .a
             (pick b (keeps s (refuse refusal.BadAnswer e st)) (called (after 0 (replyAnswer e code hs st ts .done)) (replyAnswer e code hs st ts .tables)))
         go r true i = agree-refused w s h k (replyGiven code hs) refusal.BadAnswer
         go r false i =
-            let f = reply-fine e st (h .sits .base) ts (h .tables) code hs (reply-headers-fit code hs i) in
+            let f = reply-fine e st (h .sits .base) ts (ids-room s h) code hs (reply-headers-fit code hs i) in
             agree-tabled w s h k (replyGiven code hs) (replyAnswer e code hs st ts .done) 0 (replyAnswer e code hs st ts .tables) (f .done) (f .tables)
+            (f .nonces (e .peer .nonces) (h .sits .base .peer .few) ∙ k .nonces)
             (λ j x. none-taken (j .ended)) (λ j x. told-follows (reply-told r j x)) (λ j late x y l. reply-sized r j x l)
             (λ j o x y l. speaks-spoken _ o (reply-speaks e st code hs ts))
 
@@ -203,7 +214,7 @@ module _ (w : Waits) (s : State) (h : Seated s) (k : w ≡ waitsOf (s .engine .a
         → AgreeKept w s (objectGiven hs has) (pick (badHeaders hs) (refused 8) goes) (objectFor (e .operation) e hs has st)
     object-at at v =
         subst (λ (o : Operation). AgreeKept w s (objectGiven hs has) (pick (badHeaders hs) (refused 8) goes) (objectFor o e hs has st)) (sym (v .is))
-        (checked-agrees (objectGiven hs has) (badHeaders hs) (sendsNext e (objectOf (length hs) (v .confirm) has) (v .srm || v .confirm) (v .wait) z)
+        (checked-agrees (objectGiven hs has) refl (badHeaders hs) (sendsNext e (objectOf (length hs) (v .confirm) has) (v .srm || v .confirm) (v .wait) z)
         (λ b. sends-next-fine e z (object-base (headers-fit hs b)) (objectOf (length hs) (v .confirm) has) (v .srm || v .confirm) (v .wait) (omega arith)
         (headers-fit hs b))
         (λ j. none-taken (j .ended))
@@ -214,7 +225,7 @@ module _ (w : Waits) (s : State) (h : Seated s) (k : w ≡ waitsOf (s .engine .a
         (ap (λ (q : Mode). q .on || q .asked) i) (ap (λ (q : Mode). q .wait) i)))
 
     pub object-agrees : Agrees w s (objectGiven hs has)
-    unfolding bad
+    unfolding bad used
     object-agrees =
         agrees w s h k (objectGiven hs has)
         (λ r. let at = same-await (e .awaits) await.Get r in object-at at (shape-at await.Get at))
@@ -241,7 +252,7 @@ module _ (w : Waits) (s : State) (h : Seated s) (k : w ≡ waitsOf (s .engine .a
         let within : length d ≤ c .room = ltb-false _ _ i in
         let m = body-sends o c d (st .reply) (h .sits .base .room .reply) within (y .begun) (y .chunk) (y .sent) in
         subst (λ (t : Bool). AgreeKept w s (bodyGiven d) (pick t goes (refused 9)) (after 0 (sendsPacket e srm wait (givenBody o c d (st .reply)) st))) (sym (le-leb (length d) (c .room) within))
-        (agree-goes w s h k (bodyGiven d) 0 _ (sends-packet-fine e st (h .sits .base) o srm wait (givenBody o c d (st .reply)) (y .total) m)
+        (agree-goes w s h k (bodyGiven d) refl 0 _ (sends-packet-fine e st (h .sits .base) o srm wait (givenBody o c d (st .reply)) (y .total) m)
         (λ j x. none-taken (j .ended))
         (λ j x. let l = body-held at j x in
         told-follows (entered (bodyGiven d) j _ (l .fixed .ended)
@@ -259,17 +270,17 @@ module _ (w : Waits) (s : State) (h : Seated s) (k : w ≡ waitsOf (s .engine .a
         (outgoing-within (v .outgoing) (v .chunk) (ap (soundOperation (limitOf e)) (sym (v .is)) ∙ h .sits .counts)) _ refl))
 
     pub body-agrees : Agrees w s (bodyGiven d)
-    unfolding bad
+    unfolding bad used
     body-agrees =
         agrees w s h k (bodyGiven d)
         (λ r. let at = same-await (e .awaits) await.Body r in body-for at (shape-at await.Body at))
 
   pub body-failed-agrees : Agrees w s bodyFailed
-  unfolding bad
+  unfolding bad used
   body-failed-agrees =
       agrees w s h k bodyFailed
       (λ r. let at = same-await (e .awaits) await.Body r in
-      agree-goes w s h k bodyFailed 0 _ (fine-code e st (h .sits .base) (e .peer) 0x50 st (h .sits .base .peer) (h .sits .base .room))
+      agree-goes w s h k bodyFailed refl 0 _ (fine-code e st (h .sits .base) (e .peer) 0x50 st (h .sits .base .peer) (h .sits .base .room))
       (λ j x. none-taken (j .ended))
       (λ j x. let l = body-held at j x in told-follows (entered bodyFailed j _ (l .fixed .ended)
       (fails-told ts e st j (l .fixed) (l .begun) (body-open at j x) (st .reply))))
@@ -279,10 +290,10 @@ module _ (w : Waits) (s : State) (h : Seated s) (k : w ≡ waitsOf (s .engine .a
   -- ---- an Abort is acknowledged; the password, the nonce, credentials
 
   pub acknowledge-agrees : Agrees w s abortAcknowledged
-  unfolding bad
+  unfolding bad used
   acknowledge-agrees =
       agrees w s h k abortAcknowledged
-      (λ r. agree-goes w s h k abortAcknowledged 0 _ (fine-code e st (h .sits .base) (e .peer) 0x20 st (h .sits .base .peer) (h .sits .base .room))
+      (λ r. agree-goes w s h k abortAcknowledged refl 0 _ (fine-code e st (h .sits .base) (e .peer) 0x20 st (h .sits .base .peer) (h .sits .base .room))
       (λ j x. none-taken (j .ended))
       (λ j x. let y = coupled-at w s h k await.Acknowledgement j (same-await (e .awaits) await.Acknowledgement r) x in
       told-follows (entered abortAcknowledged j _ (y .fixed .ended) (told-code ts e (e .peer) st j 0x20 y)))
@@ -290,28 +301,49 @@ module _ (w : Waits) (s : State) (h : Seated s) (k : w ≡ waitsOf (s .engine .a
       (λ j o x y l. spoken-done e (e .peer) Nothing await.Taken 0 (e .length) _ _ speaks o refl tt))
 
   pub password-agrees : (p : Option (List ℕ)) → Agrees w s (passwordGiven p)
-  unfolding bad
+  unfolding bad used
   password-agrees p =
       agrees w s h k (passwordGiven p)
-      (λ r. agree-goes w s h k (passwordGiven p) 0 _ (password-fine e st (h .sits .base) p)
+      (λ r. agree-goes w s h k (passwordGiven p) refl 0 _ (password-fine e st (h .sits .base) p)
       (λ j x. none-taken (j .ended))
       (λ j x. let y = coupled-at w s h k await.Password j (same-await (e .awaits) await.Password r) x in
       told-follows (entered (passwordGiven p) j _ (y .0 .held .fixed .ended) (password-told ts e st j op.Connect (y .0) refl p)))
       (λ j late x y l. password-brief e st p)
       (λ j o x y l. speaks-spoken _ o (password-speaks e st p)))
 
-  -- the realm is not too long, since it was not at the start
-  pub nonce-agrees : (n : Octets16) → Agrees w s (nonceGiven n)
-  unfolding bad
-  nonce-agrees n =
-      agrees w s h k (nonceGiven n)
-      (λ r. subst (λ (b : Bool). AgreeKept w s (nonceGiven n) goes (checked b e st (nonceAnswer e n (s .realm) st))) (sym (h .realm))
-      (agree-goes w s h k (nonceGiven n) 0 _ (nonce-fine e st (h .sits .base) n (s .realm))
-      (λ j x. none-taken (j .ended))
-      (λ j x. let y = coupled-at w s h k await.Nonce j (same-await (e .awaits) await.Nonce r) x in
-      told-follows (entered (nonceGiven n) j _ (y .held .fixed .ended) (nonce-told ts e st j op.Connect y n (s .realm))))
-      (λ j late x y l. nonce-brief e st n (s .realm) (h .realm))
-      (λ j o x y l. speaks-spoken _ o (nonce-speaks e st n (s .realm)))))
+  -- a nonce is refused with 15 if the engine remembers it, which it does exactly if it is one of the last 32 that were taken; the realm is
+  -- not too long, since it was not at the start
+  module _ (n : Octets16) where
+    nonce-goes : e .awaits ≡ await.Nonce → Agree w s (nonceGiven n) goes (called (after 0 (nonceAnswer e n (s .realm) st)) (rememberedWith n ts))
+    nonce-goes at =
+        agree-tabled w s h k (nonceGiven n) (nonceAnswer e n (s .realm) st) 0 (rememberedWith n ts) (nonce-fine e st (h .sits .base) n (s .realm))
+        (remembered-length n ts (h .tables))
+        (remembered-more n (e .peer .nonces) ts (h .sits .base .peer .few) (h .tables) ∙ ap (λ (l : List Octets16). take 32 (n ∷ l)) (k .nonces)
+        ∙ take-again 31 n (w .nonces))
+        (λ j x. none-taken (j .ended))
+        (λ j x. let y = coupled-at w s h k await.Nonce j at x in
+        told-follows (entered-over (rememberedWith n ts) (nonceGiven n) j _ (y .held .fixed .ended)
+        (nonce-told ts e st j op.Connect y (rememberedWith n ts) (remembered-front n ts (h .tables) (e .peer .count) (h .sits .base .peer .count)) n (s .realm))))
+        (λ j late x y l. brief-sized _ _ (nonce-brief e st n (s .realm) (h .realm)))
+        (λ j o x y l. speaks-spoken _ o (nonce-speaks e st n (s .realm)))
+
+    nonce-at : e .awaits ≡ await.Nonce → (b : Bool)
+        → Agree w s (nonceGiven n) (pick b (refused 15) goes)
+        (pick b (keeps s (refuse refusal.NonceUsed e st)) (called (after 0 (nonceAnswer e n (s .realm) st)) (rememberedWith n ts)))
+    nonce-at at true = agree-refused w s h k (nonceGiven n) refusal.NonceUsed
+    nonce-at at false = nonce-goes at
+
+    pub nonce-agrees : Agrees w s (nonceGiven n)
+    unfolding bad used
+    nonce-agrees =
+        agrees w s h k (nonceGiven n)
+        (λ r. subst (λ (b : Bool). Agree w s (nonceGiven n) (pick (among n (take 32 (w .nonces))) (refused 15) goes)
+        (pick b (keeps s (refuse refusal.BadAnswer e st)) (pick (among n (remembered (e .peer .nonces) ts)) (keeps s (refuse refusal.NonceUsed e st))
+        (called (after 0 (nonceAnswer e n (s .realm) st)) (rememberedWith n ts))))) (sym (h .realm))
+        (subst (λ (l : List Octets16). Agree w s (nonceGiven n) (pick (among n l) (refused 15) goes)
+        (pick (among n (remembered (e .peer .nonces) ts)) (keeps s (refuse refusal.NonceUsed e st))
+        (called (after 0 (nonceAnswer e n (s .realm) st)) (rememberedWith n ts)))) (k .nonces)
+        (nonce-at (same-await (e .awaits) await.Nonce r) (among n (remembered (e .peer .nonces) ts)))))
 
   -- the reply that credentials lead to has the size that the journal says
   credentials-brief : (c : Option Credentials) → e .awaits ≡ await.Credentials → (v : IsConnecting (e .operation)) (late : Late) → LateAt e st late
@@ -327,7 +359,7 @@ module _ (w : Waits) (s : State) (h : Seated s) (k : w ≡ waitsOf (s .engine .a
   credentials-at c at v =
       let answer = listOf (readHeaders (take (v .size) (st .headers)) 0) in
       subst (λ (o : Operation). AgreeKept w s (credentialsGiven c) (pick (longUser c) (refused 8) goes) (credentialsWith o e c st)) (sym (v .is))
-      (checked-agrees (credentialsGiven c) (longUser c) (connectSends e (e .peer) (v .code) (v .front) answer c st)
+      (checked-agrees (credentialsGiven c) refl (longUser c) (connectSends e (e .peer) (v .code) (v .front) answer c st)
       (λ b. connect-sends-fine e st (h .sits .base) (e .peer) (v .code) (v .front) answer c (h .sits .base .peer))
       (λ j. none-taken (j .ended))
       (λ b j x. let y = coupled-at w s h k await.Credentials j at x in
@@ -336,7 +368,7 @@ module _ (w : Waits) (s : State) (h : Seated s) (k : w ≡ waitsOf (s .engine .a
       (λ j o x y l. speaks-spoken _ o (connect-sends-speaks e st (e .peer) (v .code) (v .front) answer c)))
 
   pub credentials-agree : (c : Option Credentials) → Agrees w s (credentialsGiven c)
-  unfolding bad
+  unfolding bad used
   credentials-agree c =
       agrees w s h k (credentialsGiven c)
       (λ r. let at = same-await (e .awaits) await.Credentials r in credentials-at c at (shape-at await.Credentials at))

@@ -21,7 +21,7 @@ use Rattle.model.specs.Calls.{framedAs, withPacket, offers}
 use Rattle.model.specs.Guard.{sameAwait, fits, soundOperation}
 use Rattle.model.specs.Object.{goesOn}
 use Rattle.model.specs.Runs.{State}
-use Rattle.model.specs.Refusals.{Waits, bad}
+use Rattle.model.specs.Refusals.{Known, bad, used}
 use Rattle.journal.specs.Srm.{silent, speaks, Mode, packetDue, packetMode, readDue, readMode, takenDue, dueIn, modeAfter}
 use Rattle.model.specs.Theorem.{Kept}
 use Rattle.server.specs.Numbers.{endNumber}
@@ -41,7 +41,7 @@ use Rattle.model.proofs.Sizes.{early, Brief, brief-done, done-brief, go
 use Rattle.model.proofs.Speaks.{ModeAt, Spoken, spoken-done, goes-on-spoken, read-spoken}
 use Rattle.model.proofs.Gathers.{next-told}
 use Rattle.model.proofs.Packets.{read-told}
-use Rattle.model.proofs.Moments.{same-await, or-second, AgreeKept, Agrees, fed-goes, none-taken, agree-goes, agrees}
+use Rattle.model.proofs.Moments.{same-await, or-second, Knows, AgreeKept, Agrees, fed-goes, none-taken, agree-goes, agrees}
 
 -- the number at the end of the stream, by how many bytes of a packet have come
 stream-number : (p : List ℕ) (b : ℕ) → b ≤ length p → streamNumber (take b p) ≡ endNumber (pick (eqb b 0) why.Disconnected why.Truncated)
@@ -49,7 +49,7 @@ stream-number p zero l = refl
 stream-number [] (suc b) l = absurd (omega (arith, l))
 stream-number (x ∷ p) (suc b) l = rw (ne-eqb (suc b) 0 (λ i. omega (arith, i))) refl
 
-module _ (w : Waits) (s : State) (h : Seated s) (k : w ≡ waitsOf (s .engine .awaits) (s .engine .operation)) where
+module _ (w : Known) (s : State) (h : Seated s) (k : Knows w s) where
   abbrev e : Engine
   e = s .engine
 
@@ -112,6 +112,7 @@ module _ (w : Waits) (s : State) (h : Seated s) (k : w ≡ waitsOf (s .engine .a
     more-fine q (a, g, l, m) =
         record {
           settings = refl;
+          nonces = refl;
           sits = record {
             base = record { room = room-at (g .same-length); peer = h .sits .base .peer; last = h .sits .base .last };
             begun = record { small = l; octets = subst Octets (g .bytes) (g .octets); goes-on = m };
@@ -143,7 +144,7 @@ module _ (w : Waits) (s : State) (h : Seated s) (k : w ≡ waitsOf (s .engine .a
     whole-fine q (a, g, l) =
         let y = read-fine (lengthOf e n) z (whole-base q (a, g, l)) (subst Octets (g .bytes) (g .octets)) (h .sits .counts) (take n (f .packet)) ts
         (requestOf (take n (f .packet))) in
-        record { settings = y .settings; sits = y .sits; waits = y .waits; goes = y .goes }
+        record { settings = y .settings; nonces = y .nonces; sits = y .sits; waits = y .waits; goes = y .goes }
 
     whole-told : (q : List ℕ) → Frames-agree (st .packet) f (whole q) → (j : Journal) → Begins j
         → Follows (Kept (readIn j (whole q))) ts (packetDone e n z ts) (bytesRead j (whole q))
@@ -182,7 +183,7 @@ module _ (w : Waits) (s : State) (h : Seated s) (k : w ≡ waitsOf (s .engine .a
         → AgreeKept w s (bytesOffered i) goes (offers e f st ts)
     read-agrees (more q) y g =
         frame-at More (g .0)
-        (agree-goes w s h k (bytesOffered i) reported _ (more-fine q g)
+        (agree-goes w s h k (bytesOffered i) refl reported _ (more-fine q g)
         (λ j x. count-at j (coupled-at await.Bytes j at x))
         (λ j x. told-follows (subst (Told ts _) (sym (journal-reads j (more q) (coupled-at await.Bytes j at x) y)) (more-told q g j (coupled-at await.Bytes j at x))))
         (λ j late x v l. brief-done e (e .peer) (e .operation) (e .awaits) n (e .length) outcome.WantsBytes z refl (ap early at))
@@ -190,7 +191,7 @@ module _ (w : Waits) (s : State) (h : Seated s) (k : w ≡ waitsOf (s .engine .a
         (spoken-done e (e .peer) (e .operation) (e .awaits) n (e .length) outcome.WantsBytes z silent o refl v)))
     read-agrees (whole q) y g =
         frame-at Whole (g .0)
-        (agree-goes w s h k (bytesOffered i) reported _ (whole-fine q g)
+        (agree-goes w s h k (bytesOffered i) refl reported _ (whole-fine q g)
         (λ j x. count-at j (coupled-at await.Bytes j at x))
         (λ j x. let b = coupled-at await.Bytes j at x in
         subst (Follows (Kept (fedReads j (stepBy (bytesOffered i)))) ts _) (sym (journal-reads j (whole q) b y))
@@ -200,7 +201,7 @@ module _ (w : Waits) (s : State) (h : Seated s) (k : w ≡ waitsOf (s .engine .a
         (whole-spoken q g j o (coupled-at await.Bytes j at x) v (kept-reads j (whole q) (coupled-at await.Bytes j at x) y l))))
     read-agrees short y g =
         frame-at Short (g .0)
-        (agree-goes w s h k (bytesOffered i) reported _ (fine-ends e st (h .sits .base) (e .peer) why.LengthTooSmall z (h .sits .base .peer) (room-at (g .1)))
+        (agree-goes w s h k (bytesOffered i) refl reported _ (fine-ends e st (h .sits .base) (e .peer) why.LengthTooSmall z (h .sits .base .peer) (room-at (g .1)))
         (λ j x. count-at j (coupled-at await.Bytes j at x))
         (λ j x. told-follows (subst (Told ts _) (sym (journal-reads j short (coupled-at await.Bytes j at x) y)) (told-ends ts e (e .peer) z (end j) why.LengthTooSmall)))
         (λ j late x v l. brief-done e (e .peer) Nothing await.Nothing 0 (e .length) (outcome.End why.LengthTooSmall) z refl refl)
@@ -208,7 +209,7 @@ module _ (w : Waits) (s : State) (h : Seated s) (k : w ≡ waitsOf (s .engine .a
         (spoken-done e (e .peer) Nothing await.Nothing 0 (e .length) (outcome.End why.LengthTooSmall) z speaks o refl tt)))
 
   pub bytes-agree : (i : List ℕ) → Octets i → Agrees w s (bytesOffered i)
-  unfolding bad
+  unfolding bad used
   bytes-agree i o =
       agrees w s h k (bytesOffered i)
       (λ r. read-agrees i o (same-await (e .awaits) await.Bytes r) _ refl
@@ -217,10 +218,10 @@ module _ (w : Waits) (s : State) (h : Seated s) (k : w ≡ waitsOf (s .engine .a
   -- ---- the end of the stream
 
   pub end-agrees : Agrees w s streamEnded
-  unfolding bad
+  unfolding bad used
   end-agrees =
       agrees w s h k streamEnded
-      (λ r. agree-goes w s h k streamEnded 0 _ (fine-ends e st (h .sits .base) (e .peer) (pick (eqb (e .begun) 0) why.Disconnected why.Truncated) st (h .sits .base .peer) (h .sits .base .room))
+      (λ r. agree-goes w s h k streamEnded refl 0 _ (fine-ends e st (h .sits .base) (e .peer) (pick (eqb (e .begun) 0) why.Disconnected why.Truncated) st (h .sits .base .peer) (h .sits .base .room))
       (λ j x. none-taken (j .ended))
       (λ j x. let y = coupled-at await.Bytes j (same-await (e .awaits) await.Bytes r) x in
       told-follows (subst (Told ts _) (sym (fed-goes j streamEnded (y .fixed .ended)
@@ -264,7 +265,7 @@ module _ (w : Waits) (s : State) (h : Seated s) (k : w ≡ waitsOf (s .engine .a
   taken-goes : (t : Bool) → sameAwait (e .awaits) await.Taken ≡ t → fits kind.ReplyTaken (e .awaits) ≡ true
       → AgreeKept w s replyTaken goes (after 0 (pick t (goesOn (e .operation) e st) (ends e (e .peer) why.OtherOperation st)))
   taken-goes true i r =
-      agree-goes w s h k replyTaken 0 _
+      agree-goes w s h k replyTaken refl 0 _
       (goes-on-fine (e .operation) (h .sits .counts)
       (fine-wants e st (h .sits .base) (e .peer) (e .operation) st (h .sits .base .peer) (h .sits .base .room) (h .sits .counts) (subst (λ (x : Await). Shape x (e .operation)) at (h .sits .shape))))
       (λ j x. refl)
@@ -280,7 +281,7 @@ module _ (w : Waits) (s : State) (h : Seated s) (k : w ≡ waitsOf (s .engine .a
       at : e .awaits ≡ await.Taken
       at = same-await (e .awaits) await.Taken i
   taken-goes false i r =
-      agree-goes w s h k replyTaken 0 _ (fine-ends e st (h .sits .base) (e .peer) why.OtherOperation st (h .sits .base .peer) (h .sits .base .room))
+      agree-goes w s h k replyTaken refl 0 _ (fine-ends e st (h .sits .base) (e .peer) why.OtherOperation st (h .sits .base .peer) (h .sits .base .room))
       (λ j x. refl)
       (λ j x. told-follows (subst (Told ts _) (sym (ap (λ (t : Bool). pick t (lastTaken j) (unchanged (takenAt (j .opened) j (getD (st .reply) 0 0)))) (coupled-at await.Last j at x))) (told-ends ts e (e .peer) st j why.OtherOperation)))
       (λ j late x v l. brief-done e (e .peer) Nothing await.Nothing 0 (e .length) (outcome.End why.OtherOperation) st refl refl)
@@ -292,6 +293,6 @@ module _ (w : Waits) (s : State) (h : Seated s) (k : w ≡ waitsOf (s .engine .a
       at = same-await (e .awaits) await.Last (or-second _ _ r i)
 
   pub taken-agrees : Agrees w s replyTaken
-  unfolding bad
+  unfolding bad used
   taken-agrees =
       agrees w s h k replyTaken (λ r. taken-goes (sameAwait (e .awaits) await.Taken) refl r)

@@ -6,20 +6,21 @@ use mathlib.Core.List.{List}
 use mathlib.Core.Bool.{Bool, true, false, _&&_, _||_, true≢false}
 use Prim.Native.Nat.{ℕ, _≤_}
 use native.Mathlib.Omega.{arith}
-use lib.ListN.{length, getD}
+use lib.ListN.{length, getD, take}
 use lib.Dec.{leb, eqb}
 use borrow.Author.Tests.{eqb-true}
 use Rattle.base.specs.Pick.{pick}
 use Rattle.journal.specs.Calls.{Call, bytesOffered, streamEnded, replyTaken, replyGiven, objectGiven, bodyGiven, bodyFailed, abortAcknowledged, passwordGiven, nonceGiven, credentialsGiven, Verdict, goes, refused, Fed, stepBy}
 use Rattle.journal.specs.Journal.{Journal, unchanged, journalCall, journalFed, fedTakes, fedReads}
+use Rattle.table.specs.Nonces.{remembered}
 use Rattle.incoming.specs.Frame.{framed}
 use Rattle.model.specs.Step.{Stores, Stepped, Called, called, Done, done, after, ends, repliesCode, limitOf}
-use Rattle.model.specs.Guard.{refuse, short, sound, shortTables, longRealm, awaitNumber, sameAwait, fits, checked}
-use Rattle.model.specs.Calls.{offers, bytesOfferedStep, streamEndedStep, replyTakenStep, replyChecked, replyGivenStep, objectFor, objectGivenStep, bodyFor, bodyGivenStep, bodyFailedStep, abortAcknowledgedStep, passwordGivenStep, nonceGivenStep, credentialsWith, credentialsGivenStep}
+use Rattle.model.specs.Guard.{refuse, short, sound, shortTables, awaitNumber, sameAwait, fits}
+use Rattle.model.specs.Calls.{offers, bytesOfferedStep, streamEndedStep, replyTakenStep, replyChecked, replyGivenStep, objectFor, objectGivenStep, bodyFor, bodyGivenStep, bodyFailedStep, abortAcknowledgedStep, passwordGivenStep, nonceChecked, nonceGivenStep, credentialsWith, credentialsGivenStep}
 use Rattle.model.specs.Object.{goesOn}
-use Rattle.model.specs.Connect.{passwordAnswer, nonceAnswer}
+use Rattle.model.specs.Connect.{passwordAnswer}
 use Rattle.model.specs.Runs.{State, keeps, stepOf, stateOf, lacks}
-use Rattle.model.specs.Refusals.{Waits, roomIn, told, expected, bad, verdict, verdictOf, fedCall, fedBy}
+use Rattle.model.specs.Refusals.{Waits, roomIn, Known, noted, learns, judged, expected, verdict, verdictOf, fedCall, fedBy}
 use Rattle.model.specs.Replies.{Late, lateAfter, replySize}
 use Rattle.journal.specs.Srm.{Mode, dueIn, modeAfter}
 use Rattle.model.specs.Theorem.{Kept}
@@ -34,7 +35,7 @@ use Rattle.server.specs.declared.Operation.the-variants.{Nothing}
 use Rattle.server.specs.declared.Await.{Await}
 use Rattle.server.specs.declared.Await.the-variants as await
 use Rattle.server.specs.declared.Engine.{Engine}
-use Rattle.model.proofs.Fit.{not-short, waitsOf, Seated, tables-long, is-sound, Fine}
+use Rattle.model.proofs.Fit.{not-short, waitsOf, Seated, tables-long, is-sound, FineWith, Fine}
 use Rattle.model.proofs.Coupling.{Coupled, Follows, told-follows}
 use Rattle.model.proofs.Sizes.{Brief, LateAt, Sized, brief-sized}
 use Rattle.model.proofs.Speaks.{ModeAt, Spoken}
@@ -123,7 +124,7 @@ or-second false b h k = h
 
 -- ---- a call at its moment
 
--- what a call that leaves the table store does at its moment; a reply may write it and stands below
+-- what a call that leaves the table store does at its moment; a reply and a nonce may write it and stand below
 abbrev pub goStep : State → Call → Stepped
 goStep s (bytesOffered i) = offers (s .engine) (framed (s .stores .packet) (s .engine .begun) 0 i) (s .stores) (s .tables)
 goStep s streamEnded = after 0 (ends (s .engine) (s .engine .peer) (pick (eqb (s .engine .begun) 0) end.Disconnected end.Truncated) (s .stores))
@@ -136,12 +137,12 @@ goStep s (bodyGiven d) = bodyFor (s .engine .operation) (s .engine) d (s .stores
 goStep s bodyFailed = after 0 (repliesCode (s .engine) (s .engine .peer) Nothing 0x50 (s .stores))
 goStep s abortAcknowledged = after 0 (repliesCode (s .engine) (s .engine .peer) Nothing 0x20 (s .stores))
 goStep s (passwordGiven p) = after 0 (passwordAnswer (s .engine) p (s .stores))
-goStep s (nonceGiven n) =
-    checked (longRealm (s .engine .settings) (s .realm)) (s .engine) (s .stores) (nonceAnswer (s .engine) n (s .realm) (s .stores))
+goStep s (nonceGiven n) = refuse refusal.WrongMoment (s .engine) (s .stores)
 goStep s (credentialsGiven c) = credentialsWith (s .engine .operation) (s .engine) c (s .stores)
 
 abbrev pub goFor : State → Call → Called
 goFor s (replyGiven code hs) = replyChecked (s .engine) code hs (s .stores) (s .tables)
+goFor s (nonceGiven n) = nonceChecked (s .engine) n (s .realm) (s .stores) (s .tables)
 goFor s (bytesOffered i) = keeps s (goStep s (bytesOffered i))
 goFor s streamEnded = keeps s (goStep s streamEnded)
 goFor s replyTaken = keeps s (goStep s replyTaken)
@@ -150,7 +151,6 @@ goFor s (bodyGiven d) = keeps s (goStep s (bodyGiven d))
 goFor s bodyFailed = keeps s (goStep s bodyFailed)
 goFor s abortAcknowledged = keeps s (goStep s abortAcknowledged)
 goFor s (passwordGiven p) = keeps s (goStep s (passwordGiven p))
-goFor s (nonceGiven n) = keeps s (goStep s (nonceGiven n))
 goFor s (credentialsGiven c) = keeps s (goStep s (credentialsGiven c))
 
 abbrev pub refuses : Refusal → State → Called
@@ -168,7 +168,7 @@ kept s c false false = refl
 abbrev pub lacksIn : State → Call → Bool
 lacksIn s c = lacks (s .engine .settings) c (s .stores) (s .tables)
 
-abbrev pub verdictAt : Waits → State → Call → Verdict
+abbrev pub verdictAt : Known → State → Call → Verdict
 verdictAt w s c = verdict (lacksIn s c) w c
 
 abbrev atMoment : State → Call → Bool
@@ -186,7 +186,7 @@ step-is s (bodyGiven d) = kept s (bodyGiven d) (lacksIn s (bodyGiven d)) (atMome
 step-is s bodyFailed = kept s bodyFailed (lacksIn s bodyFailed) (atMoment s bodyFailed)
 step-is s abortAcknowledged = kept s abortAcknowledged (lacksIn s abortAcknowledged) (atMoment s abortAcknowledged)
 step-is s (passwordGiven p) = kept s (passwordGiven p) (lacksIn s (passwordGiven p)) (atMoment s (passwordGiven p))
-step-is s (nonceGiven n) = kept s (nonceGiven n) (lacksIn s (nonceGiven n)) (atMoment s (nonceGiven n))
+step-is s (nonceGiven n) = refl
 step-is s (credentialsGiven c) = kept s (credentialsGiven c) (lacksIn s (credentialsGiven c)) (atMoment s (credentialsGiven c))
 
 -- ---- a call's result agrees with the verdict that is due and with the journal's entry
@@ -201,11 +201,16 @@ fedAt s v c = fedBy v c (getD (s .stores .reply) 0 0)
 abbrev pub fedGoing : State → Call → Fed
 fedGoing s c = fedCall c (getD (s .stores .reply) 0 0)
 
-pub record Agree (w : Waits) (s : State) (c : Call) (v : Verdict) (m : Called) : Type 0 where
+-- what is known from the calls is what the engine waits for, and the nonces that it remembers
+pub record Knows (k : Known) (s : State) : Type 0 where
+  pub waits : k .waits ≡ waitsOf (s .engine .awaits) (s .engine .operation)
+  pub nonces : remembered (s .engine .peer .nonces) (s .tables) ≡ take 32 (k .nonces)
+
+pub record Agree (w : Known) (s : State) (c : Call) (v : Verdict) (m : Called) : Type 0 where
   pub due : verdictOf (m .took .outcome) ≡ v
   pub settings : m .took .engine .settings ≡ s .engine .settings
   pub seated : Seated (stateOf (s .realm) m)
-  pub waits : told w (m .took .outcome) ≡ waitsOf (m .took .engine .awaits) (m .took .engine .operation)
+  pub knows : Knows (learns w c (m .took .outcome)) (stateOf (s .realm) m)
   pub unmoved : (n : ℕ) → v ≡ refused n → stateOf (s .realm) m ≡ s
   pub count : (j : Journal) → Coupled (s .tables) (s .engine) (s .stores) j → m .took .taken ≡ fedTakes j (fedAt s v c)
   pub journal : (j : Journal) → Coupled (s .tables) (s .engine) (s .stores) j
@@ -216,10 +221,10 @@ pub record Agree (w : Waits) (s : State) (c : Call) (v : Verdict) (m : Called) :
       → Spoken (doneOf m) (dueIn o j (fedAt s v c)) (modeAfter o j (fedAt s v c))
 
 -- the same of a call that leaves the table store
-abbrev pub AgreeKept : Waits → State → Call → Verdict → Stepped → Type 0
+abbrev pub AgreeKept : Known → State → Call → Verdict → Stepped → Type 0
 AgreeKept w s c v m = Agree w s c v (keeps s m)
 
-abbrev pub Agrees : Waits → State → Call → Type 0
+abbrev pub Agrees : Known → State → Call → Type 0
 Agrees w s c = Agree w s c (verdictAt w s c) (stepOf s c)
 
 -- the journal's step where the call goes
@@ -231,7 +236,7 @@ pub none-taken : (t : Bool) → _≡_ {A = ℕ} 0 (pick t 0 0)
 none-taken true = refl
 none-taken false = refl
 
-module _ (w : Waits) (s : State) (h : Seated s) (k : w ≡ waitsOf (s .engine .awaits) (s .engine .operation)) (c : Call) where
+module _ (w : Known) (s : State) (h : Seated s) (k : Knows w s) (c : Call) where
   abbrev e : Engine
   e = s .engine
 
@@ -255,18 +260,22 @@ module _ (w : Waits) (s : State) (h : Seated s) (k : w ≡ waitsOf (s .engine .a
       (j : Journal) (o : Mode) → Coupled (s .tables) e st j → ModeAt (e .operation) o → Kept (fedReads j (fedGoing s c))
       → Spoken d (dueIn o j (fedGoing s c)) (modeAfter o j (fedGoing s c))
 
-  -- a call that goes, takes `t` bytes, and leaves `u` in the table store
-  pub agree-tabled : (d : Done) (t : ℕ) (u : List ℕ) → Fine e d → length u ≡ length (s .tables)
+  -- a call that goes, takes `t` bytes, and leaves `u` in the table store, with `m` nonces there
+  pub agree-tabled : {m : ℕ} (d : Done) (t : ℕ) (u : List ℕ) → FineWith m e d → length u ≡ length (s .tables)
+      → remembered m u ≡ take 32 (noted c goes (w .nonces))
       → ((j : Journal) → Coupled (s .tables) e st j → t ≡ fedTakes j (fedGoing s c))
       → ((j : Journal) → Coupled (s .tables) e st j → Follows (Kept (fedReads j (fedGoing s c))) u d (journalFed j (fedGoing s c)))
       → SizedBy (λ j late. Sized d (lateAfter late j (fedGoing s c))) → SpokenBy d
       → Agree w s c goes (called (after t d) u)
-  agree-tabled d t u f l n g z a =
+  agree-tabled d t u f l q n g z a =
       record {
         due = f .goes;
         settings = f .settings;
         seated = record { sits = f .sits; tables = rw l (h .tables); realm = rw (f .settings) (h .realm) };
-        waits = f .waits w;
+        knows = record {
+          waits = f .waits (w .waits);
+          nonces = ap (λ (i : ℕ). remembered i u) (f .nonces) ∙ q ∙ ap (λ (v : Verdict). take 32 (noted c v (w .nonces))) (sym (f .goes));
+        };
         unmoved = λ n i. absurd (let z : _≡_ {A = ℕ} 0 1 = cc in omega arith);
         count = n;
         journal = g;
@@ -274,22 +283,35 @@ module _ (w : Waits) (s : State) (h : Seated s) (k : w ≡ waitsOf (s .engine .a
         spoken = a;
       }
 
-  -- a call that goes
-  pub agree-goes : (t : ℕ) (d : Done) → Fine e d
+  -- a call that goes and gives no nonce
+  pub agree-goes : noted c goes (w .nonces) ≡ w .nonces → (t : ℕ) (d : Done) → Fine e d
       → ((j : Journal) → Coupled (s .tables) e st j → t ≡ fedTakes j (fedGoing s c))
       → ((j : Journal) → Coupled (s .tables) e st j → Follows (Kept (fedReads j (fedGoing s c))) (s .tables) d (journalFed j (fedGoing s c)))
       → SizedBy (λ j late. Brief d) → SpokenBy d
       → AgreeKept w s c goes (after t d)
-  agree-goes t d f n g z a = agree-tabled d t (s .tables) f refl n g (λ j late x y l. brief-sized d (lateAfter late j (fedGoing s c)) (z j late x y l)) a
+  agree-goes q t d f n g z a = agree-tabled d t (s .tables) f refl (k .nonces ∙ ap (take 32) (sym q)) n g (λ j late x y l. brief-sized d (lateAfter late j (fedGoing s c)) (z j late x y l)) a
 
   -- a call that is refused
+  noted-refused : (x : Call) (n : ℕ) → noted x (refused n) (w .nonces) ≡ w .nonces
+  noted-refused (bytesOffered i) n = refl
+  noted-refused streamEnded n = refl
+  noted-refused replyTaken n = refl
+  noted-refused (replyGiven code hs) n = refl
+  noted-refused (objectGiven hs b) n = refl
+  noted-refused (bodyGiven d) n = refl
+  noted-refused bodyFailed n = refl
+  noted-refused abortAcknowledged n = refl
+  noted-refused (passwordGiven p) n = refl
+  noted-refused (nonceGiven m) n = refl
+  noted-refused (credentialsGiven x) n = refl
+
   pub agree-refused : (r : Refusal) → AgreeKept w s c (refused (refusalNumber r)) (refuse r e st)
   agree-refused r =
       record {
         due = refl;
         settings = refl;
         seated = h;
-        waits = k;
+        knows = record { waits = k .waits; nonces = k .nonces ∙ ap (take 32) (sym (noted-refused c (refusalNumber r))) };
         unmoved = λ m i. refl;
         count = λ j x. refl;
         journal = λ j x. told-follows (record { given = refl; after = x; ends = λ i. refl });
@@ -317,16 +339,16 @@ module _ (w : Waits) (s : State) (h : Seated s) (k : w ≡ waitsOf (s .engine .a
       go bodyFailed = long
       go abortAcknowledged = long
       go (passwordGiven p) = long
-      go (nonceGiven n) = long
+      go (nonceGiven n) = both
       go (credentialsGiven x) = long
 
   verdict-by : (t : Bool) → ranged ≡ t
-      → verdictAt w s c ≡ pick (t && fitted) (pick (bad c) (refused 8) goes) (refused 9)
+      → verdictAt w s c ≡ pick (t && fitted) (judged c w) (refused 9)
   unfolding verdict
   verdict-by t i =
-      ap (λ (x : Bool). pick x (refused 10) (pick (expected c w) (pick (bad c) (refused 8) goes) (refused 9))) enough
-      ∙ ap (λ (x : Bool). pick x (pick (bad c) (refused 8) goes) (refused 9))
-      (ap (expected c) k ∙ moment c (e .operation) (e .awaits) ∙ ap (λ (x : Bool). x && fitted) i)
+      ap (λ (x : Bool). pick x (refused 10) (pick (expected c (w .waits)) (judged c w) (refused 9))) enough
+      ∙ ap (λ (x : Bool). pick x (judged c w) (refused 9))
+      (ap (expected c) (k .waits) ∙ moment c (e .operation) (e .awaits) ∙ ap (λ (x : Bool). x && fitted) i)
 
   step-by : (t : Bool) → ranged ≡ t → stepOf s c ≡ pick t (goFor s c) (refuses refusal.WrongMoment s)
   step-by t i =
@@ -336,7 +358,7 @@ module _ (w : Waits) (s : State) (h : Seated s) (k : w ≡ waitsOf (s .engine .a
 
   -- by the moment: at another the call is refused with 9
   pub agrees : (ranged ≡ true
-      → Agree w s c (pick fitted (pick (bad c) (refused 8) goes) (refused 9)) (goFor s c)) → Agrees w s c
+      → Agree w s c (pick fitted (judged c w) (refused 9)) (goFor s c)) → Agrees w s c
   agrees f = go ranged refl
     where
       at : (v : Verdict) (m : Called) → verdictAt w s c ≡ v → stepOf s c ≡ m → Agree w s c v m → Agrees w s c

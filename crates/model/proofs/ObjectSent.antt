@@ -230,9 +230,16 @@ base-of e s a h most =
     let p = and-right (ltb (e .begun) 65535) _ h in
     let q = and-right (leb (e .length) 65535) _ p in
     let r = and-right (leb (e .peer .count) 64) _ q in
+    let n = and-right (leb 255 (e .peer .«remote_max_packet_length»)) _ r in
     record {
       room = room (limitOf e) s a;
-      peer = record { count = leb-true _ _ (and-left _ _ q); least = leb-true _ _ (and-left _ _ r); most = most };
+      peer = record {
+        count = leb-true _ _ (and-left _ _ q);
+        least = leb-true _ _ (and-left _ _ r);
+        most = most;
+        nonces = refl;
+        few = leb-true _ _ (and-left _ _ n);
+      };
       last = leb-true _ _ (and-left _ _ p);
     }
 

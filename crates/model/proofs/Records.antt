@@ -13,29 +13,30 @@ use Rattle.journal.specs.Journal.{Journal, fresh, journalStep, journalRecords, 
 use Rattle.journal.specs.Checks.{windowOf}
 use Rattle.journal.specs.PutForm.{Exactly}
 use Rattle.connection.specs.Peer.{peerWith}
+use Rattle.table.specs.Nonces.{remembered}
 use Rattle.model.specs.Step.{Called, engineWith}
 use Rattle.model.specs.Guard.{longRealm}
 use Rattle.model.specs.Calls.{started}
 use Rattle.model.specs.Runs.{State, Performed, calledIn, next, OffersOctets, Says, Ran, records, Started, lacks, seen}
-use Rattle.model.specs.Refusals.{Waits, bytes, told, verdict, verdictOf, endOf, fedBy, dueFrom, feedFrom}
+use Rattle.model.specs.Refusals.{bytes, Known, atStart, learns, verdict, verdictOf, endOf, fedBy, dueFrom, feedFrom}
 use Rattle.model.specs.Replies.{Late, lateAfter, RepliesFrom}
 use Rattle.journal.specs.Srm.{Mode, modeAfter, duesFrom}
 use Rattle.model.specs.Theorem.{settingsOf, journalOf, fed, Kept, AllObey, Unmoved, RecordsTheorem}
 use Rattle.server.specs.declared.Settings.{Settings}
 use Rattle.server.specs.declared.Engine.{Engine}
-use Rattle.connection.proofs.Standings.{fresh-fits}
+use Rattle.connection.proofs.Standings.{fresh-fits, own-fits}
 use Rattle.journal.proofs.Forms.{put-forms}
 use Rattle.model.proofs.Fit.{room, waitsOf, none-begun, Sits, Seated, tables-room}
 use Rattle.model.proofs.Coupling.{Coupled}
 use Rattle.model.proofs.Sizes.{early, LateAt, early-late}
 use Rattle.model.proofs.Speaks.{ModeAt}
-use Rattle.model.proofs.Moments.{verdictAt, Agree, Agrees}
+use Rattle.model.proofs.Moments.{verdictAt, Knows, Agree, Agrees}
 use Rattle.model.proofs.FromPeer.{bytes-agree, end-agrees, taken-agrees}
 use Rattle.model.proofs.FromHost.{reply-agrees, object-agrees, body-agrees, body-failed-agrees, acknowledge-agrees, password-agrees, nonce-agrees, credentials-agree}
 
 -- ---- a call
 
-step-agrees : (w : Waits) (s : State) → Seated s → w ≡ waitsOf (s .engine .awaits) (s .engine .operation) → (c : Call) → OffersOctets c
+step-agrees : (w : Known) (s : State) → Seated s → Knows w s → (c : Call) → OffersOctets c
     → Agrees w s c
 step-agrees w s h k (bytesOffered i) o = bytes-agree w s h k i o
 step-agrees w s h k streamEnded o = end-agrees w s h k
@@ -50,12 +51,12 @@ step-agrees w s h k (nonceGiven n) o = nonce-agrees w s h k n
 step-agrees w s h k (credentialsGiven c) o = credentials-agree w s h k c
 
 -- what holds between two calls of a run from an accepted start with the settings `st`
-pub record Between (st : Settings) (w : Waits) (s : State) : Type 0 where
+pub record Between (st : Settings) (w : Known) (s : State) : Type 0 where
   pub settings : s .engine .settings ≡ st
   pub seated : Seated s
-  pub waits : w ≡ waitsOf (s .engine .awaits) (s .engine .operation)
+  pub knows : Knows w s
 
-module _ (st : Settings) (w : Waits) (s : State) (b : Between st w s) (x : Performed) (says : Says s x) where
+module _ (st : Settings) (w : Known) (s : State) (b : Between st w s) (x : Performed) (says : Says s x) where
   -- the verdict that is due, by what the host sees
   abbrev pub dueAt : Verdict
   dueAt = verdict (lacks st (x .call) (s .stores) (s .tables)) w (x .call)
@@ -66,27 +67,27 @@ module _ (st : Settings) (w : Waits) (s : State) (b : Between st w s) (x : Perfo
   pub performed-agrees : Agree w s (x .call) dueAt (calledIn x)
   performed-agrees =
       subst (λ (y : Settings). Agree w s (x .call) (verdict (lacks y (x .call) (s .stores) (s .tables)) w (x .call)) (calledIn x)) (b .settings)
-      (subst (λ (m : Called). Agree w s (x .call) (verdictAt w s (x .call)) m) (sym (says .step)) (step-agrees w s (b .seated) (b .waits) (x .call) (says .octets)))
+      (subst (λ (m : Called). Agree w s (x .call) (verdictAt w s (x .call)) m) (sym (says .step)) (step-agrees w s (b .seated) (b .knows) (x .call) (says .octets)))
 
-  pub between-next : Between st (told w (x .result .outcome)) (next s x)
+  pub between-next : Between st (learns w (x .call) (x .result .outcome)) (next s x)
   between-next =
-      let a = performed-agrees in record { settings = a .settings ∙ b .settings; seated = a .seated; waits = a .waits }
+      let a = performed-agrees in record { settings = a .settings ∙ b .settings; seated = a .seated; knows = a .knows }
 
 -- ---- a run
 
-run-refused : (st : Settings) (xs : List Performed) (w : Waits) (s : State) → Between st w s → Ran s xs
+run-refused : (st : Settings) (xs : List Performed) (w : Known) (s : State) → Between st w s → Ran s xs
     → map (λ (x : Performed). verdictOf (x .result .outcome)) xs ≡ dueFrom w (seen st s xs)
 run-refused st [] w s b r = refl
 run-refused st (x ∷ xs) w s b r =
     ap₂ (λ (v : Verdict) (vs : List Verdict). v ∷ vs) (performed-agrees st w s b x (r .0) .due)
-    (run-refused st xs (told w (x .result .outcome)) (next s x) (between-next st w s b x (r .0)) (r .1))
+    (run-refused st xs (learns w (x .call) (x .result .outcome)) (next s x) (between-next st w s b x (r .0)) (r .1))
 
-run-unmoved : (st : Settings) (xs : List Performed) (w : Waits) (s : State) → Between st w s → Ran s xs → Unmoved s xs
+run-unmoved : (st : Settings) (xs : List Performed) (w : Known) (s : State) → Between st w s → Ran s xs → Unmoved s xs
 run-unmoved st [] w s b r = tt
 run-unmoved st (x ∷ xs) w s b r =
     let a = performed-agrees st w s b x (r .0) in (
       λ n i. a .unmoved n (sym (a .due) ∙ i),
-      run-unmoved st xs (told w (x .result .outcome)) (next s x) (between-next st w s b x (r .0)) (r .1),
+      run-unmoved st xs (learns w (x .call) (x .result .outcome)) (next s x) (between-next st w s b x (r .0)) (r .1),
     )
 
 pub kept-both : (l m : List Marked) → Kept (l ++ m) → Kept l × Kept m
@@ -94,23 +95,23 @@ kept-both [] m k = (tt, k)
 kept-both (x ∷ l) m k = let b = kept-both l m (k .1) in ((k .0, b .0), b .1)
 
 -- what engine and journal agree on along a run, with the journal `j` before it; for the ends it is also asked how long replies are
-record Along (st : Settings) (w : Waits) (s : State) (j : Journal) (xs : List Performed) : Type 0 where
+record Along (st : Settings) (w : Known) (s : State) (j : Journal) (xs : List Performed) : Type 0 where
   journal : records xs ≡ journalRecords j (feedFrom w (seen st s xs))
   counts : map (λ (x : Performed). x .result .taken) xs ≡ journalCounts j (feedFrom w (seen st s xs))
   srm : (m : Mode) → ModeAt (s .engine .operation) m → AllObey (duesFrom m j (feedFrom w (seen st s xs))) xs
   ends : (late : Late) → LateAt (s .engine) (s .stores) late → RepliesFrom late j (feedFrom w (seen st s xs))
       → map (λ (x : Performed). endOf (x .result .outcome)) xs ≡ journalEnds j (feedFrom w (seen st s xs))
 
-run-along : (st : Settings) (xs : List Performed) (w : Waits) (s : State) (j : Journal) → Between st w s → Ran s xs
+run-along : (st : Settings) (xs : List Performed) (w : Known) (s : State) (j : Journal) → Between st w s → Ran s xs
     → Coupled (s .tables) (s .engine) (s .stores) j → Kept (packets j (feedFrom w (seen st s xs))) → Along st w s j xs
 unfolding journalStep
 run-along st [] w s j b r c k = record { journal = refl; counts = refl; srm = λ m y. tt; ends = λ late y z. refl }
 run-along st (x ∷ xs) w s j b r c k =
     let a = performed-agrees st w s b x (r .0) in
     let f = fedTo st w s b x (r .0) in
-    let both = kept-both (fedReads j f) (packets (journalStep j f .next) (feedFrom (told w (x .result .outcome)) (seen st (next s x) xs))) k in
+    let both = kept-both (fedReads j f) (packets (journalStep j f .next) (feedFrom (learns w (x .call) (x .result .outcome)) (seen st (next s x) xs))) k in
     let t = a .journal j c .told (both .0) in
-    let later = run-along st xs (told w (x .result .outcome)) (next s x) (journalStep j f .next) (between-next st w s b x (r .0)) (r .1) (t .after) (both .1) in
+    let later = run-along st xs (learns w (x .call) (x .result .outcome)) (next s x) (journalStep j f .next) (between-next st w s b x (r .0)) (r .1) (t .after) (both .1) in
     record {
       journal = ap₂ (λ (l m : List Record). l ++ m) (t .given) (later .journal);
       counts = ap₂ (λ (n : ℕ) (l : List ℕ). n ∷ l) (a .count j c) (later .counts);
@@ -129,7 +130,7 @@ module _ (st : Settings) (s : State) (h : Started st s) where
       record {
         sits = subst (λ (e : Engine). Sits e (s .stores)) (sym (h .fresh))
             (record {
-              base = record { room = room (st .«max_object_size») (s .stores) (h .room); peer = fresh-fits; last = omega arith };
+              base = record { room = room (st .«max_object_size») (s .stores) (h .room); peer = own-fits fresh-fits; last = omega arith };
               begun = none-begun (s .stores .packet);
               counts = refl;
               shape = refl;
@@ -142,9 +143,18 @@ module _ (st : Settings) (s : State) (h : Started st s) where
   unfolding started engineWith
   start-waits = sym (ap (λ (e : Engine). waitsOf (e .awaits) (e .operation)) (h .fresh))
 
-  pub start-between : Between st bytes s
+  start-nonces : remembered (s .engine .peer .nonces) (s .tables) ≡ []
+  unfolding started engineWith peerWith remembered
+  start-nonces = ap (λ (e : Engine). remembered (e .peer .nonces) (s .tables)) (h .fresh)
+
+  pub start-between : Between st atStart s
   unfolding started engineWith
-  start-between = record { settings = ap (λ (e : Engine). e .settings) (h .fresh); seated = start-seated; waits = start-waits }
+  start-between =
+      record {
+        settings = ap (λ (e : Engine). e .settings) (h .fresh);
+        seated = start-seated;
+        knows = record { waits = start-waits; nonces = start-nonces };
+      }
 
   pub start-coupled : Coupled (s .tables) (s .engine) (s .stores) (journalOf st)
   unfolding started engineWith peerWith windowOf
@@ -163,10 +173,10 @@ module _ (st : Settings) (s : State) (h : Started st s) where
 pub records-theorem : RecordsTheorem
 records-theorem st s h xs r =
     let b = start-between st s h in
-    let along = run-along st xs bytes s (journalOf st) b r (start-coupled st s h) in
+    let along = run-along st xs atStart s (journalOf st) b r (start-coupled st s h) in
     record {
-      refusals = run-refused st xs bytes s b r;
-      unmoved = run-unmoved st xs bytes s b r;
+      refusals = run-refused st xs atStart s b r;
+      unmoved = run-unmoved st xs atStart s b r;
       agrees = λ k. record {
         journal = along k .journal;
         forms = subst (Exactly (st .«max_object_size») (packets (journalOf st) (fed st s xs))) (sym (along k .journal))

@@ -307,7 +307,7 @@ front-is p ts h none none = refl
 front-is p ts h none (some v) = refl
 
 -- an id that is opened is no 65th
-not-full : (p : Peer) (ts : List ℕ) (h : List Check) (srm : Bool) → PeerFits p → 64 ≤ length ts → (q : Linked) (a t : Option (List ℕ)) → openedFor p ts srm a t ≡ some q
+not-full : (p : Peer) (ts : List ℕ) (h : List Check) (srm : Bool) → PeerFits (p .nonces) p → 64 ≤ length ts → (q : Linked) (a t : Option (List ℕ)) → openedFor p ts srm a t ≡ some q
     → fullFor (standingOf p ts h) a t ≡ false
 unfolding opened isFull
 not-full p ts h srm f room q a t = by a t
@@ -382,7 +382,7 @@ module _ (ts : List ℕ) (e : Engine) (s : Stores) (j : Journal) (w : AskedBy ts
   abbrev acceptedOr : Bool → ℕ
   acceptedOr full = pick full 7 (acceptedAt (answeredChallenge (lastHeaders e s)) j (w .request) hs)
 
-  module _ (fits : PeerFits (e .peer)) (room : 64 ≤ length ts) where
+  module _ (fits : PeerFits (e .peer .nonces) (e .peer)) (room : 64 ≤ length ts) where
     opened-sized : (q : Option Linked) → openedFor (e .peer) ts srm named target ≡ q → acceptedOr (fullFor (standingOf (e .peer) ts (w .held .fixed .past)) named target) ≤ 65535
         → Sized (connectOpened e ts q code (frontFor (e .peer) ts named target) hs s .done) late
     opened-sized none i l = brief-sized _ late (sends-connect-brief e s (e .peer) 0x53 [] (omega arith))

@@ -55,11 +55,13 @@ use Rattle.server.specs.declared.Engine.{Engine}
 use Rattle.server.specs.declared.HostRequest.{HostRequest}
 use Rattle.server.specs.declared.HostRequest.the-variants as request
 use Rattle.server.specs.declared.Outcome.the-variants as outcome
-use Rattle.connection.proofs.Standings.{PeerFits, limited-fits, checked-fits, verified-fits, challenged-fits, disconnected-fits, disconnected-length, opened-fits, opened-length}
+use Rattle.connection.proofs.Standings.{PeerFits, limited-fits, checked-fits, verified-fits, challenged-fits, disconnected-fits, disconnected-length, disconnected-nonces, opened-fits, opened-length, opened-nonces}
+use Rattle.table.specs.Nonces.{counted}
+use Rattle.table.proofs.Remembering.{SameNonces}
 use Rattle.incoming.proofs.Frames.{Octets}
 use Rattle.incoming.proofs.Gathers.{gather-lengths}
 use Rattle.outgoing.proofs.Sent.{SendsFrom, next-sends}
-use Rattle.model.proofs.Fit.{and-left, and-right, Room, room-reply, room-headers, Base, Fine, fine-pick, FineTabled, tabled-pick, fine-done, fine-wants, fine-asks, fine-ends, fine-replies, fine-code-in, fine-code, fine-continues, connecting}
+use Rattle.model.proofs.Fit.{and-left, and-right, Room, room-reply, room-headers, Base, FineWith, Fine, fine-pick, FineTabled, tabled-pick, fine-done, fine-wants, fine-asks, fine-ends, fine-replies, fine-code-in, fine-code, fine-continues, connecting}
 
 -- ---- counts
 
@@ -207,15 +209,16 @@ module _ (e : Engine) (s : Stores) (h : Base e s) where
 
   -- ---- replies
 
-  sent-fine : (p : Peer) (x : Option (List ℕ)) → ((q : List ℕ) → x ≡ some q → length q ≤ 65535) → PeerFits p → Fine e (sent e p x s)
+  sent-fine : {n : ℕ} (p : Peer) (x : Option (List ℕ)) → ((q : List ℕ) → x ≡ some q → length q ≤ 65535) → PeerFits n p
+      → FineWith n e (sent e p x s)
   sent-fine p none l f = fine-ends e s h p end.ReplyTooLarge s f (h .room)
   sent-fine p (some q) l f = fine-replies e s h p Nothing await.Taken q s f (h .room) refl refl refl (l q refl)
 
-  pub sends-fine : (p : Peer) (code : ℕ) (hs : List ℕ) → PeerFits p → Fine e (sends e p code hs s)
+  pub sends-fine : (p : Peer) (code : ℕ) (hs : List ℕ) → PeerFits (e .peer .nonces) p → Fine e (sends e p code hs s)
   unfolding sends
   sends-fine p code hs f = sent-fine p _ (λ q i. send-length (p .«remote_max_packet_length») code [] hs q (omega arith) i) f
 
-  pub sends-connect-fine : (p : Peer) (code : ℕ) (hs : List ℕ) → PeerFits p → Fine e (sendsConnect e p code hs s)
+  pub sends-connect-fine : {n : ℕ} (p : Peer) (code : ℕ) (hs : List ℕ) → PeerFits n p → FineWith n e (sendsConnect e p code hs s)
   unfolding sendsConnect
   sends-connect-fine p code hs f =
       sent-fine p _ (λ q i. send-length (p .«remote_max_packet_length») code (fieldsOf (e .settings .«max_packet_length»)) hs q (omega arith) i) f
@@ -260,12 +263,12 @@ module _ (e : Engine) (s : Stores) (h : Base e s) where
 
   -- ---- Connect
 
-  verifies-fine : (p : Peer) (c : Challenge) (r : Option Response) → PeerFits p → Fine e (verifies e p c r s)
+  verifies-fine : (p : Peer) (c : Challenge) (r : Option Response) → PeerFits (e .peer .nonces) p → Fine e (verifies e p c r s)
   verifies-fine p Absent r f = fine-asks e s h p await.Nonce request.Nonce s f (h .room) refl refl
   verifies-fine p (Stored n) none f = fine-asks e s h p await.Nonce request.Nonce s f (h .room) refl refl
   verifies-fine p (Stored n) (some r) f = fine-asks e s h p await.Password (request.Password (userPlace e s)) s f (h .room) refl refl
 
-  fields-fine : (p : Peer) (code : ℕ) → PeerFits p → Fine e (repliesFields e p code s)
+  fields-fine : (p : Peer) (code : ℕ) → PeerFits (e .peer .nonces) p → Fine e (repliesFields e p code s)
   unfolding packetBytes
   fields-fine p code f =
       fine-replies e s h p Nothing await.Taken (packetBytes (sentCode code) (fieldsOf (e .settings .«max_packet_length»)) []) s f (h .room) refl refl refl
@@ -281,12 +284,13 @@ module _ (e : Engine) (s : Stores) (h : Base e s) where
       (verifies-fine p (p .challenge) (clientResponse e s) f))
       (fine-asks e s h p await.Connect (request.Connect (e .length)) s f (h .room) refl refl)
 
-  pub connect-sends-fine : (p : Peer) (code : ℕ) (f : ConnectionId) (answer : List Header) (c : Option Credentials) → PeerFits p
+  pub connect-sends-fine : (p : Peer) (code : ℕ) (f : ConnectionId) (answer : List Header) (c : Option Credentials) → PeerFits (e .peer .nonces) p
       → Fine e (connectSends e p code f answer c s)
   unfolding connectSends
   connect-sends-fine p code f answer c k = sends-connect-fine p code _ k
 
-  connect-challenged-fine : (p : Peer) (code : ℕ) (f : ConnectionId) (hs : List ℕ) (c : Option PeerChallenge) → PeerFits p → length hs ≤ 65535
+  connect-challenged-fine : (p : Peer) (code : ℕ) (f : ConnectionId) (hs : List ℕ) (c : Option PeerChallenge) → PeerFits (e .peer .nonces) p
+      → length hs ≤ 65535
       → Fine e (connectChallenged e p code f hs c s)
   connect-challenged-fine p code f hs none k l = connect-sends-fine p code f _ none k
   connect-challenged-fine p code f hs (some c) k l =
@@ -296,11 +300,12 @@ module _ (e : Engine) (s : Stores) (h : Base e s) where
 
   module _ (t : List ℕ) (room : 64 ≤ length t) where
     connect-opened-fine : (p : Option Linked) (code : ℕ) (f : ConnectionId) (hs : List ℕ)
-        → ((q : Linked) → p ≡ some q → PeerFits (q .peer) × (length (q .tables) ≡ length t)) → length hs ≤ 65535
+        → ((q : Linked) → p ≡ some q → PeerFits (e .peer .nonces) (q .peer) × (length (q .tables) ≡ length t) × SameNonces (q .tables) t)
+        → length hs ≤ 65535
         → FineTabled e t (connectOpened e t p code f hs s)
-    connect-opened-fine none code f hs k l = record { done = sends-connect-fine (e .peer) 0x53 [] (h .peer); tables = refl }
+    connect-opened-fine none code f hs k l = record { done = sends-connect-fine (e .peer) 0x53 [] (h .peer); tables = refl; nonces = λ n l. refl }
     connect-opened-fine (some q) code f hs k l =
-        record { done = connect-challenged-fine (q .peer) code f hs (answeredChallenge (lastHeaders e s)) (k q refl .0) l; tables = k q refl .1 }
+        record { done = connect-challenged-fine (q .peer) code f hs (answeredChallenge (lastHeaders e s)) (k q refl .0) l; tables = k q refl .1; nonces = k q refl .2 }
 
     connect-answer-fine : (code : ℕ) (hs : List ℕ) → length hs ≤ 65535 → FineTabled e t (connectAnswer e code hs s t)
     unfolding connectAnswer
@@ -310,8 +315,13 @@ module _ (e : Engine) (s : Stores) (h : Base e s) where
         let srm = e .peer .«srm_enabled» || srmAsked e (surveyOf (some (lastHeaders e s))) in
         tabled-pick e t (isSuccess code) _ _
         (connect-opened-fine (openedFor (e .peer) t srm answer target) code (frontFor (e .peer) t answer target) hs
-        (λ q i. (opened-fits (e .peer) t [] srm (h .peer) room q answer target i, opened-length (e .peer) t [] srm (h .peer) room q answer target i)) l)
-        (record { done = sends-connect-fine (e .peer) code hs (h .peer); tables = refl })
+        (λ q i. (
+          opened-fits (e .peer) t [] srm (h .peer) room q answer target i,
+          opened-length (e .peer) t [] srm (h .peer) room q answer target i,
+          opened-nonces (e .peer) t [] srm (h .peer) room q answer target i,
+        ))
+        l)
+        (record { done = sends-connect-fine (e .peer) code hs (h .peer); tables = refl; nonces = λ n l. refl })
 
     pub reply-fine : (code : ℕ) (hs : List ℕ) → length hs ≤ 65535 → FineTabled e t (replyAnswer e code hs s t)
     unfolding replyAnswer
@@ -322,8 +332,9 @@ module _ (e : Engine) (s : Stores) (h : Base e s) where
         (record {
           done = sends-fine (disconnectedPeer (e .peer) t named .peer) code hs (disconnected-fits (e .peer) t named (h .peer));
           tables = disconnected-length (e .peer) t named (h .peer) room;
+          nonces = disconnected-nonces (e .peer) t named (h .peer);
         })
-        (record { done = sends-fine (e .peer) code hs (h .peer); tables = refl }))
+        (record { done = sends-fine (e .peer) code hs (h .peer); tables = refl; nonces = λ n l. refl }))
 
   pub password-fine : (p : Option (List ℕ)) → Fine e (passwordAnswer e p s)
   unfolding passwordAnswer passwordAnswered
@@ -333,7 +344,8 @@ module _ (e : Engine) (s : Stores) (h : Base e s) where
       (verified-fits (checkedPeer (e .peer) false) (checked-fits (e .peer) false (h .peer))) (h .room) refl refl)
       (fine-asks e s h (checkedPeer (e .peer) true) await.Nonce request.Nonce s (checked-fits (e .peer) true (h .peer)) (h .room) refl refl)
 
-  pub nonce-fine : (n : Octets16) (l : List ℕ) → Fine e (nonceAnswer e n l s)
+  -- there is a nonce more
+  pub nonce-fine : (n : Octets16) (l : List ℕ) → FineWith (counted (e .peer .nonces)) e (nonceAnswer e n l s)
   unfolding nonceAnswer
   nonce-fine n l = sends-connect-fine (challengedPeer (e .peer) n) 0x41 _ (challenged-fits (e .peer) n (h .peer))
 

@@ -18,6 +18,7 @@ use Rattle.incoming.specs.declared.frame.Frame.the-variants.{More, Whole, Short
 use Rattle.outgoing.specs.Object.{bodyGiven}
 use Rattle.connection.specs.Reply.{front}
 use Rattle.connection.specs.Peer.{freshPeer, Linked, linked, disconnectedPeer}
+use Rattle.table.specs.Nonces.{rememberedWith, remembered, among}
 use Rattle.server.specs.declared.Settings.{Settings}
 use Rattle.server.specs.declared.Operation.{Operation}
 use Rattle.server.specs.declared.Operation.the-variants.{Nothing, Trailing, Putting, Getting, Sending, Gathering as GatheringOp, Connecting, Draining}
@@ -35,7 +36,7 @@ use Rattle.model.specs.Object.{sendsPacket, sendsNext, goesOn, objectOf}
 use Rattle.model.specs.Connect.{connectSends, connectAnswer, passwordAnswer, nonceAnswer}
 use Rattle.model.specs.Dispatch.{inside, busy, packetDone}
 use Rattle.model.specs.Close.{Closed, refuseClosing, closeChecked}
-use Rattle.model.specs.Guard.{refuse, short, sound, shortTables, longRealm, sameAwait, fits, guarded, guardedTables, badHeaders, badReply, checked, longUser}
+use Rattle.model.specs.Guard.{refuse, short, sound, shortTables, longRealm, sameAwait, guarded, guardedTables, guardedCalled, badHeaders, badReply, checked, longUser}
 
 -- What follows by where the frame stands, with `b` bytes of a packet in the packet store and `n` taken.
 abbrev pub framedAs : Frame → Engine → ℕ → ℕ → Stores → List ℕ → Stepped
@@ -83,9 +84,7 @@ replyChecked e code hs s t =
     (called (after 0 (replyAnswer e code hs s t .done)) (replyAnswer e code hs s t .tables))
 
 unfoldable pub replyGivenStep : Engine → ℕ → List ℕ → Stores → List ℕ → Called
-replyGivenStep e code hs s t =
-    pick (shortTables t || short (limitOf e) s) (called (refuse refusal.StoreTooShort e s) t)
-    (pick (sound e && fits kind.ReplyGiven (e .awaits)) (replyChecked e code hs s t) (called (refuse refusal.WrongMoment e s) t))
+replyGivenStep e code hs s t = guardedCalled kind.ReplyGiven e s t (replyChecked e code hs s t)
 
 -- The host's object, for the Get that is open.
 abbrev pub objectFor : Operation → Engine → List ℕ → Bool → Stores → Stepped
@@ -131,9 +130,17 @@ abortAcknowledgedStep e s = guarded kind.AbortAcknowledged e s (after 0 (replies
 unfoldable pub passwordGivenStep : Engine → Option (List ℕ) → Stores → Stepped
 passwordGivenStep e p s = guarded kind.PasswordGiven e s (after 0 (passwordAnswer e p s))
 
+-- A nonce is refused if the realm grew, then if it is one of the last 32 that were taken; otherwise it is taken and remembered
+-- (docs/PROTOCOL.md#nonces).
+abbrev pub nonceChecked : Engine → Octets16 → List ℕ → Stores → List ℕ → Called
+nonceChecked e n l s t =
+    pick (longRealm (e .settings) l) (called (refuse refusal.BadAnswer e s) t)
+    (pick (among n (remembered (e .peer .nonces) t)) (called (refuse refusal.NonceUsed e s) t)
+    (called (after 0 (nonceAnswer e n l s)) (rememberedWith n t)))
+
 -- The nonce that the host gives. The realm's bytes `l` are lent as they were at the start.
-unfoldable pub nonceGivenStep : Engine → Octets16 → List ℕ → Stores → Stepped
-nonceGivenStep e n l s = guarded kind.NonceGiven e s (checked (longRealm (e .settings) l) e s (nonceAnswer e n l s))
+unfoldable pub nonceGivenStep : Engine → Octets16 → List ℕ → Stores → List ℕ → Called
+nonceGivenStep e n l s t = guardedCalled kind.NonceGiven e s t (nonceChecked e n l s t)
 
 -- Credentials for the Connect that waits for them.
 abbrev pub credentialsWith : Operation → Engine → Option Credentials → Stores → Stepped

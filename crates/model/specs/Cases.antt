@@ -12,6 +12,7 @@ use Rattle.packet.specs.declared.opcode.Opcode.the-variants as op
 use Rattle.journal.specs.Ids.{newId}
 use Rattle.journal.specs.Record.{Record}
 use Rattle.journal.specs.Calls.{Call, bytesOffered, replyTaken, objectGiven, bodyGiven}
+use Rattle.table.specs.Places.{tableLength}
 use Rattle.model.specs.Step.{Stores}
 use Rattle.model.specs.Calls.{started}
 use Rattle.server.specs.Settings.{defaultSettings}
@@ -42,7 +43,7 @@ freshWith st =
     record {
       engine = started st;
       stores = record { packet = replicate 65535 0; headers = replicate 65535 0; body = replicate (st .«max_object_size») 0; reply = replicate 65535 0 };
-      tables = replicate 64 0;
+      tables = replicate tableLength 0;
       realm = [];
     }
 

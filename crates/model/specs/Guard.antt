@@ -7,6 +7,7 @@ use lib.ListN.{length}
 use lib.Dec.{ltb, leb, eqb}
 use Rattle.base.specs.Pick.{pick}
 use Rattle.packet.specs.Limits.{maxConnections, maxRealm}
+use Rattle.table.specs.Places.{maxNonces, tableLength}
 use Rattle.packet.specs.Codes.{isCode}
 use Rattle.packet.specs.Canonical.{canonical}
 use Rattle.journal.specs.Calls.{Credentials}
@@ -27,7 +28,7 @@ use Rattle.server.specs.declared.Engine.{Engine}
 use Rattle.server.specs.declared.Body.{Body}
 use Rattle.server.specs.declared.Body.the-variants as body
 use Rattle.server.specs.declared.Outcome.the-variants as outcome
-use Rattle.model.specs.Step.{Stores, Done, sent, limitOf, Stepped, stepped, after}
+use Rattle.model.specs.Step.{Stores, Done, sent, limitOf, Stepped, stepped, Called, called, after}
 
 -- Whether one of the four stores is too short.
 unfoldable pub short : ℕ → Stores → Bool
@@ -56,12 +57,12 @@ soundOperation limit (Draining code) = true
 -- Whether the whole state is one that a call can leave, by its counts.
 unfoldable pub sound : Engine → Bool
 sound e =
-    ltb (e .begun) 65535 && (leb (e .length) 65535 && (leb (e .peer .count) 64 && (leb 255 (e .peer .«remote_max_packet_length»)
-    && soundOperation (limitOf e) (e .operation))))
+    ltb (e .begun) 65535 && (leb (e .length) 65535 && (leb (e .peer .count) maxConnections && (leb 255 (e .peer .«remote_max_packet_length»)
+    && (leb (e .peer .nonces) maxNonces && soundOperation (limitOf e) (e .operation)))))
 
--- Whether the table store, which holds the open ids, is too short. Only the calls that look at it are lent it.
+-- Whether the table store, which holds the open ids and the nonces taken last, is too short. Only the calls that look at it are lent it.
 unfoldable pub shortTables : List ℕ → Bool
-shortTables t = ltb (length t) maxConnections
+shortTables t = ltb (length t) tableLength
 
 -- Whether the realm of the server's challenges is over 254 bytes: its tag's value has 255 at most, and the charset is the first of them.
 -- Without a realm in the settings the bytes that are lent do not count.
@@ -115,6 +116,12 @@ abbrev pub guardedTables : CallKind → Engine → Stores → List ℕ → Stepp
 guardedTables k e s t go =
     pick (shortTables t || short (limitOf e) s) (refuse refusal.StoreTooShort e s)
     (pick (sound e && fits k (e .awaits)) go (refuse refusal.WrongMoment e s))
+
+-- The same for a call that may write it.
+abbrev pub guardedCalled : CallKind → Engine → Stores → List ℕ → Called → Called
+guardedCalled k e s t go =
+    pick (shortTables t || short (limitOf e) s) (called (refuse refusal.StoreTooShort e s) t)
+    (pick (sound e && fits k (e .awaits)) go (called (refuse refusal.WrongMoment e s) t))
 
 -- Whether header bytes are none that a host may give: over 65,535, or not what the writer gives for what the reader reads.
 unfoldable pub badHeaders : List ℕ → Bool

@@ -1,15 +1,19 @@
 -- What a host sees of a call, and what follows from that alone: which calls are due to be refused, and with which number
 -- (docs/PROTOCOL.md#refusals), and what the journal is fed (docs/PROTOCOL.md#journal). A call is due to be refused by the lengths of the
--- stores that it is lent (10), by what waits since the last call that was not refused (9), and by the answer itself (8). Neither the
--- engine's state nor a store is in the type of anything here. What this file shares with the model, and so cannot tell wrong, are the tests
--- of an answer: `badReply`, `badHeaders` and `longUser` (README, "What must be believed").
+-- stores that it is lent (10), by what waits since the last call that was not refused (9), by the answer itself (8), and, if it gives a
+-- nonce, by the last 32 nonces of such calls that were not refused (15). Neither the engine's state nor a store is in the type of anything
+-- here. What this file shares with the model, and so cannot tell wrong, are the tests of an answer: `badReply`, `badHeaders`, `longUser` and
+-- `among` (README, "What must be believed").
 use Prim.Native.Nat.{ℕ}
 use mathlib.Core.List.{List, [], _∷_}
 use mathlib.Core.Bool.{Bool, true, false, _&&_, _||_}
 use mathlib.Core.Option.{Option, none, some}
-use lib.ListN.{length}
+use lib.ListN.{length, take}
 use lib.Dec.{eqb, leb}
 use Rattle.base.specs.Pick.{pick}
+use Rattle.digest.specs.declared.md5.Octets16.{Octets16}
+use Rattle.table.specs.Places.{maxNonces}
+use Rattle.table.specs.Nonces.{among}
 use Rattle.journal.specs.Calls.{Call, bytesOffered, streamEnded, replyTaken, replyGiven, objectGiven, bodyGiven, bodyFailed, abortAcknowledged, passwordGiven, nonceGiven, credentialsGiven, Verdict, goes, refused, Fed, noStep, stepBy, replySent}
 use Rattle.model.specs.Guard.{badReply, badHeaders, longUser}
 use Rattle.server.specs.Numbers.{refusalNumber, endNumber}
@@ -68,7 +72,7 @@ asked request.Nonce = nonce
 asked (request.Credentials n u r p) = credentials
 asked (request.Read n) = reading n
 
--- What waits after a result. At an accepted start bytes are awaited.
+-- What waits after a result.
 abbrev pub told : Waits → Outcome → Waits
 told w outcome.WantsBytes = bytes
 told w (outcome.Reply n) = taking
@@ -134,16 +138,64 @@ bad abortAcknowledged = false
 bad (passwordGiven p) = false
 bad (nonceGiven n) = false
 
--- The verdict on a call: 10 comes before 9, and 9 before 8.
-unfoldable pub verdict : Bool → Waits → Call → Verdict
-verdict s w c = pick s (refused 10) (pick (expected c w) (pick (bad c) (refused 8) goes) (refused 9))
+-- ---- what is known from the calls and their results alone
 
--- ---- along a list of calls, from where `w` waits
+-- What waits, and the nonces of the answers that were not refused, the latest first.
+pub record Known : Type 0 where
+  pub waits : Waits
+  pub nonces : List Octets16
+
+-- At an accepted start bytes are awaited, and no nonce was given.
+abbrev pub atStart : Known
+atStart = record { waits = bytes; nonces = [] }
+
+-- The nonces after a call with this verdict.
+abbrev pub noted : Call → Verdict → List Octets16 → List Octets16
+noted (nonceGiven n) goes ns = n ∷ ns
+noted (nonceGiven n) (refused m) ns = ns
+noted (bytesOffered i) v ns = ns
+noted streamEnded v ns = ns
+noted replyTaken v ns = ns
+noted (replyGiven code hs) v ns = ns
+noted (objectGiven hs b) v ns = ns
+noted (bodyGiven d) v ns = ns
+noted bodyFailed v ns = ns
+noted abortAcknowledged v ns = ns
+noted (passwordGiven p) v ns = ns
+noted (credentialsGiven c) v ns = ns
+
+-- What is known after a call, by what it returned.
+abbrev pub learns : Known → Call → Outcome → Known
+learns k c o = record { waits = told (k .waits) o; nonces = noted c (verdictOf o) (k .nonces) }
+
+-- Whether a call gives a nonce that is one of the last 32 of `ns`; an older one may return (docs/PROTOCOL.md#nonces).
+unfoldable pub used : Call → List Octets16 → Bool
+used (nonceGiven n) ns = among n (take maxNonces ns)
+used (bytesOffered i) ns = false
+used streamEnded ns = false
+used replyTaken ns = false
+used (replyGiven code hs) ns = false
+used (objectGiven hs b) ns = false
+used (bodyGiven d) ns = false
+used bodyFailed ns = false
+used abortAcknowledged ns = false
+used (passwordGiven p) ns = false
+used (credentialsGiven c) ns = false
+
+-- The verdict on a call that is waited for, by the answer itself and by the nonces before it.
+abbrev pub judged : Call → Known → Verdict
+judged c k = pick (bad c) (refused 8) (pick (used c (k .nonces)) (refused 15) goes)
+
+-- The verdict on a call: 10 comes before 9, 9 before 8, and 8 before 15.
+unfoldable pub verdict : Bool → Known → Call → Verdict
+verdict s k c = pick s (refused 10) (pick (expected c (k .waits)) (judged c k) (refused 9))
+
+-- ---- along a list of calls, from where `k` is known
 
 -- The verdicts that are due.
-abbrev pub dueFrom : Waits → List Seen → List Verdict
-dueFrom w [] = []
-dueFrom w (x ∷ xs) = verdict (x .short) w (x .call) ∷ dueFrom (told w (x .outcome)) xs
+abbrev pub dueFrom : Known → List Seen → List Verdict
+dueFrom k [] = []
+dueFrom k (x ∷ xs) = verdict (x .short) k (x .call) ∷ dueFrom (learns k (x .call) (x .outcome)) xs
 
 -- What the journal is fed of a call that goes: the first byte of the reply goes with a reply taken, and with no other call.
 abbrev pub fedCall : Call → ℕ → Fed
@@ -163,14 +215,14 @@ abbrev pub fedBy : Verdict → Call → ℕ → Fed
 fedBy (refused n) c b = noStep
 fedBy goes c b = fedCall c b
 
-abbrev pub feedFrom : Waits → List Seen → List Fed
-feedFrom w [] = []
-feedFrom w (x ∷ xs) = fedBy (verdict (x .short) w (x .call)) (x .call) (x .reply) ∷ feedFrom (told w (x .outcome)) xs
+abbrev pub feedFrom : Known → List Seen → List Fed
+feedFrom k [] = []
+feedFrom k (x ∷ xs) = fedBy (verdict (x .short) k (x .call)) (x .call) (x .reply) ∷ feedFrom (learns k (x .call) (x .outcome)) xs
 
 -- The verdicts that are due along a list of calls from an accepted start, and what the journal is fed of them. It is fed the verdicts that
 -- are due, and not those that were returned.
 abbrev pub due : List Seen → List Verdict
-due xs = dueFrom bytes xs
+due xs = dueFrom atStart xs
 
 abbrev pub feed : List Seen → List Fed
-feed xs = feedFrom bytes xs
+feed xs = feedFrom atStart xs

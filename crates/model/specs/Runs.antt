@@ -44,7 +44,7 @@ stepOf s (bodyGiven d) = keeps s (bodyGivenStep (s .engine) d (s .stores))
 stepOf s bodyFailed = keeps s (bodyFailedStep (s .engine) (s .stores))
 stepOf s abortAcknowledged = keeps s (abortAcknowledgedStep (s .engine) (s .stores))
 stepOf s (passwordGiven p) = keeps s (passwordGivenStep (s .engine) p (s .stores))
-stepOf s (nonceGiven n) = keeps s (nonceGivenStep (s .engine) n (s .realm) (s .stores))
+stepOf s (nonceGiven n) = nonceGivenStep (s .engine) n (s .realm) (s .stores) (s .tables)
 stepOf s (credentialsGiven c) = keeps s (credentialsGivenStep (s .engine) c (s .stores))
 
 -- The state after a call, with the realm as it was.
@@ -140,6 +140,7 @@ records (x ∷ xs) = handed (x .result .outcome) (x .stores) ++ records xs
 abbrev pub lacks : Settings → Call → Stores → List ℕ → Bool
 lacks st (bytesOffered i) s t = shortTables t || short (st .«max_object_size») s
 lacks st (replyGiven code hs) s t = shortTables t || short (st .«max_object_size») s
+lacks st (nonceGiven n) s t = shortTables t || short (st .«max_object_size») s
 lacks st streamEnded s t = short (st .«max_object_size») s
 lacks st replyTaken s t = short (st .«max_object_size») s
 lacks st (objectGiven hs b) s t = short (st .«max_object_size») s
@@ -147,7 +148,6 @@ lacks st (bodyGiven d) s t = short (st .«max_object_size») s
 lacks st bodyFailed s t = short (st .«max_object_size») s
 lacks st abortAcknowledged s t = short (st .«max_object_size») s
 lacks st (passwordGiven p) s t = short (st .«max_object_size») s
-lacks st (nonceGiven n) s t = short (st .«max_object_size») s
 lacks st (credentialsGiven c) s t = short (st .«max_object_size») s
 
 -- What the host that set `st` sees of a call that it made with the stores of `s`.

@@ -1,5 +1,4 @@
--- The numbers of ends and refusals (docs/PROTOCOL.md#ends, #refusals): 1 to 7 end the engine; 8 to 10 refuse a call, and 19 to 21
--- the one that closes connections together.
+-- The numbers of ends and refusals (docs/PROTOCOL.md#ends, #refusals): 1 to 7 end the engine; 8 to 10, 15, and 19 to 21 refuse a call.
 use Prim.Native.Nat.{ℕ}
 use Rattle.server.specs.declared.End.{End}
 use Rattle.server.specs.declared.End.the-variants as end
@@ -19,6 +18,7 @@ abbrev pub refusalNumber : Refusal → ℕ
 refusalNumber refusal.BadAnswer = 8
 refusalNumber refusal.WrongMoment = 9
 refusalNumber refusal.StoreTooShort = 10
+refusalNumber refusal.NonceUsed = 15
 refusalNumber refusal.TooManyIds = 19
 refusalNumber refusal.IdNotOpen = 20
 refusalNumber refusal.IdRepeated = 21

@@ -194,7 +194,7 @@ pub enum HostRequest {
     Password {
         user_id: packet::tlv::Found,
     },
-    // Sixteen fresh bytes for a challenge, none that the host ever gave before.
+    // Sixteen fresh bytes for a challenge, none of the last 32 that were taken (docs/PROTOCOL.md#nonces).
     Nonce,
     // A user id and password with which to answer the client's challenge.
     Credentials {
@@ -235,6 +235,8 @@ pub enum Refusal {
     WrongMoment,
     // 10: a lent store is too short.
     StoreTooShort,
+    // 15: the nonce is one of the last 32 that were taken.
+    NonceUsed,
     // 19: over 64 ids are to be closed together.
     TooManyIds,
     // 20: an id that is to be closed is not open.
@@ -287,6 +289,7 @@ pub fn refusal_number(refusal: Refusal) -> u8
         Refusal::BadAnswer => 8,
         Refusal::WrongMoment => 9,
         Refusal::StoreTooShort => 10,
+        Refusal::NonceUsed => 15,
         Refusal::TooManyIds => 19,
         Refusal::IdNotOpen => 20,
         Refusal::IdRepeated => 21,

@@ -1,6 +1,6 @@
--- `engine::calls::nonce_given` meets its contract. The guard refuses as the model does, a realm that is too long is no answer, and the
--- challenge is sent by its plan.
-use mathlib.Core.Path.{_≡_, ap, _∙_, sym}
+-- `engine::calls::nonce_given` meets its contract. The guard refuses as the model does, then a realm that is too long and a nonce that was
+-- used; a nonce that is taken is remembered, and its challenge is sent by its plan. Assumes nothing.
+use mathlib.Core.Path.{_≡_, ap, ap₂, _∙_, sym}
 use mathlib.Core.Bool.{false}
 use mathlib.Core.List.{List}
 use mathlib.Core.Option.{Option}
@@ -10,39 +10,50 @@ use Rattle.packet.specs.Header.{bytesOf}
 use Rattle.connection.specs.Reply.{fieldsOf, sendBytes}
 use Rattle.connection.specs.ConnectReply.{challengeHeader}
 use Rattle.connection.specs.declared.peer.Peer.{Peer}
-use Rattle.model.specs.Step.{Stores, stores, Stepped, stepped, after, sendsConnect, sent}
+use Rattle.model.specs.Step.{Stores, stores, Stepped, stepped, called, after, sendsConnect, sent}
 use Rattle.model.specs.Calls.{nonceGivenStep}
 use Rattle.model.specs.Connect.{nonceAnswer, optionsOf, realmOf}
-use Rattle.model.specs.Guard.{guarded, longRealm}
+use Rattle.model.specs.Guard.{refuse, longRealm}
 use Rattle.server.specs.declared.CallKind.the-variants as kind
 use Rattle.server.specs.declared.CallResult.{CallResult}
-use Rattle.engine.proofs.Guards.{Goes, going}
-use Rattle.engine.proofs.Carried.{refused-call, checked-goes, sent-call}
+use Rattle.server.specs.declared.Refusal.{Refusal}
+use Rattle.engine.proofs.Guards.{GoesLent, turned-lent, going-lent}
+use Rattle.engine.proofs.Carried.{sent-stepped}
+use Rattle.engine.proofs.Challenged.{nonce-refused, nonce-taken, realm-short}
 use borrow.Author.Needs.{needs}
 use Rattle.engine.proofs.calls.nonce_given.Statement.{statement}
 use Rattle.engine.proofs.calls.nonce_given.Tie as tie
 
-abbrev start : tie.After-guard → tie.Start
-start k = k .before .before .before .before .before .before
+abbrev start : tie.After-guard-lent → tie.Start
+start k = k .before .before .before .before .before .before .before
 
 -- the stores that are lent
-abbrev lent : tie.After-guard → Stores
+abbrev lent : tie.After-guard-lent → Stores
 lent k = let a = start k .args in stores (a .packet .now) (a .headers .now) (a .body .now) (a .reply .now)
 
 -- the guard says that the call may proceed
-abbrev passed : tie.After-enum-told → tie.After-guard
+abbrev passed : tie.After-enum-told → tie.After-guard-lent
 passed z = z .before .before
 
-goes : (z : tie.After-enum-told) → Goes kind.NonceGiven (start (passed z) .args .e) (lent (passed z))
-goes z = going kind.NonceGiven _ _ _ (passed z .guard .ensures) (z .enum-told .given .1)
+goes : (z : tie.After-enum-told) → let a = start (passed z) .args in GoesLent kind.NonceGiven (a .e) (lent (passed z)) (a .tables .now)
+goes z = going-lent kind.NonceGiven _ _ _ _ (passed z .guard-lent .ensures) (z .enum-told .given .1)
 
--- the realm is not too long
-fits : (u : tie.Else1) → let k = start (passed (u .before .before)) .args in longRealm (k .e .settings) (k .realm .now) ≡ false
+-- what the two tests of the nonce found, from where the guard was passed
+abbrev tested : tie.After-guard-nonce → tie.After-enum-told
+tested g = g .before .before .before .before
+
+-- the nonce may be taken, so the realm is not too long
+realm-fits : (y : tie.After-enum-told2)
+    → let k = start (passed (tested (y .before .before))) .args in longRealm (k .e .settings) (k .realm .now) ≡ false
 unfolding longRealm
-fits u = sym (u .before .is-long-realm .ensures) ∙ u .if1 .left
+realm-fits y =
+    let g = y .before .before in
+    let k = start (passed (tested g)) .args in
+    realm-short (k .e) (k .n) (k .realm .now) (lent (passed (tested g))) (k .tables .now) (goes (tested g)) _ _
+    (g .before .before .before .is-long-realm .ensures) (g .before .is-used .ensures) _ (g .guard-nonce .ensures) (y .enum-told2 .given .1)
 
-guard-requires : tie.Need-guard-requires
-guard-requires c κs = search needs
+guard-lent-requires : tie.Need-guard-lent-requires
+guard-lent-requires c κs = search needs
 
 enum-known-refusal : tie.Need-enum-known-refusal
 enum-known-refusal c = search needs
@@ -54,7 +65,10 @@ returns : tie.Need-returns
 unfolding nonceGivenStep
 returns c =
     let k = c .before .before .before .before in
-    refused-call kind.NonceGiven (start k .args .e) (lent k) _ _ _ _ (c .refuse .ensures) (k .guard .ensures) (c .before .before .refusal .given .1)
+    let a = start k .args in
+    ap (λ (r : CallResult). called (stepped r (lent k)) (a .tables .now)) (c .refuse .ensures)
+    ∙ turned-lent kind.NonceGiven (a .e) (lent k) (a .tables .now) (λ (q : Refusal). called (refuse q (a .e) (lent k)) (a .tables .now)) _ _ _ (k .guard-lent .ensures)
+    (c .before .before .refusal .given .1)
 
 enum-told : tie.Need-enum-told
 enum-told c = search needs
@@ -62,24 +76,43 @@ enum-told c = search needs
 is-long-realm-requires : tie.Need-is-long-realm-requires
 is-long-realm-requires c κs = search needs
 
+is-used-requires : tie.Need-is-used-requires
+is-used-requires c κs = let l = goes (c .before .before) in (l .goes .bounds .nonces, l .tables)
+
+guard-nonce-requires : tie.Need-guard-nonce-requires
+guard-nonce-requires c κs = search needs
+
+enum-known-refusal-2 : tie.Need-enum-known-refusal-2
+enum-known-refusal-2 c = search needs
+
 refuse-requires-2 : tie.Need-refuse-requires-2
 refuse-requires-2 c κs = search needs
 
+same-length : tie.Need-same-length
+same-length c = search needs
+
 returns-2 : tie.Need-returns-2
-unfolding nonceGivenStep longRealm
+unfolding longRealm
 returns-2 c =
-    let m = c .before .before in
-    let z = m .before in
-    let s = lent (passed z) in
-    ap (λ (r : CallResult). stepped r s) (c .refuse2 .ensures) ∙ sym (simp (sym (m .is-long-realm .ensures) ∙ c .before .if1 .taken)) ∙ sym (goes z .whole _)
+    let g = c .before .before .before .before in
+    let k = start (passed (tested g)) .args in
+    nonce-refused (k .e) (k .n) (k .realm .now) (lent (passed (tested g))) (k .tables .now) (goes (tested g)) _ _
+    (g .before .before .before .is-long-realm .ensures) (g .before .is-used .ensures) _ (g .guard-nonce .ensures) _ _ (c .before .before .refusal2 .given .1)
+    (c .refuse2 .ensures)
+
+enum-told-2 : tie.Need-enum-told-2
+enum-told-2 c = search needs
+
+remember-requires : tie.Need-remember-requires
+remember-requires c κs = goes (tested (c .before .before .before)) .tables
 
 challenged-requires : tie.Need-challenged-requires
 challenged-requires c κs = search needs
 
 send-challenge-requires : tie.Need-send-challenge-requires
 send-challenge-requires c κs =
-    let u = c .before .before in
-    (fits u, goes (u .before .before) .room .reply)
+    let y = c .before .before .before .before .before .before in
+    (realm-fits y, goes (tested (y .before .before)) .goes .room .reply)
 
 sent-plan-requires : tie.Need-sent-plan-requires
 sent-plan-requires c κs = search needs
@@ -87,40 +120,54 @@ sent-plan-requires c κs = search needs
 took-requires : tie.Need-took-requires
 took-requires c κs = search needs
 
-same-length : tie.Need-same-length
-same-length c = search needs
+same-length-2 : tie.Need-same-length-2
+same-length-2 c = search needs
+
+same-length-3 : tie.Need-same-length-3
+same-length-3 c = search needs
 
 returns-3 : tie.Need-returns-3
-unfolding nonceGivenStep nonceAnswer sendsConnect
+unfolding nonceAnswer sendsConnect longRealm
 returns-3 c =
     let w = c .before .before .before .before in
     let n = w .before .before in
-    let u = n .before in
-    let z = u .before .before in
-    let k = start (passed z) .args in
-    let s = lent (passed z) in
+    let m = n .before .before .before in
+    let y = m .before .before in
+    let g = y .before .before in
+    let k = start (passed (tested g)) .args in
+    let s = lent (passed (tested g)) in
     let header = bytesOf (challengeHeader (octets16 (k .n)) (optionsOf (k .e .settings)) (realmOf (k .e .settings) (k .realm .now))) in
     let bytes : Peer → Option (List ℕ) = λ p. sendBytes (p .«remote_max_packet_length») 0x41 (fieldsOf (k .e .settings .«max_packet_length»)) header in
     let p = n .challenged .result in
-    sent-call kind.NonceGiven (k .e) s p (bytes p) _ _ _ (goes z) (w .send-challenge .ensures) (c .before .sent-plan .ensures) (c .took .ensures)
-    ∙ ap (λ (p : Peer). guarded kind.NonceGiven (k .e) s (after 0 (sent (k .e) p (bytes p) s))) (n .challenged .ensures)
-    ∙ ap (λ (m : Stepped). guarded kind.NonceGiven (k .e) s m) (checked-goes _ (k .e) s (nonceAnswer (k .e) (k .n) (k .realm .now) s) (fits u))
+    ap₂ (λ (x : Stepped) (u : List ℕ). called x u)
+    (sent-stepped (k .e) s p (bytes p) _ _ _ (w .send-challenge .ensures) (c .before .sent-plan .ensures) (c .took .ensures)
+    ∙ ap (λ (p : Peer). after 0 (sent (k .e) p (bytes p) s)) (n .challenged .ensures))
+    (m .remember .ensures)
+    ∙ nonce-taken (k .e) (k .n) (k .realm .now) s (k .tables .now) (goes (tested g)) _ _ (g .before .before .before .is-long-realm .ensures)
+    (g .before .is-used .ensures) _ (g .guard-nonce .ensures) (y .enum-told2 .given .1)
 
 pub nonce-given-spec : {M : Type 1} → statement M
 nonce-given-spec =
     tie.close
     (tie.spec
-    guard-requires
+    guard-lent-requires
     enum-known-refusal
     refuse-requires
     returns
     enum-told
     is-long-realm-requires
+    is-used-requires
+    guard-nonce-requires
+    enum-known-refusal-2
     refuse-requires-2
+    same-length
     returns-2
+    enum-told-2
+    remember-requires
     challenged-requires
     send-challenge-requires
     sent-plan-requires
     took-requires
-    same-length
+    same-length-2
+    same-length-3
     returns-3)

@@ -4,7 +4,7 @@ use Rattle.engine.proofs.connect.srm_after.Statement.{statement}
 use Rattle.engine.proofs.connect.srm_after.Tie as tie
 
 returns : tie.Need-returns
-returns c = search needs
+returns c = rw (c .if1 .taken)
 
 srm-asked-requires : tie.Need-srm-asked-requires
 srm-asked-requires c κs = search needs

@@ -28,19 +28,36 @@ returns-4 c =
     let r = s .before .before in
     simp (lt-ltb _ _ (r .if1 .left), le-leb _ _ (s .if2 .left), le-leb _ _ (t .if3 .left), lt-leb _ _ (c .if4 .taken))
 
-sound-operation-requires : tie.Need-sound-operation-requires
-sound-operation-requires c κs = search needs
-
 returns-5 : tie.Need-returns-5
 unfolding sound
 returns-5 c =
-    let u = c .before in
+    let u = c .before .before in
     let t = u .before .before in
     let s = t .before .before in
     let r = s .before .before in
-    simp (lt-ltb _ _ (r .if1 .left), le-leb _ _ (s .if2 .left), le-leb _ _ (t .if3 .left), le-leb _ _ (u .if4 .left), c .sound-operation .ensures)
+    simp (lt-ltb _ _ (r .if1 .left), le-leb _ _ (s .if2 .left), le-leb _ _ (t .if3 .left), le-leb _ _ (u .if4 .left), lt-leb _ _ (c .if5 .taken))
+
+sound-operation-requires : tie.Need-sound-operation-requires
+sound-operation-requires c κs = search needs
+
+returns-6 : tie.Need-returns-6
+unfolding sound
+returns-6 c =
+    let v = c .before in
+    let u = v .before .before in
+    let t = u .before .before in
+    let s = t .before .before in
+    let r = s .before .before in
+    simp (
+      lt-ltb _ _ (r .if1 .left),
+      le-leb _ _ (s .if2 .left),
+      le-leb _ _ (t .if3 .left),
+      le-leb _ _ (u .if4 .left),
+      le-leb _ _ (v .if5 .left),
+      c .sound-operation .ensures,
+    )
 
 pub is-sound-spec : {M : Type 1} → statement M
 is-sound-spec =
     tie.close
-    (tie.spec returns returns-2 returns-3 returns-4 sound-operation-requires returns-5)
+    (tie.spec returns returns-2 returns-3 returns-4 returns-5 sound-operation-requires returns-6)

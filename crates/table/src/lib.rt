@@ -1,0 +1,6 @@
+// The table store: 64-bit numbers at fixed places, which the host lends to the calls that look at them, so that a state of few bytes goes
+// from call to call. The open ids stand first (`connection::peer`), then the nonces that were taken last.
+pub mod nonces;
+
+// How long the table store must be: a call that is lent a shorter one is refused.
+pub const TABLE_LENGTH: usize = 128;
