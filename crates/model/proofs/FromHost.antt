@@ -177,7 +177,7 @@ module _ (w : Known) (s : State) (h : Seated s) (k : Knows w s) where
     pub reply-agrees : Agrees w s (replyGiven code hs)
     unfolding bad used
     reply-agrees =
-        agrees w s h k (replyGiven code hs) (λ r. go r (badReply code hs) refl)
+        agrees w s h k (replyGiven code hs) (λ r j x. go r (badReply code hs) refl)
       where
         go : fits kind.ReplyGiven (e .awaits) ≡ true → (b : Bool) → badReply code hs ≡ b
             → Agree w s (replyGiven code hs) (pick b (refused 8) goes)
@@ -228,7 +228,7 @@ module _ (w : Known) (s : State) (h : Seated s) (k : Knows w s) where
     unfolding bad used
     object-agrees =
         agrees w s h k (objectGiven hs has)
-        (λ r. let at = same-await (e .awaits) await.Get r in object-at at (shape-at await.Get at))
+        (λ r j x. let at = same-await (e .awaits) await.Get r in object-at at (shape-at await.Get at))
 
   -- ---- body bytes
 
@@ -273,13 +273,13 @@ module _ (w : Known) (s : State) (h : Seated s) (k : Knows w s) where
     unfolding bad used
     body-agrees =
         agrees w s h k (bodyGiven d)
-        (λ r. let at = same-await (e .awaits) await.Body r in body-for at (shape-at await.Body at))
+        (λ r j x. let at = same-await (e .awaits) await.Body r in body-for at (shape-at await.Body at))
 
   pub body-failed-agrees : Agrees w s bodyFailed
   unfolding bad used
   body-failed-agrees =
       agrees w s h k bodyFailed
-      (λ r. let at = same-await (e .awaits) await.Body r in
+      (λ r j x. let at = same-await (e .awaits) await.Body r in
       agree-goes w s h k bodyFailed refl 0 _ (fine-code e st (h .sits .base) (e .peer) 0x50 st (h .sits .base .peer) (h .sits .base .room))
       (λ j x. none-taken (j .ended))
       (λ j x. let l = body-held at j x in told-follows (entered bodyFailed j _ (l .fixed .ended)
@@ -293,7 +293,7 @@ module _ (w : Known) (s : State) (h : Seated s) (k : Knows w s) where
   unfolding bad used
   acknowledge-agrees =
       agrees w s h k abortAcknowledged
-      (λ r. agree-goes w s h k abortAcknowledged refl 0 _ (fine-code e st (h .sits .base) (e .peer) 0x20 st (h .sits .base .peer) (h .sits .base .room))
+      (λ r j x. agree-goes w s h k abortAcknowledged refl 0 _ (fine-code e st (h .sits .base) (e .peer) 0x20 st (h .sits .base .peer) (h .sits .base .room))
       (λ j x. none-taken (j .ended))
       (λ j x. let y = coupled-at w s h k await.Acknowledgement j (same-await (e .awaits) await.Acknowledgement r) x in
       told-follows (entered abortAcknowledged j _ (y .fixed .ended) (told-code ts e (e .peer) st j 0x20 y)))
@@ -304,7 +304,7 @@ module _ (w : Known) (s : State) (h : Seated s) (k : Knows w s) where
   unfolding bad used
   password-agrees p =
       agrees w s h k (passwordGiven p)
-      (λ r. agree-goes w s h k (passwordGiven p) refl 0 _ (password-fine e st (h .sits .base) p)
+      (λ r j x. agree-goes w s h k (passwordGiven p) refl 0 _ (password-fine e st (h .sits .base) p)
       (λ j x. none-taken (j .ended))
       (λ j x. let y = coupled-at w s h k await.Password j (same-await (e .awaits) await.Password r) x in
       told-follows (entered (passwordGiven p) j _ (y .0 .held .fixed .ended) (password-told ts e st j op.Connect (y .0) refl p)))
@@ -337,7 +337,7 @@ module _ (w : Known) (s : State) (h : Seated s) (k : Knows w s) where
     unfolding bad used
     nonce-agrees =
         agrees w s h k (nonceGiven n)
-        (λ r. subst (λ (b : Bool). Agree w s (nonceGiven n) (pick (among n (take 32 (w .nonces))) (refused 15) goes)
+        (λ r j x. subst (λ (b : Bool). Agree w s (nonceGiven n) (pick (among n (take 32 (w .nonces))) (refused 15) goes)
         (pick b (keeps s (refuse refusal.BadAnswer e st)) (pick (among n (remembered (e .peer .nonces) ts)) (keeps s (refuse refusal.NonceUsed e st))
         (called (after 0 (nonceAnswer e n (s .realm) st)) (rememberedWith n ts))))) (sym (h .realm))
         (subst (λ (l : List Octets16). Agree w s (nonceGiven n) (pick (among n l) (refused 15) goes)
@@ -371,4 +371,4 @@ module _ (w : Known) (s : State) (h : Seated s) (k : Knows w s) where
   unfolding bad used
   credentials-agree c =
       agrees w s h k (credentialsGiven c)
-      (λ r. let at = same-await (e .awaits) await.Credentials r in credentials-at c at (shape-at await.Credentials at))
+      (λ r j x. let at = same-await (e .awaits) await.Credentials r in credentials-at c at (shape-at await.Credentials at))

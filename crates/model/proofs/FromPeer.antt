@@ -212,7 +212,7 @@ module _ (w : Known) (s : State) (h : Seated s) (k : Knows w s) where
   unfolding bad used
   bytes-agree i o =
       agrees w s h k (bytesOffered i)
-      (λ r. read-agrees i o (same-await (e .awaits) await.Bytes r) _ refl
+      (λ r j x. read-agrees i o (same-await (e .awaits) await.Bytes r) _ refl
       (frames-agree (st .packet) i (e .begun) 0 (h .sits .begun .small) (h .sits .base .room .packet) (h .sits .begun .octets) o (h .sits .begun .goes-on)))
 
   -- ---- the end of the stream
@@ -221,7 +221,7 @@ module _ (w : Known) (s : State) (h : Seated s) (k : Knows w s) where
   unfolding bad used
   end-agrees =
       agrees w s h k streamEnded
-      (λ r. agree-goes w s h k streamEnded refl 0 _ (fine-ends e st (h .sits .base) (e .peer) (pick (eqb (e .begun) 0) why.Disconnected why.Truncated) st (h .sits .base .peer) (h .sits .base .room))
+      (λ r j x. agree-goes w s h k streamEnded refl 0 _ (fine-ends e st (h .sits .base) (e .peer) (pick (eqb (e .begun) 0) why.Disconnected why.Truncated) st (h .sits .base .peer) (h .sits .base .room))
       (λ j x. none-taken (j .ended))
       (λ j x. let y = coupled-at await.Bytes j (same-await (e .awaits) await.Bytes r) x in
       told-follows (subst (Told ts _) (sym (fed-goes j streamEnded (y .fixed .ended)
@@ -295,4 +295,4 @@ module _ (w : Known) (s : State) (h : Seated s) (k : Knows w s) where
   pub taken-agrees : Agrees w s replyTaken
   unfolding bad used
   taken-agrees =
-      agrees w s h k replyTaken (λ r. taken-goes (sameAwait (e .awaits) await.Taken) refl r)
+      agrees w s h k replyTaken (λ r j x. taken-goes (sameAwait (e .awaits) await.Taken) refl r)

@@ -41,7 +41,7 @@ use Rattle.model.proofs.Dispatch.{dispatch-told}
 
 -- ---- what is open is open for both
 
-busy-same : (limit : ℕ) (o : Operation) (h b : List ℕ) (x : Opened) → OpenedAt limit o h b x → busyOpened x ≡ busy o
+pub busy-same : (limit : ℕ) (o : Operation) (h b : List ℕ) (x : Opened) → OpenedAt limit o h b x → busyOpened x ≡ busy o
 busy-same limit Nothing h b x w = ap busyOpened w
 busy-same limit Trailing h b x w = ap busyOpened w
 busy-same limit (Putting g srm) h b x w = ap busyOpened (w .is)

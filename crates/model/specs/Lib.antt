@@ -3,7 +3,8 @@
 -- (`Close`), refusals (`Guard`) and the calls (`Calls`).
 -- Then what a host sees of a call, and which calls are due to be refused (`Refusals`), lists of calls (`Runs`), the sizes of replies
 -- (`Replies`), the records theorem (`Theorem`), the same from the contract of a start (`Contracts`), the count of wrong passwords
--- (`EightWrong`), the replies to a Get (`ObjectSent`), the proved cases (`Cases`), and that passwords leave no trace (`Secrecy`).
+-- (`EightWrong`), the replies to a Get (`ObjectSent`), the proved cases (`Cases`), that passwords leave no trace (`Secrecy`), and which ids are
+-- left when connections are closed together (`ClosedTogether`).
 pub mod Step
 pub mod Request
 pub mod Operation
@@ -22,3 +23,4 @@ pub mod EightWrong
 pub mod ObjectSent
 pub mod Cases
 pub mod Secrecy
+pub mod ClosedTogether

@@ -35,7 +35,7 @@ journalOf st = fresh (settingsOf st)
 
 -- What the journal is fed of a run from the state `s`.
 abbrev pub fed : Settings → State → List Performed → List Fed
-fed st s xs = feed (seen st s xs)
+fed st s xs = feed (journalOf st) (seen st s xs)
 
 -- The premise on kept headers: they stay within 65,535 bytes.
 abbrev pub Kept : List Marked → Type 0
@@ -80,7 +80,7 @@ pub record Agrees (st : Settings) (s : State) (xs : List Performed) : Type 0 whe
 -- What holds of a run `xs` of calls, from the state `s` of an accepted start with the settings `st`.
 pub record Upholds (st : Settings) (s : State) (xs : List Performed) : Type 0 where
   -- A call is refused exactly if it is due to be, with the number that is due; and then it changes nothing.
-  pub refusals : map (λ (x : Performed). verdictOf (x .result .outcome)) xs ≡ due (seen st s xs)
+  pub refusals : map (λ (x : Performed). verdictOf (x .result .outcome)) xs ≡ due (journalOf st) (seen st s xs)
   pub unmoved : Unmoved s xs
   pub agrees : Kept (packets (journalOf st) (fed st s xs)) → Agrees st s xs
   -- The engine ends in the calls in which the journal says so, and with its number, if replies stay within 65,535 bytes too.
