@@ -14,8 +14,8 @@ use Rattle.packet.specs.AuthWrite.{given, overlong}
 use Rattle.model.specs.Guard.{longRealm, refuse}
 use Rattle.journal.specs.Checks.{bit}
 use Rattle.model.specs.Connect.{optionsOf, realmOf, nonceAnswer}
-use Rattle.model.specs.Step.{Stores, Stepped, stepped, Called, called, after}
-use Rattle.model.specs.Calls.{nonceChecked, nonceGivenStep}
+use Rattle.model.specs.Step.{Stores, stepped, Called, called, after}
+use Rattle.model.specs.Calls.{nonceGivenStep}
 use Rattle.digest.specs.declared.md5.Octets16.{Octets16}
 use Rattle.table.specs.Nonces.{rememberedWith, remembered, among}
 use Rattle.server.specs.declared.Settings.{Settings}

@@ -294,12 +294,12 @@ pub(crate) fn guard_nonce(long: bool, used: bool) -> Guarded
     ensures { λ r. ⌜ r ≡ guardedNonce long used ⌝ }
 {
     if long {
-        return Guarded::Refuse(Refusal::BadAnswer);
+        Guarded::Refuse(Refusal::BadAnswer)
+    } else if used {
+        Guarded::Refuse(Refusal::NonceUsed)
+    } else {
+        Guarded::Proceed
     }
-    if used {
-        return Guarded::Refuse(Refusal::NonceUsed);
-    }
-    Guarded::Proceed
 }
 
 // What a refused call returns: the state as it was, and `refusal`.

@@ -98,7 +98,7 @@ pub fn answer(
             reply,
         ),
         Kind::Nonce => match draw() {
-            Drawn::Fresh(n) => calls::nonce_given(e, n, b"", packet, headers, body, reply),
+            Drawn::Fresh(n) => calls::nonce_given(e, n, b"", tables, packet, headers, body, reply),
             Drawn::Missing => calls::body_failed(e, packet, headers, body, reply),
         },
         Kind::NoBody => calls::body_failed(e, packet, headers, body, reply),

@@ -30,7 +30,7 @@ use Rattle.server.specs.declared.Engine.{Engine}
 use Rattle.server.specs.declared.Body.the-variants as body
 use Rattle.server.specs.declared.HostRequest.the-variants as request
 use Rattle.server.specs.declared.Outcome.the-variants as outcome
-use Rattle.model.specs.Step.{Stores, stores, withHeaders, engineWith, Done, DoneTabled, doneTabled, ends, repliesCode, sent, sends, limitOf, Stepped, stepped, Called, called, after}
+use Rattle.model.specs.Step.{Stores, stores, withHeaders, engineWith, Done, DoneTabled, doneTabled, ends, repliesCode, sent, sends, Stepped, stepped, Called, called, after}
 use Rattle.model.specs.Request.{lastHeaders}
 use Rattle.model.specs.Object.{sendsPacket, sendsNext, goesOn, objectOf}
 use Rattle.model.specs.Connect.{connectSends, connectAnswer, passwordAnswer, nonceAnswer}

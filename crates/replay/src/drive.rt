@@ -121,7 +121,7 @@ fn host_call(
     reply: &mut [u8],
 ) -> CallResult {
     match call {
-        Call::Nonce(n) => calls::nonce_given(e, n, realm, packet, headers, body, reply),
+        Call::Nonce(n) => calls::nonce_given(e, n, realm, tables, packet, headers, body, reply),
         Call::Reply(code) => calls::reply_given(e, code, b, tables, packet, headers, body, reply),
         Call::Object(has_body) => calls::object_given(e, a, has_body, packet, headers, body, reply),
         Call::Body => calls::body_given(e, a, packet, headers, body, reply),

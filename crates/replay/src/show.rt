@@ -351,7 +351,7 @@ pub(crate) fn put_line<'a>(
         state remote_max=%1 srm=%2 authenticated=%3 ids=%l next=%i challenge=%o\n\
         state remote_max=%1 srm=%2 authenticated=%3 ids=%l next=%i challenge=none\n\
         stores %P %H %B %R\n\
-        own window=%w\n";
+        own window=%w nonces=%1\n";
     put_form_of(out, n, forms, line, tables, packet, headers, body, reply)
 }
 
@@ -551,10 +551,11 @@ fn stores_line(lent: Lent) -> Line {
     }
 }
 
-// The line of what only the port's state has: the window over the last 64 checks of passwords.
+// The line of what only the port's state has: the window over the last 64 checks of passwords, and how many nonces are remembered.
 fn own_line(p: Peer) -> Line {
     let mut v = no_values(0);
     v.window = p.window;
+    v.first = p.nonces;
     Line {
         form: 22,
         values: v,

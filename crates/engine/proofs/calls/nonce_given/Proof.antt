@@ -1,6 +1,6 @@
 -- `engine::calls::nonce_given` meets its contract. The guard refuses as the model does, then a realm that is too long and a nonce that was
 -- used; a nonce that is taken is remembered, and its challenge is sent by its plan. Assumes nothing.
-use mathlib.Core.Path.{_≡_, ap, ap₂, _∙_, sym}
+use mathlib.Core.Path.{_≡_, ap, ap₂, _∙_}
 use mathlib.Core.Bool.{false}
 use mathlib.Core.List.{List}
 use mathlib.Core.Option.{Option}

@@ -105,7 +105,7 @@ returns-4 c =
 
 returns-5 : tie.Need-returns-5
 returns-5 c =
-    due (c .before .before .before .before .before .before .before .before .before .before .before .before .before) (c .before .before .before .before .before .before .before .before .before .before .before .before .kind-of .result) (kind.Nonce) _ (c .before .before .before .before .before .before .before .before .before .before .before .before .kind-of .ensures) (c .before .before .before .before .before .before .before .before .before .before .enum-told4 .given .1) (_, (true, ap (λ (m : Stepped). called m (c .before .before .before .before .before .before .before .before .before .before .before .before .before .args .tables .now)) (c .nonce-given .ensures)))
+    due (c .before .before .before .before .before .before .before .before .before .before .before .before .before .before) (c .before .before .before .before .before .before .before .before .before .before .before .before .before .kind-of .result) (kind.Nonce) _ (c .before .before .before .before .before .before .before .before .before .before .before .before .before .kind-of .ensures) (c .before .before .before .before .before .before .before .before .before .before .before .enum-told4 .given .1) (_, (true, c .nonce-given .ensures))
 
 returns-6 : tie.Need-returns-6
 returns-6 c =

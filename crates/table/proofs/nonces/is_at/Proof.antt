@@ -1,5 +1,4 @@
 -- `table::nonces::is_at` meets its contract, by its two tests. Assumes nothing.
-use mathlib.Core.Path.{_≡_, sym}
 use lib.ListN.{getD}
 use Prim.Native.Nat.{_+_}
 use borrow.Author.Needs.{needs}
