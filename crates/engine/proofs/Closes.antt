@@ -23,7 +23,7 @@ use Rattle.server.specs.declared.Refusal.{Refusal}
 use Rattle.server.specs.declared.Refusal.the-variants as refusal
 use Rattle.server.specs.declared.Engine.{Engine}
 use Rattle.server.specs.declared.CallResult.{CallResult}
-use Rattle.engine.specs.Close.{guardedClose, judged, closedBy}
+use Rattle.engine.specs.Close.{guardedClose, judgedClose, closedBy}
 use Rattle.engine.specs.declared.guard.Guarded.{Guarded}
 use Rattle.engine.specs.declared.guard.Guarded.the-variants.{Proceed, Refuse}
 use Rattle.engine.proofs.Guards.{bounds, told-refusal, no-refusal}
@@ -97,9 +97,9 @@ module _ (e : Engine) (t : List ℕ) (x : Guarded) (p : x ≡ guardedClose e (le
   -- where the guard refuses, the model refuses with the same
   pub guard-turned : (l : List ℕ) (r : Refusal) → x ≡ Refuse r → refuseClosing r e t ≡ connectionsClosedStep e l t
   unfolding guardedClose connectionsClosedStep shortTables
-  guard-turned l r w = by (ltb (length t) 64) (fitted e) refl refl (sym p ∙ w)
+  guard-turned l r w = by (ltb (length t) 128) (fitted e) refl refl (sym p ∙ w)
     where
-      by : (s f : Bool) → ltb (length t) 64 ≡ s → fitted e ≡ f → guardedClose e (length t) ≡ Refuse r
+      by : (s f : Bool) → ltb (length t) 128 ≡ s → fitted e ≡ f → guardedClose e (length t) ≡ Refuse r
           → refuseClosing r e t ≡ connectionsClosedStep e l t
       by true f h i q = let z : Refuse refusal.StoreTooShort ≡ Refuse r = simp h at q in simp (h, sym (told-refusal _ _ z))
       by false true h i q = let z : Proceed ≡ Refuse r = simp (h, i) at q in absurd (no-refusal r z)
@@ -107,22 +107,22 @@ module _ (e : Engine) (t : List ℕ) (x : Guarded) (p : x ≡ guardedClose e (le
 
   pub guard-passed : x ≡ Proceed → Closable e t
   unfolding guardedClose connectionsClosedStep shortTables
-  guard-passed w = by (ltb (length t) 64) (fitted e) refl refl (sym p ∙ w)
+  guard-passed w = by (ltb (length t) 128) (fitted e) refl refl (sym p ∙ w)
     where
-      by : (s f : Bool) → ltb (length t) 64 ≡ s → fitted e ≡ f → guardedClose e (length t) ≡ Proceed → Closable e t
+      by : (s f : Bool) → ltb (length t) 128 ≡ s → fitted e ≡ f → guardedClose e (length t) ≡ Proceed → Closable e t
       by true f h i q = let z : Refuse refusal.StoreTooShort ≡ Proceed = simp h at q in absurd (no-refusal _ (sym z))
       by false false h i q = let z : Refuse refusal.WrongMoment ≡ Proceed = simp (h, i) at q in absurd (no-refusal _ (sym z))
       by false true h i q =
           let few = bounds e (and-left _ _ i) .count in
-          let long : 64 ≤ length t = ltb-false _ _ h in
+          let long : 128 ≤ length t = ltb-false _ _ h in
           record { few = few; room = omega (arith, few); whole = λ l. simp (h, i) }
 
-module _ (e : Engine) (l t : List ℕ) (x : Guarded) (p : x ≡ judged l (idsOf (e .peer) t)) where
+module _ (e : Engine) (l t : List ℕ) (x : Guarded) (p : x ≡ judgedClose l (idsOf (e .peer) t)) where
   pub judge-turned : (r : Refusal) → x ≡ Refuse r → refuseClosing r e t ≡ closeChecked e l t
-  unfolding judged closeChecked
+  unfolding judgedClose closeChecked
   judge-turned r w = by (ltb 64 (length l)) (allOpen l (idsOf (e .peer) t)) (repeats l) refl refl refl (sym p ∙ w)
     where
-      by : (a b c : Bool) → ltb 64 (length l) ≡ a → allOpen l (idsOf (e .peer) t) ≡ b → repeats l ≡ c → judged l (idsOf (e .peer) t) ≡ Refuse r
+      by : (a b c : Bool) → ltb 64 (length l) ≡ a → allOpen l (idsOf (e .peer) t) ≡ b → repeats l ≡ c → judgedClose l (idsOf (e .peer) t) ≡ Refuse r
           → refuseClosing r e t ≡ closeChecked e l t
       by true b c h i k q = let z : Refuse refusal.TooManyIds ≡ Refuse r = simp h at q in simp (h, sym (told-refusal _ _ z))
       by false false c h i k q = let z : Refuse refusal.IdNotOpen ≡ Refuse r = simp (h, i) at q in simp (h, i, sym (told-refusal _ _ z))
@@ -130,10 +130,10 @@ module _ (e : Engine) (l t : List ℕ) (x : Guarded) (p : x ≡ judged l (idsOf 
       by false true false h i k q = let z : Proceed ≡ Refuse r = simp (h, i, k) at q in absurd (no-refusal r z)
 
   pub judge-passed : x ≡ Proceed → closeChecked e l t ≡ closes e l (closedAll l (e .peer .count) t)
-  unfolding judged closeChecked
+  unfolding judgedClose closeChecked
   judge-passed w = by (ltb 64 (length l)) (allOpen l (idsOf (e .peer) t)) (repeats l) refl refl refl (sym p ∙ w)
     where
-      by : (a b c : Bool) → ltb 64 (length l) ≡ a → allOpen l (idsOf (e .peer) t) ≡ b → repeats l ≡ c → judged l (idsOf (e .peer) t) ≡ Proceed
+      by : (a b c : Bool) → ltb 64 (length l) ≡ a → allOpen l (idsOf (e .peer) t) ≡ b → repeats l ≡ c → judgedClose l (idsOf (e .peer) t) ≡ Proceed
           → closeChecked e l t ≡ closes e l (closedAll l (e .peer .count) t)
       by true b c h i k q = let z : Refuse refusal.TooManyIds ≡ Proceed = simp h at q in absurd (no-refusal _ (sym z))
       by false false c h i k q = let z : Refuse refusal.IdNotOpen ≡ Proceed = simp (h, i) at q in absurd (no-refusal _ (sym z))

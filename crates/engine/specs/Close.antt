@@ -7,6 +7,7 @@ use lib.ListN.{length}
 use lib.Dec.{ltb, eqb}
 use Rattle.base.specs.Pick.{pick}
 use Rattle.packet.specs.Limits.{maxConnections}
+use Rattle.table.specs.Places.{tableLength}
 use Rattle.journal.specs.Ids.{allOpen, repeats}
 use Rattle.connection.specs.Peer.{leftPeer}
 use Rattle.connection.specs.declared.peer.Peer.{Peer}
@@ -21,12 +22,12 @@ use Rattle.engine.specs.declared.guard.Guarded.the-variants.{Proceed, Re
 -- The guard of the call, by the length `n` of the table store: bytes must be awaited, and no operation may be open.
 unfoldable pub guardedClose : Engine → ℕ → Guarded
 guardedClose e n =
-    pick (ltb n maxConnections) (Refuse refusal.StoreTooShort)
+    pick (ltb n tableLength) (Refuse refusal.StoreTooShort)
     (pick (sound e && (sameAwait (e .awaits) await.Bytes && not (busy (e .operation)))) Proceed (Refuse refusal.WrongMoment))
 
 -- Whether the ids `l` may be closed of those that are open.
-unfoldable pub judged : List ℕ → List ℕ → Guarded
-judged l ids =
+unfoldable pub judgedClose : List ℕ → List ℕ → Guarded
+judgedClose l ids =
     pick (ltb maxConnections (length l)) (Refuse refusal.TooManyIds)
     (pick (not (allOpen l ids)) (Refuse refusal.IdNotOpen)
     (pick (repeats l) (Refuse refusal.IdRepeated) Proceed))

@@ -5,7 +5,7 @@ ghost use lib.ListN.{length, take, drop};
 ghost use Rattle.packet.specs.Limits.{maxConnections};
 ghost use Rattle.journal.specs.Ids.{member, allOpen, repeats};
 ghost use Rattle.model.specs.Close.{remaining, closedAll, goesOnWith};
-ghost use Rattle.engine.specs.Close.{guardedClose, judged, closedBy};
+ghost use Rattle.engine.specs.Close.{guardedClose, judgedClose, closedBy};
 use crate::dispatch::is_busy;
 use crate::guard::Guarded;
 use crate::guard::is_sound;
@@ -21,13 +21,14 @@ use server::CallResult;
 use server::Engine;
 use server::Outcome;
 use server::Refusal;
+use table::TABLE_LENGTH;
 
 // Returns the refusal of the call by the state and by the length of the table store, or says that it may proceed: bytes must be awaited,
 // and no operation may be open.
 pub(crate) fn guard_close(e: Engine, tables: usize) -> Guarded
     ensures { λ r. ⌜ r ≡ guardedClose e tables ⌝ }
 {
-    if tables < MAX_CONNECTIONS {
+    if tables < TABLE_LENGTH {
         return Guarded::Refuse(Refusal::StoreTooShort);
     }
     if !is_sound(e) {
@@ -91,7 +92,7 @@ fn has_repeated(ids: &[u32]) -> bool
 // Returns why `ids` may not be closed, or says that they may. The first `count` numbers of `tables` are open.
 pub(crate) fn judge(ids: &[u32], tables: &[u64], count: usize) -> Guarded
     requires { ⌜ (count ≤ maxConnections) × (count ≤ length (now tables)) ⌝ }
-    ensures { λ r. ⌜ r ≡ judged (now (ids .entry)) (take count (now (tables .entry))) ⌝ }
+    ensures { λ r. ⌜ r ≡ judgedClose (now (ids .entry)) (take count (now (tables .entry))) ⌝ }
 {
     if ids.len() > MAX_CONNECTIONS {
         return Guarded::Refuse(Refusal::TooManyIds);

@@ -2,19 +2,19 @@
 use mathlib.Core.Path.{_≡_, sym, _∙_}
 use borrow.Author.Needs.{needs}
 use borrow.Author.Tests.{lt-ltb, le-ltb, not-true, not-false}
-use Rattle.engine.specs.Close.{judged}
+use Rattle.engine.specs.Close.{judgedClose}
 use Rattle.engine.proofs.close.judge.Statement.{statement}
 use Rattle.engine.proofs.close.judge.Tie as tie
 
 returns : tie.Need-returns
-unfolding judged
+unfolding judgedClose
 returns c = simp (lt-ltb _ _ (c .if1 .taken))
 
 are-open-requires : tie.Need-are-open-requires
 are-open-requires c κs = search needs
 
 returns-2 : tie.Need-returns-2
-unfolding judged
+unfolding judgedClose
 returns-2 c =
     let o = c .before in
     simp (le-ltb _ _ (o .before .if1 .left), sym (o .are-open .ensures) ∙ not-true _ (c .if2 .taken))
@@ -23,14 +23,14 @@ has-repeated-requires : tie.Need-has-repeated-requires
 has-repeated-requires c κs = search needs
 
 returns-3 : tie.Need-returns-3
-unfolding judged
+unfolding judgedClose
 returns-3 c =
     let h = c .before in
     let o = h .before .before in
     simp (le-ltb _ _ (o .before .if1 .left), sym (o .are-open .ensures) ∙ not-false _ (h .before .if2 .left), sym (h .has-repeated .ensures) ∙ c .if3 .taken)
 
 returns-4 : tie.Need-returns-4
-unfolding judged
+unfolding judgedClose
 returns-4 c =
     let h = c .before in
     let o = h .before .before in
