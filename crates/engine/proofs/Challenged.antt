@@ -57,9 +57,11 @@ realm-fits st l h = go (st .«has_realm») h
 
 -- ---- the call
 
-module _ (e : Engine) (n : Octets16) (l : List ℕ) (s : Stores) (t : List ℕ) (g : GoesLent kind.NonceGiven e s t) (long used : Bool)
-    (is-long : long ≡ longRealm (e .settings) l) (is-used : used ≡ among n (remembered (e .peer .nonces) t)) (x : Guarded)
-    (said : x ≡ guardedNonce long used) where
+module _ (e : Engine) (n : Octets16) (l : List ℕ) (s : Stores) (t : List ℕ) (g : GoesLent kind.NonceGiven e s t) (used : Bool)
+    (is-used : used ≡ among n (remembered (e .peer .nonces) t)) (x : Guarded) (said : x ≡ guardedNonce (longRealm (e .settings) l) used) where
+  abbrev long : Bool
+  long = longRealm (e .settings) l
+
   -- what the call comes to at its moment, by the two tests
   abbrev by-tests : Bool → Bool → Called
   by-tests a b =
@@ -68,7 +70,7 @@ module _ (e : Engine) (n : Octets16) (l : List ℕ) (s : Stores) (t : List ℕ) 
 
   whole : by-tests long used ≡ nonceGivenStep e n l s t
   unfolding nonceGivenStep
-  whole = ap₂ by-tests is-long is-used ∙ sym (simp (g .enough, g .fitted))
+  whole = ap (by-tests long) is-used ∙ sym (simp (g .enough, g .fitted))
 
   pub nonce-refused : (q : Refusal) (r : CallResult) → x ≡ Refuse q → r ≡ refusedWith q e → called (stepped r s) t ≡ nonceGivenStep e n l s t
   unfolding guardedNonce
@@ -95,4 +97,4 @@ module _ (e : Engine) (n : Octets16) (l : List ℕ) (s : Stores) (t : List ℕ) 
   nonce-taken w = let f = nonce-fresh w in sym (ap₂ by-tests (f .0) (f .1)) ∙ whole
 
   pub realm-short : x ≡ Proceed → longRealm (e .settings) l ≡ false
-  realm-short w = sym is-long ∙ nonce-fresh w .0
+  realm-short w = nonce-fresh w .0

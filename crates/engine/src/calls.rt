@@ -429,9 +429,8 @@ pub fn nonce_given(
     ) {
         return refuse(e, refusal);
     }
-    let long = is_long_realm(e.settings.has_realm, realm.len());
     let used = is_used(&tables[..], e.peer.nonces, n);
-    if let Guarded::Refuse(refusal) = guard_nonce(long, used) {
+    if let Guarded::Refuse(refusal) = guard_nonce(e.settings, realm.len(), used) {
         return refuse(e, refusal);
     }
     remember(tables, n);

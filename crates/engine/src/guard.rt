@@ -23,6 +23,7 @@ use server::Engine;
 use server::Operation;
 use server::Outcome;
 use server::Refusal;
+use server::Settings;
 use table::TABLE_LENGTH;
 use table::nonces::MAX_NONCES;
 
@@ -289,11 +290,11 @@ pub(crate) fn guard_start(
     Guarded::Proceed
 }
 
-// Returns the refusal of a nonce, or says that it may be taken: a realm that is too long comes before a nonce that was used.
-pub(crate) fn guard_nonce(long: bool, used: bool) -> Guarded
-    ensures { λ r. ⌜ r ≡ guardedNonce long used ⌝ }
+// Returns the refusal of a nonce, or says that it may be taken: a realm of `realm` bytes that is too long comes before a nonce that was used.
+pub(crate) fn guard_nonce(settings: Settings, realm: usize, used: bool) -> Guarded
+    ensures { λ r. ⌜ r ≡ guardedNonce (settings .«has_realm» && ltb maxRealm realm) used ⌝ }
 {
-    if long {
+    if is_long_realm(settings.has_realm, realm) {
         Guarded::Refuse(Refusal::BadAnswer)
     } else if used {
         Guarded::Refuse(Refusal::NonceUsed)

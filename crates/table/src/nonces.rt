@@ -10,6 +10,14 @@ use digest::md5::Octets16;
 // How many nonces are remembered.
 pub const MAX_NONCES: usize = 32;
 
+// Where the first halves of the nonces begin in the table store, the eight bytes that come first.
+const FIRST_HALVES: usize = 64;
+
+// Where their second halves begin, and where these end.
+const SECOND_HALVES: usize = 96;
+
+const END_OF_NONCES: usize = 128;
+
 // Puts `x` in front; the last number falls out.
 fn push_front(s: &mut [u64], x: u64)
     ensures { λ r. ⌜ now (s .exit) ≡ pushed x (now (s .entry)) ⌝ }
@@ -29,8 +37,8 @@ pub fn remember(tables: &mut [u64], nonce: Octets16)
     requires { ⌜ tableLength ≤ length (now tables) ⌝ }
     ensures { λ r. ⌜ now (tables .exit) ≡ rememberedWith nonce (now (tables .entry)) ⌝ }
 {
-    push_front(&mut tables[64..96], nonce.first);
-    push_front(&mut tables[96..128], nonce.second);
+    push_front(&mut tables[FIRST_HALVES..SECOND_HALVES], nonce.first);
+    push_front(&mut tables[SECOND_HALVES..END_OF_NONCES], nonce.second);
 }
 
 // Tells whether `nonce` stands at the `i`-th of the 32 places.
@@ -38,10 +46,10 @@ fn is_at(tables: &[u64], i: usize, nonce: Octets16) -> bool
     requires { ⌜ (i < maxNonces) × (tableLength ≤ length (now tables)) ⌝ }
     ensures { λ r. ⌜ r ≡ sameNonce (nonceAt (now (tables .entry)) i) nonce ⌝ }
 {
-    if tables[64 + i] != nonce.first {
+    if tables[FIRST_HALVES + i] != nonce.first {
         return false;
     }
-    tables[96 + i] == nonce.second
+    tables[SECOND_HALVES + i] == nonce.second
 }
 
 // Tells whether `nonce` is one of the `count` nonces that `tables` remembers.

@@ -38,9 +38,9 @@ passed z = z .before .before
 goes : (z : tie.After-enum-told) → let a = start (passed z) .args in GoesLent kind.NonceGiven (a .e) (lent (passed z)) (a .tables .now)
 goes z = going-lent kind.NonceGiven _ _ _ _ (passed z .guard-lent .ensures) (z .enum-told .given .1)
 
--- what the two tests of the nonce found, from where the guard was passed
+-- the guard was passed before the nonce was tested
 abbrev tested : tie.After-guard-nonce → tie.After-enum-told
-tested g = g .before .before .before .before
+tested g = g .before .before .before
 
 -- the nonce may be taken, so the realm is not too long
 realm-fits : (y : tie.After-enum-told2)
@@ -49,8 +49,7 @@ unfolding longRealm
 realm-fits y =
     let g = y .before .before in
     let k = start (passed (tested g)) .args in
-    realm-short (k .e) (k .n) (k .realm .now) (lent (passed (tested g))) (k .tables .now) (goes (tested g)) _ _
-    (g .before .before .before .is-long-realm .ensures) (g .before .is-used .ensures) _ (g .guard-nonce .ensures) (y .enum-told2 .given .1)
+    realm-short (k .e) (k .n) (k .realm .now) (lent (passed (tested g))) (k .tables .now) (goes (tested g)) _ (g .before .is-used .ensures) _ (g .guard-nonce .ensures) (y .enum-told2 .given .1)
 
 guard-lent-requires : tie.Need-guard-lent-requires
 guard-lent-requires c κs = search needs
@@ -73,11 +72,8 @@ returns c =
 enum-told : tie.Need-enum-told
 enum-told c = search needs
 
-is-long-realm-requires : tie.Need-is-long-realm-requires
-is-long-realm-requires c κs = search needs
-
 is-used-requires : tie.Need-is-used-requires
-is-used-requires c κs = let l = goes (c .before .before) in (l .goes .bounds .nonces, l .tables)
+is-used-requires c κs = let l = goes (c .before) in (l .goes .bounds .nonces, l .tables)
 
 guard-nonce-requires : tie.Need-guard-nonce-requires
 guard-nonce-requires c κs = search needs
@@ -96,8 +92,7 @@ unfolding longRealm
 returns-2 c =
     let g = c .before .before .before .before in
     let k = start (passed (tested g)) .args in
-    nonce-refused (k .e) (k .n) (k .realm .now) (lent (passed (tested g))) (k .tables .now) (goes (tested g)) _ _
-    (g .before .before .before .is-long-realm .ensures) (g .before .is-used .ensures) _ (g .guard-nonce .ensures) _ _ (c .before .before .refusal2 .given .1)
+    nonce-refused (k .e) (k .n) (k .realm .now) (lent (passed (tested g))) (k .tables .now) (goes (tested g)) _ (g .before .is-used .ensures) _ (g .guard-nonce .ensures) _ _ (c .before .before .refusal2 .given .1)
     (c .refuse2 .ensures)
 
 enum-told-2 : tie.Need-enum-told-2
@@ -143,8 +138,7 @@ returns-3 c =
     (sent-stepped (k .e) s p (bytes p) _ _ _ (w .send-challenge .ensures) (c .before .sent-plan .ensures) (c .took .ensures)
     ∙ ap (λ (p : Peer). after 0 (sent (k .e) p (bytes p) s)) (n .challenged .ensures))
     (m .remember .ensures)
-    ∙ nonce-taken (k .e) (k .n) (k .realm .now) s (k .tables .now) (goes (tested g)) _ _ (g .before .before .before .is-long-realm .ensures)
-    (g .before .is-used .ensures) _ (g .guard-nonce .ensures) (y .enum-told2 .given .1)
+    ∙ nonce-taken (k .e) (k .n) (k .realm .now) s (k .tables .now) (goes (tested g)) _ (g .before .is-used .ensures) _ (g .guard-nonce .ensures) (y .enum-told2 .given .1)
 
 pub nonce-given-spec : {M : Type 1} → statement M
 nonce-given-spec =
@@ -155,7 +149,6 @@ nonce-given-spec =
     refuse-requires
     returns
     enum-told
-    is-long-realm-requires
     is-used-requires
     guard-nonce-requires
     enum-known-refusal-2
