@@ -3,7 +3,7 @@
 use mathlib.Core.Path.{_≡_, refl, sym, ap, _∙_, subst}
 use mathlib.Core.List.{List, [], _∷_}
 use mathlib.Core.Bool.{Bool, true, false, _&&_, not}
-use Prim.Native.Nat.{ℕ, _≤_, _<_}
+use Prim.Native.Nat.{ℕ, _≤_}
 use native.Mathlib.Omega.{arith}
 use lib.ListN.{length, take, length-take}
 use lib.Seq.{length-take-le}
@@ -12,8 +12,8 @@ use borrow.Author.Tests.{ltb-true, ltb-false, lt-leb, le-leb}
 use Rattle.base.specs.Pick.{pick}
 use Rattle.journal.specs.Ids.{without, withoutAll, allOpen, repeats}
 use Rattle.journal.specs.Checks.{Check}
-use Rattle.journal.specs.Calls.{connectionsClosed, goes, refused, stepBy}
-use Rattle.journal.specs.Journal.{Standing, busy as busyOpened, Journal, unchanged, stands, closes as closesIds, journalFed}
+use Rattle.journal.specs.Calls.{connectionsClosed, goes, refused}
+use Rattle.journal.specs.Journal.{Standing, busy as busyOpened, Journal, unchanged, stands, closes as closesIds}
 use Rattle.journal.specs.Srm.{silent}
 use Rattle.connection.specs.Peer.{idsOf, leftPeer, closedTables}
 use Rattle.connection.specs.declared.peer.Peer.{Peer}

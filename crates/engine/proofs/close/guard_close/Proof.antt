@@ -1,10 +1,7 @@
 -- `engine::close::guard_close` meets its contract. Each `return` rewrites with the tests that led there.
-use mathlib.Core.Path.{_≡_, sym, _∙_}
-use mathlib.Core.Bool.{true, false}
+use mathlib.Core.Path.{sym, _∙_}
 use borrow.Author.Needs.{needs}
 use borrow.Author.Tests.{lt-ltb, le-ltb, not-true, not-false}
-use Rattle.model.specs.Guard.{sound, sameAwait}
-use Rattle.server.specs.declared.Await.the-variants as await
 use Rattle.engine.specs.Close.{guardedClose}
 use Rattle.engine.proofs.close.guard_close.Statement.{statement}
 use Rattle.engine.proofs.close.guard_close.Tie as tie

@@ -1,5 +1,5 @@
 -- `engine::close::judge` meets its contract. Each `return` rewrites with the tests that led there.
-use mathlib.Core.Path.{_≡_, sym, _∙_}
+use mathlib.Core.Path.{sym, _∙_}
 use borrow.Author.Needs.{needs}
 use borrow.Author.Tests.{lt-ltb, le-ltb, not-true, not-false}
 use Rattle.engine.specs.Close.{judgedClose}
