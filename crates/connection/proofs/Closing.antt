@@ -7,16 +7,15 @@ use native.Mathlib.Omega.{arith}
 use native.Mathlib.Numerals.{add-one}
 use borrow.Author.Tests.{eq-eqb, ne-eqb}
 use lib.Dec.{eqb}
-use lib.ListN.{length, getD, set, take, length-take, length-append}
-use lib.Seq.{take-suc}
+use lib.ListN.{length, getD, set, take, drop, length-take, length-append}
+use lib.Seq.{take-suc, take-append-seam}
 use Rattle.base.specs.Pick.{pick}
 use Rattle.journal.specs.Ids.{without}
 use Rattle.connection.specs.declared.peer.Peer.{Peer}
-use Rattle.connection.specs.declared.peer.ConnectionId.{ConnectionId}
-use Rattle.connection.specs.declared.peer.ConnectionId.the-variants.{Id}
-use Rattle.connection.specs.Peer.{peerWith, idsOf, clearedPeer, leftPeer, linked, disconnectedBy}
+use Rattle.connection.specs.Peer.{peerWith, closedTables}
 use Rattle.connection.specs.Reply.{front}
-use Rattle.connection.proofs.Front.{front-length, front-behind, front-set}
+use Rattle.table.proofs.Remembering.{SameNonces, same-behind}
+use Rattle.connection.proofs.Front.{front-length, front-behind, front-set, front-drop}
 
 pub without-shorter : (x : ℕ) (l : List ℕ) → length (without x l) ≤ length l
 unfolding without
@@ -80,25 +79,25 @@ module _ (ids₀ : List ℕ) (x i : ℕ) (ids : List ℕ) (kept : ℕ) (h : i < 
   pub closed-skips : getD ids i 0 ≡ x → Closed ids₀ x (i + 1) ids kept
   closed-skips e = record { count = rw (skips e) (c .count); store = rw (skips e) (c .store) }
 
--- ---- what Disconnect leaves, by how many are left
+-- ---- the table store once an id was closed; above this crate these three laws alone are known of it
 
-abbrev withCount : Peer → ℕ → Peer
+-- the ids that are left stand at its front
+pub closed-front : (x n : ℕ) (t : List ℕ) → n ≤ length t → take (length (without x (take n t))) (closedTables x n t) ≡ without x (take n t)
+unfolding closedTables
+closed-front x n t h = take-append-seam (without x (take n t)) (drop (length (without x (take n t))) t)
+
+-- it keeps its length
+pub closed-length : (x n : ℕ) (t : List ℕ) → n ≤ length t → length (closedTables x n t) ≡ length t
+unfolding closedTables
+closed-length x n t h = front-length (without x (take n t)) t (omega (arith, without-shorter x (take n t), length-take n t))
+
+-- the nonces stand behind the ids, and stay
+pub closed-nonces : (x n : ℕ) (t : List ℕ) → n ≤ 64 → SameNonces (closedTables x n t) t
+unfolding closedTables
+closed-nonces x n t h =
+    same-behind _ t (front-drop (without x (take n t)) t 64 (omega (arith, without-shorter x (take n t), length-take n t)))
+
+-- the peer with `n` ids open and all else as it was
+abbrev pub withCount : Peer → ℕ → Peer
 withCount p n =
     peerWith n (p .«next_connection_id») (p .«remote_max_packet_length») (p .«srm_enabled») (p .authenticated) (p .challenge) (p .window) (p .nonces)
-
-module _ (p : Peer) (t : List ℕ) where
-  left-none : (l : List ℕ) → length l ≡ 0 → clearedPeer p ≡ leftPeer p l
-  left-none [] e = refl
-  left-none (i ∷ l) e = absurd (omega arith)
-
-  left-some : (l : List ℕ) → (length l ≡ 0 → ⊥) → withCount p (length l) ≡ leftPeer p l
-  left-some [] ne = absurd (ne refl)
-  left-some (i ∷ l) ne = refl
-
-  pub none-left : (g : ConnectionId) (i n : ℕ) (q : Peer) (u : List ℕ) → g ≡ Id i → n ≡ length (without i (idsOf p t))
-      → u ≡ front (without i (idsOf p t)) t → n ≡ 0 → q ≡ clearedPeer p → linked q u ≡ disconnectedBy p t g
-  none-left g i n q u e h s z c = rw (e, s, c, left-none (without i (idsOf p t)) (sym h ∙ z)) refl
-
-  pub some-left : (g : ConnectionId) (i n : ℕ) (u : List ℕ) → g ≡ Id i → n ≡ length (without i (idsOf p t))
-      → u ≡ front (without i (idsOf p t)) t → (n ≡ 0 → ⊥) → linked (withCount p n) u ≡ disconnectedBy p t g
-  some-left g i n u e h s ne = rw (e, h, s, left-some (without i (idsOf p t)) (λ z. ne (h ∙ z))) refl

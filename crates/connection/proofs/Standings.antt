@@ -7,11 +7,12 @@ use mathlib.Core.Option.{Option, none, some}
 use Prim.Native.Nat.{ℕ, _+_, _%_, _^_, _≤_, _<_}
 use native.Mathlib.Omega.{arith}
 use native.Mathlib.Numerals.{add-one}
-use lib.ListN.{length, length-take, length-set, take, drop, set}
-use lib.Seq.{take-append-seam, take-suc-set, drop-set-lt, length-take-le}
-use lib.Dec.{leb, ltb}
+use lib.ListN.{length, length-take, length-set, take, set}
+use lib.Seq.{take-suc-set, drop-set-lt, length-take-le}
+use lib.Dec.{leb, ltb, eqb}
 use lib.Count.{ones}
-use borrow.Author.Tests.{leb-false, ltb-false}
+use borrow.Author.Tests.{leb-false, ltb-false, ne-eqb}
+use Rattle.base.specs.Pick.{pick}
 use Rattle.base.specs.Bytes.{be32}
 use Rattle.digest.specs.Md5.{octets16}
 use Rattle.digest.specs.declared.md5.Octets16.{Octets16}
@@ -21,12 +22,11 @@ use Rattle.journal.specs.Journal.{Standing, withCheck, openId, opensFor, leaves
 use Rattle.connection.specs.declared.peer.Challenge.{Challenge}
 use Rattle.connection.specs.declared.peer.Challenge.the-variants.{Stored, Absent}
 use Rattle.connection.specs.declared.peer.Peer.{Peer}
-use Rattle.connection.specs.Peer.{peerWith, idsOf, Linked, freshPeer, atLeast255, limited, checkedPeer, verifiedPeer, challengedPeer, opened, searched, openedFor, leftPeer, leftLinked, disconnectedPeer}
+use Rattle.connection.specs.Peer.{peerWith, idsOf, Linked, freshPeer, atLeast255, limited, checkedPeer, verifiedPeer, challengedPeer, opened, searched, openedFor, clearedPeer, leftPeer, closedTables, disconnectedPeer}
 use Rattle.table.specs.Nonces.{counted}
 use Rattle.journal.proofs.Checked.{counts}
 use Rattle.table.proofs.Remembering.{SameNonces, same-behind, counted-few}
-use Rattle.connection.proofs.Front.{front-length, front-drop}
-use Rattle.connection.proofs.Closing.{without-shorter}
+use Rattle.connection.proofs.Closing.{without-shorter, closed-front, closed-length, closed-nonces, withCount}
 
 abbrev pub challengeBytes : Challenge → Option (List ℕ)
 challengeBytes Absent = none
@@ -87,18 +87,21 @@ challenged-standing p t h n = refl
 abbrev pub standingIn : Linked → List Check → Standing
 standingIn l h = standingOf (l .peer) (l .tables) h
 
-left-standing : (p : Peer) (t ids : List ℕ) (h : List Check) → standingIn (leftLinked p t ids) h ≡ leaves (standingOf p t h) ids
+-- the ids that are left open stand at the front of the table store `u`
+pub left-standing : (p : Peer) (t u ids : List ℕ) (h : List Check) → take (length ids) u ≡ ids
+    → standingOf (leftPeer p (length ids)) u h ≡ leaves (standingOf p t h) ids
 unfolding peerWith
-left-standing p t [] h = refl
-left-standing p t (i ∷ is) h =
-    ap (λ (l : List ℕ). record { authenticated = p .authenticated; challenge = challengeBytes (p .challenge); ids = l; next = p .«next_connection_id»; srm = p .«srm_enabled»; checks = h })
-    (take-append-seam (i ∷ is) (drop (length (i ∷ is)) t))
+left-standing p t u [] h e = refl
+left-standing p t u (i ∷ is) h e =
+    rw (ne-eqb (length (i ∷ is)) 0 (λ z. omega (arith, z)))
+    (ap (λ (l : List ℕ). record { authenticated = p .authenticated; challenge = challengeBytes (p .challenge); ids = l; next = p .«next_connection_id»; srm = p .«srm_enabled»; checks = h }) e)
 
-pub disconnected-standing : (p : Peer) (t : List ℕ) (h : List Check) (v : Option (List ℕ))
+pub disconnected-standing : (p : Peer) (t : List ℕ) (h : List Check) (v : Option (List ℕ)) → p .count ≤ length t
     → standingIn (disconnectedPeer p t v) h ≡ disconnected (standingOf p t h) v
 unfolding disconnectedPeer
-disconnected-standing p t h none = left-standing p t [] h
-disconnected-standing p t h (some v) = left-standing p t (without (be32 v 0) (idsOf p t)) h
+disconnected-standing p t h none r = left-standing p t t [] h refl
+disconnected-standing p t h (some v) r =
+    left-standing p t (closedTables (be32 v 0) (p .count) t) (without (be32 v 0) (idsOf p t)) h (closed-front (be32 v 0) (p .count) t r)
 
 -- ---- the window
 
@@ -119,14 +122,18 @@ pub challenged-window : (p : Peer) (n : Octets16) → challengedPeer p n .window
 unfolding peerWith
 challenged-window p n = refl
 
+pub left-window : (p : Peer) (n : ℕ) → leftPeer p n .window ≡ p .window
+unfolding peerWith
+left-window p n = go (eqb n 0)
+  where
+    go : (b : Bool) → pick b (clearedPeer p) (withCount p n) .window ≡ p .window
+    go true = refl
+    go false = refl
+
 pub disconnected-window : (p : Peer) (t : List ℕ) (v : Option (List ℕ)) → disconnectedPeer p t v .peer .window ≡ p .window
 unfolding disconnectedPeer peerWith
 disconnected-window p t none = refl
-disconnected-window p t (some v) = go (without (be32 v 0) (idsOf p t))
-  where
-    go : (ids : List ℕ) → leftPeer p ids .window ≡ p .window
-    go [] = refl
-    go (i ∷ is) = refl
+disconnected-window p t (some v) = left-window p (length (without (be32 v 0) (idsOf p t)))
 
 -- one check more in the window is one more in the history
 pub checked-window : (p : Peer) (h : List Check) (c : Check) → Windowed p h → Windowed (checkedPeer p (isWrong c)) (c ∷ h)
@@ -175,10 +182,13 @@ unfolding peerWith
 challenged-fits {m} p n f =
     record { count = f .count; least = f .least; most = f .most; nonces = ap counted (f .nonces); few = counted-few m (f .few) }
 
-left-fits : {m : ℕ} (p : Peer) (ids : List ℕ) → PeerFits m p → length ids ≤ 64 → PeerFits m (leftPeer p ids)
+pub left-fits : {m : ℕ} (p : Peer) (n : ℕ) → PeerFits m p → n ≤ 64 → PeerFits m (leftPeer p n)
 unfolding peerWith
-left-fits p [] f h = record { count = omega arith; least = omega arith; most = omega arith; nonces = f .nonces; few = f .few }
-left-fits p (i ∷ is) f h = record { count = h; least = f .least; most = f .most; nonces = f .nonces; few = f .few }
+left-fits {m} p n f h = go (eqb n 0)
+  where
+    go : (b : Bool) → PeerFits m (pick b (clearedPeer p) (withCount p n))
+    go true = record { count = omega arith; least = omega arith; most = omega arith; nonces = f .nonces; few = f .few }
+    go false = record { count = h; least = f .least; most = f .most; nonces = f .nonces; few = f .few }
 
 -- no more ids are left than were open
 few-left : {m : ℕ} (p : Peer) (t : List ℕ) (x : ℕ) → PeerFits m p → length (without x (idsOf p t)) ≤ 64
@@ -186,22 +196,22 @@ few-left p t x f = omega (arith, without-shorter x (idsOf p t), length-take (p .
 
 pub disconnected-fits : {m : ℕ} (p : Peer) (t : List ℕ) (v : Option (List ℕ)) → PeerFits m p → PeerFits m (disconnectedPeer p t v .peer)
 unfolding disconnectedPeer
-disconnected-fits p t none f = left-fits p [] f (omega arith)
-disconnected-fits p t (some v) f = left-fits p (without (be32 v 0) (idsOf p t)) f (few-left p t (be32 v 0) f)
+disconnected-fits p t none f = left-fits p 0 f (omega arith)
+disconnected-fits p t (some v) f = left-fits p (length (without (be32 v 0) (idsOf p t))) f (few-left p t (be32 v 0) f)
 
 -- the table store keeps its length
 pub disconnected-length : {m : ℕ} (p : Peer) (t : List ℕ) (v : Option (List ℕ)) → PeerFits m p → 64 ≤ length t
     → length (disconnectedPeer p t v .tables) ≡ length t
 unfolding disconnectedPeer
 disconnected-length p t none f h = refl
-disconnected-length p t (some v) f h = front-length (without (be32 v 0) (idsOf p t)) t (omega (arith, few-left p t (be32 v 0) f))
+disconnected-length p t (some v) f h = closed-length (be32 v 0) (p .count) t (omega (arith, f .count))
 
 -- and the nonces that it remembers
 pub disconnected-nonces : {m : ℕ} (p : Peer) (t : List ℕ) (v : Option (List ℕ)) → PeerFits m p → SameNonces (disconnectedPeer p t v .tables) t
 unfolding disconnectedPeer
 disconnected-nonces p t none f = λ n l. refl
 disconnected-nonces p t (some v) f =
-    same-behind _ t (front-drop (without (be32 v 0) (idsOf p t)) t 64 (few-left p t (be32 v 0) f))
+    closed-nonces (be32 v 0) (p .count) t (f .count)
 
 -- ---- an id is opened
 

@@ -1,10 +1,10 @@
 -- What Connect and Disconnect change (docs/PROTOCOL.md#connect, #connection-ids, #disconnect).
 use Prim.Native.Nat.{ℕ, _+_, _%_, _^_}
-use mathlib.Core.List.{List, [], _∷_}
+use mathlib.Core.List.{List}
 use mathlib.Core.Bool.{Bool, true, false}
 use mathlib.Core.Option.{Option, none, some}
 use lib.ListN.{length, take, set}
-use lib.Dec.{leb, ltb}
+use lib.Dec.{leb, ltb, eqb}
 use Rattle.base.specs.Pick.{pick}
 use Rattle.base.specs.Bytes.{be32}
 use Rattle.digest.specs.declared.md5.Octets16.{Octets16}
@@ -111,20 +111,24 @@ openedFor p t srm none none = some (linked (srmPeer p srm) t)
 abbrev pub clearedPeer : Peer → Peer
 clearedPeer p = peerWith 0 (p .«next_connection_id») minPacket false false (p .challenge) (p .window) (p .nonces)
 
--- A Disconnect leaves these ids open; if none is left, all is cleared.
-abbrev pub leftPeer : Peer → List ℕ → Peer
-leftPeer p [] = clearedPeer p
-leftPeer p (i ∷ is) =
-    peerWith (length (i ∷ is)) (p .«next_connection_id») (p .«remote_max_packet_length») (p .«srm_enabled») (p .authenticated) (p .challenge) (p .window) (p .nonces)
+-- The peer with `n` ids left open; if none is left, all is cleared.
+abbrev pub leftPeer : Peer → ℕ → Peer
+leftPeer p n =
+    pick (eqb n 0) (clearedPeer p)
+    (peerWith n (p .«next_connection_id») (p .«remote_max_packet_length») (p .«srm_enabled») (p .authenticated) (p .challenge) (p .window) (p .nonces))
 
--- The ids that are left stand at the front of the table store.
-abbrev pub leftLinked : Peer → List ℕ → List ℕ → Linked
-leftLinked p t ids = linked (leftPeer p ids) (front ids t)
+-- The table store once the id `x` was closed, of the first `n`: those that are left stand at its front, in their order.
+unfoldable pub closedTables : ℕ → ℕ → List ℕ → List ℕ
+closedTables x n t = front (without x (take n t)) t
+
+-- The peer and the table store once the id `x` was closed.
+abbrev pub closedLinked : Peer → List ℕ → ℕ → Linked
+closedLinked p t x = linked (leftPeer p (length (without x (idsOf p t)))) (closedTables x (p .count) t)
 
 -- A Disconnect closes the id that a header names; if it names none, all is cleared.
 unfoldable pub disconnectedPeer : Peer → List ℕ → Option (List ℕ) → Linked
 disconnectedPeer p t none = linked (clearedPeer p) t
-disconnectedPeer p t (some v) = leftLinked p t (without (be32 v 0) (idsOf p t))
+disconnectedPeer p t (some v) = closedLinked p t (be32 v 0)
 
 -- ---- the same by numbers, as the code has them
 
@@ -176,4 +180,4 @@ answerBy p t srm given target = answerFrom (openingOf p t (openedBy p t srm give
 -- A Disconnect, by the number that it names.
 abbrev pub disconnectedBy : Peer → List ℕ → ConnectionId → Linked
 disconnectedBy p t Missing = linked (clearedPeer p) t
-disconnectedBy p t (Id i) = leftLinked p t (without i (idsOf p t))
+disconnectedBy p t (Id i) = closedLinked p t i

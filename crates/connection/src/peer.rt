@@ -7,8 +7,7 @@ ghost use lib.ListN.{length, take};
 ghost use Rattle.packet.specs.Limits.{maxConnections};
 ghost use Rattle.journal.specs.Ids.{member, taken, without, newId};
 ghost use Rattle.connection.specs.Peer.{atLeast255, limited as limitedPeer, authenticatedPeer, checkedPeer, verifiedPeer, challengedPeer, srmPeer};
-ghost use Rattle.connection.specs.Peer.{addedPeer, opened as openedPeer, opens, openingOf, answers, answerBy, clearedPeer, linked, disconnectedBy};
-ghost use Rattle.connection.specs.Reply.{front};
+ghost use Rattle.connection.specs.Peer.{addedPeer, opened as openedPeer, opens, openingOf, answers, answerBy, clearedPeer, leftPeer, closedTables, linked, disconnectedBy};
 use crate::checks::pushed;
 use digest::md5::Octets16;
 use packet::limits::MAX_CONNECTIONS;
@@ -118,19 +117,19 @@ pub fn allocate_connection_id(ids: &[u64], count: usize, counter: u32) -> NewId
     }
 }
 
-// Takes `id` out of the first `count` numbers, keeping the order of the others, and returns how many are left.
-fn close_id(ids: &mut [u64], count: usize, id: u32) -> usize
-    requires { ⌜ (count ≤ maxConnections) × (count ≤ length (now ids)) ⌝ }
-    ensures { λ r. ⌜ r ≡ length (without id (take count (now (ids .entry)))) ⌝ }
-    ensures store { λ r. ⌜ now (ids .exit) ≡ front (without id (take count (now (ids .entry)))) (now (ids .entry)) ⌝ }
+// Takes `id` out of the first `count` numbers of `tables`, keeping the order of the others, and returns how many are left.
+pub fn close_link(tables: &mut [u64], count: usize, id: u32) -> usize
+    requires { ⌜ (count ≤ maxConnections) × (count ≤ length (now tables)) ⌝ }
+    ensures { λ r. ⌜ r ≡ length (without id (take count (now (tables .entry)))) ⌝ }
+    ensures store { λ r. ⌜ now (tables .exit) ≡ closedTables id count (now (tables .entry)) ⌝ }
 {
     let closed = id as u64;
     let mut kept = 0;
     let mut i = 0;
     while i < count {
-        let x = ids[i];
+        let x = tables[i];
         if x != closed {
-            ids[kept] = x;
+            tables[kept] = x;
             kept += 1;
         }
         i += 1;
@@ -289,6 +288,18 @@ fn cleared(peer: Peer) -> Peer
     r
 }
 
+// Returns the peer with `count` ids left open; if none is left, all is cleared.
+pub fn with_left(peer: Peer, count: usize) -> Peer
+    ensures { λ r. ⌜ r ≡ leftPeer peer count ⌝ }
+{
+    if count == 0 {
+        return cleared(peer);
+    }
+    let mut r = peer;
+    r.count = count;
+    r
+}
+
 // Closes the id that a Disconnect names. If it names none, or the last closes, all is cleared.
 pub fn disconnected(peer: Peer, named: ConnectionId, tables: &mut [u64]) -> Peer
     requires { ⌜ (peer .count ≤ maxConnections) × (maxConnections ≤ length (now tables)) ⌝ }
@@ -297,11 +308,6 @@ pub fn disconnected(peer: Peer, named: ConnectionId, tables: &mut [u64]) -> Peer
     let ConnectionId::Id(id) = named else {
         return cleared(peer);
     };
-    let count = close_id(tables, peer.count, id);
-    if count == 0 {
-        return cleared(peer);
-    }
-    let mut r = peer;
-    r.count = count;
-    r
+    let count = close_link(tables, peer.count, id);
+    with_left(peer, count)
 }

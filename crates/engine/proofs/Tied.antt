@@ -12,10 +12,10 @@ use borrow.Fn.World.{ArgsD, ResD}
 use borrow.Fn.Kinds.{endedOf}
 use Rattle.packet.specs.AuthWrite.{given}
 use Rattle.connection.specs.Pieces.{credentialsOf}
-use Rattle.journal.specs.Calls.{bytesOffered, streamEnded, replyTaken, replyGiven, objectGiven, bodyGiven, bodyFailed, abortAcknowledged, passwordGiven, nonceGiven, credentialsGiven}
+use Rattle.journal.specs.Calls.{bytesOffered, streamEnded, replyTaken, replyGiven, objectGiven, bodyGiven, bodyFailed, abortAcknowledged, passwordGiven, nonceGiven, credentialsGiven, connectionsClosed}
 use Rattle.model.specs.Step.{Stores, stores, Stepped, stepped, called}
 use Rattle.model.specs.Calls.{startStep}
-use Rattle.model.specs.Runs.{State, performed, Says}
+use Rattle.model.specs.Runs.{State, beside, performed, Says}
 use Rattle.server.specs.declared.Engine.{Engine}
 use Rattle.engine.proofs.calls.bytes_offered
 use Rattle.engine.proofs.calls.bytes_offered.Kinds as bytes-offered-kinds
@@ -53,6 +53,9 @@ use Rattle.engine.proofs.calls.reply_given.Reads as reply-given-reads
 use Rattle.engine.proofs.calls.credentials_given
 use Rattle.engine.proofs.calls.credentials_given.Kinds as credentials-given-kinds
 use Rattle.engine.proofs.calls.credentials_given.Reads as credentials-given-reads
+use Rattle.engine.proofs.calls.connections_closed
+use Rattle.engine.proofs.calls.connections_closed.Kinds as connections-closed-kinds
+use Rattle.engine.proofs.calls.connections_closed.Reads as connections-closed-reads
 
 -- the state before a call, with a table store and a realm
 abbrev before : List ℕ → List ℕ → Engine → Stores → State
@@ -169,3 +172,10 @@ pub credentials-says : (t l : List ℕ) (κs : Lfts 6) (a : ArgsD credentials_gi
     (performed (credentialsGiven c) r
     (stores (now (q .0)) (now (q .1 .0)) (now (q .1 .1 .0)) (now (q .1 .1 .1 .0))) t)
 credentials-says t l κs a r x h = record { step = ap (λ (m : Stepped). called m t) h; octets = tt }
+
+-- the call is lent the table store alone, so its line holds for every four stores and every realm that the host keeps beside it
+pub connections-closed-says : (s : Stores) (l : List ℕ) (κs : Lfts 2) (a : ArgsD connections_closed.signature κs) (r : ResD connections_closed.signature κs)
+    (x : AtExit (endedOf 2 connections-closed-kinds.ps connections-closed-kinds.r) κs)
+    → connections-closed-reads.Learnt κs a r x
+    → Says (before (now (a .1 .1 .0)) l (a .0) s) (performed (connectionsClosed (now (a .1 .0))) r s (now (x .1 .1 .0)))
+connections-closed-says s l κs a r x h = record { step = ap (beside (before (now (a .1 .1 .0)) l (a .0) s)) h; octets = tt }

@@ -1,10 +1,16 @@
-// The twelve calls of a host, and nothing else. Each asks the guard first and then equals its definition in model/specs/Calls.
+// The thirteen calls of a host, and nothing else. Each asks the guard first and then equals its definition in model/specs/Calls.
 ghost use mathlib.Core.Path.{_≡_};
 ghost use Rattle.model.specs.Step.{stepped, called, stores};
-ghost use Rattle.model.specs.Calls.{streamEndedStep, startStep, bytesOfferedStep, replyTakenStep, abortAcknowledgedStep, bodyFailedStep, bodyGivenStep, objectGivenStep, nonceGivenStep, passwordGivenStep, replyGivenStep, credentialsGivenStep};
+ghost use Rattle.model.specs.Calls.{streamEndedStep, startStep, bytesOfferedStep, replyTakenStep, abortAcknowledgedStep, bodyFailedStep, bodyGivenStep, objectGivenStep, nonceGivenStep, passwordGivenStep, replyGivenStep, credentialsGivenStep, connectionsClosedStep};
+ghost use Rattle.model.specs.Close.{closed};
 ghost use Rattle.model.specs.Runs.{Octets};
 ghost use Rattle.packet.specs.AuthWrite.{given};
 ghost use Rattle.connection.specs.Pieces.{credentialsOf};
+use crate::close::close_all;
+use crate::close::closed_peer;
+use crate::close::go_on_with;
+use crate::close::guard_close;
+use crate::close::judge;
 use crate::connect::connect_answer;
 use crate::connect::connect_with_credentials;
 use crate::connect::demands_user;
@@ -471,4 +477,22 @@ pub fn credentials_given(
         &headers[..],
         reply,
     )
+}
+
+// Closes the connections of `ids` together, all of them or none; the client is not told. Bytes must be awaited, and no operation may be
+// open; a packet may have begun. Over 64 ids are refused with `TooManyIds`, one that is not open in `tables` with `IdNotOpen`, and one that
+// occurs twice with `IdRepeated`, in this order. If some are closed and none is left, the peer is cleared as by its last Disconnect.
+pub fn connections_closed(e: Engine, ids: &[u32], tables: &mut [u64]) -> CallResult
+    ensures { λ r. ⌜ closed r (now (tables .exit)) ≡ connectionsClosedStep e (now (ids .entry)) (now (tables .entry)) ⌝ }
+{
+    if let Guarded::Refuse(refusal) = guard_close(e, tables.len()) {
+        return refuse(e, refusal);
+    }
+    let peer = e.peer;
+    let count = peer.count;
+    if let Guarded::Refuse(refusal) = judge(ids, &tables[..], count) {
+        return refuse(e, refusal);
+    }
+    let left = close_all(ids, tables, count);
+    go_on_with(e, closed_peer(peer, ids.len(), left))
 }

@@ -414,7 +414,7 @@ pub(crate) fn heading_route(e: Engine, h: Heading) -> Route
 }
 
 // Whether an operation is open.
-fn is_busy(operation: Operation) -> bool
+pub(crate) fn is_busy(operation: Operation) -> bool
     ensures { λ r. ⌜ r ≡ busyWith operation ⌝ }
 {
     match operation {

@@ -10,7 +10,7 @@ use native.Mathlib.Omega.{arith}
 use lib.ListN.{length, length-append, take}
 use lib.Seq.{paste, take-paste, length-paste, take-length}
 use lib.Dec.{leb, ltb}
-use borrow.Author.Tests.{leb-true, leb-false, ltb-true, lt-ltb, le-ltb, le-leb}
+use borrow.Author.Tests.{leb-true, leb-false, ltb-true, lt-ltb, le-ltb, le-leb, lt-leb}
 use Rattle.base.specs.Pick.{pick}
 use Rattle.packet.specs.Header.{Header, bytesOf, allBytes}
 use Rattle.journal.specs.Record.{isBody, isSrm, Record, bare, joinBody, joined, bodyLength, sizeOf, carriedOne, carriedBy, keptByGet}
@@ -153,6 +153,45 @@ kept-agrees w limit hs g k a l =
     let b = gather-lengths w limit hs g (a .kept-room) (a .body-within) (a .room) (a .body-room) in
     record { room = omega arith; body-room = omega arith; full = n .0; kept = omega arith; kept-room = b .2; body-within = b .3 }
 
+-- headers that do not fit stop the gathering
+by-full : (f : Fate) (limit : ℕ) (g : Gathering) (h : Header) → g .got .kept ≤ 65535 → 65535 < g .got .kept + length (keptOne f h)
+    → gatherBy f limit g h .got .full ≡ true
+unfolding keepBytes
+by-full kept limit g h b l = rw (lt-leb _ _ l) refl
+by-full stored limit g h b l = absurd (omega arith)
+by-full dropped limit g h b l = absurd (omega arith)
+
+stays-full : (k : Keep) (limit : ℕ) (hs : List Header) (g : Gathering) → g .got .full ≡ true → gatherAll k limit hs g .got .full ≡ true
+unfolding gatherAll
+stays-full k limit [] g e = e
+stays-full k limit (h ∷ hs) g e = rw e refl
+
+-- one header, of which `later` says what those behind it do
+one-full : (k : Keep) (limit : ℕ) (f : Fate) (h : Header) (hs : List Header) (g : Gathering) → g .got .full ≡ false → g .got .kept ≤ 65535
+    → 65535 < g .got .kept + length (keptOne f h ++ keptOf k hs)
+    → ((n : Gathering) → n .got .full ≡ false → n .got .kept ≤ 65535 → 65535 < n .got .kept + length (keptOf k hs) → gatherAll k limit hs n .got .full ≡ true)
+    → gatherAll k limit hs (gatherBy f limit g h) .got .full ≡ true
+one-full k limit f h hs g e b l later = go (leb (g .got .kept + length (keptOne f h)) 65535) refl
+  where
+    go : (t : Bool) → leb (g .got .kept + length (keptOne f h)) 65535 ≡ t → gatherAll k limit hs (gatherBy f limit g h) .got .full ≡ true
+    go true i =
+        let s = length-append (keptOne f h) (keptOf k hs) in
+        let m : g .got .kept + length (keptOne f h) ≤ 65535 = leb-true _ _ i in
+        let o = by-kept f limit g h e m in
+        later (gatherBy f limit g h) (o .0) (omega (arith, o .1)) (omega (arith, o .1))
+    go false i = stays-full k limit hs (gatherBy f limit g h) (by-full f limit g h b (leb-false _ _ i))
+
+all-full : (k : Keep) (limit : ℕ) (hs : List Header) (g : Gathering) → g .got .full ≡ false → g .got .kept ≤ 65535
+    → 65535 < g .got .kept + length (keptOf k hs) → gatherAll k limit hs g .got .full ≡ true
+unfolding gatherAll
+all-full k limit [] g e b l = absurd (omega arith)
+all-full k limit (h ∷ hs) g e b l =
+    rw (gather-on k limit h hs g e) (one-full k limit (fateOf k (h .id)) h hs g e b l (λ n. all-full k limit hs n))
+
+kept-full : (w : Keep) (limit : ℕ) (hs : List Header) (g : Gathering) (k : List ℕ) → g .got .full ≡ false → g .got .kept ≡ length k
+    → g .got .kept ≤ 65535 → 65535 < length (k ++ keptOf w hs) → gatherAll w limit hs g .got .full ≡ true
+kept-full w limit hs g k e n b l = all-full w limit hs g e b (omega (arith, n, length-append k (keptOf w hs)))
+
 get-kept : (hs : List Header) → keptOf keep.Get hs ≡ keptByGet hs
 unfolding keptByGet
 get-kept [] = refl
@@ -175,6 +214,14 @@ get-agrees limit hs g k = rw (← get-kept hs) (kept-agrees keep.Get limit hs g 
 pub all-agrees : (limit : ℕ) (hs : List Header) (g : Gathering) (k : List ℕ) → KeptAgrees limit g k → length (k ++ allBytes hs) ≤ 65535
     → KeptAgrees limit (gatherAll keep.All limit hs g) (k ++ allBytes hs)
 all-agrees limit hs g k = rw (← all-kept-bytes hs) (kept-agrees keep.All limit hs g k)
+
+pub get-full : (limit : ℕ) (hs : List Header) (g : Gathering) (k : List ℕ) → KeptAgrees limit g k → 65535 < length (k ++ keptByGet hs)
+    → gatherAll keep.Get limit hs g .got .full ≡ true
+get-full limit hs g k a = rw (← get-kept hs) (kept-full keep.Get limit hs g k (a .full) (a .kept) (a .kept-room))
+
+pub headers-full : (limit : ℕ) (hs : List Header) (g : Gathering) (k : List ℕ) → KeptAgrees limit g k → 65535 < length (k ++ allBytes hs)
+    → gatherAll keep.All limit hs g .got .full ≡ true
+headers-full limit hs g k a = rw (← all-kept-bytes hs) (kept-full keep.All limit hs g k (a .full) (a .kept) (a .kept-room))
 
 pub kept-begins : (limit : ℕ) (h b : List ℕ) → 65535 ≤ length h → limit ≤ length b
     → KeptAgrees limit (gathering (record { kept = 0; body = 0; came = false; over = false; full = false }) h b) []
@@ -341,6 +388,10 @@ put-kept (h ∷ hs) = rw (one-carried h) (go (fateOf keep.Put (h .id)) (put-kept
     go kept e = ap (λ (l : List ℕ). bytesOf h ++ l) e
     go stored e = e
     go dropped e = e
+
+pub put-full : (limit : ℕ) (hs : List Header) (g : Gathering) (c : Record) → PutAgrees limit g c
+    → 65535 < length (c .headers ++ carriedBy hs .headers) → gatherAll keep.Put limit hs g .got .full ≡ true
+put-full limit hs g c a = rw (← put-kept hs) (kept-full keep.Put limit hs g (c .headers) (a .full) (a .kept) (a .kept-room))
 
 kept-short : (k : Keep) (hs : List Header) → length (keptOf k hs) ≤ length (allBytes hs)
 unfolding allBytes

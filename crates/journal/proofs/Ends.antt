@@ -16,7 +16,7 @@ use Rattle.packet.specs.Packet.{Request, requestOf}
 use Rattle.packet.specs.declared.opcode.Opcode.{Opcode}
 use Rattle.packet.specs.declared.opcode.Opcode.the-variants.{Connect, Disconnect, Put, Get, SetPath, Action, Session, Abort, UserDefined}
 use Rattle.journal.specs.Record.{Record, sizeOf}
-use Rattle.journal.specs.Calls.{Call, bytesOffered, streamEnded, replyTaken, replyGiven, objectGiven, bodyGiven, bodyFailed, abortAcknowledged, passwordGiven, nonceGiven, credentialsGiven, Fed, noStep, stepBy, replySent}
+use Rattle.journal.specs.Calls.{Call, bytesOffered, streamEnded, replyTaken, replyGiven, objectGiven, bodyGiven, bodyFailed, abortAcknowledged, passwordGiven, nonceGiven, credentialsGiven, connectionsClosed, Fed, noStep, stepBy, replySent}
 use Rattle.journal.specs.Journal.{Opened, nothing, trailing, putting, getting, sending, gathering, draining, busy, Journal, Entry, unchanged, after, opens, endsWith, stopped, trails, putRead, admitted, firstRead, requestRead, packetRead, journalPacket, Read, more, whole, short, readUp, bytesRead, goesOn, takenUp, streamNumber, replyTo, replyLast, replied, objectSent, takenAt, lastTaken, journalCall, journalFed, journalStep}
 use Rattle.journal.specs.Claim.{EndsThere, EndsNowhereElse, TakesNoMore}
 
@@ -154,6 +154,7 @@ module _ (j : Journal) where
   call-fair (passwordGiven p) = inr (calm j _ refl)
   call-fair (nonceGiven n) = inr (calm j _ refl)
   call-fair (credentialsGiven c) = inr (calm j j refl)
+  call-fair (connectionsClosed l) = inr (calm j _ refl)
 
   fed-fair : (f : Fed) → Fair j (journalFed j f)
   fed-fair noStep = inr (calm j j refl)

@@ -16,10 +16,10 @@ use Rattle.packet.specs.Packet.{Request, requestOf}
 use Rattle.packet.specs.declared.opcode.Opcode.{Opcode}
 use Rattle.packet.specs.declared.opcode.Opcode.the-variants.{Connect, Disconnect, Put, Get, SetPath, Action, Session, Abort, UserDefined}
 use Rattle.journal.specs.Record.{Record, joined, carriedBy}
-use Rattle.journal.specs.Ids.{member, without, newId}
-use Rattle.journal.specs.Calls.{Call, bytesOffered, streamEnded, replyTaken, replyGiven, objectGiven, bodyGiven, bodyFailed, abortAcknowledged, passwordGiven, nonceGiven, credentialsGiven, Fed, noStep, stepBy, replySent}
+use Rattle.journal.specs.Ids.{member, without, withoutAll, newId}
+use Rattle.journal.specs.Calls.{Call, bytesOffered, streamEnded, replyTaken, replyGiven, objectGiven, bodyGiven, bodyFailed, abortAcknowledged, passwordGiven, nonceGiven, credentialsGiven, connectionsClosed, Fed, noStep, stepBy, replySent}
 use Rattle.journal.specs.Checks.{Check, right, wrong, stop, tooMany, Ruled}
-use Rattle.journal.specs.Journal.{Settings, Standing, Opened, nothing, trailing, putting, getting, sending, gathering, draining, busy, Journal, Entry, unchanged, after, opens, stands, end, admitted, asksSrm, isStopped, withCheck, trails, putRead, firstRead, requestRead, packetRead, journalPacket, Read, more, whole, short, readUp, bytesRead, openId, opensFor, connected, leaves, disconnected, replyTo, replyLast, replied, objectSent, takenAt, passwordChecked, passes, journalCall, journalFed, journalStep, listOf}
+use Rattle.journal.specs.Journal.{Settings, Standing, Opened, nothing, trailing, putting, getting, sending, gathering, draining, busy, Journal, Entry, unchanged, after, opens, stands, end, admitted, asksSrm, isStopped, withCheck, trails, putRead, firstRead, requestRead, packetRead, journalPacket, Read, more, whole, short, readUp, bytesRead, openId, opensFor, connected, leaves, disconnected, closes, replyTo, replyLast, replied, objectSent, takenAt, passwordChecked, passes, journalCall, journalFed, journalStep, listOf}
 
 -- the checks after an entry
 abbrev checksIn : Entry → List Check
@@ -106,6 +106,10 @@ sent-same (getting k) j = refl
 sent-same sending j = refl
 sent-same (gathering o k) j = refl
 sent-same draining j = refl
+
+closes-same : (s : Standing) (l : List ℕ) → closes s l .checks ≡ s .checks
+closes-same s [] = refl
+closes-same s (x ∷ l) = left-same s (withoutAll (x ∷ l) (s .ids))
 
 -- a reply that is taken leaves the standing
 pub taken-standing : (o : Opened) (j : Journal) (b : ℕ) → takenAt o j b .standing ≡ j .standing
@@ -195,6 +199,7 @@ module _ (j : Journal) (k : Ruled (j .standing .checks)) where
   call-kept (passwordGiven p) w = checked-kept (passes j p) (w p refl)
   call-kept (nonceGiven n) w = k
   call-kept (credentialsGiven c) w = k
+  call-kept (connectionsClosed l) w = same-kept _ (closes-same (j .standing) l)
 
   fed-kept : (f : Fed) → ((p : Option (List ℕ)) → f ≡ stepBy (passwordGiven p) → tooMany (j .standing .checks) ≡ false) → Kept (journalFed j f)
   fed-kept noStep w = k

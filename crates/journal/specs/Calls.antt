@@ -34,6 +34,8 @@ pub data Call : Type 0 where
   nonceGiven : Octets16 → Call
   -- The host gives credentials to answer the peer's challenge, if it has any.
   credentialsGiven : Option Credentials → Call
+  -- The host closes these connection ids together.
+  connectionsClosed : List ℕ → Call
 
 -- A call was refused with a number, and changed nothing; or it went.
 pub data Verdict : Type 0 where

@@ -22,8 +22,8 @@ use Rattle.packet.specs.Auth.{Response, responseOf, verified}
 use Rattle.packet.specs.declared.opcode.Opcode.{Opcode}
 use Rattle.packet.specs.declared.opcode.Opcode.the-variants.{Connect, Disconnect, Put, Get, SetPath, Action, Session, Abort, UserDefined}
 use Rattle.journal.specs.Record.{Record, joined, sizeOf, carriedBy, keptByGet}
-use Rattle.journal.specs.Ids.{member, without, newId}
-use Rattle.journal.specs.Calls.{Call, bytesOffered, streamEnded, replyTaken, replyGiven, objectGiven, bodyGiven, bodyFailed, abortAcknowledged, passwordGiven, nonceGiven, credentialsGiven, Fed, noStep, stepBy, replySent}
+use Rattle.journal.specs.Ids.{member, without, withoutAll, newId}
+use Rattle.journal.specs.Calls.{Call, bytesOffered, streamEnded, replyTaken, replyGiven, objectGiven, bodyGiven, bodyFailed, abortAcknowledged, passwordGiven, nonceGiven, credentialsGiven, connectionsClosed, Fed, noStep, stepBy, replySent}
 use Rattle.journal.specs.Checks.{Check, right, wrong, stop, tooMany}
 
 -- ---- what the journal keeps
@@ -338,6 +338,11 @@ abbrev pub disconnected : Standing → Option (List ℕ) → Standing
 disconnected s none = cleared s
 disconnected s (some v) = leaves s (without (be32 v 0) (s .ids))
 
+-- The host closes these ids; if some were closed and none is left, all is cleared, as by the last Disconnect.
+abbrev pub closes : Standing → List ℕ → Standing
+closes s [] = s
+closes s (x ∷ l) = leaves s (withoutAll (x ∷ l) (s .ids))
+
 -- The host's reply to the last packet, with nothing open.
 abbrev pub replyTo : Opcode → Journal → Request → ℕ → List ℕ → Journal
 replyTo Connect j r code hs = stands j (connected (j .settings) (j .standing) (r .headers) code (listOf (readHeaders hs 0)))
@@ -432,6 +437,7 @@ journalCall j abortAcknowledged = unchanged j
 journalCall j (passwordGiven p) = unchanged (stands j (passwordChecked (j .standing) (passes j p)))
 journalCall j (nonceGiven n) = unchanged (stands j (challenged (j .standing) (octets16 n)))
 journalCall j (credentialsGiven c) = unchanged j
+journalCall j (connectionsClosed l) = unchanged (stands j (closes (j .standing) l))
 
 -- A reply is taken after the journal has ended: it was the reply to a packet of another operation, so the engine ends.
 abbrev pub lastTaken : Journal → Entry
@@ -476,6 +482,7 @@ callTakes j abortAcknowledged = 0
 callTakes j (passwordGiven p) = 0
 callTakes j (nonceGiven n) = 0
 callTakes j (credentialsGiven c) = 0
+callTakes j (connectionsClosed l) = 0
 
 -- How many bytes a call takes, as it is fed.
 abbrev pub fedTakes : Journal → Fed → ℕ
@@ -514,6 +521,7 @@ callReads j abortAcknowledged = []
 callReads j (passwordGiven p) = []
 callReads j (nonceGiven n) = []
 callReads j (credentialsGiven c) = []
+callReads j (connectionsClosed l) = []
 
 -- The packets that a call reads, as it is fed.
 abbrev pub fedReads : Journal → Fed → List Marked

@@ -16,7 +16,7 @@ use Rattle.packet.specs.Packet.{Request, requestOf}
 use Rattle.packet.specs.declared.opcode.Opcode.{Opcode}
 use Rattle.packet.specs.declared.opcode.Opcode.the-variants.{Connect, Disconnect, Put, Get, SetPath, Action, Session, Abort, UserDefined}
 use Rattle.journal.specs.Record.{joined, sizeOf, carriedBy}
-use Rattle.journal.specs.Calls.{Call, bytesOffered, streamEnded, replyTaken, replyGiven, objectGiven, bodyGiven, bodyFailed, abortAcknowledged, passwordGiven, nonceGiven, credentialsGiven, Fed, noStep, stepBy, replySent}
+use Rattle.journal.specs.Calls.{Call, bytesOffered, streamEnded, replyTaken, replyGiven, objectGiven, bodyGiven, bodyFailed, abortAcknowledged, passwordGiven, nonceGiven, credentialsGiven, connectionsClosed, Fed, noStep, stepBy, replySent}
 use Rattle.journal.specs.Journal.{Opened, nothing, trailing, putting, getting, sending, gathering, draining, Journal, admitted, asksSrm, trails, takenAt, Read, more, whole, short, readUp, journalStep}
 
 -- What is due after a call: no reply, so that the client's next bytes are read; a Continue, which grants SRM or does not; or anything else.
@@ -173,6 +173,7 @@ dueIn m j (stepBy abortAcknowledged) = speaks
 dueIn m j (stepBy (passwordGiven p)) = speaks
 dueIn m j (stepBy (nonceGiven n)) = speaks
 dueIn m j (stepBy (credentialsGiven c)) = speaks
+dueIn m j (stepBy (connectionsClosed l)) = silent
 
 abbrev pub modeAfter : Mode → Journal → Fed → Mode
 modeAfter m j noStep = m
@@ -188,6 +189,7 @@ modeAfter m j (stepBy abortAcknowledged) = m
 modeAfter m j (stepBy (passwordGiven p)) = m
 modeAfter m j (stepBy (nonceGiven n)) = m
 modeAfter m j (stepBy (credentialsGiven c)) = m
+modeAfter m j (stepBy (connectionsClosed l)) = m
 
 -- What is due after each call of a list.
 abbrev pub duesFrom : Mode → Journal → List Fed → List Due

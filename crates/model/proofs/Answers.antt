@@ -4,6 +4,7 @@ use mathlib.Core.List.{List, [], _∷_}
 use mathlib.Core.Bool.{Bool, true, false, _||_}
 use mathlib.Core.Option.{Option, none, some}
 use Prim.Native.Nat.{ℕ, _≤_}
+use native.Mathlib.Omega.{arith}
 use lib.ListN.{length}
 use Rattle.base.specs.Pick.{pick}
 use Rattle.digest.specs.Md5.{octets16}
@@ -163,7 +164,7 @@ module _ (ts : List ℕ) (e : Engine) (s : Stores) (j : Journal) (o : Opcode) (w
         (sends-told (left .tables) e s (left .peer) (stands j (disconnected (j .standing) (first 0xCB (w .request .headers))))
         (held-stands (left .tables) s (left .peer) _ past
         (ap₂ (λ (x : Standing) (y : List Header). disconnected x (first 0xCB y)) (w .held .fixed .standing) headers-are
-        ∙ sym (disconnected-standing (e .peer) ts past (first 0xCB (lastHeaders e s))))
+        ∙ sym (disconnected-standing (e .peer) ts past (first 0xCB (lastHeaders e s)) (omega (arith, f .count))))
         (disconnected-window (e .peer) ts (first 0xCB (lastHeaders e s)) ∙ w .held .fixed .window))
         code hs)
 

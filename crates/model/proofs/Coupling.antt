@@ -4,10 +4,11 @@ use mathlib.Core.Path.{_≡_, refl, sym, ap, _∙_, subst}
 use mathlib.Core.List.{List, []}
 use mathlib.Core.Bool.{Bool, true, false, true≢false}
 use mathlib.Core.Option.{Option, none, some}
-use Prim.Native.Nat.{ℕ}
+use Prim.Native.Nat.{ℕ, _≤_, _<_}
 use native.Mathlib.Omega.{arith}
 use lib.ListN.{length, getD, take}
-use lib.Dec.{eqb}
+use lib.Dec.{leb, eqb}
+use borrow.Author.Tests.{leb-true, leb-false}
 use Rattle.base.specs.Pick.{pick}
 use Rattle.packet.specs.FirstByte.{sameOpcode}
 use Rattle.packet.specs.Codes.{sentCode}
@@ -144,6 +145,26 @@ pub record Told (ts : List ℕ) (d : Done) (x : Entry) : Type 0 where
 pub told-pick : (ts : List ℕ) (t : Bool) (a b : Done) (x : Entry) → (t ≡ true → Told ts a x) → (t ≡ false → Told ts b x) → Told ts (pick t a b) x
 told-pick ts true a b x f g = f refl
 told-pick ts false a b x f g = g refl
+
+-- the same if `P` holds, the premise on kept headers; the coupling holds whether `P` does or not, since an engine whose kept headers do not
+-- fit has ended
+pub record Follows (P : Type 0) (ts : List ℕ) (d : Done) (x : Entry) : Type 0 where
+  pub told : P → Told ts d x
+  pub after : Coupled ts (d .engine) (d .stores) (x .next)
+
+pub told-follows : {P : Type 0} {ts : List ℕ} {d : Done} {x : Entry} → Told ts d x → Follows P ts d x
+told-follows w = record { told = λ p. w; after = w .after }
+
+-- a packet after which the headers `k` are kept, and which ends the engine if they do not fit
+pub follows-kept : (k : List ℕ) (ts : List ℕ) (d : Done) (x : Entry) → (length k ≤ 65535 → Told ts d x)
+    → (65535 < length k → d .engine .awaits ≡ await.Nothing) → Follows (length k ≤ 65535) ts d x
+follows-kept k ts d x w n = record { told = w; after = go (leb (length k) 65535) refl }
+  where
+    go : (t : Bool) → leb (length k) 65535 ≡ t → Coupled ts (d .engine) (d .stores) (x .next)
+    go true i = w (leb-true _ _ i) .after
+    go false i =
+        subst (λ (a : Await). CoupledAt ts a (d .engine .operation) (d .engine .settings) (d .engine .peer) (d .engine .begun) (d .engine .length) (d .stores) (x .next))
+        (sym (n (leb-false _ _ i))) tt
 
 -- the same of a step that may write the table store
 abbrev pub ToldTabled : DoneTabled → Entry → Type 0

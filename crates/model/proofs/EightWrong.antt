@@ -10,9 +10,9 @@ use lib.Count.{ones}
 use lib.Dec.{leb}
 use lib.ListN.{getD}
 use Rattle.base.specs.Pick.{pick}
-use Rattle.journal.specs.Calls.{Call, bytesOffered, streamEnded, replyTaken, replyGiven, objectGiven, bodyGiven, bodyFailed, abortAcknowledged, passwordGiven, nonceGiven, credentialsGiven, Verdict, goes, refused, stepBy}
+use Rattle.journal.specs.Calls.{Call, bytesOffered, streamEnded, replyTaken, replyGiven, objectGiven, bodyGiven, bodyFailed, abortAcknowledged, passwordGiven, nonceGiven, credentialsGiven, connectionsClosed, Verdict, goes, refused, stepBy}
 use Rattle.journal.specs.Checks.{Check, mostWrong, tooMany, windowOf, Ruled}
-use Rattle.journal.specs.Journal.{Standing, Journal, journalStep, journalAfter, packets, fedReads}
+use Rattle.journal.specs.Journal.{Standing, Journal, journalStep, journalAfter}
 use Rattle.journal.proofs.Checked.{counts, passes-after, few-stops}
 use Rattle.journal.proofs.Rules.{taken-standing, step-ruled}
 use Rattle.connection.specs.declared.peer.Peer.{Peer}
@@ -26,12 +26,12 @@ use Rattle.model.specs.Step.{Stores}
 use Rattle.model.specs.Guard.{sameAwait}
 use Rattle.model.specs.Runs.{State, Performed, next, Ran, lacks, seen}
 use Rattle.model.specs.Refusals.{Waits, password, sameWait, expected, Known, atStart, learns, judged, verdict, fedBy, feedFrom}
-use Rattle.model.specs.Theorem.{journalOf, Kept}
+use Rattle.model.specs.Theorem.{journalOf}
 use Rattle.model.specs.Contracts.{state}
 use Rattle.model.specs.EightWrong.{ranTo, live, Counted, EightWrong, ContractsCount}
 use Rattle.model.proofs.Fit.{waitsOf}
 use Rattle.model.proofs.Coupling.{Fixed, CoupledAt, Coupled}
-use Rattle.model.proofs.Records.{Between, fedTo, performed-agrees, between-next, kept-both, start-between, start-coupled}
+use Rattle.model.proofs.Records.{Between, fedTo, between-next, start-between}
 use Rattle.model.proofs.Contracts.{accepted-started}
 
 -- ---- the window, by what is awaited
@@ -87,11 +87,11 @@ goes-expected true t v e = absurd (let z : _≡_ {A = ℕ} 0 1 = cc in omega ari
 goes-expected false true v e = refl
 goes-expected false false v e = absurd (let z : _≡_ {A = ℕ} 0 1 = cc in omega arith)
 
-goes-awaited : (short : Bool) (w : Known) (a : Await) (o : Operation) → w .waits ≡ waitsOf a o → (p : Option (List ℕ))
-    → verdict short w (passwordGiven p) ≡ goes → a ≡ await.Password
+goes-awaited : (short : Bool) (w : Known) (j : Journal) (a : Await) (o : Operation) → w .waits ≡ waitsOf a o → (p : Option (List ℕ))
+    → verdict short w j (passwordGiven p) ≡ goes → a ≡ await.Password
 unfolding verdict expected
-goes-awaited short w a o k p e =
-    password-await a o (ap (λ (x : Waits). sameWait x password) (sym k) ∙ goes-expected short (sameWait (w .waits) password) (judged (passwordGiven p) w) e)
+goes-awaited short w j a o k p e =
+    password-await a o (ap (λ (x : Waits). sameWait x password) (sym k) ∙ goes-expected short (sameWait (w .waits) password) (judged (passwordGiven p) w j) e)
 
 -- what the journal is fed as a password is one that goes
 fed-password : (c : Call) (v : Verdict) (b : ℕ) (p : Option (List ℕ)) → fedBy v c b ≡ stepBy (passwordGiven p) → (c ≡ passwordGiven p) × (v ≡ goes)
@@ -107,13 +107,14 @@ fed-password abortAcknowledged goes b p e = (cc, refl)
 fed-password (passwordGiven q) goes b p e = (cc, refl)
 fed-password (nonceGiven n) goes b p e = (cc, refl)
 fed-password (credentialsGiven d) goes b p e = (cc, refl)
+fed-password (connectionsClosed l) goes b p e = (cc, refl)
 
 checks-few : (short : Bool) (w : Known) (s : State) (j : Journal) → w .waits ≡ waitsOf (s .engine .awaits) (s .engine .operation)
     → Coupled (s .tables) (s .engine) (s .stores) j → (c : Call) (b : ℕ) (p : Option (List ℕ))
-    → fedBy (verdict short w c) c b ≡ stepBy (passwordGiven p) → tooMany (j .standing .checks) ≡ false
+    → fedBy (verdict short w j c) c b ≡ stepBy (passwordGiven p) → tooMany (j .standing .checks) ≡ false
 checks-few short w s j k x c b p i =
-    let f = fed-password c (verdict short w c) b p i in
-    let a = goes-awaited short w (s .engine .awaits) (s .engine .operation) k p (ap (verdict short w) (sym (f .0)) ∙ f .1) in
+    let f = fed-password c (verdict short w j c) b p i in
+    let a = goes-awaited short w j (s .engine .awaits) (s .engine .operation) k p (ap (verdict short w j) (sym (f .0)) ∙ f .1) in
     subst (λ (y : Await). CoupledAt (s .tables) y (s .engine .operation) (s .engine .settings) (s .engine .peer) (s .engine .begun) (s .engine .length) (s .stores) j) a x .1
 
 -- ---- a run
@@ -133,22 +134,17 @@ counted s j x k =
         window-at (s .tables) (e .awaits) (e .operation) (e .settings) (e .peer) (e .begun) (e .length) (s .stores) j x
         (live-at (sameAwait (e .awaits) await.Last) (sameAwait (e .awaits) await.Nothing) l)
 
-run-counted : (st : Settings) (xs : List Performed) (w : Known) (s : State) (j : Journal) → Between st w s → Ran s xs
-    → Coupled (s .tables) (s .engine) (s .stores) j → Ruled (j .standing .checks) → Kept (packets j (feedFrom w (seen st s xs)))
-    → Counted (ranTo s xs .engine) (journalAfter j (feedFrom w (seen st s xs)))
-unfolding journalStep
-run-counted st [] w s j b r x k p = counted s j x k
-run-counted st (y ∷ xs) w s j b r x k p =
-    let a = performed-agrees st w s b y (r .0) in
-    let f = fedTo st w s b y (r .0) in
-    let both = kept-both (fedReads j f) (packets (journalStep j f .next) (feedFrom (learns w (y .call) (y .result .outcome)) (seen st (next s y) xs))) p in
-    run-counted st xs (learns w (y .call) (y .result .outcome)) (next s y) (journalStep j f .next) (between-next st w s b y (r .0)) (r .1)
-    (a .journal j x (both .0) .after)
-    (step-ruled j k f (checks-few (lacks st (y .call) (s .stores) (s .tables)) w s j (b .knows .waits) x (y .call) (getD (s .stores .reply) 0 0))) (both .1)
+run-counted : (st : Settings) (xs : List Performed) (w : Known) (s : State) (j : Journal) → Between st w s j → Ran s xs
+    → Ruled (j .standing .checks) → Counted (ranTo s xs .engine) (journalAfter j (feedFrom w j (seen st s xs)))
+run-counted st [] w s j b r k = counted s j (b .coupled) k
+run-counted st (y ∷ xs) w s j b r k =
+    let f = fedTo st w s j b y (r .0) in
+    run-counted st xs (learns w (y .call) (y .result .outcome)) (next s y) (journalStep j f .next) (between-next st w s j b y (r .0)) (r .1)
+    (step-ruled j k f (checks-few (lacks st (y .call) (s .stores) (s .tables)) w s j (b .knows .waits) (b .coupled) (y .call) (getD (s .stores .reply) 0 0)))
 
 -- the count is that of the history from the start, which keeps the rule
 pub eight-wrong : EightWrong
-eight-wrong st s h xs r k = run-counted st xs atStart s (journalOf st) (start-between st s h) r (start-coupled st s h) tt k
+eight-wrong st s h xs r = run-counted st xs atStart s (journalOf st) (start-between st s h) r tt
 
 pub contracts-count : ContractsCount
-contracts-count st l s t u r xs a h k = eight-wrong st (state l r t u) (accepted-started st l s t u r a) xs h k
+contracts-count st l s t u r xs a h = eight-wrong st (state l r t u) (accepted-started st l s t u r a) xs h

@@ -44,7 +44,7 @@ use Rattle.outgoing.proofs.Sent.{body-sends}
 use Rattle.table.proofs.Remembering.{remembered-length, remembered-front, remembered-more}
 use Rattle.model.proofs.Fit.{and-left, and-right, or-left, or-right, room-headers, IsGetting, IsSending, IsConnecting, Shape, roomOf, waitsOf, Base, Seated, ids-room, Fine, fine-code}
 use Rattle.model.proofs.Steps.{OutgoingFits, outgoing-within, sends-next-fine, sends-packet-fine, reply-fine, password-fine, nonce-fine, connect-sends-fine}
-use Rattle.model.proofs.Coupling.{KeptOpen, OpenedAt, Held, AskedBy, connects, Coupled, Told, ToldTabled, tabled-told-pick, told-code}
+use Rattle.model.proofs.Coupling.{KeptOpen, OpenedAt, Held, AskedBy, connects, Coupled, Told, told-follows, ToldTabled, tabled-told-pick, told-code}
 use Rattle.model.proofs.Sizes.{early, Brief, brief-done, packet-brief, next-brief, password-brief, sends-brief, sends-connect-brief, nonce-brief, LateIn, LateAt, Sized, brief-sized, sized-pick, connect-sized}
 use Rattle.model.proofs.Speaks.{ModeAt, Spoken, spoken-done, next-spoken, packet-spoken, speaks-spoken, reply-speaks, password-speaks, nonce-speaks, connect-sends-speaks}
 use Rattle.model.proofs.Gathers.{next-told, fails-told, sends-told as made-told}
@@ -97,7 +97,7 @@ module _ (w : Known) (s : State) (h : Seated s) (k : Knows w s) where
       → SizedBy w s h k c (λ j late. Brief d) → SpokenBy w s h k c d
       → AgreeKept w s c (pick b (refused 8) goes) (checked b e st d)
   checked-agrees c q true d f n g z a = agree-refused w s h k c refusal.BadAnswer
-  checked-agrees c q false d f n g z a = agree-goes w s h k c q 0 d (f refl) (λ j x. n j) (λ j x u. g refl j x) z a
+  checked-agrees c q false d f n g z a = agree-goes w s h k c q 0 d (f refl) (λ j x. n j) (λ j x. told-follows (g refl j x)) z a
 
   -- ---- a reply
 
@@ -177,7 +177,7 @@ module _ (w : Known) (s : State) (h : Seated s) (k : Knows w s) where
     pub reply-agrees : Agrees w s (replyGiven code hs)
     unfolding bad used
     reply-agrees =
-        agrees w s h k (replyGiven code hs) (λ r. go r (badReply code hs) refl)
+        agrees w s h k (replyGiven code hs) (λ r j x. go r (badReply code hs) refl)
       where
         go : fits kind.ReplyGiven (e .awaits) ≡ true → (b : Bool) → badReply code hs ≡ b
             → Agree w s (replyGiven code hs) (pick b (refused 8) goes)
@@ -187,7 +187,7 @@ module _ (w : Known) (s : State) (h : Seated s) (k : Knows w s) where
             let f = reply-fine e st (h .sits .base) ts (ids-room s h) code hs (reply-headers-fit code hs i) in
             agree-tabled w s h k (replyGiven code hs) (replyAnswer e code hs st ts .done) 0 (replyAnswer e code hs st ts .tables) (f .done) (f .tables)
             (f .nonces (e .peer .nonces) (h .sits .base .peer .few) ∙ k .nonces)
-            (λ j x. none-taken (j .ended)) (λ j x u. reply-told r j x) (λ j late x y l. reply-sized r j x l)
+            (λ j x. none-taken (j .ended)) (λ j x. told-follows (reply-told r j x)) (λ j late x y l. reply-sized r j x l)
             (λ j o x y l. speaks-spoken _ o (reply-speaks e st code hs ts))
 
   -- ---- an object
@@ -228,7 +228,7 @@ module _ (w : Known) (s : State) (h : Seated s) (k : Knows w s) where
     unfolding bad used
     object-agrees =
         agrees w s h k (objectGiven hs has)
-        (λ r. let at = same-await (e .awaits) await.Get r in object-at at (shape-at await.Get at))
+        (λ r j x. let at = same-await (e .awaits) await.Get r in object-at at (shape-at await.Get at))
 
   -- ---- body bytes
 
@@ -254,9 +254,9 @@ module _ (w : Known) (s : State) (h : Seated s) (k : Knows w s) where
         subst (λ (t : Bool). AgreeKept w s (bodyGiven d) (pick t goes (refused 9)) (after 0 (sendsPacket e srm wait (givenBody o c d (st .reply)) st))) (sym (le-leb (length d) (c .room) within))
         (agree-goes w s h k (bodyGiven d) refl 0 _ (sends-packet-fine e st (h .sits .base) o srm wait (givenBody o c d (st .reply)) (y .total) m)
         (λ j x. none-taken (j .ended))
-        (λ j x u. let l = body-held at j x in
-        entered (bodyGiven d) j _ (l .fixed .ended)
-        (made-told ts e st j (l .fixed) (l .begun) (body-open at j x) o srm wait (givenBody o c d (st .reply)) m))
+        (λ j x. let l = body-held at j x in
+        told-follows (entered (bodyGiven d) j _ (l .fixed .ended)
+        (made-told ts e st j (l .fixed) (l .begun) (body-open at j x) o srm wait (givenBody o c d (st .reply)) m)))
         (λ j late x y l. packet-brief e st srm wait (givenBody o c d (st .reply)))
         (λ j q x u l. let i : ModeAt (Sending o c srm wait) q = subst (λ (a : Operation). ModeAt a q) is u in
         packet-spoken e st srm wait (givenBody o c d (st .reply)) q (i .0) (i .1)))
@@ -273,17 +273,17 @@ module _ (w : Known) (s : State) (h : Seated s) (k : Knows w s) where
     unfolding bad used
     body-agrees =
         agrees w s h k (bodyGiven d)
-        (λ r. let at = same-await (e .awaits) await.Body r in body-for at (shape-at await.Body at))
+        (λ r j x. let at = same-await (e .awaits) await.Body r in body-for at (shape-at await.Body at))
 
   pub body-failed-agrees : Agrees w s bodyFailed
   unfolding bad used
   body-failed-agrees =
       agrees w s h k bodyFailed
-      (λ r. let at = same-await (e .awaits) await.Body r in
+      (λ r j x. let at = same-await (e .awaits) await.Body r in
       agree-goes w s h k bodyFailed refl 0 _ (fine-code e st (h .sits .base) (e .peer) 0x50 st (h .sits .base .peer) (h .sits .base .room))
       (λ j x. none-taken (j .ended))
-      (λ j x u. let l = body-held at j x in entered bodyFailed j _ (l .fixed .ended)
-      (fails-told ts e st j (l .fixed) (l .begun) (body-open at j x) (st .reply)))
+      (λ j x. let l = body-held at j x in told-follows (entered bodyFailed j _ (l .fixed .ended)
+      (fails-told ts e st j (l .fixed) (l .begun) (body-open at j x) (st .reply))))
       (λ j late x y l. brief-done e (e .peer) Nothing await.Taken 0 (e .length) _ _ refl refl)
       (λ j o x y l. spoken-done e (e .peer) Nothing await.Taken 0 (e .length) _ _ speaks o refl tt))
 
@@ -293,10 +293,10 @@ module _ (w : Known) (s : State) (h : Seated s) (k : Knows w s) where
   unfolding bad used
   acknowledge-agrees =
       agrees w s h k abortAcknowledged
-      (λ r. agree-goes w s h k abortAcknowledged refl 0 _ (fine-code e st (h .sits .base) (e .peer) 0x20 st (h .sits .base .peer) (h .sits .base .room))
+      (λ r j x. agree-goes w s h k abortAcknowledged refl 0 _ (fine-code e st (h .sits .base) (e .peer) 0x20 st (h .sits .base .peer) (h .sits .base .room))
       (λ j x. none-taken (j .ended))
-      (λ j x u. let y = coupled-at w s h k await.Acknowledgement j (same-await (e .awaits) await.Acknowledgement r) x in
-      entered abortAcknowledged j _ (y .fixed .ended) (told-code ts e (e .peer) st j 0x20 y))
+      (λ j x. let y = coupled-at w s h k await.Acknowledgement j (same-await (e .awaits) await.Acknowledgement r) x in
+      told-follows (entered abortAcknowledged j _ (y .fixed .ended) (told-code ts e (e .peer) st j 0x20 y)))
       (λ j late x y l. brief-done e (e .peer) Nothing await.Taken 0 (e .length) _ _ refl refl)
       (λ j o x y l. spoken-done e (e .peer) Nothing await.Taken 0 (e .length) _ _ speaks o refl tt))
 
@@ -304,10 +304,10 @@ module _ (w : Known) (s : State) (h : Seated s) (k : Knows w s) where
   unfolding bad used
   password-agrees p =
       agrees w s h k (passwordGiven p)
-      (λ r. agree-goes w s h k (passwordGiven p) refl 0 _ (password-fine e st (h .sits .base) p)
+      (λ r j x. agree-goes w s h k (passwordGiven p) refl 0 _ (password-fine e st (h .sits .base) p)
       (λ j x. none-taken (j .ended))
-      (λ j x u. let y = coupled-at w s h k await.Password j (same-await (e .awaits) await.Password r) x in
-      entered (passwordGiven p) j _ (y .0 .held .fixed .ended) (password-told ts e st j op.Connect (y .0) refl p))
+      (λ j x. let y = coupled-at w s h k await.Password j (same-await (e .awaits) await.Password r) x in
+      told-follows (entered (passwordGiven p) j _ (y .0 .held .fixed .ended) (password-told ts e st j op.Connect (y .0) refl p)))
       (λ j late x y l. password-brief e st p)
       (λ j o x y l. speaks-spoken _ o (password-speaks e st p)))
 
@@ -321,9 +321,9 @@ module _ (w : Known) (s : State) (h : Seated s) (k : Knows w s) where
         (remembered-more n (e .peer .nonces) ts (h .sits .base .peer .few) (h .tables) ∙ ap (λ (l : List Octets16). take 32 (n ∷ l)) (k .nonces)
         ∙ take-again 31 n (w .nonces))
         (λ j x. none-taken (j .ended))
-        (λ j x u. let y = coupled-at w s h k await.Nonce j at x in
-        entered-over (rememberedWith n ts) (nonceGiven n) j _ (y .held .fixed .ended)
-        (nonce-told ts e st j op.Connect y (rememberedWith n ts) (remembered-front n ts (h .tables) (e .peer .count) (h .sits .base .peer .count)) n (s .realm)))
+        (λ j x. let y = coupled-at w s h k await.Nonce j at x in
+        told-follows (entered-over (rememberedWith n ts) (nonceGiven n) j _ (y .held .fixed .ended)
+        (nonce-told ts e st j op.Connect y (rememberedWith n ts) (remembered-front n ts (h .tables) (e .peer .count) (h .sits .base .peer .count)) n (s .realm))))
         (λ j late x y l. brief-sized _ _ (nonce-brief e st n (s .realm) (h .realm)))
         (λ j o x y l. speaks-spoken _ o (nonce-speaks e st n (s .realm)))
 
@@ -337,7 +337,7 @@ module _ (w : Known) (s : State) (h : Seated s) (k : Knows w s) where
     unfolding bad used
     nonce-agrees =
         agrees w s h k (nonceGiven n)
-        (λ r. subst (λ (b : Bool). Agree w s (nonceGiven n) (pick (among n (take 32 (w .nonces))) (refused 15) goes)
+        (λ r j x. subst (λ (b : Bool). Agree w s (nonceGiven n) (pick (among n (take 32 (w .nonces))) (refused 15) goes)
         (pick b (keeps s (refuse refusal.BadAnswer e st)) (pick (among n (remembered (e .peer .nonces) ts)) (keeps s (refuse refusal.NonceUsed e st))
         (called (after 0 (nonceAnswer e n (s .realm) st)) (rememberedWith n ts))))) (sym (h .realm))
         (subst (λ (l : List Octets16). Agree w s (nonceGiven n) (pick (among n l) (refused 15) goes)
@@ -371,4 +371,4 @@ module _ (w : Known) (s : State) (h : Seated s) (k : Knows w s) where
   unfolding bad used
   credentials-agree c =
       agrees w s h k (credentialsGiven c)
-      (λ r. let at = same-await (e .awaits) await.Credentials r in credentials-at c at (shape-at await.Credentials at))
+      (λ r j x. let at = same-await (e .awaits) await.Credentials r in credentials-at c at (shape-at await.Credentials at))

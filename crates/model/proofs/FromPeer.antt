@@ -36,7 +36,7 @@ use Rattle.server.specs.declared.Outcome.the-variants as outcome
 use Rattle.incoming.proofs.Frames.{Octets, Agrees as Frames-agree, frames-agree, frames-count}
 use Rattle.model.proofs.Fit.{and-left, and-right, Room, Shape, waitsOf, Base, Seated, Fine, fine-pick, fine-wants, fine-ends}
 use Rattle.model.proofs.Steps.{outgoing-within, sends-next-fine, read-fine}
-use Rattle.model.proofs.Coupling.{OpenedAt, Held, CoupledAt, Coupled, Told, told-pick, told-ends, told-wants}
+use Rattle.model.proofs.Coupling.{OpenedAt, Held, CoupledAt, Coupled, Told, Follows, told-follows, told-pick, told-ends, told-wants}
 use Rattle.model.proofs.Sizes.{early, Brief, brief-done, done-brief, goes-on-brief}
 use Rattle.model.proofs.Speaks.{ModeAt, Spoken, spoken-done, goes-on-spoken, read-spoken}
 use Rattle.model.proofs.Gathers.{next-told}
@@ -146,15 +146,15 @@ module _ (w : Known) (s : State) (h : Seated s) (k : Knows w s) where
         (requestOf (take n (f .packet))) in
         record { settings = y .settings; nonces = y .nonces; sits = y .sits; waits = y .waits; goes = y .goes }
 
-    whole-told : (q : List ℕ) → Frames-agree (st .packet) f (whole q) → (j : Journal) → Begins j → Kept (readIn j (whole q))
-        → Told ts (packetDone e n z ts) (bytesRead j (whole q))
+    whole-told : (q : List ℕ) → Frames-agree (st .packet) f (whole q) → (j : Journal) → Begins j
+        → Follows (Kept (readIn j (whole q))) ts (packetDone e n z ts) (bytesRead j (whole q))
     unfolding engineWith packetDone journalPacket keptAfter
-    whole-told q (a, g, l) j x y =
-        subst (λ (p : List ℕ). Told ts (packetDone e n z ts) (packetRead (requestOf p) j)) (sym (g .bytes))
+    whole-told q (a, g, l) j x =
+        let w = subst (λ (p : List ℕ). Follows (length (keptRead (j .opened) (requestOf p)) ≤ 65535) ts (packetDone e n z ts) (packetRead (requestOf p) j)) (sym (g .bytes))
         (read-told ts (lengthOf e n) z j (record { settings = x .fixed .settings; past = x .fixed .past; standing = x .fixed .standing; window = x .fixed .window; ended = x .fixed .ended })
         (whole-base q (a, g, l)) (subst Octets (g .bytes) (g .octets)) (x .opened) (h .sits .counts)
-        (take n (f .packet)) (requestOf (take n (f .packet))) refl
-        (subst (λ (p : List ℕ). length (keptRead (j .opened) (requestOf p)) ≤ 65535) (g .bytes) (y .0)))
+        (take n (f .packet)) (requestOf (take n (f .packet))) refl) in
+        record { told = λ y. w .told (y .0); after = w .after }
 
     whole-spoken : (q : List ℕ) → Frames-agree (st .packet) f (whole q) → (j : Journal) (o : Mode) → Begins j → ModeAt (e .operation) o
         → Kept (readIn j (whole q)) → Spoken (packetDone e n z ts) (readDue (whole q) o j) (readMode (whole q) o j)
@@ -185,7 +185,7 @@ module _ (w : Known) (s : State) (h : Seated s) (k : Knows w s) where
         frame-at More (g .0)
         (agree-goes w s h k (bytesOffered i) refl reported _ (more-fine q g)
         (λ j x. count-at j (coupled-at await.Bytes j at x))
-        (λ j x u. subst (Told ts _) (sym (journal-reads j (more q) (coupled-at await.Bytes j at x) y)) (more-told q g j (coupled-at await.Bytes j at x)))
+        (λ j x. told-follows (subst (Told ts _) (sym (journal-reads j (more q) (coupled-at await.Bytes j at x) y)) (more-told q g j (coupled-at await.Bytes j at x))))
         (λ j late x v l. brief-done e (e .peer) (e .operation) (e .awaits) n (e .length) outcome.WantsBytes z refl (ap early at))
         (λ j o x v l. read-spoken-at j o (more q) (coupled-at await.Bytes j at x) y
         (spoken-done e (e .peer) (e .operation) (e .awaits) n (e .length) outcome.WantsBytes z silent o refl v)))
@@ -193,8 +193,9 @@ module _ (w : Known) (s : State) (h : Seated s) (k : Knows w s) where
         frame-at Whole (g .0)
         (agree-goes w s h k (bytesOffered i) refl reported _ (whole-fine q g)
         (λ j x. count-at j (coupled-at await.Bytes j at x))
-        (λ j x u. subst (Told ts _) (sym (journal-reads j (whole q) (coupled-at await.Bytes j at x) y))
-        (whole-told q g j (coupled-at await.Bytes j at x) (kept-reads j (whole q) (coupled-at await.Bytes j at x) y u)))
+        (λ j x. let b = coupled-at await.Bytes j at x in
+        subst (Follows (Kept (fedReads j (stepBy (bytesOffered i)))) ts _) (sym (journal-reads j (whole q) b y))
+        (let v = whole-told q g j b in record { told = λ u. v .told (kept-reads j (whole q) b y u); after = v .after }))
         (λ j late x v l. done-brief e n z ts)
         (λ j o x v l. read-spoken-at j o (whole q) (coupled-at await.Bytes j at x) y
         (whole-spoken q g j o (coupled-at await.Bytes j at x) v (kept-reads j (whole q) (coupled-at await.Bytes j at x) y l))))
@@ -202,7 +203,7 @@ module _ (w : Known) (s : State) (h : Seated s) (k : Knows w s) where
         frame-at Short (g .0)
         (agree-goes w s h k (bytesOffered i) refl reported _ (fine-ends e st (h .sits .base) (e .peer) why.LengthTooSmall z (h .sits .base .peer) (room-at (g .1)))
         (λ j x. count-at j (coupled-at await.Bytes j at x))
-        (λ j x u. subst (Told ts _) (sym (journal-reads j short (coupled-at await.Bytes j at x) y)) (told-ends ts e (e .peer) z (end j) why.LengthTooSmall))
+        (λ j x. told-follows (subst (Told ts _) (sym (journal-reads j short (coupled-at await.Bytes j at x) y)) (told-ends ts e (e .peer) z (end j) why.LengthTooSmall)))
         (λ j late x v l. brief-done e (e .peer) Nothing await.Nothing 0 (e .length) (outcome.End why.LengthTooSmall) z refl refl)
         (λ j o x v l. read-spoken-at j o short (coupled-at await.Bytes j at x) y
         (spoken-done e (e .peer) Nothing await.Nothing 0 (e .length) (outcome.End why.LengthTooSmall) z speaks o refl tt)))
@@ -211,7 +212,7 @@ module _ (w : Known) (s : State) (h : Seated s) (k : Knows w s) where
   unfolding bad used
   bytes-agree i o =
       agrees w s h k (bytesOffered i)
-      (λ r. read-agrees i o (same-await (e .awaits) await.Bytes r) _ refl
+      (λ r j x. read-agrees i o (same-await (e .awaits) await.Bytes r) _ refl
       (frames-agree (st .packet) i (e .begun) 0 (h .sits .begun .small) (h .sits .base .room .packet) (h .sits .begun .octets) o (h .sits .begun .goes-on)))
 
   -- ---- the end of the stream
@@ -220,12 +221,12 @@ module _ (w : Known) (s : State) (h : Seated s) (k : Knows w s) where
   unfolding bad used
   end-agrees =
       agrees w s h k streamEnded
-      (λ r. agree-goes w s h k streamEnded refl 0 _ (fine-ends e st (h .sits .base) (e .peer) (pick (eqb (e .begun) 0) why.Disconnected why.Truncated) st (h .sits .base .peer) (h .sits .base .room))
+      (λ r j x. agree-goes w s h k streamEnded refl 0 _ (fine-ends e st (h .sits .base) (e .peer) (pick (eqb (e .begun) 0) why.Disconnected why.Truncated) st (h .sits .base .peer) (h .sits .base .room))
       (λ j x. none-taken (j .ended))
-      (λ j x u. let y = coupled-at await.Bytes j (same-await (e .awaits) await.Bytes r) x in
-      subst (Told ts _) (sym (fed-goes j streamEnded (y .fixed .ended)
+      (λ j x. let y = coupled-at await.Bytes j (same-await (e .awaits) await.Bytes r) x in
+      told-follows (subst (Told ts _) (sym (fed-goes j streamEnded (y .fixed .ended)
       ∙ ap (λ (n : ℕ). endsWith n j) (ap streamNumber (y .begun) ∙ stream-number (st .packet) (e .begun) (omega (arith, h .sits .begun .small, h .sits .base .room .packet)))))
-      (told-ends ts e (e .peer) st (end j) (pick (eqb (e .begun) 0) why.Disconnected why.Truncated)))
+      (told-ends ts e (e .peer) st (end j) (pick (eqb (e .begun) 0) why.Disconnected why.Truncated))))
       (λ j late x v l. stream-brief (eqb (e .begun) 0))
       (λ j o x v l. spoken-done e (e .peer) Nothing await.Nothing 0 (e .length) (outcome.End (pick (eqb (e .begun) 0) why.Disconnected why.Truncated)) st speaks o refl tt))
     where
@@ -268,10 +269,10 @@ module _ (w : Known) (s : State) (h : Seated s) (k : Knows w s) where
       (goes-on-fine (e .operation) (h .sits .counts)
       (fine-wants e st (h .sits .base) (e .peer) (e .operation) st (h .sits .base .peer) (h .sits .base .room) (h .sits .counts) (subst (λ (x : Await). Shape x (e .operation)) at (h .sits .shape))))
       (λ j x. refl)
-      (λ j x u. let y = coupled-at await.Taken j at x in
-      subst (Told ts _) (sym (ap (λ (t : Bool). pick t (lastTaken j) (unchanged (takenAt (j .opened) j (getD (st .reply) 0 0)))) (y .0)))
+      (λ j x. let y = coupled-at await.Taken j at x in
+      told-follows (subst (Told ts _) (sym (ap (λ (t : Bool). pick t (lastTaken j) (unchanged (takenAt (j .opened) j (getD (st .reply) 0 0)))) (y .0)))
       (goes-on-told (takenAt (j .opened) j (getD (st .reply) 0 0)) (y .1) (e .operation) (y .1 .opened) (h .sits .counts)
-      (told-wants ts e (e .peer) st _ (e .operation) (y .1))))
+      (told-wants ts e (e .peer) st _ (e .operation) (y .1)))))
       (λ j late x v l. goes-on-brief e st (e .operation))
       (λ j o x v l. let y = coupled-at await.Taken j at x in
       subst (λ (t : Bool). Spoken (goesOn (e .operation) e st) (pick t speaks (takenDue (takenAt (j .opened) j (getD (st .reply) 0 0) .opened) o)) o) (sym (y .0))
@@ -282,7 +283,7 @@ module _ (w : Known) (s : State) (h : Seated s) (k : Knows w s) where
   taken-goes false i r =
       agree-goes w s h k replyTaken refl 0 _ (fine-ends e st (h .sits .base) (e .peer) why.OtherOperation st (h .sits .base .peer) (h .sits .base .room))
       (λ j x. refl)
-      (λ j x u. subst (Told ts _) (sym (ap (λ (t : Bool). pick t (lastTaken j) (unchanged (takenAt (j .opened) j (getD (st .reply) 0 0)))) (coupled-at await.Last j at x))) (told-ends ts e (e .peer) st j why.OtherOperation))
+      (λ j x. told-follows (subst (Told ts _) (sym (ap (λ (t : Bool). pick t (lastTaken j) (unchanged (takenAt (j .opened) j (getD (st .reply) 0 0)))) (coupled-at await.Last j at x))) (told-ends ts e (e .peer) st j why.OtherOperation)))
       (λ j late x v l. brief-done e (e .peer) Nothing await.Nothing 0 (e .length) (outcome.End why.OtherOperation) st refl refl)
       (λ j o x v l.
       subst (λ (t : Bool). Spoken (ends e (e .peer) why.OtherOperation st) (pick t speaks (takenDue (takenAt (j .opened) j (getD (st .reply) 0 0) .opened) o)) o)
@@ -294,4 +295,4 @@ module _ (w : Known) (s : State) (h : Seated s) (k : Knows w s) where
   pub taken-agrees : Agrees w s replyTaken
   unfolding bad used
   taken-agrees =
-      agrees w s h k replyTaken (λ r. taken-goes (sameAwait (e .awaits) await.Taken) refl r)
+      agrees w s h k replyTaken (λ r j x. taken-goes (sameAwait (e .awaits) await.Taken) refl r)

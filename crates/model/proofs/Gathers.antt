@@ -27,7 +27,7 @@ use Rattle.outgoing.specs.declared.object.Outgoing.{Outgoing}
 use Rattle.outgoing.specs.declared.object.Next.{Next}
 use Rattle.outgoing.specs.declared.object.Next.the-variants as next
 use Rattle.connection.specs.Reply.{front}
-use Rattle.model.specs.Step.{Stores, withReply, withGathered, repliesCode, limitOf, continueBytes, capacityOf}
+use Rattle.model.specs.Step.{Stores, withReply, withGathered, engineWith, repliesCode, limitOf, continueBytes, capacityOf}
 use Rattle.model.specs.Operation.{putBody, putGathered, putPacket, getGathered, getPacket, headersRequest, headersGathered, headersPacket, gathers}
 use Rattle.model.specs.Object.{sendsMade, sendsPacket, sendsNext}
 use Rattle.model.specs.Runs.{bodyIn, handed}
@@ -38,11 +38,11 @@ use Rattle.server.specs.declared.Engine.{Engine}
 use Rattle.server.specs.declared.Body.the-variants as body
 use Rattle.server.specs.declared.HostRequest.the-variants as request
 use Rattle.server.specs.declared.Outcome.the-variants as outcome
-use Rattle.incoming.proofs.Gathers.{PutAgrees, KeptAgrees, put-agrees, get-agrees, all-agrees}
+use Rattle.incoming.proofs.Gathers.{PutAgrees, KeptAgrees, put-agrees, get-agrees, all-agrees, put-full, get-full, headers-full}
 use Rattle.outgoing.proofs.Sent.{SendsFrom}
 use Rattle.model.proofs.Fit.{Base}
 use Rattle.model.proofs.Steps.{headers-request, next-made}
-use Rattle.model.proofs.Coupling.{PutOpen, Plain, OpenedAt, Fixed, Held, Still, Told, told-pick, told-done, told-wants, told-replies, told-code, told-closes}
+use Rattle.model.proofs.Coupling.{PutOpen, Plain, OpenedAt, Fixed, Held, Still, Told, Follows, follows-kept, told-pick, told-done, told-wants, told-replies, told-code, told-closes}
 
 -- the body that a Put request hands over
 body-handed : (g : Gathered) (b : List ℕ) → bodyIn (putBody g) b ≡ pick (g .came) (some (take (g .body) b)) none
@@ -129,6 +129,19 @@ module _ (ts : List ℕ) (e : Engine) (s : Stores) (j : Journal) (f : Fixed ts (
       (put-agrees (limitOf e) (r .headers) (gatheringOf g (s .headers) (s .body)) c w l)
       v srm confirm _ _ o refl refl
 
+  -- a Put packet whose kept headers do not fit ends the engine
+  put-ends : (v : Survey) (srm confirm : Bool) (g : Gathered) (c : Record) → PutAgrees (limitOf e) (gatheringOf g (s .headers) (s .body)) c
+      → 65535 < length (c .headers ++ carriedBy (r .headers) .headers) → putPacket e r v srm confirm g s .engine .awaits ≡ await.Nothing
+  unfolding putPacket engineWith
+  put-ends v srm confirm g c w l = rw (put-full (limitOf e) (r .headers) (gatheringOf g (s .headers) (s .body)) c w l) refl
+
+  pub put-follows : (v : Survey) (srm confirm : Bool) (g : Gathered) (c : Record) → PutAgrees (limitOf e) (gatheringOf g (s .headers) (s .body)) c
+      → r .opcode ≡ op.Put
+      → Follows (length (c .headers ++ carriedBy (r .headers) .headers) ≤ 65535) ts (putPacket e r v srm confirm g s)
+      (putRead j r srm (pick srm true confirm) (joined c (carriedBy (r .headers))))
+  put-follows v srm confirm g c w o =
+      follows-kept (c .headers ++ carriedBy (r .headers) .headers) ts _ _ (λ l. put-packet v srm confirm g c w l o) (put-ends v srm confirm g c w)
+
   -- ---- Get
 
   get-told : (v : Survey) (srm confirm u : Bool) (x : Gathering) (k : List ℕ) → KeptAgrees (limitOf e) x k → r .final ≡ u
@@ -156,6 +169,17 @@ module _ (ts : List ℕ) (e : Engine) (s : Stores) (j : Journal) (f : Fixed ts (
       get-told v srm confirm _ (gathers e keep.Get (r .headers) g s) (k ++ keptByGet (r .headers))
       (get-agrees (limitOf e) (r .headers) (gatheringOf g (s .headers) (s .body)) k w l) refl
 
+  get-ends : (v : Survey) (srm confirm : Bool) (g : Gathered) (k : List ℕ) → KeptAgrees (limitOf e) (gatheringOf g (s .headers) (s .body)) k
+      → 65535 < length (k ++ keptByGet (r .headers)) → getPacket e r v srm confirm g s .engine .awaits ≡ await.Nothing
+  unfolding getPacket engineWith
+  get-ends v srm confirm g k w l = rw (get-full (limitOf e) (r .headers) (gatheringOf g (s .headers) (s .body)) k w l) refl
+
+  pub get-follows : (v : Survey) (srm confirm : Bool) (g : Gathered) (k : List ℕ) → KeptAgrees (limitOf e) (gatheringOf g (s .headers) (s .body)) k
+      → Follows (length (k ++ keptByGet (r .headers)) ≤ 65535) ts (getPacket e r v srm confirm g s)
+      (unchanged (after j (some r) (getting (k ++ keptByGet (r .headers)))))
+  get-follows v srm confirm g k w =
+      follows-kept (k ++ keptByGet (r .headers)) ts _ _ (get-packet v srm confirm g k w) (get-ends v srm confirm g k w)
+
   -- ---- Action, Session and user-defined operations
 
   headers-told : (o : Opcode) (u : Bool) (x : Gathering) (k : List ℕ) → KeptAgrees (limitOf e) x k → Plain o → r .opcode ≡ o → r .final ≡ u
@@ -177,6 +201,17 @@ module _ (ts : List ℕ) (e : Engine) (s : Stores) (j : Journal) (f : Fixed ts (
   headers-packet o g k w l p q =
       headers-told o _ (gathers e keep.All (r .headers) g s) (k ++ allBytes (r .headers))
       (all-agrees (limitOf e) (r .headers) (gatheringOf g (s .headers) (s .body)) k w l) p q refl
+
+  headers-ends : (o : Opcode) (g : Gathered) (k : List ℕ) → KeptAgrees (limitOf e) (gatheringOf g (s .headers) (s .body)) k
+      → 65535 < length (k ++ allBytes (r .headers)) → headersPacket e r o g s .engine .awaits ≡ await.Nothing
+  unfolding headersPacket engineWith
+  headers-ends o g k w l = rw (headers-full (limitOf e) (r .headers) (gatheringOf g (s .headers) (s .body)) k w l) refl
+
+  pub headers-follows : (o : Opcode) (g : Gathered) (k : List ℕ) → KeptAgrees (limitOf e) (gatheringOf g (s .headers) (s .body)) k
+      → Plain o → r .opcode ≡ o
+      → Follows (length (k ++ allBytes (r .headers)) ≤ 65535) ts (headersPacket e r o g s) (gatherRead j r o (k ++ allBytes (r .headers)))
+  headers-follows o g k w p q =
+      follows-kept (k ++ allBytes (r .headers)) ts _ _ (λ l. headers-packet o g k w l p q) (headers-ends o g k w)
 
 -- ---- an object is sent
 

@@ -2,7 +2,7 @@
 -- alone (`Fit`, `Steps`), how it stands to the journal (`Coupling`), how long replies are (`Sizes`), packets (`Gathers`, `Dispatch`,
 -- `Packets`), Single Response Mode (`Speaks`), the host's answers (`Answers`), and the calls (`Moments`, `FromPeer`, `FromHost`).
 -- `Contracts`: the same from the contract of a start. `EightWrong`: the count of wrong passwords. `ObjectSent`: the replies to a Get.
--- `Secrecy`: passwords leave no trace.
+-- `Secrecy`: passwords leave no trace. `Closing`: the call that closes connections; `ClosedTogether`: which ids are left.
 pub mod Cases
 pub mod Fit
 pub mod Steps
@@ -15,9 +15,11 @@ pub mod Speaks
 pub mod Answers
 pub mod Moments
 pub mod FromPeer
+pub mod Closing
 pub mod FromHost
 pub mod Records
 pub mod Contracts
 pub mod EightWrong
 pub mod ObjectSent
 pub mod Secrecy
+pub mod ClosedTogether

@@ -3,24 +3,26 @@
 -- Assumes nothing.
 use mathlib.Core.Path.{_≡_, refl, sym, ap, ap₂, _∙_, subst}
 use mathlib.Core.List.{List}
-use mathlib.Core.Bool.{Bool, true, false, _&&_, _||_, true≢false}
+use mathlib.Core.Bool.{Bool, true, false, _&&_, _||_, not, and-false, true≢false}
 use Prim.Native.Nat.{ℕ, _≤_}
 use native.Mathlib.Omega.{arith}
 use lib.ListN.{length, getD, take}
 use lib.Dec.{leb, eqb}
 use borrow.Author.Tests.{eqb-true}
 use Rattle.base.specs.Pick.{pick}
-use Rattle.journal.specs.Calls.{Call, bytesOffered, streamEnded, replyTaken, replyGiven, objectGiven, bodyGiven, bodyFailed, abortAcknowledged, passwordGiven, nonceGiven, credentialsGiven, Verdict, goes, refused, Fed, stepBy}
+use Rattle.journal.specs.Calls.{Call, bytesOffered, streamEnded, replyTaken, replyGiven, objectGiven, bodyGiven, bodyFailed, abortAcknowledged, passwordGiven, nonceGiven, credentialsGiven, connectionsClosed, Verdict, goes, refused, Fed, stepBy}
 use Rattle.journal.specs.Journal.{Journal, unchanged, journalCall, journalFed, fedTakes, fedReads}
 use Rattle.table.specs.Nonces.{remembered}
 use Rattle.incoming.specs.Frame.{framed}
 use Rattle.model.specs.Step.{Stores, Stepped, Called, called, Done, done, after, ends, repliesCode, limitOf}
 use Rattle.model.specs.Guard.{refuse, short, sound, shortTables, awaitNumber, sameAwait, fits}
-use Rattle.model.specs.Calls.{offers, bytesOfferedStep, streamEndedStep, replyTakenStep, replyChecked, replyGivenStep, objectFor, objectGivenStep, bodyFor, bodyGivenStep, bodyFailedStep, abortAcknowledgedStep, passwordGivenStep, nonceChecked, nonceGivenStep, credentialsWith, credentialsGivenStep}
+use Rattle.model.specs.Calls.{offers, bytesOfferedStep, streamEndedStep, replyTakenStep, replyChecked, replyGivenStep, objectFor, objectGivenStep, bodyFor, bodyGivenStep, bodyFailedStep, abortAcknowledgedStep, passwordGivenStep, nonceChecked, nonceGivenStep, credentialsWith, credentialsGivenStep, connectionsClosedStep}
+use Rattle.model.specs.Dispatch.{busy}
+use Rattle.model.specs.Close.{refuseClosing, closeChecked}
 use Rattle.model.specs.Object.{goesOn}
 use Rattle.model.specs.Connect.{passwordAnswer}
-use Rattle.model.specs.Runs.{State, keeps, stepOf, stateOf, lacks}
-use Rattle.model.specs.Refusals.{Waits, roomIn, Known, noted, learns, judged, expected, verdict, verdictOf, fedCall, fedBy}
+use Rattle.model.specs.Runs.{State, keeps, beside, stepOf, stateOf, lacks}
+use Rattle.model.specs.Refusals.{Waits, roomIn, Known, noted, learns, allowed, judged, expected, verdict, verdictOf, fedCall, fedBy}
 use Rattle.model.specs.Replies.{Late, lateAfter, replySize}
 use Rattle.journal.specs.Srm.{Mode, dueIn, modeAfter}
 use Rattle.model.specs.Theorem.{Kept}
@@ -36,7 +38,7 @@ use Rattle.server.specs.declared.Await.{Await}
 use Rattle.server.specs.declared.Await.the-variants as await
 use Rattle.server.specs.declared.Engine.{Engine}
 use Rattle.model.proofs.Fit.{not-short, waitsOf, Seated, tables-long, is-sound, FineWith, Fine}
-use Rattle.model.proofs.Coupling.{Coupled, Told}
+use Rattle.model.proofs.Coupling.{Coupled, Follows, told-follows}
 use Rattle.model.proofs.Sizes.{Brief, LateAt, Sized, brief-sized}
 use Rattle.model.proofs.Speaks.{ModeAt, Spoken}
 
@@ -55,6 +57,7 @@ kindOf abortAcknowledged = kind.AbortAcknowledged
 kindOf (passwordGiven p) = kind.PasswordGiven
 kindOf (nonceGiven n) = kind.NonceGiven
 kindOf (credentialsGiven c) = kind.CredentialsGiven
+kindOf (connectionsClosed l) = kind.FromPeer
 
 -- body bytes must also be no more than were asked for
 abbrev pub fitting : Call → Waits → Bool
@@ -69,6 +72,7 @@ fitting abortAcknowledged w = true
 fitting (passwordGiven p) w = true
 fitting (nonceGiven n) w = true
 fitting (credentialsGiven c) w = true
+fitting (connectionsClosed l) w = true
 
 -- whatever is awaited
 each : (P : Await → Type 0) → P await.Bytes → P await.Taken → P await.Last → P await.Connect → P await.Disconnect → P await.Get → P await.Reply
@@ -102,6 +106,7 @@ moment bodyFailed o a = each (Moment bodyFailed o) refl refl refl refl refl refl
 moment abortAcknowledged o a = each (Moment abortAcknowledged o) refl refl refl refl refl refl refl refl refl refl refl refl refl a
 moment (passwordGiven p) o a = each (Moment (passwordGiven p) o) refl refl refl refl refl refl refl refl refl refl refl refl refl a
 moment (nonceGiven n) o a = each (Moment (nonceGiven n) o) refl refl refl refl refl refl refl refl refl refl refl refl refl a
+moment (connectionsClosed l) o a = each (Moment (connectionsClosed l) o) refl refl refl refl refl refl refl refl refl refl refl refl refl a
 moment (credentialsGiven c) o a = each (Moment (credentialsGiven c) o) refl refl refl refl refl refl refl refl refl refl refl refl refl a
 
 -- what is awaited is told by its number
@@ -139,6 +144,7 @@ goStep s abortAcknowledged = after 0 (repliesCode (s .engine) (s .engine .peer) 
 goStep s (passwordGiven p) = after 0 (passwordAnswer (s .engine) p (s .stores))
 goStep s (nonceGiven n) = refuse refusal.WrongMoment (s .engine) (s .stores)
 goStep s (credentialsGiven c) = credentialsWith (s .engine .operation) (s .engine) c (s .stores)
+goStep s (connectionsClosed l) = refuse refusal.WrongMoment (s .engine) (s .stores)
 
 abbrev pub goFor : State → Call → Called
 goFor s (replyGiven code hs) = replyChecked (s .engine) code hs (s .stores) (s .tables)
@@ -152,6 +158,8 @@ goFor s bodyFailed = keeps s (goStep s bodyFailed)
 goFor s abortAcknowledged = keeps s (goStep s abortAcknowledged)
 goFor s (passwordGiven p) = keeps s (goStep s (passwordGiven p))
 goFor s (credentialsGiven c) = keeps s (goStep s (credentialsGiven c))
+goFor s (connectionsClosed l) =
+    pick (not (busy (s .engine .operation))) (beside s (closeChecked (s .engine) l (s .tables))) (keeps s (refuse refusal.WrongMoment (s .engine) (s .stores)))
 
 abbrev pub refuses : Refusal → State → Called
 refuses r s = keeps s (refuse r (s .engine) (s .stores))
@@ -168,15 +176,25 @@ kept s c false false = refl
 abbrev pub lacksIn : State → Call → Bool
 lacksIn s c = lacks (s .engine .settings) c (s .stores) (s .tables)
 
-abbrev pub verdictAt : Known → State → Call → Verdict
-verdictAt w s c = verdict (lacksIn s c) w c
+abbrev pub verdictAt : Known → State → Journal → Call → Verdict
+verdictAt w s j c = verdict (lacksIn s c) w j c
 
 abbrev atMoment : State → Call → Bool
 atMoment s c = sound (s .engine) && fits (kindOf c) (s .engine .awaits)
 
+-- the guard of the call that closes connections, which asks for the operation too
+closing-is : (s : State) (l : List ℕ) (x y z t : Bool)
+    → beside s (pick x (refuseClosing refusal.StoreTooShort (s .engine) (s .tables)) (pick (y && (z && t)) (closeChecked (s .engine) l (s .tables)) (refuseClosing refusal.WrongMoment (s .engine) (s .tables))))
+    ≡ pick x (refuses refusal.StoreTooShort s) (pick (y && z) (pick t (beside s (closeChecked (s .engine) l (s .tables))) (refuses refusal.WrongMoment s)) (refuses refusal.WrongMoment s))
+closing-is s l true y z t = refl
+closing-is s l false true true true = refl
+closing-is s l false true true false = refl
+closing-is s l false true false t = refl
+closing-is s l false false z t = refl
+
 step-is : (s : State) (c : Call)
     → stepOf s c ≡ pick (lacksIn s c) (refuses refusal.StoreTooShort s) (pick (atMoment s c) (goFor s c) (refuses refusal.WrongMoment s))
-unfolding bytesOfferedStep streamEndedStep replyTakenStep replyGivenStep objectGivenStep bodyGivenStep bodyFailedStep abortAcknowledgedStep passwordGivenStep nonceGivenStep credentialsGivenStep
+unfolding bytesOfferedStep streamEndedStep replyTakenStep replyGivenStep objectGivenStep bodyGivenStep bodyFailedStep abortAcknowledgedStep passwordGivenStep nonceGivenStep credentialsGivenStep connectionsClosedStep
 step-is s (bytesOffered i) = kept s (bytesOffered i) (lacksIn s (bytesOffered i)) (atMoment s (bytesOffered i))
 step-is s streamEnded = kept s streamEnded (lacksIn s streamEnded) (atMoment s streamEnded)
 step-is s replyTaken = kept s replyTaken (lacksIn s replyTaken) (atMoment s replyTaken)
@@ -187,6 +205,8 @@ step-is s bodyFailed = kept s bodyFailed (lacksIn s bodyFailed) (atMoment s body
 step-is s abortAcknowledged = kept s abortAcknowledged (lacksIn s abortAcknowledged) (atMoment s abortAcknowledged)
 step-is s (passwordGiven p) = kept s (passwordGiven p) (lacksIn s (passwordGiven p)) (atMoment s (passwordGiven p))
 step-is s (nonceGiven n) = refl
+step-is s (connectionsClosed l) =
+    closing-is s l (shortTables (s .tables)) (sound (s .engine)) (sameAwait (s .engine .awaits) await.Bytes) (not (busy (s .engine .operation)))
 step-is s (credentialsGiven c) = kept s (credentialsGiven c) (lacksIn s (credentialsGiven c)) (atMoment s (credentialsGiven c))
 
 -- ---- a call's result agrees with the verdict that is due and with the journal's entry
@@ -213,8 +233,8 @@ pub record Agree (w : Known) (s : State) (c : Call) (v : Verdict) (m : Called) :
   pub knows : Knows (learns w c (m .took .outcome)) (stateOf (s .realm) m)
   pub unmoved : (n : ℕ) → v ≡ refused n → stateOf (s .realm) m ≡ s
   pub count : (j : Journal) → Coupled (s .tables) (s .engine) (s .stores) j → m .took .taken ≡ fedTakes j (fedAt s v c)
-  pub journal : (j : Journal) → Coupled (s .tables) (s .engine) (s .stores) j → Kept (fedReads j (fedAt s v c))
-      → Told (m .tables) (doneOf m) (journalFed j (fedAt s v c))
+  pub journal : (j : Journal) → Coupled (s .tables) (s .engine) (s .stores) j
+      → Follows (Kept (fedReads j (fedAt s v c))) (m .tables) (doneOf m) (journalFed j (fedAt s v c))
   pub sized : (j : Journal) (late : Late) → Coupled (s .tables) (s .engine) (s .stores) j → LateAt (s .engine) (s .stores) late
       → replySize late j (fedAt s v c) ≤ 65535 → Sized (doneOf m) (lateAfter late j (fedAt s v c))
   pub spoken : (j : Journal) (o : Mode) → Coupled (s .tables) (s .engine) (s .stores) j → ModeAt (s .engine .operation) o → Kept (fedReads j (fedAt s v c))
@@ -224,8 +244,9 @@ pub record Agree (w : Known) (s : State) (c : Call) (v : Verdict) (m : Called) :
 abbrev pub AgreeKept : Known → State → Call → Verdict → Stepped → Type 0
 AgreeKept w s c v m = Agree w s c v (keeps s m)
 
+-- the verdict may depend on the journal, which stands to the engine as `Coupled` says
 abbrev pub Agrees : Known → State → Call → Type 0
-Agrees w s c = Agree w s c (verdictAt w s c) (stepOf s c)
+Agrees w s c = (j : Journal) → Coupled (s .tables) (s .engine) (s .stores) j → Agree w s c (verdictAt w s j c) (stepOf s c)
 
 -- the journal's step where the call goes
 pub fed-goes : (j : Journal) (c : Call) → j .ended ≡ false → journalFed j (stepBy c) ≡ journalCall j c
@@ -264,7 +285,7 @@ module _ (w : Known) (s : State) (h : Seated s) (k : Knows w s) (c : Call) where
   pub agree-tabled : {m : ℕ} (d : Done) (t : ℕ) (u : List ℕ) → FineWith m e d → length u ≡ length (s .tables)
       → remembered m u ≡ take 32 (noted c goes (w .nonces))
       → ((j : Journal) → Coupled (s .tables) e st j → t ≡ fedTakes j (fedGoing s c))
-      → ((j : Journal) → Coupled (s .tables) e st j → Kept (fedReads j (fedGoing s c)) → Told u d (journalFed j (fedGoing s c)))
+      → ((j : Journal) → Coupled (s .tables) e st j → Follows (Kept (fedReads j (fedGoing s c))) u d (journalFed j (fedGoing s c)))
       → SizedBy (λ j late. Sized d (lateAfter late j (fedGoing s c))) → SpokenBy d
       → Agree w s c goes (called (after t d) u)
   agree-tabled d t u f l q n g z a =
@@ -286,7 +307,7 @@ module _ (w : Known) (s : State) (h : Seated s) (k : Knows w s) (c : Call) where
   -- a call that goes and gives no nonce
   pub agree-goes : noted c goes (w .nonces) ≡ w .nonces → (t : ℕ) (d : Done) → Fine e d
       → ((j : Journal) → Coupled (s .tables) e st j → t ≡ fedTakes j (fedGoing s c))
-      → ((j : Journal) → Coupled (s .tables) e st j → Kept (fedReads j (fedGoing s c)) → Told (s .tables) d (journalFed j (fedGoing s c)))
+      → ((j : Journal) → Coupled (s .tables) e st j → Follows (Kept (fedReads j (fedGoing s c))) (s .tables) d (journalFed j (fedGoing s c)))
       → SizedBy (λ j late. Brief d) → SpokenBy d
       → AgreeKept w s c goes (after t d)
   agree-goes q t d f n g z a = agree-tabled d t (s .tables) f refl (k .nonces ∙ ap (take 32) (sym q)) n g (λ j late x y l. brief-sized d (lateAfter late j (fedGoing s c)) (z j late x y l)) a
@@ -304,6 +325,7 @@ module _ (w : Known) (s : State) (h : Seated s) (k : Knows w s) (c : Call) where
   noted-refused (passwordGiven p) n = refl
   noted-refused (nonceGiven m) n = refl
   noted-refused (credentialsGiven x) n = refl
+  noted-refused (connectionsClosed l) n = refl
 
   pub agree-refused : (r : Refusal) → AgreeKept w s c (refused (refusalNumber r)) (refuse r e st)
   agree-refused r =
@@ -314,7 +336,7 @@ module _ (w : Known) (s : State) (h : Seated s) (k : Knows w s) (c : Call) where
         knows = record { waits = k .waits; nonces = k .nonces ∙ ap (take 32) (sym (noted-refused c (refusalNumber r))) };
         unmoved = λ m i. refl;
         count = λ j x. refl;
-        journal = λ j x y. record { given = refl; after = x; ends = λ i. refl };
+        journal = λ j x. told-follows (record { given = refl; after = x; ends = λ i. refl });
         sized = λ j late x y l. record { small = refl; waiting = y };
         spoken = λ j o x y l. record { obeys = refl; mode = y };
       }
@@ -341,13 +363,13 @@ module _ (w : Known) (s : State) (h : Seated s) (k : Knows w s) (c : Call) where
       go (passwordGiven p) = long
       go (nonceGiven n) = both
       go (credentialsGiven x) = long
+      go (connectionsClosed l) = tables-long (s .tables) (h .tables)
 
-  verdict-by : (t : Bool) → ranged ≡ t
-      → verdictAt w s c ≡ pick (t && fitted) (judged c w) (refused 9)
+  verdict-by : (j : Journal) (t : Bool) → ranged ≡ t → verdictAt w s j c ≡ pick (allowed c j && (t && fitted)) (judged c w j) (refused 9)
   unfolding verdict
-  verdict-by t i =
-      ap (λ (x : Bool). pick x (refused 10) (pick (expected c (w .waits)) (judged c w) (refused 9))) enough
-      ∙ ap (λ (x : Bool). pick x (judged c w) (refused 9))
+  verdict-by j t i =
+      ap (λ (x : Bool). pick x (refused 10) (pick (allowed c j && expected c (w .waits)) (judged c w j) (refused 9))) enough
+      ∙ ap (λ (x : Bool). pick (allowed c j && x) (judged c w j) (refused 9))
       (ap (expected c) (k .waits) ∙ moment c (e .operation) (e .awaits) ∙ ap (λ (x : Bool). x && fitted) i)
 
   step-by : (t : Bool) → ranged ≡ t → stepOf s c ≡ pick t (goFor s c) (refuses refusal.WrongMoment s)
@@ -357,13 +379,15 @@ module _ (w : Known) (s : State) (h : Seated s) (k : Knows w s) (c : Call) where
       ∙ ap₂ (λ (x y : Bool). pick (x && y) (goFor s c) (refuses refusal.WrongMoment s)) (is-sound e st (h .sits)) i
 
   -- by the moment: at another the call is refused with 9
-  pub agrees : (ranged ≡ true
-      → Agree w s c (pick fitted (judged c w) (refused 9)) (goFor s c)) → Agrees w s c
-  agrees f = go ranged refl
+  pub agrees : (ranged ≡ true → (j : Journal) → Coupled (s .tables) e st j
+      → Agree w s c (pick (allowed c j && fitted) (judged c w j) (refused 9)) (goFor s c)) → Agrees w s c
+  agrees f j y = go ranged refl
     where
-      at : (v : Verdict) (m : Called) → verdictAt w s c ≡ v → stepOf s c ≡ m → Agree w s c v m → Agrees w s c
+      at : (v : Verdict) (m : Called) → verdictAt w s j c ≡ v → stepOf s c ≡ m → Agree w s c v m → Agree w s c (verdictAt w s j c) (stepOf s c)
       at v m i l a = subst (λ (x : Verdict). Agree w s c x (stepOf s c)) (sym i) (subst (λ (y : Called). Agree w s c v y) (sym l) a)
 
-      go : (t : Bool) → ranged ≡ t → Agrees w s c
-      go true i = at _ _ (verdict-by true i) (step-by true i) (f i)
-      go false i = at _ _ (verdict-by false i) (step-by false i) (agree-refused refusal.WrongMoment)
+      go : (t : Bool) → ranged ≡ t → Agree w s c (verdictAt w s j c) (stepOf s c)
+      go true i = at _ _ (verdict-by j true i) (step-by true i) (f i j y)
+      go false i =
+          at (refused 9) _ (verdict-by j false i ∙ ap (λ (x : Bool). pick x (judged c w j) (refused 9)) (and-false (allowed c j))) (step-by false i)
+          (agree-refused refusal.WrongMoment)

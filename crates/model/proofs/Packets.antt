@@ -35,13 +35,13 @@ use Rattle.incoming.proofs.Frames.{Octets}
 use Rattle.packet.proofs.HeaderBytes.{request-headers}
 use Rattle.model.proofs.Fit.{Base}
 use Rattle.model.proofs.Steps.{outgoing-within}
-use Rattle.model.proofs.Coupling.{OpenedAt, Fixed, Told, quiet, told-done, told-ends, told-wants, told-replies, told-code}
-use Rattle.model.proofs.Gathers.{held-after, put-packet, get-packet, headers-packet, next-told}
+use Rattle.model.proofs.Coupling.{OpenedAt, Fixed, Told, Follows, told-follows, quiet, told-done, told-ends, told-wants, told-replies, told-code}
+use Rattle.model.proofs.Gathers.{held-after, put-follows, get-follows, headers-follows, next-told}
 use Rattle.model.proofs.Dispatch.{dispatch-told}
 
 -- ---- what is open is open for both
 
-busy-same : (limit : ℕ) (o : Operation) (h b : List ℕ) (x : Opened) → OpenedAt limit o h b x → busyOpened x ≡ busy o
+pub busy-same : (limit : ℕ) (o : Operation) (h b : List ℕ) (x : Opened) → OpenedAt limit o h b x → busyOpened x ≡ busy o
 busy-same limit Nothing h b x w = ap busyOpened w
 busy-same limit Trailing h b x w = ap busyOpened w
 busy-same limit (Putting g srm) h b x w = ap busyOpened (w .is)
@@ -80,14 +80,15 @@ module _ (ts : List ℕ) (e : Engine) (s : Stores) (j : Journal) (f : Fixed ts (
         (withReply s (front (packetBytes (sentCode 0x40) [] []) (s .reply))) (end j) [] refl refl refl
 
     -- of an operation that is open, a packet of its opcode or of another; the premise on kept headers is for the first
-    goes-on : (o : Opcode) (d : Done) (y : Entry) (k : List ℕ) → length (pick (sameOpcode (r .opcode) o) k []) ≤ 65535
-        → (length k ≤ 65535 → r .opcode ≡ o → Told ts d y)
-        → Told ts (pick (sameOpcode (r .opcode) o) d (interrupts e s)) (pick (sameOpcode (r .opcode) o) y (stopped j))
-    goes-on o d y k l w = go (sameOpcode (r .opcode) o) refl l
+    goes-on : (o : Opcode) (d : Done) (y : Entry) (k : List ℕ) → (r .opcode ≡ o → Follows (length k ≤ 65535) ts d y)
+        → Follows (length (pick (sameOpcode (r .opcode) o) k []) ≤ 65535) ts
+        (pick (sameOpcode (r .opcode) o) d (interrupts e s)) (pick (sameOpcode (r .opcode) o) y (stopped j))
+    goes-on o d y k w = go (sameOpcode (r .opcode) o) refl
       where
-        go : (t : Bool) → sameOpcode (r .opcode) o ≡ t → length (pick t k []) ≤ 65535 → Told ts (pick t d (interrupts e s)) (pick t y (stopped j))
-        go true i l = w l (same-equal (r .opcode) o i)
-        go false i l = interrupts-told
+        go : (t : Bool) → sameOpcode (r .opcode) o ≡ t
+            → Follows (length (pick t k []) ≤ 65535) ts (pick t d (interrupts e s)) (pick t y (stopped j))
+        go true i = w (same-equal (r .opcode) o i)
+        go false i = told-follows interrupts-told
 
     srm-stays : (m : Bool) → pick m true false ≡ m
     srm-stays true = refl
@@ -114,53 +115,58 @@ module _ (ts : List ℕ) (e : Engine) (s : Stores) (j : Journal) (f : Fixed ts (
 
     -- by what is open, x for the journal
     inside-told : (o : Operation) (x : Opened) → OpenedAt (limitOf e) o (s .headers) (s .body) x → soundOperation (limitOf e) o ≡ true
-        → length (keptWith x r) ≤ 65535
-        → sameOpcode (r .opcode) op.Abort ≡ false → Told ts (inside o e r v (knownIn e ts v) s) (requestRead x j r)
-    inside-told Nothing x w c k n =
-        subst (λ (y : Opened). Told ts (dispatch e r v (knownIn e ts v) s) (requestRead y j r)) (sym w) (dispatch-told ts e s j f r last h small (r .opcode) refl n)
-    inside-told Trailing x w c k n =
-        subst (λ (y : Opened). Told ts (inside Trailing e r v (knownIn e ts v) s) (requestRead y j r)) (sym w)
-        (rw (trails-same r) (trails-told (trailsRead r) n))
-    inside-told (Putting g srm) x w c k n =
+        → sameOpcode (r .opcode) op.Abort ≡ false
+        → Follows (length (keptWith x r) ≤ 65535) ts (inside o e r v (knownIn e ts v) s) (requestRead x j r)
+    inside-told Nothing x w c n =
+        subst (λ (y : Opened). Follows (length (keptWith y r) ≤ 65535) ts (dispatch e r v (knownIn e ts v) s) (requestRead y j r)) (sym w)
+        (told-follows (dispatch-told ts e s j f r last h small (r .opcode) refl n))
+    inside-told Trailing x w c n =
+        subst (λ (y : Opened). Follows (length (keptWith y r) ≤ 65535) ts (inside Trailing e r v (knownIn e ts v) s) (requestRead y j r)) (sym w)
+        (told-follows (rw (trails-same r) (trails-told (trailsRead r) n)))
+    inside-told (Putting g srm) x w c n =
         let a = w .carries in
-        subst (λ (y : Opened). length (keptWith y r) ≤ 65535 → Told ts (inside (Putting g srm) e r v (knownIn e ts v) s) (requestRead y j r)) (sym (w .is))
-        (λ l. goes-on op.Put _ _ (a .headers ++ carriedBy (r .headers) .headers) l
-        (λ l′ i. subst (λ (t : Bool). Told ts (putPacket e r v srm false g s) (putRead j r srm t (joined a (carriedBy (r .headers))))) (srm-stays srm)
-        (put-packet ts e s j f r v srm false g a (w .agrees) l′ i)))
-        k
-    inside-told (Getting g srm confirm wait) x w c k n =
+        subst (λ (y : Opened). Follows (length (keptWith y r) ≤ 65535) ts (inside (Putting g srm) e r v (knownIn e ts v) s) (requestRead y j r)) (sym (w .is))
+        (goes-on op.Put _ _ (a .headers ++ carriedBy (r .headers) .headers)
+        (λ i. subst (λ (t : Bool). Follows (length (a .headers ++ carriedBy (r .headers) .headers) ≤ 65535) ts (putPacket e r v srm false g s) (putRead j r srm t (joined a (carriedBy (r .headers))))) (srm-stays srm)
+        (put-follows ts e s j f r v srm false g a (w .agrees) i)))
+    inside-told (Getting g srm confirm wait) x w c n =
         let a = w .keeps in
-        subst (λ (y : Opened). length (keptWith y r) ≤ 65535 → Told ts (inside (Getting g srm confirm wait) e r v (knownIn e ts v) s) (requestRead y j r)) (sym (w .is))
-        (λ l. goes-on op.Get _ _ (a ++ keptByGet (r .headers)) l (λ l′ i. get-packet ts e s j f r v srm confirm g a (w .agrees) l′))
-        k
-    inside-told (Sending o q srm wait) x w c k n =
+        subst (λ (y : Opened). Follows (length (keptWith y r) ≤ 65535) ts (inside (Getting g srm confirm wait) e r v (knownIn e ts v) s) (requestRead y j r)) (sym (w .is))
+        (goes-on op.Get _ _ (a ++ keptByGet (r .headers)) (λ i. get-follows ts e s j f r v srm confirm g a (w .agrees)))
+    inside-told (Sending o q srm wait) x w c n =
         let z = outgoing-within o q c in
-        subst (λ (y : Opened). Told ts (inside (Sending o q srm wait) e r v (knownIn e ts v) s) (requestRead y j r)) (sym w)
-        (goes-on op.Get _ _ [] (nil-short (sameOpcode (r .opcode) op.Get))
-        (λ l i. next-told ts e s (after j (some r) sending) (record { settings = f .settings; past = f .past; standing = f .standing; window = f .window; ended = f .ended }) refl refl h o srm
-        (v .wait) (z .sent) (z .total)))
+        subst (λ (y : Opened). Follows (length (keptWith y r) ≤ 65535) ts (inside (Sending o q srm wait) e r v (knownIn e ts v) s) (requestRead y j r)) (sym w)
+        (sent-on (goes-on op.Get _ _ []
+        (λ i. told-follows (next-told ts e s (after j (some r) sending) (record { settings = f .settings; past = f .past; standing = f .standing; window = f .window; ended = f .ended }) refl refl h o srm
+        (v .wait) (z .sent) (z .total)))))
       where
         nil-short : (t : Bool) → length (pick {A = List ℕ} t [] []) ≤ 65535
         nil-short true = omega arith
         nil-short false = omega arith
-    inside-told (GatheringOp o g) x w c k n =
+
+        -- of an object that is sent nothing is kept
+        sent-on : {d : Done} {y : Entry} → Follows (length (pick {A = List ℕ} (sameOpcode (r .opcode) op.Get) [] []) ≤ 65535) ts d y
+            → Follows (length {A = ℕ} [] ≤ 65535) ts d y
+        sent-on w = told-follows (w .told (nil-short (sameOpcode (r .opcode) op.Get)))
+    inside-told (GatheringOp o g) x w c n =
         let a = w .0 .keeps in
-        subst (λ (y : Opened). length (keptWith y r) ≤ 65535 → Told ts (inside (GatheringOp o g) e r v (knownIn e ts v) s) (requestRead y j r)) (sym (w .0 .is))
-        (λ l. goes-on o _ _ (a ++ allBytes (r .headers)) l (λ l′ i. headers-packet ts e s j f r o g a (w .0 .agrees) l′ (w .1) i))
-        k
-    inside-told (Connecting q g m) x w c k n = absurd w
-    inside-told (Draining code) x w c k n =
-        subst (λ (y : Opened). Told ts (inside (Draining code) e r v (knownIn e ts v) s) (requestRead y j r)) (sym w) (drain-told code (r .final))
+        subst (λ (y : Opened). Follows (length (keptWith y r) ≤ 65535) ts (inside (GatheringOp o g) e r v (knownIn e ts v) s) (requestRead y j r)) (sym (w .0 .is))
+        (goes-on o _ _ (a ++ allBytes (r .headers)) (λ i. headers-follows ts e s j f r o g a (w .0 .agrees) (w .1) i))
+    inside-told (Connecting q g m) x w c n = absurd w
+    inside-told (Draining code) x w c n =
+        subst (λ (y : Opened). Follows (length (keptWith y r) ≤ 65535) ts (inside (Draining code) e r v (knownIn e ts v) s) (requestRead y j r)) (sym w)
+        (told-follows (drain-told code (r .final)))
 
   -- ---- any packet
 
   pub read-told : Octets (take (e .length) (s .packet)) → OpenedAt (limitOf e) (e .operation) (s .headers) (s .body) (j .opened)
       → soundOperation (limitOf e) (e .operation) ≡ true
-      → (q : List ℕ) (x : Option Packet) → requestOf (take (e .length) (s .packet)) ≡ x → length (keptRead (j .opened) x) ≤ 65535
-      → Told ts (readAs x e q s ts) (packetRead x j)
-  read-told o w c q none i k =
-      subst (λ (t : Bool). Told ts (unreadable e q s) (pick t (endsWith 4 j) (unchanged (after j none (j .opened))))) (sym (busy-same (limitOf e) (e .operation) (s .headers) (s .body) (j .opened) w))
-      (go (busy (e .operation)) refl)
+      → (q : List ℕ) (x : Option Packet) → requestOf (take (e .length) (s .packet)) ≡ x
+      → Follows (length (keptRead (j .opened) x) ≤ 65535) ts (readAs x e q s ts) (packetRead x j)
+  read-told o w c q none i =
+      told-follows
+      (subst (λ (t : Bool). Told ts (unreadable e q s) (pick t (endsWith 4 j) (unchanged (after j none (j .opened))))) (sym (busy-same (limitOf e) (e .operation) (s .headers) (s .body) (j .opened) w))
+      (go (busy (e .operation)) refl))
     where
       go : (t : Bool) → busy (e .operation) ≡ t
           → Told ts (pick t (ends e (e .peer) why.Unreadable s) (repliesCode e (e .peer) (e .operation) (pick (unknownByte (firstByte (getD q 0 0))) 0x51 0x40) s)) (pick t (endsWith 4 j) (unchanged (after j none (j .opened))))
@@ -169,16 +175,17 @@ module _ (ts : List ℕ) (e : Engine) (s : Stores) (j : Journal) (f : Fixed ts (
           told-replies ts e (e .peer) s (after j none (j .opened)) (e .operation)
           (packetBytes (sentCode (pick (unknownByte (firstByte (getD q 0 0))) 0x51 0x40)) [] []) (idle-quiet (e .operation) m)
           (record { fixed = record { settings = f .settings; past = f .past; standing = f .standing; window = f .window; ended = f .ended }; begun = refl; opened = w })
-  read-told o w c q (some r) i k = go (sameOpcode (r .opcode) op.Abort) refl
+  read-told o w c q (some r) i = go (sameOpcode (r .opcode) op.Abort) refl
     where
       short : length (allBytes (r .headers)) ≤ 65535
       short = omega (arith, request-headers (take (e .length) (s .packet)) r o i, length-take (e .length) (s .packet), h .last)
 
       go : (t : Bool) → sameOpcode (r .opcode) op.Abort ≡ t
-          → Told ts
+          → Follows (length (keptWith (j .opened) r) ≤ 65535) ts
           (pick t (asks e (e .peer) Nothing await.Acknowledgement (request.Abort (e .length)) s) (inside (e .operation) e r (surveyOf (some (r .headers))) (knownIn e ts (surveyOf (some (r .headers)))) s))
           (pick t (dropped j r) (requestRead (j .opened) j r))
       go true m =
-          told-done ts e (e .peer) Nothing await.Acknowledgement (outcome.Request (request.Abort (e .length))) s (after j (some r) nothing) []
-          (held-after ts e s j f r Nothing nothing s refl) refl refl
-      go false m = inside-told r i short (e .operation) (j .opened) w c k m
+          told-follows
+          (told-done ts e (e .peer) Nothing await.Acknowledgement (outcome.Request (request.Abort (e .length))) s (after j (some r) nothing) []
+          (held-after ts e s j f r Nothing nothing s refl) refl refl)
+      go false m = inside-told r i short (e .operation) (j .opened) w c m

@@ -8,7 +8,7 @@ use Prim.Native.Nat.{ℕ}
 use native.Mathlib.Omega.{arith}
 use lib.ListN.{getD}
 use Rattle.journal.specs.Record.{Record}
-use Rattle.journal.specs.Calls.{Call, bytesOffered, streamEnded, replyTaken, replyGiven, objectGiven, bodyGiven, bodyFailed, abortAcknowledged, passwordGiven, nonceGiven, credentialsGiven, Verdict, Fed}
+use Rattle.journal.specs.Calls.{Call, bytesOffered, streamEnded, replyTaken, replyGiven, objectGiven, bodyGiven, bodyFailed, abortAcknowledged, passwordGiven, nonceGiven, credentialsGiven, connectionsClosed, Verdict, Fed}
 use Rattle.journal.specs.Journal.{Journal, fresh, journalStep, journalRecords, journalCounts, journalEnds, Marked, fedReads, packets}
 use Rattle.journal.specs.Checks.{windowOf}
 use Rattle.journal.specs.PutForm.{Exactly}
@@ -32,6 +32,7 @@ use Rattle.model.proofs.Sizes.{early, LateAt, early-late}
 use Rattle.model.proofs.Speaks.{ModeAt}
 use Rattle.model.proofs.Moments.{verdictAt, Knows, Agree, Agrees}
 use Rattle.model.proofs.FromPeer.{bytes-agree, end-agrees, taken-agrees}
+use Rattle.model.proofs.Closing.{closed-agrees}
 use Rattle.model.proofs.FromHost.{reply-agrees, object-agrees, body-agrees, body-failed-agrees, acknowledge-agrees, password-agrees, nonce-agrees, credentials-agree}
 
 -- ---- a call
@@ -49,75 +50,81 @@ step-agrees w s h k abortAcknowledged o = acknowledge-agrees w s h k
 step-agrees w s h k (passwordGiven p) o = password-agrees w s h k p
 step-agrees w s h k (nonceGiven n) o = nonce-agrees w s h k n
 step-agrees w s h k (credentialsGiven c) o = credentials-agree w s h k c
+step-agrees w s h k (connectionsClosed l) o = closed-agrees w s h k l
 
--- what holds between two calls of a run from an accepted start with the settings `st`
-pub record Between (st : Settings) (w : Known) (s : State) : Type 0 where
+-- what holds between two calls of a run from an accepted start with the settings `st`, with the journal `j` beside the engine
+pub record Between (st : Settings) (w : Known) (s : State) (j : Journal) : Type 0 where
   pub settings : s .engine .settings ≡ st
   pub seated : Seated s
   pub knows : Knows w s
+  pub coupled : Coupled (s .tables) (s .engine) (s .stores) j
 
-module _ (st : Settings) (w : Known) (s : State) (b : Between st w s) (x : Performed) (says : Says s x) where
+module _ (st : Settings) (w : Known) (s : State) (j : Journal) (b : Between st w s j) (x : Performed) (says : Says s x) where
   -- the verdict that is due, by what the host sees
   abbrev pub dueAt : Verdict
-  dueAt = verdict (lacks st (x .call) (s .stores) (s .tables)) w (x .call)
+  dueAt = verdict (lacks st (x .call) (s .stores) (s .tables)) w j (x .call)
 
   abbrev pub fedTo : Fed
   fedTo = fedBy dueAt (x .call) (getD (s .stores .reply) 0 0)
 
-  pub performed-agrees : Agree w s (x .call) dueAt (calledIn x)
+  performed-agrees : Agree w s (x .call) dueAt (calledIn x)
   performed-agrees =
-      subst (λ (y : Settings). Agree w s (x .call) (verdict (lacks y (x .call) (s .stores) (s .tables)) w (x .call)) (calledIn x)) (b .settings)
-      (subst (λ (m : Called). Agree w s (x .call) (verdictAt w s (x .call)) m) (sym (says .step)) (step-agrees w s (b .seated) (b .knows) (x .call) (says .octets)))
+      subst (λ (y : Settings). Agree w s (x .call) (verdict (lacks y (x .call) (s .stores) (s .tables)) w j (x .call)) (calledIn x)) (b .settings)
+      (subst (λ (m : Called). Agree w s (x .call) (verdictAt w s j (x .call)) m) (sym (says .step))
+      (step-agrees w s (b .seated) (b .knows) (x .call) (says .octets) j (b .coupled)))
 
-  pub between-next : Between st (learns w (x .call) (x .result .outcome)) (next s x)
+  pub between-next : Between st (learns w (x .call) (x .result .outcome)) (next s x) (journalStep j fedTo .next)
+  unfolding journalStep
   between-next =
-      let a = performed-agrees in record { settings = a .settings ∙ b .settings; seated = a .seated; knows = a .knows }
+      let a = performed-agrees in
+      record { settings = a .settings ∙ b .settings; seated = a .seated; knows = a .knows; coupled = a .journal j (b .coupled) .after }
 
 -- ---- a run
 
-run-refused : (st : Settings) (xs : List Performed) (w : Known) (s : State) → Between st w s → Ran s xs
-    → map (λ (x : Performed). verdictOf (x .result .outcome)) xs ≡ dueFrom w (seen st s xs)
-run-refused st [] w s b r = refl
-run-refused st (x ∷ xs) w s b r =
-    ap₂ (λ (v : Verdict) (vs : List Verdict). v ∷ vs) (performed-agrees st w s b x (r .0) .due)
-    (run-refused st xs (learns w (x .call) (x .result .outcome)) (next s x) (between-next st w s b x (r .0)) (r .1))
+run-refused : (st : Settings) (xs : List Performed) (w : Known) (s : State) (j : Journal) → Between st w s j → Ran s xs
+    → map (λ (x : Performed). verdictOf (x .result .outcome)) xs ≡ dueFrom w j (seen st s xs)
+run-refused st [] w s j b r = refl
+run-refused st (x ∷ xs) w s j b r =
+    ap₂ (λ (v : Verdict) (vs : List Verdict). v ∷ vs) (performed-agrees st w s j b x (r .0) .due)
+    (run-refused st xs (learns w (x .call) (x .result .outcome)) (next s x) _ (between-next st w s j b x (r .0)) (r .1))
 
-run-unmoved : (st : Settings) (xs : List Performed) (w : Known) (s : State) → Between st w s → Ran s xs → Unmoved s xs
-run-unmoved st [] w s b r = tt
-run-unmoved st (x ∷ xs) w s b r =
-    let a = performed-agrees st w s b x (r .0) in (
+run-unmoved : (st : Settings) (xs : List Performed) (w : Known) (s : State) (j : Journal) → Between st w s j → Ran s xs → Unmoved s xs
+run-unmoved st [] w s j b r = tt
+run-unmoved st (x ∷ xs) w s j b r =
+    let a = performed-agrees st w s j b x (r .0) in (
       λ n i. a .unmoved n (sym (a .due) ∙ i),
-      run-unmoved st xs (learns w (x .call) (x .result .outcome)) (next s x) (between-next st w s b x (r .0)) (r .1),
+      run-unmoved st xs (learns w (x .call) (x .result .outcome)) (next s x) _ (between-next st w s j b x (r .0)) (r .1),
     )
 
-pub kept-both : (l m : List Marked) → Kept (l ++ m) → Kept l × Kept m
+kept-both : (l m : List Marked) → Kept (l ++ m) → Kept l × Kept m
 kept-both [] m k = (tt, k)
 kept-both (x ∷ l) m k = let b = kept-both l m (k .1) in ((k .0, b .0), b .1)
 
 -- what engine and journal agree on along a run, with the journal `j` before it; for the ends it is also asked how long replies are
 record Along (st : Settings) (w : Known) (s : State) (j : Journal) (xs : List Performed) : Type 0 where
-  journal : records xs ≡ journalRecords j (feedFrom w (seen st s xs))
-  counts : map (λ (x : Performed). x .result .taken) xs ≡ journalCounts j (feedFrom w (seen st s xs))
-  srm : (m : Mode) → ModeAt (s .engine .operation) m → AllObey (duesFrom m j (feedFrom w (seen st s xs))) xs
-  ends : (late : Late) → LateAt (s .engine) (s .stores) late → RepliesFrom late j (feedFrom w (seen st s xs))
-      → map (λ (x : Performed). endOf (x .result .outcome)) xs ≡ journalEnds j (feedFrom w (seen st s xs))
+  journal : records xs ≡ journalRecords j (feedFrom w j (seen st s xs))
+  counts : map (λ (x : Performed). x .result .taken) xs ≡ journalCounts j (feedFrom w j (seen st s xs))
+  srm : (m : Mode) → ModeAt (s .engine .operation) m → AllObey (duesFrom m j (feedFrom w j (seen st s xs))) xs
+  ends : (late : Late) → LateAt (s .engine) (s .stores) late → RepliesFrom late j (feedFrom w j (seen st s xs))
+      → map (λ (x : Performed). endOf (x .result .outcome)) xs ≡ journalEnds j (feedFrom w j (seen st s xs))
 
-run-along : (st : Settings) (xs : List Performed) (w : Known) (s : State) (j : Journal) → Between st w s → Ran s xs
-    → Coupled (s .tables) (s .engine) (s .stores) j → Kept (packets j (feedFrom w (seen st s xs))) → Along st w s j xs
+run-along : (st : Settings) (xs : List Performed) (w : Known) (s : State) (j : Journal) → Between st w s j → Ran s xs
+    → Kept (packets j (feedFrom w j (seen st s xs))) → Along st w s j xs
 unfolding journalStep
-run-along st [] w s j b r c k = record { journal = refl; counts = refl; srm = λ m y. tt; ends = λ late y z. refl }
-run-along st (x ∷ xs) w s j b r c k =
-    let a = performed-agrees st w s b x (r .0) in
-    let f = fedTo st w s b x (r .0) in
-    let both = kept-both (fedReads j f) (packets (journalStep j f .next) (feedFrom (learns w (x .call) (x .result .outcome)) (seen st (next s x) xs))) k in
-    let t = a .journal j c (both .0) in
-    let later = run-along st xs (learns w (x .call) (x .result .outcome)) (next s x) (journalStep j f .next) (between-next st w s b x (r .0)) (r .1) (t .after) (both .1) in
+run-along st [] w s j b r k = record { journal = refl; counts = refl; srm = λ m y. tt; ends = λ late y z. refl }
+run-along st (x ∷ xs) w s j b r k =
+    let a = performed-agrees st w s j b x (r .0) in
+    let f = fedTo st w s j b x (r .0) in
+    let i = journalStep j f .next in
+    let both = kept-both (fedReads j f) (packets i (feedFrom (learns w (x .call) (x .result .outcome)) i (seen st (next s x) xs))) k in
+    let t = a .journal j (b .coupled) .told (both .0) in
+    let later = run-along st xs (learns w (x .call) (x .result .outcome)) (next s x) i (between-next st w s j b x (r .0)) (r .1) (both .1) in
     record {
       journal = ap₂ (λ (l m : List Record). l ++ m) (t .given) (later .journal);
-      counts = ap₂ (λ (n : ℕ) (l : List ℕ). n ∷ l) (a .count j c) (later .counts);
-      srm = λ m y. let spoken = a .spoken j m c y (both .0) in (spoken .obeys, later .srm (modeAfter m j f) (spoken .mode));
+      counts = ap₂ (λ (n : ℕ) (l : List ℕ). n ∷ l) (a .count j (b .coupled)) (later .counts);
+      srm = λ m y. let spoken = a .spoken j m (b .coupled) y (both .0) in (spoken .obeys, later .srm (modeAfter m j f) (spoken .mode));
       ends = λ late y z.
-          let sized = a .sized j late c y (z .0) in
+          let sized = a .sized j late (b .coupled) y (z .0) in
           ap₂ (λ (n : Option ℕ) (l : List (Option ℕ)). n ∷ l) (t .ends (sized .small)) (later .ends (lateAfter late j f) (sized .waiting) (z .1));
     }
 
@@ -147,20 +154,21 @@ module _ (st : Settings) (s : State) (h : Started st s) where
   unfolding started engineWith peerWith remembered
   start-nonces = ap (λ (e : Engine). remembered (e .peer .nonces) (s .tables)) (h .fresh)
 
-  pub start-between : Between st atStart s
+  start-coupled : Coupled (s .tables) (s .engine) (s .stores) (journalOf st)
+  unfolding started engineWith peerWith windowOf
+  start-coupled =
+      subst (λ (e : Engine). Coupled (s .tables) e (s .stores) (journalOf st)) (sym (h .fresh))
+      (record { fixed = record { settings = refl; past = []; standing = refl; window = refl; ended = refl }; begun = refl; opened = refl })
+
+  pub start-between : Between st atStart s (journalOf st)
   unfolding started engineWith
   start-between =
       record {
         settings = ap (λ (e : Engine). e .settings) (h .fresh);
         seated = start-seated;
         knows = record { waits = start-waits; nonces = start-nonces };
+        coupled = start-coupled;
       }
-
-  pub start-coupled : Coupled (s .tables) (s .engine) (s .stores) (journalOf st)
-  unfolding started engineWith peerWith windowOf
-  start-coupled =
-      subst (λ (e : Engine). Coupled (s .tables) e (s .stores) (journalOf st)) (sym (h .fresh))
-      (record { fixed = record { settings = refl; past = []; standing = refl; window = refl; ended = refl }; begun = refl; opened = refl })
 
   start-early : LateAt (s .engine) (s .stores) (λ c. 0)
   unfolding started engineWith
@@ -173,10 +181,10 @@ module _ (st : Settings) (s : State) (h : Started st s) where
 pub records-theorem : RecordsTheorem
 records-theorem st s h xs r =
     let b = start-between st s h in
-    let along = run-along st xs atStart s (journalOf st) b r (start-coupled st s h) in
+    let along = run-along st xs atStart s (journalOf st) b r in
     record {
-      refusals = run-refused st xs atStart s b r;
-      unmoved = run-unmoved st xs atStart s b r;
+      refusals = run-refused st xs atStart s (journalOf st) b r;
+      unmoved = run-unmoved st xs atStart s (journalOf st) b r;
       agrees = λ k. record {
         journal = along k .journal;
         forms = subst (Exactly (st .«max_object_size») (packets (journalOf st) (fed st s xs))) (sym (along k .journal))

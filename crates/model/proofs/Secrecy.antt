@@ -7,6 +7,7 @@ use mathlib.Core.Option.{Option, some}
 use Prim.Native.Nat.{ℕ}
 use Rattle.base.specs.Pick.{pick}
 use Rattle.journal.specs.Calls.{Call, passwordGiven, credentialsGiven}
+use Rattle.journal.specs.Journal.{Journal}
 use Rattle.model.specs.Step.{Stores, Stepped, Called, called, after}
 use Rattle.model.specs.Request.{clientResponse}
 use Rattle.model.specs.Connect.{demandsUser, checks, passwordAnswered, passwordAnswer}
@@ -14,6 +15,7 @@ use Rattle.model.specs.Guard.{sound, fits, guarded}
 use Rattle.model.specs.Calls.{passwordGivenStep, credentialsGivenStep}
 use Rattle.model.specs.Runs.{State, Performed, keeps, stepOf, stateOf, calledIn, next, Ran}
 use Rattle.model.specs.Refusals.{Waits, bytes, taking, reply, object, acknowledgement, password as passwordWaits, nonce, credentials as credentialsWait, nothing, reading, asked, told, Known, atStart, learns}
+use Rattle.model.specs.Theorem.{journalOf}
 use Rattle.model.specs.Contracts.{state}
 use Rattle.model.specs.Secrecy.{Alike, equal, password, credentials, AllAlike, checkMade, ChecksAlike, forCredentials, asksCredentials, NoneAsked, Shown, shownIn, NoTrace, Secrecy, ContractsKeepSecrets}
 use Rattle.server.specs.declared.Await.{Await}
@@ -107,15 +109,15 @@ module _ (w : Waits) (s : State) (k : w ≡ waitsOf (s .engine .awaits) (s .engi
 
 -- ---- two runs
 
-run-alike : (st : Settings) (xs ys : List Performed) (w : Known) (s : State) → Between st w s → apart (w .waits) ≡ true → Ran s xs → Ran s ys
+run-alike : (st : Settings) (xs ys : List Performed) (w : Known) (s : State) (j : Journal) → Between st w s j → apart (w .waits) ≡ true → Ran s xs → Ran s ys
     → AllAlike xs ys → ChecksAlike s s xs ys → NoneAsked xs → NoTrace xs ys
-run-alike st [] [] w s b a r q l c n = record { shown = refl; left = refl }
-run-alike st [] (y ∷ ys) w s b a r q l c n = absurd l
-run-alike st (x ∷ xs) [] w s b a r q l c n = absurd l
-run-alike st (x ∷ xs) (y ∷ ys) w s b a r q l c n =
+run-alike st [] [] w s j b a r q l c n = record { shown = refl; left = refl }
+run-alike st [] (y ∷ ys) w s j b a r q l c n = absurd l
+run-alike st (x ∷ xs) [] w s j b a r q l c n = absurd l
+run-alike st (x ∷ xs) (y ∷ ys) w s j b a r q l c n =
     let e : calledIn x ≡ calledIn y = r .0 .step ∙ same-step (w .waits) s (b .knows .waits) a (x .call) (y .call) (l .0) (c .0) ∙ sym (q .0 .step) in
     let back : next s y ≡ next s x = ap (stateOf (s .realm)) (sym e) in
-    let later = run-alike st xs ys (learns w (x .call) (x .result .outcome)) (next s x) (between-next st w s b x (r .0))
+    let later = run-alike st xs ys (learns w (x .call) (x .result .outcome)) (next s x) _ (between-next st w s j b x (r .0))
     (told-apart (w .waits) (x .result .outcome) a (n .0)) (r .1) (subst (λ (t : State). Ran t ys) back (q .1)) (l .1)
     (subst (λ (t : State). ChecksAlike (next s x) t xs ys) back (c .1)) (n .1) in
     record {
@@ -125,7 +127,7 @@ run-alike st (x ∷ xs) (y ∷ ys) w s b a r q l c n =
 
 -- passwords leave no trace
 pub secrecy : Secrecy
-secrecy st s h xs ys r q l c n = run-alike st xs ys atStart s (start-between st s h) refl r q l c n
+secrecy st s h xs ys r q l c n = run-alike st xs ys atStart s (journalOf st) (start-between st s h) refl r q l c n
 
 -- two starts with equal arguments leave the same
 pub contracts-keep-secrets : ContractsKeepSecrets

@@ -1,7 +1,7 @@
 -- The model: what each call does, as a total function of the state, the lent stores and the arguments. The engine's contracts say that the code equals it.
 use Prim.Native.Nat.{ℕ}
 use mathlib.Core.List.{List}
-use mathlib.Core.Bool.{Bool, _||_}
+use mathlib.Core.Bool.{Bool, _&&_, _||_, not}
 use mathlib.Core.Option.{Option, none}
 use lib.ListN.{length, take}
 use lib.Dec.{ltb, eqb}
@@ -34,8 +34,9 @@ use Rattle.model.specs.Step.{Stores, stores, withHeaders, engineWith, Do
 use Rattle.model.specs.Request.{lastHeaders}
 use Rattle.model.specs.Object.{sendsPacket, sendsNext, goesOn, objectOf}
 use Rattle.model.specs.Connect.{connectSends, connectAnswer, passwordAnswer, nonceAnswer}
-use Rattle.model.specs.Dispatch.{inside, packetDone}
-use Rattle.model.specs.Guard.{refuse, short, shortTables, longRealm, sameAwait, guarded, guardedTables, guardedCalled, badHeaders, badReply, checked, longUser}
+use Rattle.model.specs.Dispatch.{inside, busy, packetDone}
+use Rattle.model.specs.Close.{Closed, refuseClosing, closeChecked}
+use Rattle.model.specs.Guard.{refuse, short, sound, shortTables, longRealm, sameAwait, guarded, guardedTables, guardedCalled, badHeaders, badReply, checked, longUser}
 
 -- What follows by where the frame stands, with `b` bytes of a packet in the packet store and `n` taken.
 abbrev pub framedAs : Frame → Engine → ℕ → ℕ → Stores → List ℕ → Stepped
@@ -156,6 +157,13 @@ credentialsWith (Draining code) e c s = refuse refusal.WrongMoment e s
 -- The credentials that the host gives, or none.
 unfoldable pub credentialsGivenStep : Engine → Option Credentials → Stores → Stepped
 credentialsGivenStep e c s = guarded kind.CredentialsGiven e s (credentialsWith (e .operation) e c s)
+
+-- The host closes connections together. It is lent the table store `t` alone. Bytes must be awaited, and no operation may be open.
+unfoldable pub connectionsClosedStep : Engine → List ℕ → List ℕ → Closed
+connectionsClosedStep e l t =
+    pick (shortTables t) (refuseClosing refusal.StoreTooShort e t)
+    (pick (sound e && (sameAwait (e .awaits) await.Bytes && not (busy (e .operation)))) (closeChecked e l t)
+    (refuseClosing refusal.WrongMoment e t))
 
 -- A fresh engine.
 unfoldable pub started : Settings → Engine

@@ -9,7 +9,7 @@ use lib.Count.{ones}
 use lib.Dec.{leb}
 use lib.ListN.{take, replicate}
 use Rattle.journal.specs.Checks.{Check, stop, windowLength, mostWrong, wrongs, Ruled}
-use Rattle.journal.specs.Journal.{Journal, journalAfter, packets}
+use Rattle.journal.specs.Journal.{Journal, journalAfter}
 use Rattle.server.specs.declared.Await.the-variants as await
 use Rattle.server.specs.declared.Engine.{Engine}
 use Rattle.server.specs.declared.Settings.{Settings}
@@ -17,7 +17,7 @@ use Rattle.server.specs.declared.CallResult.{CallResult}
 use Rattle.model.specs.Step.{Stores}
 use Rattle.model.specs.Guard.{sameAwait}
 use Rattle.model.specs.Runs.{State, Performed, next, Ran, Started}
-use Rattle.model.specs.Theorem.{journalOf, fed, Kept}
+use Rattle.model.specs.Theorem.{journalOf, fed}
 use Rattle.model.specs.Contracts.{state, Accepted}
 
 -- The state after a run.
@@ -43,12 +43,12 @@ pub record Counted (e : Engine) (j : Journal) : Type 0 where
 -- The claim, for every accepted start and every run of calls from there.
 abbrev pub EightWrong : Type 0
 EightWrong =
-    (st : Settings) (s : State) → Started st s → (xs : List Performed) → Ran s xs → Kept (packets (journalOf st) (fed st s xs))
+    (st : Settings) (s : State) → Started st s → (xs : List Performed) → Ran s xs
     → Counted (ranTo s xs .engine) (journalAfter (journalOf st) (fed st s xs))
 
 -- The claim from the contract of a start.
 abbrev pub ContractsCount : Type 0
 ContractsCount =
     (st : Settings) (l : List ℕ) (s t : Stores) (u : List ℕ) (r : CallResult) (xs : List Performed) → Accepted st l s r t u
-    → Ran (state l r t u) xs → Kept (packets (journalOf st) (fed st (state l r t u) xs))
+    → Ran (state l r t u) xs
     → Counted (ranTo (state l r t u) xs .engine) (journalAfter (journalOf st) (fed st (state l r t u) xs))

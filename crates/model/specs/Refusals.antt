@@ -1,20 +1,24 @@
 -- What a host sees of a call, and what follows from that alone: which calls are due to be refused, and with which number
 -- (docs/PROTOCOL.md#refusals), and what the journal is fed (docs/PROTOCOL.md#journal). A call is due to be refused by the lengths of the
--- stores that it is lent (10), by what waits since the last call that was not refused (9), by the answer itself (8), and, if it gives a
--- nonce, by the last 32 nonces of such calls that were not refused (15). Neither the engine's state nor a store is in the type of anything
--- here. What this file shares with the model, and so cannot tell wrong, are the tests of an answer: `badReply`, `badHeaders`, `longUser` and
--- `among` (README, "What must be believed").
+-- stores that it is lent (10), by what waits since the last call that was not refused (9), by the answer itself (8), if it gives a nonce, by
+-- the last 32 nonces of such calls that were not refused (15), and, if it closes connections, by the operation and the ids that the journal
+-- has open (9, 19 to 21). Neither the engine's state nor a store is in the type of anything here. What this file shares with the model, and
+-- so cannot tell wrong, are the tests of an answer: `badReply`, `badHeaders`, `longUser`, `among`, `allOpen` and `repeats` (README, "What must
+-- be believed").
 use Prim.Native.Nat.{ℕ}
 use mathlib.Core.List.{List, [], _∷_}
-use mathlib.Core.Bool.{Bool, true, false, _&&_, _||_}
+use mathlib.Core.Bool.{Bool, true, false, _&&_, _||_, not}
 use mathlib.Core.Option.{Option, none, some}
 use lib.ListN.{length, take}
 use lib.Dec.{eqb, leb}
 use Rattle.base.specs.Pick.{pick}
 use Rattle.digest.specs.declared.md5.Octets16.{Octets16}
+use Rattle.packet.specs.Limits.{maxConnections}
 use Rattle.table.specs.Places.{maxNonces}
 use Rattle.table.specs.Nonces.{among}
-use Rattle.journal.specs.Calls.{Call, bytesOffered, streamEnded, replyTaken, replyGiven, objectGiven, bodyGiven, bodyFailed, abortAcknowledged, passwordGiven, nonceGiven, credentialsGiven, Verdict, goes, refused, Fed, noStep, stepBy, replySent}
+use Rattle.journal.specs.Calls.{Call, bytesOffered, streamEnded, replyTaken, replyGiven, objectGiven, bodyGiven, bodyFailed, abortAcknowledged, passwordGiven, nonceGiven, credentialsGiven, connectionsClosed, Verdict, goes, refused, Fed, noStep, stepBy, replySent}
+use Rattle.journal.specs.Ids.{allOpen, repeats}
+use Rattle.journal.specs.Journal.{Journal, busy, journalStep}
 use Rattle.model.specs.Guard.{badReply, badHeaders, longUser}
 use Rattle.server.specs.Numbers.{refusalNumber, endNumber}
 use Rattle.server.specs.declared.HostRequest.{HostRequest}
@@ -123,6 +127,7 @@ expected (nonceGiven n) w = sameWait w nonce
 expected (credentialsGiven c) w = sameWait w credentials
 expected (bodyGiven d) w = sameWait w (reading 0) && leb (length d) (roomIn w)
 expected bodyFailed w = sameWait w (reading 0)
+expected (connectionsClosed l) w = sameWait w bytes
 
 -- Whether an answer is none that may be given.
 unfoldable pub bad : Call → Bool
@@ -137,6 +142,7 @@ bad bodyFailed = false
 bad abortAcknowledged = false
 bad (passwordGiven p) = false
 bad (nonceGiven n) = false
+bad (connectionsClosed l) = false
 
 -- ---- what is known from the calls and their results alone
 
@@ -163,6 +169,7 @@ noted bodyFailed v ns = ns
 noted abortAcknowledged v ns = ns
 noted (passwordGiven p) v ns = ns
 noted (credentialsGiven c) v ns = ns
+noted (connectionsClosed l) v ns = ns
 
 -- What is known after a call, by what it returned.
 abbrev pub learns : Known → Call → Outcome → Known
@@ -181,21 +188,54 @@ used bodyFailed ns = false
 used abortAcknowledged ns = false
 used (passwordGiven p) ns = false
 used (credentialsGiven c) ns = false
+used (connectionsClosed l) ns = false
 
--- The verdict on a call that is waited for, by the answer itself and by the nonces before it.
-abbrev pub judged : Call → Known → Verdict
-judged c k = pick (bad c) (refused 8) (pick (used c (k .nonces)) (refused 15) goes)
+-- ---- connections that are closed together, by what the journal has open
 
--- The verdict on a call: 10 comes before 9, 9 before 8, and 8 before 15.
-unfoldable pub verdict : Bool → Known → Call → Verdict
-verdict s k c = pick s (refused 10) (pick (expected c (k .waits)) (judged c k) (refused 9))
+-- Whether what is open allows a call: connections may not be closed inside an operation.
+abbrev pub allowed : Call → Journal → Bool
+allowed (connectionsClosed l) j = not (busy (j .opened))
+allowed (bytesOffered i) j = true
+allowed streamEnded j = true
+allowed replyTaken j = true
+allowed (replyGiven code hs) j = true
+allowed (objectGiven hs b) j = true
+allowed (bodyGiven d) j = true
+allowed bodyFailed j = true
+allowed abortAcknowledged j = true
+allowed (passwordGiven p) j = true
+allowed (nonceGiven n) j = true
+allowed (credentialsGiven c) j = true
 
--- ---- along a list of calls, from where `k` is known
+-- The verdict on ids that are to be closed, by those that are open: 19 comes before 20, and 20 before 21.
+abbrev pub judgedIds : List ℕ → List ℕ → Verdict
+judgedIds l ids =
+    pick (leb (length l) maxConnections) (pick (allOpen l ids) (pick (repeats l) (refused 21) goes) (refused 20)) (refused 19)
 
--- The verdicts that are due.
-abbrev pub dueFrom : Known → List Seen → List Verdict
-dueFrom k [] = []
-dueFrom k (x ∷ xs) = verdict (x .short) k (x .call) ∷ dueFrom (learns k (x .call) (x .outcome)) xs
+-- The verdict on a call by the ids that it closes.
+abbrev pub closing : Call → Journal → Verdict
+closing (connectionsClosed l) j = judgedIds l (j .standing .ids)
+closing (bytesOffered i) j = goes
+closing streamEnded j = goes
+closing replyTaken j = goes
+closing (replyGiven code hs) j = goes
+closing (objectGiven hs b) j = goes
+closing (bodyGiven d) j = goes
+closing bodyFailed j = goes
+closing abortAcknowledged j = goes
+closing (passwordGiven p) j = goes
+closing (nonceGiven n) j = goes
+closing (credentialsGiven c) j = goes
+
+-- ---- the verdict
+
+-- The verdict on a call that is waited for, by the answer itself, by the nonces before it, and by the ids that are open.
+abbrev pub judged : Call → Known → Journal → Verdict
+judged c k j = pick (bad c) (refused 8) (pick (used c (k .nonces)) (refused 15) (closing c j))
+
+-- The verdict on a call: 10 comes before 9, and 9 before 8, 15 and 19 to 21.
+unfoldable pub verdict : Bool → Known → Journal → Call → Verdict
+verdict s k j c = pick s (refused 10) (pick (allowed c j && expected c (k .waits)) (judged c k j) (refused 9))
 
 -- What the journal is fed of a call that goes: the first byte of the reply goes with a reply taken, and with no other call.
 abbrev pub fedCall : Call → ℕ → Fed
@@ -210,19 +250,34 @@ fedCall abortAcknowledged b = stepBy abortAcknowledged
 fedCall (passwordGiven p) b = stepBy (passwordGiven p)
 fedCall (nonceGiven n) b = stepBy (nonceGiven n)
 fedCall (credentialsGiven c) b = stepBy (credentialsGiven c)
+fedCall (connectionsClosed l) b = stepBy (connectionsClosed l)
 
 abbrev pub fedBy : Verdict → Call → ℕ → Fed
 fedBy (refused n) c b = noStep
 fedBy goes c b = fedCall c b
 
-abbrev pub feedFrom : Known → List Seen → List Fed
-feedFrom k [] = []
-feedFrom k (x ∷ xs) = fedBy (verdict (x .short) k (x .call)) (x .call) (x .reply) ∷ feedFrom (learns k (x .call) (x .outcome)) xs
+-- ---- along a list of calls, from where `k` is known and the journal is `j`
 
--- The verdicts that are due along a list of calls from an accepted start, and what the journal is fed of them. It is fed the verdicts that
--- are due, and not those that were returned.
-abbrev pub due : List Seen → List Verdict
-due xs = dueFrom atStart xs
+-- The verdict that is due on a call, and what the journal is fed of it: the verdict that is due, and not the one that was returned.
+abbrev pub dueOn : Known → Journal → Seen → Verdict
+dueOn k j x = verdict (x .short) k j (x .call)
 
-abbrev pub feed : List Seen → List Fed
-feed xs = feedFrom atStart xs
+abbrev pub fedOn : Known → Journal → Seen → Fed
+fedOn k j x = fedBy (dueOn k j x) (x .call) (x .reply)
+
+-- The verdicts that are due.
+abbrev pub dueFrom : Known → Journal → List Seen → List Verdict
+dueFrom k j [] = []
+dueFrom k j (x ∷ xs) = dueOn k j x ∷ dueFrom (learns k (x .call) (x .outcome)) (journalStep j (fedOn k j x) .next) xs
+
+-- What the journal is fed.
+abbrev pub feedFrom : Known → Journal → List Seen → List Fed
+feedFrom k j [] = []
+feedFrom k j (x ∷ xs) = fedOn k j x ∷ feedFrom (learns k (x .call) (x .outcome)) (journalStep j (fedOn k j x) .next) xs
+
+-- The same along a list of calls from an accepted start, with the journal of a fresh engine.
+abbrev pub due : Journal → List Seen → List Verdict
+due j xs = dueFrom atStart j xs
+
+abbrev pub feed : Journal → List Seen → List Fed
+feed j xs = feedFrom atStart j xs

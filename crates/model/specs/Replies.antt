@@ -18,7 +18,7 @@ use Rattle.packet.specs.Packet.{Request}
 use Rattle.packet.specs.Auth.{Challenge}
 use Rattle.packet.specs.declared.opcode.Opcode.the-variants.{Connect}
 use Rattle.journal.specs.Ids.{member, newId}
-use Rattle.journal.specs.Calls.{Credentials, Call, bytesOffered, streamEnded, replyTaken, replyGiven, objectGiven, bodyGiven, bodyFailed, abortAcknowledged, passwordGiven, nonceGiven, credentialsGiven, Fed, noStep, stepBy, replySent}
+use Rattle.journal.specs.Calls.{Credentials, Call, bytesOffered, streamEnded, replyTaken, replyGiven, objectGiven, bodyGiven, bodyFailed, abortAcknowledged, passwordGiven, nonceGiven, credentialsGiven, connectionsClosed, Fed, noStep, stepBy, replySent}
 use Rattle.journal.specs.Journal.{Standing, Opened, nothing, trailing, putting, getting, sending, gathering, draining, Journal, asksSrm, listOf, journalStep}
 use Rattle.connection.specs.ConnectReply.{answeredChallenge, connectHeaders}
 
@@ -92,6 +92,7 @@ lateAfter late j (stepBy abortAcknowledged) = late
 lateAfter late j (stepBy (passwordGiven p)) = late
 lateAfter late j (stepBy (nonceGiven n)) = late
 lateAfter late j (stepBy (credentialsGiven c)) = late
+lateAfter late j (stepBy (connectionsClosed l)) = late
 
 -- The reply to a call, if it is one to a host's answer; 0 for any other call.
 abbrev pub replySize : Late → Journal → Fed → ℕ
@@ -108,6 +109,7 @@ replySize late j (stepBy bodyFailed) = 0
 replySize late j (stepBy abortAcknowledged) = 0
 replySize late j (stepBy (passwordGiven p)) = 0
 replySize late j (stepBy (nonceGiven n)) = 0
+replySize late j (stepBy (connectionsClosed l)) = 0
 
 -- No reply is over 65,535 bytes.
 abbrev pub RepliesFrom : Late → Journal → List Fed → Type 0

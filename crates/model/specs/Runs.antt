@@ -7,9 +7,10 @@ use mathlib.Core.Bool.{Bool, false, _||_}
 use mathlib.Core.Option.{Option, none, some}
 use lib.ListN.{getD, take}
 use Rattle.journal.specs.Record.{Record}
-use Rattle.journal.specs.Calls.{Call, bytesOffered, streamEnded, replyTaken, replyGiven, objectGiven, bodyGiven, bodyFailed, abortAcknowledged, passwordGiven, nonceGiven, credentialsGiven}
+use Rattle.journal.specs.Calls.{Call, bytesOffered, streamEnded, replyTaken, replyGiven, objectGiven, bodyGiven, bodyFailed, abortAcknowledged, passwordGiven, nonceGiven, credentialsGiven, connectionsClosed}
 use Rattle.model.specs.Step.{Stores, Stepped, stepped, Called, called}
-use Rattle.model.specs.Calls.{bytesOfferedStep, streamEndedStep, replyTakenStep, replyGivenStep, objectGivenStep, bodyGivenStep, bodyFailedStep, abortAcknowledgedStep, passwordGivenStep, nonceGivenStep, credentialsGivenStep, started}
+use Rattle.model.specs.Calls.{bytesOfferedStep, streamEndedStep, replyTakenStep, replyGivenStep, objectGivenStep, bodyGivenStep, bodyFailedStep, abortAcknowledgedStep, passwordGivenStep, nonceGivenStep, credentialsGivenStep, connectionsClosedStep, started}
+use Rattle.model.specs.Close.{Closed}
 use Rattle.model.specs.Guard.{short, shortTables, longRealm}
 use Rattle.model.specs.Refusals.{Seen}
 use Rattle.server.specs.declared.Settings.{Settings}
@@ -33,6 +34,10 @@ pub record State : Type 0 where
 abbrev pub keeps : State → Stepped → Called
 keeps s m = called m (s .tables)
 
+-- A call that is lent the table store alone leaves the four stores.
+abbrev pub beside : State → Closed → Called
+beside s m = called (stepped (m .took) (s .stores)) (m .tables)
+
 -- A call is the model's step.
 abbrev pub stepOf : State → Call → Called
 stepOf s (bytesOffered i) = keeps s (bytesOfferedStep (s .engine) i (s .stores) (s .tables))
@@ -46,6 +51,7 @@ stepOf s abortAcknowledged = keeps s (abortAcknowledgedStep (s .engine) (s .stor
 stepOf s (passwordGiven p) = keeps s (passwordGivenStep (s .engine) p (s .stores))
 stepOf s (nonceGiven n) = nonceGivenStep (s .engine) n (s .realm) (s .stores) (s .tables)
 stepOf s (credentialsGiven c) = keeps s (credentialsGivenStep (s .engine) c (s .stores))
+stepOf s (connectionsClosed l) = beside s (connectionsClosedStep (s .engine) l (s .tables))
 
 -- The state after a call, with the realm as it was.
 abbrev pub stateOf : List ℕ → Called → State
@@ -88,6 +94,7 @@ OffersOctets abortAcknowledged = Unit {0}
 OffersOctets (passwordGiven p) = Unit {0}
 OffersOctets (nonceGiven n) = Unit {0}
 OffersOctets (credentialsGiven c) = Unit {0}
+OffersOctets (connectionsClosed l) = Unit {0}
 
 -- What a call's contract says of it: its result and the stores afterwards are the model's step, and the bytes that it was offered are bytes.
 -- A call that is not lent the table store leaves it.
@@ -149,6 +156,7 @@ lacks st bodyFailed s t = short (st .«max_object_size») s
 lacks st abortAcknowledged s t = short (st .«max_object_size») s
 lacks st (passwordGiven p) s t = short (st .«max_object_size») s
 lacks st (credentialsGiven c) s t = short (st .«max_object_size») s
+lacks st (connectionsClosed l) s t = shortTables t
 
 -- What the host that set `st` sees of a call that it made with the stores of `s`.
 abbrev pub seenOf : Settings → State → Performed → Seen

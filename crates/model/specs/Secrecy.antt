@@ -7,7 +7,7 @@ use mathlib.Core.List.{List, [], _∷_, map}
 use mathlib.Core.Bool.{Bool, true, false}
 use mathlib.Core.Option.{Option, some}
 use Rattle.base.specs.Pick.{pick}
-use Rattle.journal.specs.Calls.{Call, bytesOffered, streamEnded, replyTaken, replyGiven, objectGiven, bodyGiven, bodyFailed, abortAcknowledged, passwordGiven, nonceGiven, credentialsGiven}
+use Rattle.journal.specs.Calls.{Call, bytesOffered, streamEnded, replyTaken, replyGiven, objectGiven, bodyGiven, bodyFailed, abortAcknowledged, passwordGiven, nonceGiven, credentialsGiven, connectionsClosed}
 use Rattle.model.specs.Step.{Stores, Called}
 use Rattle.model.specs.Request.{clientResponse}
 use Rattle.model.specs.Connect.{demandsUser, checks}
@@ -57,6 +57,7 @@ checkMade bodyFailed s = false
 checkMade abortAcknowledged s = false
 checkMade (nonceGiven n) s = false
 checkMade (credentialsGiven c) s = false
+checkMade (connectionsClosed l) s = false
 
 -- Each check comes out alike in both runs, the first from the state `s` and the second from the state `t`.
 abbrev pub ChecksAlike : State → State → List Performed → List Performed → Type 0

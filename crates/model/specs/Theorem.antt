@@ -1,8 +1,8 @@
 -- The records theorem (the mission's demand 3). It is a single claim about a list of calls: for every accepted start and every run of calls
 -- from there, what the calls return and hand over is what the journal says, which is fed what the host sees and nothing of the engine.
 -- Journal and model share how packets are read (`requestOf`, `readHeaders`), which headers are kept (`isBody`, `isSrm`), the ids (`member`,
--- `newId`, `without`), `isEnable`, `responseIn` and `verified`. The theorem cannot tell these wrong; README, "What must be believed", says
--- what guards each.
+-- `newId`, `without`, `allOpen`, `repeats`), `isEnable`, `responseIn` and `verified`. The theorem cannot tell these wrong; README, "What must
+-- be believed", says what guards each.
 use Prim.Native.Nat.{ℕ, _≤_}
 use mathlib.Core.Path.{_≡_}
 use mathlib.Core.List.{List, [], _∷_, map}
@@ -35,7 +35,7 @@ journalOf st = fresh (settingsOf st)
 
 -- What the journal is fed of a run from the state `s`.
 abbrev pub fed : Settings → State → List Performed → List Fed
-fed st s xs = feed (seen st s xs)
+fed st s xs = feed (journalOf st) (seen st s xs)
 
 -- The premise on kept headers: they stay within 65,535 bytes.
 abbrev pub Kept : List Marked → Type 0
@@ -80,7 +80,7 @@ pub record Agrees (st : Settings) (s : State) (xs : List Performed) : Type 0 whe
 -- What holds of a run `xs` of calls, from the state `s` of an accepted start with the settings `st`.
 pub record Upholds (st : Settings) (s : State) (xs : List Performed) : Type 0 where
   -- A call is refused exactly if it is due to be, with the number that is due; and then it changes nothing.
-  pub refusals : map (λ (x : Performed). verdictOf (x .result .outcome)) xs ≡ due (seen st s xs)
+  pub refusals : map (λ (x : Performed). verdictOf (x .result .outcome)) xs ≡ due (journalOf st) (seen st s xs)
   pub unmoved : Unmoved s xs
   pub agrees : Kept (packets (journalOf st) (fed st s xs)) → Agrees st s xs
   -- The engine ends in the calls in which the journal says so, and with its number, if replies stay within 65,535 bytes too.

@@ -23,6 +23,7 @@ pub enum Command {
     Acknowledge,
     Show,
     Inspect,
+    Close,
     // A line that tells what the original did, or no command.
     Other,
 }
@@ -61,6 +62,8 @@ pub enum Call {
         has_credentials: bool,
         has_user: bool,
     },
+    // The ids are the first byte string, four bytes each.
+    Close,
     Nothing,
 }
 
@@ -127,6 +130,9 @@ fn own_command_of(w: &[u8]) -> Command {
     }
     if same(w, b"inspect") {
         return Command::Inspect;
+    }
+    if same(w, b"close") {
+        return Command::Close;
     }
     Command::Other
 }
@@ -309,6 +315,16 @@ fn nonce_of(s: &[u8]) -> Call {
     Call::Nothing
 }
 
+// Decodes the ids that are to be closed, of eight digits each; what stands between two of them is passed over.
+fn close(s: &[u8], store: &mut [u8]) -> Decoded {
+    let first = unhex(s, store);
+    Decoded {
+        call: Call::Close,
+        first,
+        second: 0,
+    }
+}
+
 fn nonce(s: &[u8], store: &mut [u8]) -> Call {
     let n = unhex(s, store);
     nonce_of(&store[0..n])
@@ -339,6 +355,7 @@ fn decode_answer(c: Command, s: &[u8], words: &mut [u8]) -> Decoded {
     match c {
         Command::Nonce => bare(nonce(s, words)),
         Command::Answer => answer(s, words),
+        Command::Close => close(s, words),
         _ => bare(call_alone(c, s)),
     }
 }

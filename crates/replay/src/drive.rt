@@ -4,6 +4,7 @@ use crate::command::Options;
 use crate::state::Replay;
 use engine::calls;
 use lines::output::least;
+use packet::header::be32_at;
 use server::CallResult;
 use server::Engine;
 use server::Settings;
@@ -83,6 +84,28 @@ fn start(
     calls::start(settings_of(o), realm, tables, packet, headers, body, reply)
 }
 
+// ---- connections that are closed together
+
+// Reads ids of four bytes each from `a` into `ids`, as many as there is room for, and returns how many there are.
+fn ids_of(a: &[u8], ids: &mut [u32]) -> usize {
+    let mut n = 0;
+    while n < ids.len() {
+        if a.len() / 4 <= n {
+            return n;
+        }
+        ids[n] = be32_at(a, n * 4);
+        n += 1;
+    }
+    n
+}
+
+// Closes the ids that `a` holds, of which 128 are looked at, so that more than 64 reach the engine.
+fn close(e: Engine, a: &[u8], tables: &mut [u64]) -> CallResult {
+    let mut ids = [0u32; 128];
+    let n = ids_of(a, &mut ids);
+    calls::connections_closed(e, &ids[0..least(n, 128)], tables)
+}
+
 // ---- one call
 
 // Makes a call that comes from the peer, or one that answers no question. A reply is taken if `call` is no other call.
@@ -126,6 +149,7 @@ fn host_call(
         Call::Object(has_body) => calls::object_given(e, a, has_body, packet, headers, body, reply),
         Call::Body => calls::body_given(e, a, packet, headers, body, reply),
         Call::BodyFailed => calls::body_failed(e, packet, headers, body, reply),
+        Call::Close => close(e, a, tables),
         Call::Password(has_password) => calls::password_given(
             e,
             has_password,

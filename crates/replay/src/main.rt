@@ -143,7 +143,12 @@ fn is_taken(call: Call) -> bool {
     if let Call::Taken = call { true } else { false }
 }
 
-// Returns whether the state is printed: it is after an operation, which ends when its last reply is taken, and after the end.
+fn is_close(call: Call) -> bool {
+    if let Call::Close = call { true } else { false }
+}
+
+// Returns whether the state is printed: it is after an operation, which ends when its last reply is taken, after connections were closed
+// together, and after the end.
 fn shows_state(call: Call, took: CallResult) -> bool {
     let outcome = took.outcome;
     let e = took.engine;
@@ -154,7 +159,7 @@ fn shows_state(call: Call, took: CallResult) -> bool {
             if is_taken(call) {
                 return is_nothing(operation);
             }
-            false
+            is_close(call)
         }
         _ => false,
     }

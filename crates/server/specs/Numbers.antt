@@ -1,4 +1,4 @@
--- The numbers of ends and refusals (docs/PROTOCOL.md#ends, #refusals): 1 to 7 end the engine, 8 to 10 and 15 refuse a call.
+-- The numbers of ends and refusals (docs/PROTOCOL.md#ends, #refusals): 1 to 7 end the engine; 8 to 10, 15, and 19 to 21 refuse a call.
 use Prim.Native.Nat.{ℕ}
 use Rattle.server.specs.declared.End.{End}
 use Rattle.server.specs.declared.End.the-variants as end
@@ -19,3 +19,6 @@ refusalNumber refusal.BadAnswer = 8
 refusalNumber refusal.WrongMoment = 9
 refusalNumber refusal.StoreTooShort = 10
 refusalNumber refusal.NonceUsed = 15
+refusalNumber refusal.TooManyIds = 19
+refusalNumber refusal.IdNotOpen = 20
+refusalNumber refusal.IdRepeated = 21

@@ -237,6 +237,12 @@ pub enum Refusal {
     StoreTooShort,
     // 15: the nonce is one of the last 32 that were taken.
     NonceUsed,
+    // 19: over 64 ids are to be closed together.
+    TooManyIds,
+    // 20: an id that is to be closed is not open.
+    IdNotOpen,
+    // 21: an id that is to be closed occurs twice.
+    IdRepeated,
 }
 
 // What a call tells the host to do next.
@@ -284,5 +290,8 @@ pub fn refusal_number(refusal: Refusal) -> u8
         Refusal::WrongMoment => 9,
         Refusal::StoreTooShort => 10,
         Refusal::NonceUsed => 15,
+        Refusal::TooManyIds => 19,
+        Refusal::IdNotOpen => 20,
+        Refusal::IdRepeated => 21,
     }
 }
