@@ -14,8 +14,10 @@ use Rattle.journal.specs.Ids.{without}
 use Rattle.connection.specs.declared.peer.Peer.{Peer}
 use Rattle.connection.specs.Peer.{peerWith, closedTables}
 use Rattle.connection.specs.Reply.{front}
-use Rattle.table.proofs.Remembering.{SameNonces, same-behind}
-use Rattle.connection.proofs.Front.{front-length, front-behind, front-set, front-drop}
+use Rattle.table.specs.Targets.{targetsClosed}
+use Rattle.table.proofs.Remembering.{SameNonces, same-behind, same-before}
+use Rattle.table.proofs.Columns.{length-columns, columns-front}
+use Rattle.connection.proofs.Front.{front-length, front-behind, front-drop, front-set}
 
 pub without-shorter : (x : ℕ) (l : List ℕ) → length (without x l) ≤ length l
 unfolding without
@@ -79,23 +81,27 @@ module _ (ids₀ : List ℕ) (x i : ℕ) (ids : List ℕ) (kept : ℕ) (h : i < 
   pub closed-skips : getD ids i 0 ≡ x → Closed ids₀ x (i + 1) ids kept
   closed-skips e = record { count = rw (skips e) (c .count); store = rw (skips e) (c .store) }
 
--- ---- the table store once an id was closed; above this crate these three laws alone are known of it
+-- ---- the table store once an id was closed; above this crate these laws and those of `Carrying` alone are known of it
 
 -- the ids that are left stand at its front
 pub closed-front : (x n : ℕ) (t : List ℕ) → n ≤ length t → take (length (without x (take n t))) (closedTables x n t) ≡ without x (take n t)
 unfolding closedTables
-closed-front x n t h = take-append-seam (without x (take n t)) (drop (length (without x (take n t))) t)
+closed-front x n t h = take-append-seam (without x (take n t)) (drop (length (without x (take n t))) (targetsClosed x n t))
 
 -- it keeps its length
 pub closed-length : (x n : ℕ) (t : List ℕ) → n ≤ length t → length (closedTables x n t) ≡ length t
 unfolding closedTables
-closed-length x n t h = front-length (without x (take n t)) t (omega (arith, without-shorter x (take n t), length-take n t))
+closed-length x n t h =
+    front-length (without x (take n t)) (targetsClosed x n t) (omega (arith, without-shorter x (take n t), length-take n t, length-columns x n t))
+    ∙ length-columns x n t
 
--- the nonces stand behind the ids, and stay
+-- and the nonces that it remembers
 pub closed-nonces : (x n : ℕ) (t : List ℕ) → n ≤ 64 → SameNonces (closedTables x n t) t
 unfolding closedTables
-closed-nonces x n t h =
-    same-behind _ t (front-drop (without x (take n t)) t 64 (omega (arith, without-shorter x (take n t), length-take n t)))
+closed-nonces x n t h k l =
+    same-behind _ (targetsClosed x n t)
+    (front-drop (without x (take n t)) (targetsClosed x n t) 64 (omega (arith, without-shorter x (take n t), length-take n t))) k l
+    ∙ same-before (targetsClosed x n t) t (columns-front x n t 128 (omega arith)) k l
 
 -- the peer with `n` ids open and all else as it was
 abbrev pub withCount : Peer → ℕ → Peer

@@ -22,10 +22,13 @@ use Rattle.journal.specs.Journal.{Standing, withCheck, openId, opensFor, leaves
 use Rattle.connection.specs.declared.peer.Challenge.{Challenge}
 use Rattle.connection.specs.declared.peer.Challenge.the-variants.{Stored, Absent}
 use Rattle.connection.specs.declared.peer.Peer.{Peer}
-use Rattle.connection.specs.Peer.{peerWith, idsOf, Linked, freshPeer, atLeast255, limited, checkedPeer, verifiedPeer, challengedPeer, opened, searched, openedFor, clearedPeer, leftPeer, closedTables, disconnectedPeer}
+use Rattle.connection.specs.Peer.{peerWith, idsOf, Linked, freshPeer, atLeast255, limited, checkedPeer, verifiedPeer, challengedPeer, opened, searched, targetGiven, openedFor, clearedPeer, leftPeer, closedTables, disconnectedPeer}
 use Rattle.table.specs.Nonces.{counted}
+use Rattle.table.specs.Targets.{targetBy, placeOf, targetSet}
+use Rattle.table.specs.declared.targets.Target.{Target}
 use Rattle.journal.proofs.Checked.{counts}
-use Rattle.table.proofs.Remembering.{SameNonces, same-behind, counted-few}
+use Rattle.table.proofs.Remembering.{SameNonces, same-behind, same-before, counted-few}
+use Rattle.table.proofs.Naming.{length-target-set, target-set-front}
 use Rattle.connection.proofs.Closing.{without-shorter, closed-front, closed-length, closed-nonces, withCount}
 
 abbrev pub challengeBytes : Challenge → Option (List ℕ)
@@ -210,8 +213,7 @@ disconnected-length p t (some v) f h = closed-length (be32 v 0) (p .count) t (om
 pub disconnected-nonces : {m : ℕ} (p : Peer) (t : List ℕ) (v : Option (List ℕ)) → PeerFits m p → SameNonces (disconnectedPeer p t v .tables) t
 unfolding disconnectedPeer
 disconnected-nonces p t none f = λ n l. refl
-disconnected-nonces p t (some v) f =
-    closed-nonces (be32 v 0) (p .count) t (f .count)
+disconnected-nonces p t (some v) f = closed-nonces (be32 v 0) (p .count) t (f .count)
 
 -- ---- an id is opened
 
@@ -223,34 +225,50 @@ OpensAs p t h s (some q) =
     × SameNonces (q .tables) t
 
 module _ (p : Peer) (t : List ℕ) (past : List Check) (srm : Bool) (f : PeerFits (p .nonces) p) (room : 64 ≤ length t) where
-  opened-as : (id next : ℕ) → OpensAs p t past (openId (standingOf p t past) srm id next) (opened p t srm id next)
+  opened-as : (id next : ℕ) (g : Target) → OpensAs p t past (openId (standingOf p t past) srm id next) (opened p t srm id next g)
   unfolding opened openId peerWith
-  opened-as id next = go (member id (idsOf p t)) (leb 64 (p .count)) refl refl
+  opened-as id next g = go (member id (idsOf p t)) (leb 64 (p .count)) refl refl
     where
       size : length (idsOf p t) ≡ p .count
       size = length-take-le (p .count) t (omega (arith, f))
 
-      added : p .count < 64 → take (p .count + 1) (set t (p .count) id) ≡ idsOf p t ++ (id ∷ [])
-      added h = rw (add-one (p .count)) (take-suc-set t (p .count) id (omega (arith, f)))
+      -- where the Target is stored plays no part for the ids and the nonces
+      front-stays : (u : List ℕ) (i n : ℕ) → n ≤ 64 → take n (targetSet u i g) ≡ take n u
+      front-stays u i n h = target-set-front u i g n (omega arith)
+
+      nonces-stay : (u : List ℕ) (i : ℕ) → SameNonces (targetSet u i g) u
+      nonces-stay u i = same-before (targetSet u i g) u (target-set-front u i g 128 (omega arith))
+
+      added : p .count < 64 → take (p .count + 1) (targetSet (set t (p .count) id) (p .count) g) ≡ idsOf p t ++ (id ∷ [])
+      added h =
+          front-stays (set t (p .count) id) (p .count) (p .count + 1) (omega arith)
+          ∙ rw (add-one (p .count)) (take-suc-set t (p .count) id (omega (arith, f)))
 
       go : (x u : Bool) → member id (idsOf p t) ≡ x → leb 64 (p .count) ≡ u
-          → OpensAs p t past (openId (standingOf p t past) srm id next) (opened p t srm id next)
-      go true u m e = rw m (refl, same-fits p (p .«next_connection_id») srm (p .authenticated) (p .challenge) (p .window) f, refl, refl, λ n l. refl)
+          → OpensAs p t past (openId (standingOf p t past) srm id next) (opened p t srm id next g)
+      go true u m e =
+          rw (m, front-stays t (placeOf id (idsOf p t)) (p .count) (f .count)) (
+            refl,
+            same-fits p (p .«next_connection_id») srm (p .authenticated) (p .challenge) (p .window) f,
+            length-target-set t (placeOf id (idsOf p t)) g,
+            refl,
+            nonces-stay t (placeOf id (idsOf p t)),
+          )
       go false true m e = rw (m, size, e) refl
       go false false m e =
           let h : p .count < 64 = leb-false _ _ e in
           rw (m, size, e, added h) (
             refl,
             record { count = omega arith; least = f .least; most = f .most; nonces = refl; few = f .few },
-            length-set t (p .count) id,
+            length-target-set (set t (p .count) id) (p .count) g ∙ length-set t (p .count) id,
             refl,
-            same-behind _ t (drop-set-lt 64 t (p .count) id h),
+            λ n l. nonces-stay (set t (p .count) id) (p .count) n l ∙ same-behind _ t (drop-set-lt 64 t (p .count) id h) n l,
           )
 
   opens-as : (a v : Option (List ℕ)) → OpensAs p t past (opensFor (standingOf p t past) srm a v) (openedFor p t srm a v)
   unfolding peerWith
-  opens-as (some i) v = opened-as (be32 i 0) (p .«next_connection_id»)
-  opens-as none (some v) = opened-as (searched p t) ((searched p t + 1) % 2 ^ 32)
+  opens-as (some i) v = opened-as (be32 i 0) (p .«next_connection_id») (targetGiven v)
+  opens-as none (some v) = opened-as (searched p t) ((searched p t + 1) % 2 ^ 32) (targetBy v)
   opens-as none none = (refl, same-fits p (p .«next_connection_id») srm (p .authenticated) (p .challenge) (p .window) f, refl, refl, λ n l. refl)
 
   pub opened-standing : (q : Linked) (a v : Option (List ℕ)) → openedFor p t srm a v ≡ some q

@@ -10,6 +10,8 @@ use Rattle.base.specs.Bytes.{be32}
 use Rattle.digest.specs.declared.md5.Octets16.{Octets16}
 use Rattle.packet.specs.Limits.{minPacket, maxConnections}
 pub use Rattle.packet.specs.Header.{present as isGiven}
+use Rattle.table.specs.Targets.{unnamed, targetBy, placeOf, targetSet, targetsClosed}
+use Rattle.table.specs.declared.targets.Target.{Target}
 use Rattle.journal.specs.Ids.{member, without, newId}
 use Rattle.journal.specs.Checks.{shifted}
 use Rattle.table.specs.Nonces.{counted}
@@ -91,11 +93,17 @@ srmPeer p srm =
 abbrev pub addedPeer : Peer → Bool → ℕ → Peer
 addedPeer p srm next = peerWith (p .count + 1) next (p .«remote_max_packet_length») srm (p .authenticated) (p .challenge) (p .window) (p .nonces)
 
--- The id is opened if it is not open yet, behind those that are, with the counter `next`; `none` if it is a 65th.
-unfoldable pub opened : Peer → List ℕ → Bool → ℕ → ℕ → Option Linked
-opened p t srm id next =
-    pick (member id (idsOf p t)) (some (linked (srmPeer p srm) t))
-    (pick (leb maxConnections (p .count)) none (some (linked (addedPeer p srm next) (set t (p .count) id))))
+-- The id is opened if it is not open yet, behind those that are, with the counter `next`; `none` if it is a 65th. It takes the Target `g`,
+-- also if it was open (docs/PROTOCOL.md#targets).
+unfoldable pub opened : Peer → List ℕ → Bool → ℕ → ℕ → Target → Option Linked
+opened p t srm id next g =
+    pick (member id (idsOf p t)) (some (linked (srmPeer p srm) (targetSet t (placeOf id (idsOf p t)) g)))
+    (pick (leb maxConnections (p .count)) none (some (linked (addedPeer p srm next) (targetSet (set t (p .count) id) (p .count) g))))
+
+-- The Target that an id takes, by the request's first Target header.
+abbrev pub targetGiven : Option (List ℕ) → Target
+targetGiven none = unnamed
+targetGiven (some v) = targetBy v
 
 -- The id that the search yields, which goes in front of the answer to a Target.
 abbrev pub searched : Peer → List ℕ → ℕ
@@ -103,8 +111,8 @@ searched p t = newId (idsOf p t) (p .«next_connection_id»)
 
 -- A Connect succeeds: by the answer's first ConnectionID and the request's first Target.
 abbrev pub openedFor : Peer → List ℕ → Bool → Option (List ℕ) → Option (List ℕ) → Option Linked
-openedFor p t srm (some v) target = opened p t srm (be32 v 0) (p .«next_connection_id»)
-openedFor p t srm none (some v) = opened p t srm (searched p t) ((searched p t + 1) % 2 ^ 32)
+openedFor p t srm (some v) target = opened p t srm (be32 v 0) (p .«next_connection_id») (targetGiven target)
+openedFor p t srm none (some v) = opened p t srm (searched p t) ((searched p t + 1) % 2 ^ 32) (targetBy v)
 openedFor p t srm none none = some (linked (srmPeer p srm) t)
 
 -- All is cleared, but not the counter, the challenge, the window and the nonces.
@@ -117,9 +125,10 @@ leftPeer p n =
     pick (eqb n 0) (clearedPeer p)
     (peerWith n (p .«next_connection_id») (p .«remote_max_packet_length») (p .«srm_enabled») (p .authenticated) (p .challenge) (p .window) (p .nonces))
 
--- The table store once the id `x` was closed, of the first `n`: those that are left stand at its front, in their order.
+-- The table store once the id `x` was closed, of the first `n`: those that are left stand at its front, in their order, and their Targets
+-- beside them.
 unfoldable pub closedTables : ℕ → ℕ → List ℕ → List ℕ
-closedTables x n t = front (without x (take n t)) t
+closedTables x n t = front (without x (take n t)) (targetsClosed x n t)
 
 -- The peer and the table store once the id `x` was closed.
 abbrev pub closedLinked : Peer → List ℕ → ℕ → Linked
@@ -150,11 +159,11 @@ abbrev pub openingOf : Peer → List ℕ → Option Linked → Opens
 openingOf p t none = opens (record { full = true; peer = p }) t
 openingOf p t (some q) = opens (record { full = false; peer = q .peer }) (q .tables)
 
--- A Connect succeeds, by numbers: the id that the answer names, and whether there is a Target.
-abbrev pub openedBy : Peer → List ℕ → Bool → ConnectionId → Bool → Option Linked
-openedBy p t srm (Id i) target = opened p t srm i (p .«next_connection_id»)
-openedBy p t srm Missing true = opened p t srm (searched p t) ((searched p t + 1) % 2 ^ 32)
-openedBy p t srm Missing false = some (linked (srmPeer p srm) t)
+-- A Connect succeeds, by numbers: the id that the answer names, whether there is a Target header, and the Target `g` that it gives.
+abbrev pub openedBy : Peer → List ℕ → Bool → ConnectionId → Bool → Target → Option Linked
+openedBy p t srm (Id i) has g = opened p t srm i (p .«next_connection_id») g
+openedBy p t srm Missing true g = opened p t srm (searched p t) ((searched p t + 1) % 2 ^ 32) g
+openedBy p t srm Missing false g = some (linked (srmPeer p srm) t)
 
 -- The id that goes in front: for a Target, if the answer has none.
 abbrev pub frontBy : Peer → List ℕ → ConnectionId → Bool → ConnectionId
@@ -174,8 +183,8 @@ abbrev pub answerFrom : Opens → ConnectionId → Answers
 answerFrom o f = answers (record { opening = o .opening; front = f }) (o .tables)
 
 -- The same by numbers.
-abbrev pub answerBy : Peer → List ℕ → Bool → ConnectionId → Bool → Answers
-answerBy p t srm given target = answerFrom (openingOf p t (openedBy p t srm given target)) (frontBy p t given target)
+abbrev pub answerBy : Peer → List ℕ → Bool → ConnectionId → Bool → Target → Answers
+answerBy p t srm given has g = answerFrom (openingOf p t (openedBy p t srm given has g)) (frontBy p t given has)
 
 -- A Disconnect, by the number that it names.
 abbrev pub disconnectedBy : Peer → List ℕ → ConnectionId → Linked

@@ -8,11 +8,17 @@ ghost use Rattle.packet.specs.Limits.{maxConnections};
 ghost use Rattle.journal.specs.Ids.{member, taken, without, newId};
 ghost use Rattle.connection.specs.Peer.{atLeast255, limited as limitedPeer, authenticatedPeer, checkedPeer, verifiedPeer, challengedPeer, srmPeer};
 ghost use Rattle.connection.specs.Peer.{addedPeer, opened as openedPeer, opens, openingOf, answers, answerBy, clearedPeer, leftPeer, closedTables, linked, disconnectedBy};
+ghost use Rattle.connection.specs.Reply.{front};
+ghost use Rattle.table.specs.Places.{tableLength};
 use crate::checks::pushed;
 use digest::md5::Octets16;
 use packet::limits::MAX_CONNECTIONS;
 use packet::limits::MIN_PACKET;
 use table::nonces::counted;
+use table::targets::Target;
+use table::targets::close_targets;
+use table::targets::find_place;
+use table::targets::put_target;
 
 // The number that is reserved as an invalid connection id.
 const INVALID_ID: u32 = 0xFFFFFFFF;
@@ -117,24 +123,34 @@ pub fn allocate_connection_id(ids: &[u64], count: usize, counter: u32) -> NewId
     }
 }
 
-// Takes `id` out of the first `count` numbers of `tables`, keeping the order of the others, and returns how many are left.
-pub fn close_link(tables: &mut [u64], count: usize, id: u32) -> usize
-    requires { ⌜ (count ≤ maxConnections) × (count ≤ length (now tables)) ⌝ }
-    ensures { λ r. ⌜ r ≡ length (without id (take count (now (tables .entry)))) ⌝ }
-    ensures store { λ r. ⌜ now (tables .exit) ≡ closedTables id count (now (tables .entry)) ⌝ }
+// Takes `id` out of the first `count` numbers, keeping the order of the others, and returns how many are left.
+fn close_id(ids: &mut [u64], count: usize, id: u32) -> usize
+    requires { ⌜ (count ≤ maxConnections) × (count ≤ length (now ids)) ⌝ }
+    ensures { λ r. ⌜ r ≡ length (without id (take count (now (ids .entry)))) ⌝ }
+    ensures store { λ r. ⌜ now (ids .exit) ≡ front (without id (take count (now (ids .entry)))) (now (ids .entry)) ⌝ }
 {
     let closed = id as u64;
     let mut kept = 0;
     let mut i = 0;
     while i < count {
-        let x = tables[i];
+        let x = ids[i];
         if x != closed {
-            tables[kept] = x;
+            ids[kept] = x;
             kept += 1;
         }
         i += 1;
     }
     kept
+}
+
+// Closes `id`, one of the first `count` numbers of the table store, with its Target, and returns how many are left.
+pub fn close_link(tables: &mut [u64], count: usize, id: u32) -> usize
+    requires { ⌜ (count ≤ maxConnections) × (tableLength ≤ length (now tables)) ⌝ }
+    ensures { λ r. ⌜ r ≡ length (without id (take count (now (tables .entry)))) ⌝ }
+    ensures store { λ r. ⌜ now (tables .exit) ≡ closedTables id count (now (tables .entry)) ⌝ }
+{
+    close_targets(tables, count, id);
+    close_id(tables, count, id)
 }
 
 // ---- the peer
@@ -220,14 +236,23 @@ fn with_id(peer: Peer, srm: bool, next: u32) -> Peer
     r
 }
 
-// Opens `id` if it is not open yet, behind the ids of `tables` that are. A 65th is not opened.
-pub fn opened(peer: Peer, srm: bool, id: u32, next: u32, tables: &mut [u64]) -> Opening
-    requires { ⌜ (peer .count ≤ maxConnections) × (maxConnections ≤ length (now tables)) ⌝ }
+// Opens `id` if it is not open yet, behind the ids of `tables` that are. A 65th is not opened. Open or not, it takes `target`.
+pub fn opened(
+    peer: Peer,
+    srm: bool,
+    id: u32,
+    next: u32,
+    target: Target,
+    tables: &mut [u64],
+) -> Opening
+    requires { ⌜ (peer .count ≤ maxConnections) × (tableLength ≤ length (now tables)) ⌝ }
     ensures { λ r. ⌜ opens r (now (tables .exit))
-        ≡ openingOf peer (now (tables .entry)) (openedPeer peer (now (tables .entry)) srm id next) ⌝ }
+        ≡ openingOf peer (now (tables .entry)) (openedPeer peer (now (tables .entry)) srm id next target) ⌝ }
 {
     let count = peer.count;
     if is_open(&tables[..], count, id) {
+        let place = find_place(&tables[..], count, id);
+        put_target(tables, place, target);
         return Opening {
             full: false,
             peer: with_srm(peer, srm),
@@ -237,30 +262,33 @@ pub fn opened(peer: Peer, srm: bool, id: u32, next: u32, tables: &mut [u64]) -> 
         return Opening { full: true, peer };
     }
     tables[count] = id as u64;
+    put_target(tables, count, target);
     Opening {
         full: false,
         peer: with_id(peer, srm, next),
     }
 }
 
-// Opens the id of a Connect that succeeded: the one that the host's answer names, else, for a Target, a new one.
+// Opens the id of a Connect that succeeded: the one that the host's answer names, else, for a Target header, a new one. `target` is the
+// Target that the header gives.
 pub fn opened_for(
     peer: Peer,
     srm: bool,
     given: ConnectionId,
-    target: bool,
+    has_target: bool,
+    target: Target,
     tables: &mut [u64],
 ) -> Answer
-    requires { ⌜ (peer .count ≤ maxConnections) × (maxConnections ≤ length (now tables)) ⌝ }
-    ensures { λ r. ⌜ answers r (now (tables .exit)) ≡ answerBy peer (now (tables .entry)) srm given target ⌝ }
+    requires { ⌜ (peer .count ≤ maxConnections) × (tableLength ≤ length (now tables)) ⌝ }
+    ensures { λ r. ⌜ answers r (now (tables .exit)) ≡ answerBy peer (now (tables .entry)) srm given «has_target» target ⌝ }
 {
     if let ConnectionId::Id(id) = given {
         return Answer {
-            opening: opened(peer, srm, id, peer.next_connection_id, tables),
+            opening: opened(peer, srm, id, peer.next_connection_id, target, tables),
             front: ConnectionId::Missing,
         };
     }
-    if !target {
+    if !has_target {
         return Answer {
             opening: Opening {
                 full: false,
@@ -271,7 +299,7 @@ pub fn opened_for(
     }
     let found = allocate_connection_id(&tables[..], peer.count, peer.next_connection_id);
     Answer {
-        opening: opened(peer, srm, found.id, found.next, tables),
+        opening: opened(peer, srm, found.id, found.next, target, tables),
         front: ConnectionId::Id(found.id),
     }
 }
@@ -302,7 +330,7 @@ pub fn with_left(peer: Peer, count: usize) -> Peer
 
 // Closes the id that a Disconnect names. If it names none, or the last closes, all is cleared.
 pub fn disconnected(peer: Peer, named: ConnectionId, tables: &mut [u64]) -> Peer
-    requires { ⌜ (peer .count ≤ maxConnections) × (maxConnections ≤ length (now tables)) ⌝ }
+    requires { ⌜ (peer .count ≤ maxConnections) × (tableLength ≤ length (now tables)) ⌝ }
     ensures { λ r. ⌜ linked r (now (tables .exit)) ≡ disconnectedBy peer (now (tables .entry)) named ⌝ }
 {
     let ConnectionId::Id(id) = named else {

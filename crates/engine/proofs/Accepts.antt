@@ -22,7 +22,7 @@ use Rattle.packet.specs.declared.auth.DigestChallenge.the-variants as challenge
 use Rattle.journal.specs.Calls.{Credentials}
 use Rattle.incoming.specs.Survey.{surveyOf}
 use Rattle.connection.specs.Reply.{Sending as Sent, fieldsOf, sendBytes, sentInto, front}
-use Rattle.connection.specs.Peer.{Linked, linked, idIn, isGiven, openedFor, openedBy as peerOpened, openingOf, frontBy, Answers, answerFrom, answerBy, disconnectedPeer, disconnectedBy}
+use Rattle.connection.specs.Peer.{Linked, linked, idIn, isGiven, targetGiven, openedFor, openedBy as peerOpened, openingOf, frontBy, Answers, answerFrom, answerBy, disconnectedPeer, disconnectedBy}
 use Rattle.connection.specs.ConnectReply.{answeredChallenge, connectHeaders}
 use Rattle.connection.specs.Pieces.{headersFrom, realmOf, answeredIn, idGiven, credentialsOf}
 use Rattle.connection.specs.declared.peer.Peer.{Peer}
@@ -180,10 +180,10 @@ module _ (e : Engine) (s : Stores) where
           (challenged-is (l .peer) f (answeredChallenge (lastHeaders e s)) (realmOf (first 0x4D (lastHeaders e s))))
 
       answer-opened : (srm : Bool) (v target : Option (List ℕ))
-          → amongIn (openedIn (answerBy (e .peer) t srm (idIn v) (isGiven target)) e code hs (lastPacket e s) (s .headers) (s .reply)) s
+          → amongIn (openedIn (answerBy (e .peer) t srm (idIn v) (isGiven target) (targetGiven target)) e code hs (lastPacket e s) (s .headers) (s .reply)) s
           ≡ afterTabled (connectOpened e t (openedFor (e .peer) t srm v target) code (frontFor (e .peer) t v target) hs s)
       answer-opened srm v target =
-          opened-is (peerOpened (e .peer) t srm (idIn v) (isGiven target)) (frontBy (e .peer) t (idIn v) (isGiven target))
+          opened-is (peerOpened (e .peer) t srm (idIn v) (isGiven target) (targetGiven target)) (frontBy (e .peer) t (idIn v) (isGiven target))
           ∙ ap₂ (λ (o : Option Linked) (f : ConnectionId). afterTabled (connectOpened e t o code f hs s)) (sym (opened-by (e .peer) t srm v target))
           (front-by (e .peer) t v target)
 

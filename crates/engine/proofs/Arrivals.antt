@@ -37,13 +37,14 @@ use Rattle.incoming.specs.Gather.{Gathering, gathering, gatherAll, headersOf}
 use Rattle.incoming.specs.declared.gather.Gathered.{Gathered}
 use Rattle.incoming.specs.declared.gather.Keep.{Keep}
 use Rattle.journal.specs.Journal.{headersOf as headersIn}
-use Rattle.model.specs.Step.{Stores, stores, Done, Stepped, stepped, ends, after, limitOf}
-use Rattle.model.specs.Dispatch.{knownIn, trails, lengthOf, packetDone, unknownByte}
+use Rattle.table.specs.declared.targets.Target.{Target}
+use Rattle.model.specs.Step.{Stores, stores, engineWith, Done, Stepped, stepped, ends, after, limitOf}
+use Rattle.model.specs.Dispatch.{knownIn, trails, packetTarget, arrived, packetDone, unknownByte}
 use Rattle.model.specs.Calls.{framedAs, withPacket, offers, bytesOfferedStep}
 use Rattle.model.specs.Operation.{gathers}
 use Rattle.model.specs.Guard.{soundOperation}
 use Rattle.engine.specs.Step.{planned, endsPlan, Written, carried, tookBy}
-use Rattle.engine.specs.Dispatch.{isTrailing, isMissing, trailedBy, unreadableRoute, headingRoute, routeAs, packetRoute, acts, withTaken, openRoute, insideRoute}
+use Rattle.engine.specs.Dispatch.{isTrailing, isMissing, trailedBy, unreadableRoute, headingRoute, routeAs, packetRoute, routed, targetUnder, targeted, acts, withTaken, openRoute, insideRoute}
 use Rattle.engine.specs.Operation.{keepOf, fromOf, kindPlan, actsGathered}
 use Rattle.server.specs.declared.CallKind.the-variants as kind
 use Rattle.server.specs.declared.End.the-variants as end
@@ -53,9 +54,10 @@ use Rattle.engine.specs.declared.step.Plan.{Plan}
 use Rattle.engine.specs.declared.operation.GatherKind.{GatherKind}
 use Rattle.engine.specs.declared.dispatch.Heading.{Heading}
 use Rattle.engine.specs.declared.dispatch.Route.{Route}
+use Rattle.engine.specs.declared.dispatch.Routed.{Routed}
 use Rattle.engine.proofs.Guards.{GoesLent}
 use Rattle.engine.proofs.Ready.{Ready, ready}
-use Rattle.engine.proofs.Routes.{packet-acts}
+use Rattle.engine.proofs.Routes.{route-targeted, packet-acts}
 
 -- nothing that trails is refused in any other operation
 pub not-trailing : (o : Operation) → OneOf (0 ∷ 2 ∷ 3 ∷ 4 ∷ 5 ∷ 6 ∷ 7 ∷ []) (tagOf the-type o) → isTrailing o ≡ false
@@ -79,14 +81,22 @@ open-way (GatheringOp o g) e h k = absurd (miss (0 ∷ 1 ∷ []) 5 tt k)
 open-way (Connecting c f n) e h k = absurd (miss (0 ∷ 1 ∷ []) 6 tt k)
 open-way (Draining code) e h k = absurd (miss (0 ∷ 1 ∷ []) 7 tt k)
 
--- a packet that is no request goes the way of the unreadable
-no-request : (e : Engine) (q t : List ℕ) → requestOf q ≡ none
-    → packetRoute e q t ≡ unreadableRoute (e .operation) (unknownByte (firstByte (getD q 0 0)))
-unfolding packetRoute
-no-request e q t h = ap (λ (x : Option Packet). routeAs x e q t) h
+-- the way and the Target of a packet
+abbrev routedAs : Option Packet → Engine → List ℕ → List ℕ → Routed
+routedAs x e q t = routed (routeAs x e q t) (packetTarget x e t)
 
-pub headless-way : (e : Engine) (q t : List ℕ) → packetHead q ≡ head.Unreadable
-    → packetRoute e q t ≡ unreadableRoute (e .operation) (unknownByte (firstByte (getD q 0 0)))
+abbrev pub packetRouted : Engine → List ℕ → List ℕ → Routed
+packetRouted e q t = routed (packetRoute e q t) (packetTarget (requestOf q) e t)
+
+abbrev unreadableRouted : Engine → List ℕ → Routed
+unreadableRouted e q = routed (unreadableRoute (e .operation) (unknownByte (firstByte (getD q 0 0)))) (e .target)
+
+-- a packet that is no request goes the way of the unreadable, and leaves the Target
+no-request : (e : Engine) (q t : List ℕ) → requestOf q ≡ none → packetRouted e q t ≡ unreadableRouted e q
+unfolding packetRoute packetTarget
+no-request e q t h = ap (λ (x : Option Packet). routedAs x e q t) h
+
+pub headless-way : (e : Engine) (q t : List ℕ) → packetHead q ≡ head.Unreadable → packetRouted e q t ≡ unreadableRouted e q
 headless-way e q t h = no-request e q t (request-head q ∙ ap (λ (x : Head). requestHead x q) h)
 
 -- by what stands before the headers, and whether they can be read
@@ -125,27 +135,29 @@ module _ (e : Engine) (q t : List ℕ) (o : Opcode) (final : Bool) (from : ℕ) 
 
   abbrev Heading-way : Type 0
   Heading-way =
-      packetRoute e q t
-      ≡ headingRoute e (record { survey = surveyOf (readHeaders q from); opcode = o; backup = backup q; «no_create» = noCreate q; «is_final» = final; known = knownIn e t (surveyOf (readHeaders q from)); trails = trailedBy (e .operation) o q })
+      packetRouted e q t
+      ≡ routed
+      (headingRoute e (record { survey = surveyOf (readHeaders q from); opcode = o; backup = backup q; «no_create» = noCreate q; «is_final» = final; known = knownIn e t (surveyOf (readHeaders q from)); trails = trailedBy (e .operation) o q }))
+      (targetUnder e t o (surveyOf (readHeaders q from)))
 
   pub unreadable-way : surveyOf (readHeaders q from) .readable ≡ false
-      → packetRoute e q t ≡ unreadableRoute (e .operation) (unknownByte (firstByte (getD q 0 0)))
+      → packetRouted e q t ≡ unreadableRouted e q
   unfolding surveyOf
   unreadable-way h = go (readHeaders q from) refl h
     where
       go : (hs : Option (List Header)) → readHeaders q from ≡ hs → surveyOf hs .readable ≡ false
-          → packetRoute e q t ≡ unreadableRoute (e .operation) (unknownByte (firstByte (getD q 0 0)))
+          → packetRouted e q t ≡ unreadableRouted e q
       go none k w = no-request e q t (request-is ∙ ap (requestWith o final q) k)
       go (some hs) k w = absurd (true≢false w)
 
   pub heading-way : surveyOf (readHeaders q from) .readable ≡ true → Heading-way
-  unfolding surveyOf packetRoute
+  unfolding surveyOf packetRoute packetTarget
   heading-way h = go (readHeaders q from) refl h
     where
       go : (hs : Option (List Header)) → readHeaders q from ≡ hs → surveyOf hs .readable ≡ true → Heading-way
       go none k w = absurd (false≢true w)
       go (some hs) k w =
-          ap (λ (x : Option Packet). routeAs x e q t) (request-is ∙ ap (requestWith o final q) k)
+          ap (λ (x : Option Packet). routedAs x e q t) (request-is ∙ ap (requestWith o final q) k)
           ∙ rw (k, trailed-way (e .operation) hs k) refl
 
 -- what `gather` gives, in the words of the model
@@ -159,23 +171,29 @@ pub gathered-planned : (e : Engine) (k : GatherKind) (final asked srm confirm : 
     → planned p (stores (s .packet) h b (s .reply)) ≡ actsGathered e k final asked srm confirm x s
 gathered-planned e k final asked srm confirm got h b s x p w z = rw (← w, z)
 
--- by the way that the code was told
-pub by-route : (e : Engine) (q t : List ℕ) (s : Stores) (x : Route) (d : Done) → packetRoute e q t ≡ x → d ≡ acts x e q s
-    → d ≡ acts (packetRoute e q t) e q s
-by-route e q t s x d h k = k ∙ ap (λ (y : Route). acts y e q s) (sym h)
+-- by the way that the code was told, under the Target `g`
+pub by-route : (e : Engine) (g : Target) (q t : List ℕ) (s : Stores) (x : Route) (d : Done) → packetRoute e q t ≡ x → d ≡ acts x (targeted e g) q s
+    → d ≡ acts (packetRoute e q t) (targeted e g) q s
+by-route e g q t s x d h k = k ∙ ap (λ (y : Route). acts y (targeted e g) q s) (sym h)
 
-pub ready-at : (e : Engine) (q t : List ℕ) (x : Route) → packetRoute e q t ≡ x → soundOperation (limitOf e) (e .operation) ≡ true
-    → Ready x e q (headersIn (requestOf q))
-ready-at e q t x h s = subst (λ (y : Route). Ready y e q (headersIn (requestOf q))) h (ready e q t s)
+pub ready-at : (e : Engine) (g : Target) (q t : List ℕ) (x : Route) → packetRoute e q t ≡ x → soundOperation (limitOf e) (e .operation) ≡ true
+    → Ready x (targeted e g) q (headersIn (requestOf q))
+unfolding engineWith
+ready-at e g q t x h s =
+    subst (λ (y : Route). Ready y (targeted e g) q (headersIn (requestOf q))) (route-targeted e g q t ∙ h) (ready (targeted e g) q t s)
 
 -- a whole packet, once its plan is carried out
-pub done-call : (e : Engine) (n : ℕ) (s : Stores) (t : List ℕ) (at : Engine) (p : Plan) (h b y : List ℕ) (w : Written) → at ≡ lengthOf e n
-    → planned p (stores (s .packet) h b y) ≡ acts (packetRoute at (take n (s .packet)) t) at (take n (s .packet)) s → w ≡ carried p y
+pub done-call : (e : Engine) (n : ℕ) (s : Stores) (t : List ℕ) (at : Engine) (p : Plan) (h b y : List ℕ) (w : Written) → at ≡ arrived e n (e .target)
+    → planned p (stores (s .packet) h b y)
+    ≡ acts (packetRoute at (take n (s .packet)) t) (targeted at (packetTarget (requestOf (take n (s .packet))) at t)) (take n (s .packet)) s
+    → w ≡ carried p y
     → stepped (w .took) (stores (s .packet) h b (w .reply)) ≡ after 0 (packetDone e n s t)
 done-call e n s t at p h b y w l k c =
     ap (λ (x : Written). stepped (x .took) (stores (s .packet) h b (x .reply))) c
     ∙ ap (λ (d : Done). after 0 d)
-    (k ∙ ap (λ (x : Engine). acts (packetRoute x (take n (s .packet)) t) x (take n (s .packet)) s) l ∙ packet-acts e n s t)
+    (k
+    ∙ ap (λ (x : Engine). acts (packetRoute x (take n (s .packet)) t) (targeted x (packetTarget (requestOf (take n (s .packet))) x t)) (take n (s .packet)) s) l
+    ∙ packet-acts e n s t)
 
 -- ---- bytes
 

@@ -52,11 +52,11 @@ repeats-from l i h = ap repeats (from-place l i h)
 -- the ids from place `i` on are still to be closed, of `n` in the table store `t`
 pub record Closing (l : List ℕ) (n₀ : ℕ) (t₀ : List ℕ) (i n : ℕ) (t : List ℕ) : Type 0 where
   pub few : n ≤ 64
-  pub room : n ≤ length t
+  pub room : 320 ≤ length t
   pub same : length t ≡ length t₀
   pub left : closedAll (drop i l) n t ≡ closedAll l n₀ t₀
 
-pub closing-begins : (l : List ℕ) (n : ℕ) (t : List ℕ) → n ≤ 64 → n ≤ length t → Closing l n t 0 n t
+pub closing-begins : (l : List ℕ) (n : ℕ) (t : List ℕ) → n ≤ 64 → 320 ≤ length t → Closing l n t 0 n t
 closing-begins l n t f r = record { few = f; room = r; same = refl; left = refl }
 
 pub closing-on : (l : List ℕ) (n₀ : ℕ) (t₀ : List ℕ) (i n m : ℕ) (t u : List ℕ) → Closing l n₀ t₀ i n t → i < length l
@@ -64,10 +64,10 @@ pub closing-on : (l : List ℕ) (n₀ : ℕ) (t₀ : List ℕ) (i n m : ℕ) (t 
 unfolding closedAll
 closing-on l n₀ t₀ i n m t u c h a b =
     let fewer : length (without (getD l i 0) (take n t)) ≤ n = omega (arith, without-shorter (getD l i 0) (take n t), length-take n t) in
-    let long : length u ≡ length t = ap length b ∙ closed-length (getD l i 0) n t (c .room) in
+    let long : length u ≡ length t = ap length b ∙ closed-length (getD l i 0) n t (omega (arith, c .few, c .room)) in
     record {
       few = omega (arith, a, c .few);
-      room = omega (arith, a, c .room);
+      room = omega (arith, long, c .room);
       same = long ∙ c .same;
       left = rw (a, b) (sym (ap (λ (k : List ℕ). closedAll k n t) (from-place l i h)) ∙ c .left);
     }
@@ -90,16 +90,16 @@ fitted e = sound e && (sameAwait (e .awaits) await.Bytes && not (busy (e .operat
 -- what the call knows where it goes on
 pub record Closable (e : Engine) (t : List ℕ) : Type 0 where
   pub few : e .peer .count ≤ 64
-  pub room : e .peer .count ≤ length t
+  pub room : 320 ≤ length t
   pub whole : (l : List ℕ) → connectionsClosedStep e l t ≡ closeChecked e l t
 
 module _ (e : Engine) (t : List ℕ) (x : Guarded) (p : x ≡ guardedClose e (length t)) where
   -- where the guard refuses, the model refuses with the same
   pub guard-turned : (l : List ℕ) (r : Refusal) → x ≡ Refuse r → refuseClosing r e t ≡ connectionsClosedStep e l t
   unfolding guardedClose connectionsClosedStep shortTables
-  guard-turned l r w = by (ltb (length t) 128) (fitted e) refl refl (sym p ∙ w)
+  guard-turned l r w = by (ltb (length t) 320) (fitted e) refl refl (sym p ∙ w)
     where
-      by : (s f : Bool) → ltb (length t) 128 ≡ s → fitted e ≡ f → guardedClose e (length t) ≡ Refuse r
+      by : (s f : Bool) → ltb (length t) 320 ≡ s → fitted e ≡ f → guardedClose e (length t) ≡ Refuse r
           → refuseClosing r e t ≡ connectionsClosedStep e l t
       by true f h i q = let z : Refuse refusal.StoreTooShort ≡ Refuse r = simp h at q in simp (h, sym (told-refusal _ _ z))
       by false true h i q = let z : Proceed ≡ Refuse r = simp (h, i) at q in absurd (no-refusal r z)
@@ -107,15 +107,15 @@ module _ (e : Engine) (t : List ℕ) (x : Guarded) (p : x ≡ guardedClose e (le
 
   pub guard-passed : x ≡ Proceed → Closable e t
   unfolding guardedClose connectionsClosedStep shortTables
-  guard-passed w = by (ltb (length t) 128) (fitted e) refl refl (sym p ∙ w)
+  guard-passed w = by (ltb (length t) 320) (fitted e) refl refl (sym p ∙ w)
     where
-      by : (s f : Bool) → ltb (length t) 128 ≡ s → fitted e ≡ f → guardedClose e (length t) ≡ Proceed → Closable e t
+      by : (s f : Bool) → ltb (length t) 320 ≡ s → fitted e ≡ f → guardedClose e (length t) ≡ Proceed → Closable e t
       by true f h i q = let z : Refuse refusal.StoreTooShort ≡ Proceed = simp h at q in absurd (no-refusal _ (sym z))
       by false false h i q = let z : Refuse refusal.WrongMoment ≡ Proceed = simp (h, i) at q in absurd (no-refusal _ (sym z))
       by false true h i q =
           let few = bounds e (and-left _ _ i) .count in
-          let long : 128 ≤ length t = ltb-false _ _ h in
-          record { few = few; room = omega (arith, few); whole = λ l. simp (h, i) }
+          let long : 320 ≤ length t = ltb-false _ _ h in
+          record { few = few; room = long; whole = λ l. simp (h, i) }
 
 module _ (e : Engine) (l t : List ℕ) (x : Guarded) (p : x ≡ judgedClose l (idsOf (e .peer) t)) where
   pub judge-turned : (r : Refusal) → x ≡ Refuse r → refuseClosing r e t ≡ closeChecked e l t

@@ -121,7 +121,7 @@ module _ (k : CallKind) (e : Engine) (s : Stores) where
 -- ---- the guard of a call that is lent the table store
 
 abbrev pub lackIn : ℕ → Stores → List ℕ → Bool
-lackIn limit s t = ltb (length t) 128 || shortIn limit s
+lackIn limit s t = ltb (length t) 320 || shortIn limit s
 
 pub same-lack : (limit : ℕ) (s : Stores) (t : List ℕ) (b : Bool) → lackIn limit s t ≡ b → (shortTables t || short limit s) ≡ b
 unfolding short shortBy shortTables
@@ -133,7 +133,7 @@ guardedLentIn k e s t = guardedLent k e (length t) (length (s .packet)) (length 
 -- what such a call knows where it goes on
 pub record GoesLent (k : CallKind) (e : Engine) (s : Stores) (t : List ℕ) : Type 0 where
   pub goes : Goes k e s
-  pub tables : 128 ≤ length t
+  pub tables : 320 ≤ length t
   pub ids : 64 ≤ length t
   pub enough : (shortTables t || short (limitOf e) s) ≡ false
   pub fitted : (sound e && fits k (e .awaits)) ≡ true
@@ -166,8 +166,8 @@ module _ (k : CallKind) (e : Engine) (s : Stores) (t : List ℕ) where
       by true v h i q = let z : Refuse refusal.StoreTooShort ≡ Proceed = simp h at q in absurd (no-refusal _ (sym z))
       by false false h i q = let z : Refuse refusal.WrongMoment ≡ Proceed = simp (h, i) at q in absurd (no-refusal _ (sym z))
       by false true h i q =
-          let long : shortIn (limitOf e) s ≡ false = or-right (ltb (length t) 128) _ h in
-          let room : 128 ≤ length t = ltb-false _ _ (or-left _ _ h) in
+          let long : shortIn (limitOf e) s ≡ false = or-right (ltb (length t) 320) _ h in
+          let room : 320 ≤ length t = ltb-false _ _ (or-left _ _ h) in
           record {
             goes = going k e s Proceed (sym (simp (long, i))) refl;
             tables = room;

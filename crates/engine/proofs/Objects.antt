@@ -12,6 +12,7 @@ use lib.Dec.{ltb}
 use lib.Seq.{paste}
 use Rattle.connection.proofs.Front.{front-paste}
 use Rattle.connection.specs.Reply.{front}
+use Rattle.table.specs.Targets.{unnamed}
 use Rattle.connection.specs.Peer.{freshPeer}
 use Rattle.incoming.specs.declared.gather.Gathered.{Gathered}
 use Rattle.outgoing.specs.Object.{Made, nextPacket, bodyGiven}
@@ -130,7 +131,7 @@ module _ (st : Settings) (l : List ℕ) (s : Stores) (t : List ℕ) (m : Bool) (
   abbrev guardedAt : Guarded
   guardedAt = guardedStart limit m (length t) (length (s .packet)) (length (s .headers)) (length (s .body)) (length (s .reply))
 
-  pub start-refused : x ≡ guardedAt → e ≡ engineWith st freshPeer Nothing await.Nothing 0 0 → (q : Refusal) → x ≡ Refuse q → (r : CallResult)
+  pub start-refused : x ≡ guardedAt → e ≡ engineWith st freshPeer Nothing await.Nothing 0 0 unnamed → (q : Refusal) → x ≡ Refuse q → (r : CallResult)
       → r ≡ refusedWith q e → stepped r s ≡ startStep st l s t
   unfolding startStep guardedStart
   start-refused said k q w r h = go (lackIn limit s t) m refl refl (sym said ∙ w)
@@ -144,7 +145,7 @@ module _ (st : Settings) (l : List ℕ) (s : Stores) (t : List ℕ) (m : Bool) (
           simp (h, k, sym (told-refusal _ _ z), same-lack limit s t false a, same-long true b)
       go false false a b i = let z : Proceed ≡ Refuse q = simp (a, b) at i in absurd (no-refusal q z)
 
-  pub start-goes : x ≡ guardedAt → e ≡ engineWith st freshPeer Nothing await.Bytes 0 0 → x ≡ Proceed
+  pub start-goes : x ≡ guardedAt → e ≡ engineWith st freshPeer Nothing await.Bytes 0 0 unnamed → x ≡ Proceed
       → stepped (record { engine = e; taken = 0; outcome = outcome.WantsBytes }) s ≡ startStep st l s t
   unfolding startStep guardedStart started
   start-goes said k w = go (lackIn limit s t) m refl refl (sym said ∙ w)

@@ -30,8 +30,12 @@ use Rattle.model.specs.Step.{Stores, Done, engineWith, wants, asks, ends, repli
 use Rattle.model.specs.Request.{lastPacket, lastHeaders, clientResponse, userPlace}
 use Rattle.model.specs.Connect.{verifies, connectPacket}
 use Rattle.model.specs.Operation.{nothingGathered, gathers, putPacket, getPacket, headersPacket}
-use Rattle.model.specs.Dispatch.{Rejection, admits, rejects, rejection, knownIn, drains, rejected, dispatches, admittedAs, dispatch, interrupts, trails, inside, busy, readAs, lengthOf, packetDone}
-use Rattle.engine.specs.Dispatch.{headingOf, askRoute, codeRoute, keepRoute, trailedRoute, isTrailing, admissionOf, rejectedRoute, putRoute, getRoute, headersRoute, dispatchRoute, admittedRoute, openRoute, interruptsRoute, insideRoute, headingRoute, routeAs, packetRoute, simplePlan, acts}
+use Rattle.model.specs.Dispatch.{Rejection, admits, rejects, rejection, knownIn, drains, rejected, dispatches, admittedAs, dispatch, interrupts, trails, inside, busy, readAs, packetTarget, arrived, packetDone}
+use Rattle.table.specs.declared.targets.Target.{Target}
+use Rattle.engine.specs.declared.dispatch.Heading.{Heading}
+use Rattle.engine.specs.declared.dispatch.Admission.{Admission}
+use Rattle.engine.specs.declared.dispatch.Admission.the-variants.{Admits, Rejects}
+use Rattle.engine.specs.Dispatch.{headingOf, askRoute, codeRoute, keepRoute, trailedRoute, isTrailing, admissionOf, rejectedRoute, putRoute, getRoute, headersRoute, dispatchRoute, admittedRoute, openRoute, interruptsRoute, insideRoute, headingRoute, routeAs, packetRoute, targeted, simplePlan, acts}
 use Rattle.engine.specs.Operation.{keepOf, kindPlan, actsGathered}
 use Rattle.engine.specs.Connect.{answeredRead, answeredAs, verifiesPlan, carries, stopsBy, limitedPlan, connectPlan}
 use Rattle.server.specs.declared.Operation.{Operation}
@@ -220,7 +224,72 @@ module _ (e : Engine) (s : Stores) (t : List ℕ) where
   read-acts none h = pick-acts (busy (e .operation)) (end-acts e (lastPacket e s) s end.Unreadable) (keep-acts e (lastPacket e s) s (e .operation) refl _)
   read-acts (some r) h = heading-acts r h
 
+-- ---- the way does not depend on the Target
+
+module _ (e : Engine) (g : Target) (h : Heading) where
+  dispatch-targeted : (o : Opcode) → dispatchRoute o (targeted e g) h ≡ dispatchRoute o e h
+  unfolding engineWith
+  dispatch-targeted op.Connect = refl
+  dispatch-targeted op.Abort = refl
+  dispatch-targeted op.Disconnect = refl
+  dispatch-targeted op.SetPath = refl
+  dispatch-targeted op.Put = refl
+  dispatch-targeted op.Get = refl
+  dispatch-targeted op.Action = refl
+  dispatch-targeted op.Session = refl
+  dispatch-targeted (op.UserDefined x) = refl
+
+  admitted-targeted : (a : Admission) → admittedRoute a (targeted e g) h ≡ admittedRoute a e h
+  unfolding engineWith
+  admitted-targeted Admits = dispatch-targeted (h .opcode)
+  admitted-targeted (Rejects code) = refl
+
+  open-targeted : openRoute (targeted e g) h ≡ openRoute e h
+  unfolding openRoute rejection engineWith
+  open-targeted = ap (pick (sameOpcode (h .opcode) op.Connect) Connect) (admitted-targeted (admissionOf (rejection e (h .opcode) (h .survey) (h .known))))
+
+  inside-targeted : (o : Operation) → insideRoute o (targeted e g) h ≡ insideRoute o e h
+  inside-targeted Nothing = open-targeted
+  inside-targeted Trailing = open-targeted
+  inside-targeted (Putting k srm) = refl
+  inside-targeted (Getting k srm confirm wait) = refl
+  inside-targeted (Sending o c srm wait) = refl
+  inside-targeted (GatheringOp o k) = refl
+  inside-targeted (Connecting c f n) = refl
+  inside-targeted (Draining code) = refl
+
+pub route-targeted : (e : Engine) (g : Target) (q t : List ℕ) → packetRoute (targeted e g) q t ≡ packetRoute e q t
+unfolding packetRoute headingRoute engineWith
+route-targeted e g q t = go (requestOf q)
+  where
+    go : (x : Option Packet) → routeAs x (targeted e g) q t ≡ routeAs x e q t
+    go none = refl
+    go (some r) =
+        let h = headingOf r (knownIn e t (surveyOf (some (r .headers)))) (isTrailing (e .operation) && trails r) in
+        ap (λ (y : Route). pick (sameOpcode (r .opcode) op.Abort) (askRoute await.Acknowledgement (request.Abort (e .length))) (pick (h .trails) (trailedRoute (r .final)) y))
+        (inside-targeted e g h (e .operation))
+
+-- ---- a whole packet
+
+-- the Target of a packet, once the packet has arrived
+arrived-target : (e : Engine) (n : ℕ) (t : List ℕ) (x : Option Packet) → packetTarget x (arrived e n (e .target)) t ≡ packetTarget x e t
+unfolding packetTarget engineWith
+arrived-target e n t none = refl
+arrived-target e n t (some r) = refl
+
 pub packet-acts : (e : Engine) (n : ℕ) (s : Stores) (t : List ℕ)
-    → acts (packetRoute (lengthOf e n) (take n (s .packet)) t) (lengthOf e n) (take n (s .packet)) s ≡ packetDone e n s t
+    → acts (packetRoute (arrived e n (e .target)) (take n (s .packet)) t)
+    (targeted (arrived e n (e .target)) (packetTarget (requestOf (take n (s .packet))) (arrived e n (e .target)) t)) (take n (s .packet)) s
+    ≡ packetDone e n s t
 unfolding packetRoute packetDone lastPacket engineWith
-packet-acts e n s t = read-acts (lengthOf e n) s t (requestOf (take n (s .packet))) refl .is
+packet-acts e n s t =
+    let q = take n (s .packet) in
+    let g = packetTarget (requestOf q) e t in
+    ap (λ (y : Target). acts (packetRoute (arrived e n (e .target)) q t) (arrived e n y) q s) (arrived-target e n t (requestOf q))
+    ∙ ap (λ (y : Route). acts y (arrived e n g) q s) (sym (route-targeted (arrived e n (e .target)) g q t))
+    ∙ acted
+  where
+    acted : acts (packetRoute (arrived e n (packetTarget (requestOf (take n (s .packet))) e t)) (take n (s .packet)) t)
+        (arrived e n (packetTarget (requestOf (take n (s .packet))) e t)) (take n (s .packet)) s
+        ≡ packetDone e n s t
+    acted = read-acts (arrived e n (packetTarget (requestOf (take n (s .packet))) e t)) s t (requestOf (take n (s .packet))) refl .is

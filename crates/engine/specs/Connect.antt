@@ -15,7 +15,7 @@ use Rattle.packet.specs.declared.auth.DigestChallenge.the-variants as challenge
 use Rattle.journal.specs.Calls.{Credentials}
 use Rattle.incoming.specs.Survey.{surveyOf}
 use Rattle.connection.specs.Reply.{fieldsOf, front}
-use Rattle.connection.specs.Peer.{Linked, linked, idIn, isGiven, Answers, answerBy, disconnectedPeer, checkedPeer, verifiedPeer, limited}
+use Rattle.connection.specs.Peer.{Linked, linked, idIn, isGiven, targetGiven, Answers, answerBy, disconnectedPeer, checkedPeer, verifiedPeer, limited}
 use Rattle.connection.specs.ConnectReply.{connectHeaders}
 use Rattle.connection.specs.Pieces.{headersFrom, answeredIn, idGiven}
 use Rattle.connection.specs.declared.peer.Peer.{Peer}
@@ -167,7 +167,7 @@ acceptedHeaders e f q hs c =
 unfoldable pub answerFor : Engine → List ℕ → List ℕ → List ℕ → Answers
 answerFor e t hs q =
     answerBy (e .peer) t (e .peer .«srm_enabled» || srmAskedBy e q) (idIn (first 0xCB (headersFrom hs 0)))
-    (isGiven (first 0x46 (headersOf q)))
+    (isGiven (first 0x46 (headersOf q))) (targetGiven (first 0x46 (headersOf q)))
 
 -- If the client sent challenges that can all be read, the engine asks for credentials, and the host's headers wait in the header store.
 abbrev pub challengedBy : DigestChallenge → Engine → Peer → ℕ → ConnectionId → List ℕ → List ℕ → List ℕ → List ℕ → Answering

@@ -16,13 +16,16 @@ use Rattle.packet.specs.declared.tlv.Found.the-variants as place
 use Rattle.packet.specs.declared.opcode.Opcode.{Opcode}
 use Rattle.packet.specs.declared.opcode.Opcode.the-variants as op
 use Rattle.incoming.specs.Survey.{surveyOf}
+use Rattle.incoming.specs.declared.survey.Survey.{Survey}
+use Rattle.table.specs.Targets.{unnamed}
+use Rattle.table.specs.declared.targets.Target.{Target}
 use Rattle.incoming.specs.declared.gather.Gathered.{Gathered}
 use Rattle.outgoing.specs.declared.object.Outgoing.{Outgoing}
 use Rattle.journal.specs.Journal.{headersOf as headersIn}
 use Rattle.model.specs.Step.{Stores, Done, engineWith}
 use Rattle.model.specs.Operation.{nothingGathered, gathers}
 use Rattle.model.specs.Object.{sendsNext}
-use Rattle.model.specs.Dispatch.{Rejection, admits, rejects, rejection, knownIn, drains, confirms, trails, unknownByte, busy}
+use Rattle.model.specs.Dispatch.{Rejection, admits, rejects, rejection, knownIn, drains, confirms, trails, unknownByte, busy, isMarked, targetFor}
 use Rattle.engine.specs.Step.{planned, wantsPlan, asksPlan, endsPlan, codePlan, codeKeepingPlan}
 use Rattle.server.specs.declared.Operation.{Operation}
 use Rattle.server.specs.declared.Operation.the-variants.{Nothing, Trailing, Putting, Getting, Sending, Gathering as GatheringOp, Connecting, Draining}
@@ -39,6 +42,7 @@ use Rattle.engine.specs.declared.dispatch.Simple.{Simple}
 use Rattle.engine.specs.declared.dispatch.Simple.the-variants as brief
 use Rattle.engine.specs.declared.dispatch.Route.{Route}
 use Rattle.engine.specs.declared.dispatch.Route.the-variants.{Plain, Connect, Gather, Send}
+use Rattle.engine.specs.declared.dispatch.Routed.{Routed}
 use Rattle.engine.specs.declared.dispatch.Admission.{Admission}
 use Rattle.engine.specs.declared.dispatch.Admission.the-variants.{Admits, Rejects}
 use Rattle.engine.specs.Operation.{keepOf, actsGathered}
@@ -192,6 +196,18 @@ routeAs (some r) e q t = headingRoute e (headingOf r (knownIn e t (surveyOf (som
 unfoldable pub packetRoute : Engine → List ℕ → List ℕ → Route
 packetRoute e q t = routeAs (requestOf q) e q t
 
+-- A packet's way, and the Target under which it goes.
+abbrev pub routed : Route → Target → Routed
+routed r g = record { route = r; target = g }
+
+-- The Target of a packet that can be read, by its opcode and its survey.
+abbrev pub targetUnder : Engine → List ℕ → Opcode → Survey → Target
+targetUnder e t o v = pick (isMarked o) unnamed (pick (busy (e .operation)) (e .target) (targetFor e t v))
+
+-- The state with the Target `g`.
+abbrev pub targeted : Engine → Target → Engine
+targeted e g = engineWith (e .settings) (e .peer) (e .operation) (e .awaits) (e .begun) (e .length) g
+
 unfoldable pub simplePlan : Engine → Simple → Plan
 simplePlan e (brief.Ask a r) = asksPlan e (e .peer) Nothing a r
 simplePlan e (brief.Code a b) = codePlan e (e .peer) a b
@@ -215,7 +231,7 @@ withTaken r t = record { engine = r .engine; taken = t; outcome = r .outcome }
 abbrev pub moreTook : Engine → ℕ → ℕ → CallResult
 moreTook e b t =
     record {
-      engine = engineWith (e .settings) (e .peer) (e .operation) (e .awaits) b (e .length);
+      engine = engineWith (e .settings) (e .peer) (e .operation) (e .awaits) b (e .length) (e .target);
       taken = t;
       outcome = outcome.WantsBytes;
     }

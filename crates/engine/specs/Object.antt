@@ -31,7 +31,7 @@ sendingOn k last srm wait = pick last Nothing (Sending (k .outgoing) (k .chunk) 
 -- The engine sends a packet of the object, asks for the body bytes that it needs, or replies with 0x50 if a header is too long for any packet.
 abbrev pub madePlan : Next → Engine → Bool → Bool → NextPacket → Plan
 madePlan (next.Send n last) e srm wait k =
-    plan (engineWith (e .settings) (e .peer) (sendingOn k last srm wait) await.Taken 0 (e .length)) (outcome.Reply n) Silent
+    plan (engineWith (e .settings) (e .peer) (sendingOn k last srm wait) await.Taken 0 (e .length) (e .target)) (outcome.Reply n) Silent
 madePlan next.Read e srm wait k =
     asksPlan e (e .peer) (sendingOn k false srm wait) await.Body (request.Read (k .chunk .room))
 madePlan next.TooLarge e srm wait k = codePlan e (e .peer) await.Taken 0xD0

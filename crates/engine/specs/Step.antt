@@ -40,28 +40,28 @@ plan e o m = record { engine = e; outcome = o; small = m }
 
 -- The engine wants bytes.
 unfoldable pub wantsPlan : Engine → Peer → Operation → Plan
-wantsPlan e p o = plan (engineWith (e .settings) p o await.Bytes 0 (e .length)) outcome.WantsBytes Silent
+wantsPlan e p o = plan (engineWith (e .settings) p o await.Bytes 0 (e .length) (e .target)) outcome.WantsBytes Silent
 
 -- The engine asks the host.
 unfoldable pub asksPlan : Engine → Peer → Operation → Await → HostRequest → Plan
-asksPlan e p o a r = plan (engineWith (e .settings) p o a 0 (e .length)) (outcome.Request r) Silent
+asksPlan e p o a r = plan (engineWith (e .settings) p o a 0 (e .length) (e .target)) (outcome.Request r) Silent
 
 -- The engine ends with `x`.
 unfoldable pub endsPlan : Engine → Peer → End → Plan
-endsPlan e p x = plan (engineWith (e .settings) p Nothing await.Nothing 0 (e .length)) (outcome.End x) Silent
+endsPlan e p x = plan (engineWith (e .settings) p Nothing await.Nothing 0 (e .length) (e .target)) (outcome.End x) Silent
 
 -- The engine replies with a first byte and no headers.
 unfoldable pub codePlan : Engine → Peer → Await → ℕ → Plan
-codePlan e p a b = plan (engineWith (e .settings) p Nothing a 0 (e .length)) (outcome.Reply 3) (Byte b)
+codePlan e p a b = plan (engineWith (e .settings) p Nothing a 0 (e .length) (e .target)) (outcome.Reply 3) (Byte b)
 
 -- The engine replies with a code, Connect's fields and no headers.
 unfoldable pub fieldsPlan : Engine → Peer → ℕ → Plan
 fieldsPlan e p code =
-    plan (engineWith (e .settings) p Nothing await.Taken 0 (e .length)) (outcome.Reply 7) (Fields (sentCode code) (e .settings .«max_packet_length»))
+    plan (engineWith (e .settings) p Nothing await.Taken 0 (e .length) (e .target)) (outcome.Reply 7) (Fields (sentCode code) (e .settings .«max_packet_length»))
 
 -- The engine replies with a first byte and no headers, and `o` is open afterwards.
 unfoldable pub codeKeepingPlan : Engine → Operation → ℕ → Plan
-codeKeepingPlan e o b = plan (engineWith (e .settings) (e .peer) o await.Taken 0 (e .length)) (outcome.Reply 3) (Byte b)
+codeKeepingPlan e o b = plan (engineWith (e .settings) (e .peer) o await.Taken 0 (e .length) (e .target)) (outcome.Reply 3) (Byte b)
 
 abbrev pub continueLength : Bool → ℕ
 continueLength true = 5
@@ -74,7 +74,7 @@ continueSmall false = Byte 0x90
 -- The engine says Continue, with SingleResponseMode if `grant` is set.
 unfoldable pub continuePlan : Engine → Operation → Bool → Plan
 continuePlan e o grant =
-    plan (engineWith (e .settings) (e .peer) o await.Taken 0 (e .length)) (outcome.Reply (continueLength grant)) (continueSmall grant)
+    plan (engineWith (e .settings) (e .peer) o await.Taken 0 (e .length) (e .target)) (outcome.Reply (continueLength grant)) (continueSmall grant)
 
 -- A call returns `took` and leaves these bytes in the reply store.
 pub record Written : Type 0 where
@@ -100,7 +100,7 @@ carried p y = written (tookBy p) (front (smallBytes (p .small)) y)
 unfoldable pub sentPlan : Engine → Peer → Sent → Plan
 sentPlan e p sent.TooLarge = endsPlan e p end.ReplyTooLarge
 sentPlan e p (sent.Reply n) =
-    plan (engineWith (e .settings) p Nothing await.Taken 0 (e .length)) (outcome.Reply n) Silent
+    plan (engineWith (e .settings) p Nothing await.Taken 0 (e .length) (e .target)) (outcome.Reply n) Silent
 
 -- The same by what the writer of the reply gave.
 abbrev pub sentBy : Engine → Peer → Replying → Written

@@ -1,5 +1,6 @@
 // Connections that the host closes together, all or none (docs/PROTOCOL.md#closing-several). The source has no such call.
 ghost use mathlib.Core.Path.{_≡_};
+ghost use Rattle.table.specs.Places.{tableLength};
 ghost use Prim.Native.Nat.{_≤_};
 ghost use lib.ListN.{length, take, drop};
 ghost use Rattle.packet.specs.Limits.{maxConnections};
@@ -108,7 +109,7 @@ pub(crate) fn judge(ids: &[u32], tables: &[u64], count: usize) -> Guarded
 
 // Closes `ids` one after the other, of the first `count` numbers of `tables`, and returns how many are left.
 pub(crate) fn close_all(ids: &[u32], tables: &mut [u64], count: usize) -> usize
-    requires { ⌜ (count ≤ maxConnections) × (count ≤ length (now tables)) ⌝ }
+    requires { ⌜ (count ≤ maxConnections) × (tableLength ≤ length (now tables)) ⌝ }
     ensures { λ r. ⌜ remaining r (now (tables .exit)) ≡ closedAll (now (ids .entry)) count (now (tables .entry)) ⌝ }
 {
     let mut left = count;
@@ -137,7 +138,15 @@ pub(crate) fn go_on_with(e: Engine, peer: Peer) -> CallResult
     let operation = e.operation;
     let awaits = e.awaits;
     CallResult {
-        engine: engine_with(e.settings, peer, operation, awaits, e.begun, e.length),
+        engine: engine_with(
+            e.settings,
+            peer,
+            operation,
+            awaits,
+            e.begun,
+            e.length,
+            e.target,
+        ),
         taken: 0,
         outcome: Outcome::WantsBytes,
     }

@@ -11,6 +11,7 @@ ghost use Rattle.connection.specs.Pieces.{answeredIn, credentialsOf};
 ghost use Rattle.model.specs.Request.{realmIn, placedAt};
 ghost use Rattle.engine.specs.Step.{written};
 ghost use Rattle.engine.specs.Connect.{answering, accepting, headersOf, srmAskedBy, connectReplies, acceptedHeaders, answerFor, challengedBy, acceptedBy, Below, answeredBy, verifiesBy, questionOf, stopsBy, limitedPlan, connectPlan, passwordPlan, repliedLink, credentialsBy};
+ghost use Rattle.table.specs.Places.{tableLength};
 ghost use Rattle.connection.specs.Peer.{linked, answers};
 ghost use Rattle.packet.specs.Packet.{requestOf};
 ghost use Rattle.journal.specs.Journal.{headersOf as headersIn};
@@ -23,6 +24,7 @@ ghost use Rattle.model.specs.Guard.{soundOperation, longRealm};
 use crate::guard::refuse;
 use crate::guard::same_await;
 use crate::request::first_id;
+use crate::request::first_target;
 use crate::request::has_target;
 use crate::request::is_enabling;
 use crate::request::last_from;
@@ -91,9 +93,9 @@ fn srm_after(e: Engine, packet: &[u8]) -> bool
 }
 
 // Opens the ConnectionID that the host's answer names first. If it names none and the Connect has a Target, the engine looks for a new id
-// and puts it in front of the answer (docs/PROTOCOL.md#connection-ids).
+// and puts it in front of the answer (docs/PROTOCOL.md#connection-ids). The id takes the Connect's Target (docs/PROTOCOL.md#targets).
 fn opens(e: Engine, header_bytes: &[u8], packet: &[u8], tables: &mut [u64]) -> Answer
-    requires { ⌜ (e .peer .count ≤ 64) × (64 ≤ length (now tables)) ⌝ }
+    requires { ⌜ (e .peer .count ≤ 64) × (tableLength ≤ length (now tables)) ⌝ }
     ensures { λ r. ⌜ answers r (now (tables .exit))
         ≡ answerFor e (now (tables .entry)) (now («header_bytes» .entry)) (now (packet .entry)) ⌝ }
 {
@@ -102,6 +104,7 @@ fn opens(e: Engine, header_bytes: &[u8], packet: &[u8], tables: &mut [u64]) -> A
         srm_after(e, packet),
         first_id(header_bytes, 0),
         has_target(packet),
+        first_target(packet),
         tables,
     )
 }
@@ -237,7 +240,7 @@ pub(crate) fn connect_answer(
     headers: &mut [u8],
     reply: &mut [u8],
 ) -> CallResult
-    requires { ⌜ (e .peer .count ≤ 64) × (64 ≤ length (now tables)) × (65535 ≤ length (now reply)) × (65535 ≤ length (now headers)) × (length (now packet) ≤ 65535)
+    requires { ⌜ (e .peer .count ≤ 64) × (tableLength ≤ length (now tables)) × (65535 ≤ length (now reply)) × (65535 ≤ length (now headers)) × (length (now packet) ≤ 65535)
         × (length (now «header_bytes») ≤ 65535) ⌝ }
     ensures { λ r. ⌜ accepting (answering r (now (headers .exit)) (now (reply .exit))) (now (tables .exit))
         ≡ acceptedBy e (now (tables .entry)) code (now («header_bytes» .entry)) (now (packet .entry)) (now (headers .entry))
@@ -516,7 +519,7 @@ pub(crate) fn connect_with_credentials(
 // Closes the id that a Disconnect names before its reply is made. If no id is named or left, the peer's fields are cleared
 // (docs/PROTOCOL.md#disconnect).
 pub(crate) fn handle_disconnect(e: Engine, packet: &[u8], tables: &mut [u64]) -> Peer
-    requires { ⌜ (e .peer .count ≤ 64) × (64 ≤ length (now tables)) ⌝ }
+    requires { ⌜ (e .peer .count ≤ 64) × (tableLength ≤ length (now tables)) ⌝ }
     ensures { λ r. ⌜ linked r (now (tables .exit)) ≡ repliedLink e (now (packet .entry)) (now (tables .entry)) ⌝ }
 {
     let awaits = e.awaits;

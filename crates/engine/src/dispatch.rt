@@ -2,12 +2,14 @@
 // open, else by what is open. A packet may also be turned away, drained or unreadable.
 ghost use mathlib.Core.Path.{_≡_};
 ghost use Prim.Native.Nat.{_≤_, ℕ};
-ghost use Rattle.model.specs.Dispatch.{rejection as rejectionOf, knownIn, drains as drainsOf, confirms as confirmsOf, busy as busyWith, unknownByte, lengthOf, packetDone};
-ghost use Rattle.engine.specs.Dispatch.{admissionOf, unauthorizedFor, codeRoute, keepRoute, askRoute, drainedBy, rejectedRoute, putRoute, getRoute, sendRoute, headersRoute, dispatchRoute, openRoute, interruptsRoute, continuedRoute, drainingRoute, trailedRoute, trailedBy, insideRoute, headingRoute, unreadableRoute, simplePlan, packetRoute, acts, withTaken, moreTook};
+ghost use Rattle.model.specs.Dispatch.{rejection as rejectionOf, knownIn, drains as drainsOf, confirms as confirmsOf, busy as busyWith, unknownByte, isMarked as isMarkedIn, packetTarget as packetTargetOf, arrived, packetDone};
+ghost use Rattle.engine.specs.Dispatch.{admissionOf, unauthorizedFor, codeRoute, keepRoute, askRoute, drainedBy, rejectedRoute, putRoute, getRoute, sendRoute, headersRoute, dispatchRoute, openRoute, interruptsRoute, continuedRoute, drainingRoute, trailedRoute, trailedBy, insideRoute, headingRoute, unreadableRoute, simplePlan, packetRoute, routed, targetUnder, targeted, acts, withTaken, moreTook};
 ghost use mathlib.Core.Bool.{true};
 ghost use mathlib.Core.List.{List};
 ghost use lib.ListN.{length};
 ghost use Rattle.packet.specs.FirstByte.{firstByte};
+ghost use Rattle.packet.specs.Packet.{requestOf};
+ghost use Rattle.table.specs.Places.{tableLength};
 ghost use Rattle.model.specs.Step.{stepped, stores, limitOf, after};
 ghost use Rattle.model.specs.Guard.{soundOperation};
 ghost use Rattle.engine.specs.Step.{planned};
@@ -47,6 +49,10 @@ use server::Engine;
 use server::HostRequest;
 use server::Operation;
 use server::Outcome;
+use table::targets::Target;
+use table::targets::find_place;
+use table::targets::target_at;
+use table::targets::unnamed;
 
 // The parts of a readable packet that decide its way.
 pub(crate) struct Heading {
@@ -94,6 +100,12 @@ pub(crate) enum Route {
         srm: bool,
         wait: bool,
     },
+}
+
+// The way of a packet, and the Target under which it goes.
+pub(crate) struct Routed {
+    pub route: Route,
+    pub target: Target,
 }
 
 // Whether the engine admits a packet that opens an operation, or the code with which it turns the packet away.
@@ -479,7 +491,7 @@ fn is_unknown(byte: u8) -> bool
 
 // Whether the packet names a ConnectionID that is open: one of the ids in the table store.
 fn is_known(e: Engine, v: Survey, tables: &[u64]) -> bool
-    requires { ⌜ (e .peer .count ≤ 64) × (64 ≤ length (now tables)) ⌝ }
+    requires { ⌜ (e .peer .count ≤ 64) × (tableLength ≤ length (now tables)) ⌝ }
     ensures { λ r. ⌜ r ≡ knownIn e (now (tables .entry)) v ⌝ }
 {
     if v.has_id {
@@ -506,10 +518,51 @@ fn is_trailed(e: Engine, opcode: Opcode, p: &[u8]) -> bool
     false
 }
 
+// Whether an operation of this opcode goes under the mark wherever it comes: a Connect or an Abort.
+fn is_marked(opcode: Opcode) -> bool
+    ensures { λ r. ⌜ r ≡ isMarkedIn opcode ⌝ }
+{
+    if same(opcode, Opcode::Connect) {
+        return true;
+    }
+    same(opcode, Opcode::Abort)
+}
+
+// The Target under which a readable packet goes (docs/PROTOCOL.md#targets). Inside an operation that of its first packet stays; else it is
+// that of the ConnectionID, if the packet names one that is open.
+fn packet_target(e: Engine, opcode: Opcode, v: Survey, known: bool, tables: &[u64]) -> Target
+    requires { ⌜ (e .peer .count ≤ 64) × (tableLength ≤ length (now tables)) × (known ≡ knownIn e (now tables) v) ⌝ }
+    ensures { λ r. ⌜ r ≡ targetUnder e (now (tables .entry)) opcode v ⌝ }
+{
+    if is_marked(opcode) {
+        return unnamed();
+    }
+    let operation = e.operation;
+    if is_busy(operation) {
+        let target = e.target;
+        return target;
+    }
+    if known {
+        return target_at(tables, find_place(tables, e.peer.count, v.id));
+    }
+    unnamed()
+}
+
+// The way of a packet that cannot be read, by its first byte. The Target stays.
+fn unreadable_route(e: Engine, byte: u8) -> Routed
+    ensures { λ r. ⌜ r ≡ routed (unreadableRoute (e .operation) (unknownByte (firstByte byte))) (e .target) ⌝ }
+{
+    let target = e.target;
+    Routed {
+        route: unreadable(e, is_unknown(byte)),
+        target,
+    }
+}
+
 // Reads a whole packet, in one pass over its headers, and returns its way.
-pub(crate) fn route_packet(e: Engine, p: &[u8], tables: &[u64]) -> Route
-    requires { ⌜ (1 ≤ length (now p)) × (e .peer .count ≤ 64) × (64 ≤ length (now tables)) ⌝ }
-    ensures { λ r. ⌜ r ≡ packetRoute e (now (p .entry)) (now (tables .entry)) ⌝ }
+pub(crate) fn route_packet(e: Engine, p: &[u8], tables: &[u64]) -> Routed
+    requires { ⌜ (1 ≤ length (now p)) × (e .peer .count ≤ 64) × (tableLength ≤ length (now tables)) ⌝ }
+    ensures { λ r. ⌜ r ≡ routed (packetRoute e (now (p .entry)) (now (tables .entry))) (packetTargetOf (requestOf (now (p .entry))) e (now (tables .entry))) ⌝ }
 {
     let Head::Known {
         opcode,
@@ -517,16 +570,16 @@ pub(crate) fn route_packet(e: Engine, p: &[u8], tables: &[u64]) -> Route
         headers,
     } = packet_head(p)
     else {
-        return unreadable(e, is_unknown(p[0]));
+        return unreadable_route(e, p[0]);
     };
     let survey = survey_headers(p, headers);
     if !survey.readable {
-        return unreadable(e, is_unknown(p[0]));
+        return unreadable_route(e, p[0]);
     }
     let flags = set_path_flags(p);
     let known = is_known(e, survey, tables);
     let trails = is_trailed(e, opcode, p);
-    heading_route(
+    let route = heading_route(
         e,
         Heading {
             survey,
@@ -537,7 +590,9 @@ pub(crate) fn route_packet(e: Engine, p: &[u8], tables: &[u64]) -> Route
             known,
             trails,
         },
-    )
+    );
+    let target = packet_target(e, opcode, survey, known, tables);
+    Routed { route, target }
 }
 
 // Carries out a step that needs no more of the packet than its heading.
@@ -556,6 +611,15 @@ pub(crate) fn simple_plan(e: Engine, brief: Simple) -> Plan
     }
 }
 
+// The state with the Target under which the last packet goes.
+fn with_target(e: Engine, target: Target) -> Engine
+    ensures { λ r. ⌜ r ≡ targeted e target ⌝ }
+{
+    let mut r = e;
+    r.target = target;
+    r
+}
+
 // Acts on a packet and returns the plan that is still to be carried out.
 fn act(
     e: Engine,
@@ -565,16 +629,21 @@ fn act(
     body: &mut [u8],
     reply: &mut [u8],
 ) -> Plan
-    requires { ⌜ (1 ≤ length (now p)) × (e .peer .count ≤ 64) × (64 ≤ length (now tables)) × (255 ≤ e .peer .«remote_max_packet_length»)
+    requires { ⌜ (1 ≤ length (now p)) × (e .peer .count ≤ 64) × (tableLength ≤ length (now tables)) × (255 ≤ e .peer .«remote_max_packet_length»)
         × (soundOperation (limitOf e) (e .operation) ≡ true) × (65535 ≤ length (now headers)) × (limitOf e ≤ length (now body))
         × (65535 ≤ length (now reply)) ⌝ }
     ensures { λ r. ⌜ ((q : List ℕ) → planned r (stores q (now (headers .exit)) (now (body .exit)) (now (reply .exit)))
-        ≡ acts (packetRoute e (now (p .entry)) (now (tables .entry))) e (now (p .entry))
+        ≡ acts (packetRoute e (now (p .entry)) (now (tables .entry)))
+        (targeted e (packetTargetOf (requestOf (now (p .entry))) e (now (tables .entry)))) (now (p .entry))
         (stores q (now (headers .entry)) (now (body .entry)) (now (reply .entry)))) ⌝ }
 {
-    match route_packet(e, p, tables) {
-        Route::Plain(brief) => simple_plan(e, brief),
-        Route::Connect => handle_connect(e, p),
+    let routed = route_packet(e, p, tables);
+    let target = routed.target;
+    let route = routed.route;
+    let at = with_target(e, target);
+    match route {
+        Route::Plain(brief) => simple_plan(at, brief),
+        Route::Connect => handle_connect(at, p),
         Route::Gather {
             kind,
             begun,
@@ -583,7 +652,7 @@ fn act(
             srm,
             confirm,
         } => gather_packet(
-            e,
+            at,
             p,
             kind,
             begun,
@@ -598,17 +667,17 @@ fn act(
             outgoing,
             srm,
             wait,
-        } => object_plan(e, outgoing, srm, wait, &headers[..], reply),
+        } => object_plan(at, outgoing, srm, wait, &headers[..], reply),
     }
 }
 
 // The state after a whole packet of `n` bytes has arrived: later answers read it again from the packet store.
 fn whole(e: Engine, n: usize) -> Engine
-    ensures { λ r. ⌜ r ≡ lengthOf e n ⌝ }
+    ensures { λ r. ⌜ r ≡ arrived e n (e .target) ⌝ }
 {
     let operation = e.operation;
     let awaits = e.awaits;
-    engine_with(e.settings, e.peer, operation, awaits, 0, n)
+    engine_with(e.settings, e.peer, operation, awaits, 0, n, e.target)
 }
 
 // Handles a whole packet of `n` bytes at the front of the packet store.
@@ -621,7 +690,7 @@ pub(crate) fn packet_done(
     body: &mut [u8],
     reply: &mut [u8],
 ) -> CallResult
-    requires { ⌜ (1 ≤ n) × (n ≤ length (now packet)) × (e .peer .count ≤ 64) × (64 ≤ length (now tables)) × (255 ≤ e .peer .«remote_max_packet_length»)
+    requires { ⌜ (1 ≤ n) × (n ≤ length (now packet)) × (e .peer .count ≤ 64) × (tableLength ≤ length (now tables)) × (255 ≤ e .peer .«remote_max_packet_length»)
         × (soundOperation (limitOf e) (e .operation) ≡ true) × (65535 ≤ length (now headers)) × (limitOf e ≤ length (now body))
         × (65535 ≤ length (now reply)) ⌝ }
     ensures { λ r. ⌜ stepped r (stores (now (packet .entry)) (now (headers .exit)) (now (body .exit)) (now (reply .exit)))
@@ -653,7 +722,15 @@ pub(crate) fn more(e: Engine, begun: usize, taken: usize) -> CallResult
     let operation = e.operation;
     let awaits = e.awaits;
     CallResult {
-        engine: engine_with(e.settings, e.peer, operation, awaits, begun, e.length),
+        engine: engine_with(
+            e.settings,
+            e.peer,
+            operation,
+            awaits,
+            begun,
+            e.length,
+            e.target,
+        ),
         taken,
         outcome: Outcome::WantsBytes,
     }

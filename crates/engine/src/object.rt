@@ -60,7 +60,15 @@ pub(crate) fn packet_plan(e: Engine, srm: bool, wait: bool, k: NextPacket) -> Pl
         Next::Send { length, last } => {
             let operation = sending(k, last, srm, wait);
             Plan {
-                engine: engine_with(e.settings, e.peer, operation, Await::Taken, 0, e.length),
+                engine: engine_with(
+                    e.settings,
+                    e.peer,
+                    operation,
+                    Await::Taken,
+                    0,
+                    e.length,
+                    e.target,
+                ),
                 outcome: Outcome::Reply { length },
                 small: ShortReply::Silent,
             }

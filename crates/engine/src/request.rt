@@ -5,7 +5,7 @@ ghost use Rattle.packet.specs.Header.{first};
 ghost use Rattle.packet.specs.Packet.{requestOf};
 ghost use Rattle.packet.specs.AuthWrite.{given};
 ghost use Rattle.incoming.specs.Survey.{surveyOf};
-ghost use Rattle.connection.specs.Peer.{idIn, isGiven};
+ghost use Rattle.connection.specs.Peer.{idIn, isGiven, targetGiven};
 ghost use Rattle.connection.specs.Pieces.{headersFrom};
 ghost use Rattle.journal.specs.Journal.{responseIn, headersOf as headersIn};
 ghost use Rattle.model.specs.Connect.{checks};
@@ -21,6 +21,9 @@ use packet::header_id::TARGET;
 use packet::packet::Parsed;
 use packet::packet::parse_packet;
 use packet::tlv::Found;
+use table::targets::Target;
+use table::targets::target_of;
+use table::targets::unnamed;
 
 // Where the headers of packet `q` start: at its end if it cannot be read, so that it has none.
 pub(crate) fn last_from(q: &[u8]) -> usize
@@ -57,6 +60,16 @@ pub(crate) fn has_target(q: &[u8]) -> bool
         return false;
     };
     true
+}
+
+// The Target that packet `q` gives an id: that of its first Target header, or the mark.
+pub(crate) fn first_target(q: &[u8]) -> Target
+    ensures { λ r. ⌜ r ≡ targetGiven (first 0x46 (headersIn (requestOf (now (q .entry))))) ⌝ }
+{
+    let Found::At { start, end } = first_in(q, last_from(q), TARGET) else {
+        return unnamed();
+    };
+    target_of(&q[start..end])
 }
 
 // Whether the first SingleResponseMode header of packet `q` is Enable.

@@ -6,6 +6,7 @@ ghost use Rattle.engine.specs.Step.{wantsPlan, asksPlan, endsPlan, codeP
 ghost use lib.Dec.{eqb};
 ghost use Rattle.base.specs.Pick.{pick};
 ghost use Rattle.connection.specs.Peer.{freshPeer};
+ghost use Rattle.table.specs.Targets.{unnamed as unnamedTarget};
 ghost use Rattle.server.specs.declared.End.the-variants as end;
 ghost use Prim.Native.Nat.{_≤_, _<_};
 ghost use lib.ListN.{length};
@@ -29,6 +30,8 @@ use server::HostRequest;
 use server::Operation;
 use server::Outcome;
 use server::Settings;
+use table::targets::Target;
+use table::targets::unnamed;
 
 // A reply of a few bytes, written when the plan is carried out.
 pub(crate) enum ShortReply {
@@ -56,8 +59,9 @@ pub(crate) fn engine_with(
     awaits: Await,
     begun: usize,
     length: usize,
+    target: Target,
 ) -> Engine
-    ensures { λ r. ⌜ r ≡ engineWith settings peer operation awaits begun length ⌝ }
+    ensures { λ r. ⌜ r ≡ engineWith settings peer operation awaits begun length target ⌝ }
 {
     Engine {
         settings,
@@ -66,6 +70,7 @@ pub(crate) fn engine_with(
         awaits,
         begun,
         length,
+        target,
     }
 }
 
@@ -87,9 +92,17 @@ fn fresh_peer() -> Peer
 
 // An engine at its start; one that awaits nothing, if the start is refused.
 pub(crate) fn fresh(settings: Settings, awaits: Await) -> Engine
-    ensures { λ r. ⌜ r ≡ engineWith settings freshPeer Operation.Nothing awaits 0 0 ⌝ }
+    ensures { λ r. ⌜ r ≡ engineWith settings freshPeer Operation.Nothing awaits 0 0 unnamedTarget ⌝ }
 {
-    engine_with(settings, fresh_peer(), Operation::Nothing, awaits, 0, 0)
+    engine_with(
+        settings,
+        fresh_peer(),
+        Operation::Nothing,
+        awaits,
+        0,
+        0,
+        unnamed(),
+    )
 }
 
 // The engine wants bytes.
@@ -97,7 +110,15 @@ pub(crate) fn wants(e: Engine, peer: Peer, operation: Operation) -> Plan
     ensures { λ r. ⌜ r ≡ wantsPlan e peer operation ⌝ }
 {
     Plan {
-        engine: engine_with(e.settings, peer, operation, Await::Bytes, 0, e.length),
+        engine: engine_with(
+            e.settings,
+            peer,
+            operation,
+            Await::Bytes,
+            0,
+            e.length,
+            e.target,
+        ),
         outcome: Outcome::WantsBytes,
         small: ShortReply::Silent,
     }
@@ -114,7 +135,7 @@ pub(crate) fn asks(
     ensures { λ r. ⌜ r ≡ asksPlan e peer operation awaits request ⌝ }
 {
     Plan {
-        engine: engine_with(e.settings, peer, operation, awaits, 0, e.length),
+        engine: engine_with(e.settings, peer, operation, awaits, 0, e.length, e.target),
         outcome: Outcome::Request(request),
         small: ShortReply::Silent,
     }
@@ -132,6 +153,7 @@ pub(crate) fn ends(e: Engine, peer: Peer, end: End) -> Plan
             Await::Nothing,
             0,
             e.length,
+            e.target,
         ),
         outcome: Outcome::End(end),
         small: ShortReply::Silent,
@@ -153,7 +175,15 @@ pub(crate) fn code(e: Engine, peer: Peer, awaits: Await, byte: u8) -> Plan
     ensures { λ r. ⌜ r ≡ codePlan e peer awaits byte ⌝ }
 {
     Plan {
-        engine: engine_with(e.settings, peer, Operation::Nothing, awaits, 0, e.length),
+        engine: engine_with(
+            e.settings,
+            peer,
+            Operation::Nothing,
+            awaits,
+            0,
+            e.length,
+            e.target,
+        ),
         outcome: Outcome::Reply { length: 3 },
         small: ShortReply::Byte(byte),
     }
@@ -171,6 +201,7 @@ pub(crate) fn fields(e: Engine, peer: Peer, code: u8) -> Plan
             Await::Taken,
             0,
             e.length,
+            e.target,
         ),
         outcome: Outcome::Reply { length: 7 },
         small: ShortReply::Fields {
@@ -186,7 +217,15 @@ pub(crate) fn code_keeping(e: Engine, operation: Operation, byte: u8) -> Plan
 {
     let small = ShortReply::Byte(byte);
     Plan {
-        engine: engine_with(e.settings, e.peer, operation, Await::Taken, 0, e.length),
+        engine: engine_with(
+            e.settings,
+            e.peer,
+            operation,
+            Await::Taken,
+            0,
+            e.length,
+            e.target,
+        ),
         outcome: Outcome::Reply { length: 3 },
         small,
     }
@@ -196,7 +235,15 @@ pub(crate) fn code_keeping(e: Engine, operation: Operation, byte: u8) -> Plan
 pub(crate) fn continues(e: Engine, operation: Operation, grant: bool) -> Plan
     ensures { λ r. ⌜ r ≡ continuePlan e operation grant ⌝ }
 {
-    let engine = engine_with(e.settings, e.peer, operation, Await::Taken, 0, e.length);
+    let engine = engine_with(
+        e.settings,
+        e.peer,
+        operation,
+        Await::Taken,
+        0,
+        e.length,
+        e.target,
+    );
     if grant {
         return Plan {
             engine,
@@ -267,6 +314,7 @@ pub(crate) fn sent_plan(e: Engine, peer: Peer, sent: Sent) -> Plan
                 Await::Taken,
                 0,
                 e.length,
+                e.target,
             ),
             outcome: Outcome::Reply { length },
             small: ShortReply::Silent,

@@ -7,3 +7,4 @@ pub mod Journal
 pub mod PutForm
 pub mod Srm
 pub mod Claim
+pub mod Naming

@@ -69,7 +69,7 @@ checks-are (Stored n) (some r) d none = refl
 checks-are (Stored n) (some r) d (some p) = refl
 
 module _ (ts : List ℕ) (e : Engine) (s : Stores) (j : Journal) (o : Opcode) (w : AskedBy ts (e .settings) (e .peer) o (e .length) s j) where
-  headers-are : w .request .headers ≡ lastHeaders e s
+  pub headers-are : w .request .headers ≡ lastHeaders e s
   unfolding lastHeaders lastPacket
   headers-are = w .headers
 
@@ -92,24 +92,24 @@ module _ (ts : List ℕ) (e : Engine) (s : Stores) (j : Journal) (o : Opcode) (w
   abbrev past : List Check
   past = w .held .fixed .past
 
-  abbrev stood : Standing
+  abbrev pub stood : Standing
   stood = standingOf (e .peer) ts past
 
   -- what the journal does on a reply
-  replied-to : (code : ℕ) (hs : List ℕ) → replied (j .opened) j code hs ≡ replyTo o j (w .request) code hs
+  pub replied-to : (code : ℕ) (hs : List ℕ) → replied (j .opened) j code hs ≡ replyTo o j (w .request) code hs
   replied-to code hs =
       ap (λ (x : Opened). replied x j code hs) (w .held .opened) ∙ ap (λ (x : Option Packet). replyLast x j code hs) (w .last)
       ∙ ap (λ (x : Opcode). replyTo x j (w .request) code hs) (w .opcode)
 
   -- ---- Connect
 
-  abbrev srm : Bool
+  abbrev pub srm : Bool
   srm = e .peer .«srm_enabled» || srmAsked e (surveyOf (some (lastHeaders e s)))
 
-  abbrev target : Option (List ℕ)
+  abbrev pub target : Option (List ℕ)
   target = first 0x46 (lastHeaders e s)
 
-  connected-is : (code : ℕ) (answer : List Header)
+  pub connected-is : (code : ℕ) (answer : List Header)
       → connected (j .settings) (j .standing) (w .request .headers) code answer
       ≡ pick (isSuccess code) (opensFor stood srm (first 0xCB answer) target) stood
   unfolding connected asksSrm surveyOf

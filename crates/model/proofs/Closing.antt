@@ -119,7 +119,7 @@ module _ (w : Known) (s : State) (h : Seated s) (k : Knows w s) (l : List ℕ) w
 
   -- what the call leads to if it goes
   abbrev d : Done
-  d = done (engineWith (e .settings) p (e .operation) (e .awaits) (e .begun) (e .length)) outcome.WantsBytes st
+  d = done (engineWith (e .settings) p (e .operation) (e .awaits) (e .begun) (e .length) (e .target)) outcome.WantsBytes st
 
   room : e .peer .count ≤ length ts
   room = omega (arith, h .sits .base .peer .count, h .tables)

@@ -176,7 +176,7 @@ tabled-told-pick false a b x f g = g refl
 
 pub told-done : (ts : List ℕ) (e : Engine) (p : Peer) (o : Operation) (a : Await) (c : Outcome) (z : Stores) (j : Journal) (l : List Record)
     → CoupledAt ts a o (e .settings) p 0 (e .length) z j → handed c z ≡ l → endOf c ≡ none
-    → Told ts (done (engineWith (e .settings) p o a 0 (e .length)) c z) (record { next = j; given = l; number = none })
+    → Told ts (done (engineWith (e .settings) p o a 0 (e .length) (e .target)) c z) (record { next = j; given = l; number = none })
 unfolding engineWith
 told-done ts e p o a c z j l w g n = record { given = g; after = w; ends = λ i. n }
 
@@ -233,7 +233,7 @@ module _ (ts : List ℕ) (e : Engine) (p : Peer) (z : Stores) (j : Journal) wher
   -- a Get whose object was sent closes on a reply that is not 0x90
   pub told-closes : (c : Outcome) (y : List ℕ) → handed c (withReply z y) ≡ [] → endOf c ≡ none → eqb (getD y 0 0) 0x90 ≡ false → Fixed ts (e .settings) p j
       → j .begun ≡ [] → j .opened ≡ sending
-      → Told ts (done (engineWith (e .settings) p Nothing await.Taken 0 (e .length)) c (withReply z y)) (unchanged j)
+      → Told ts (done (engineWith (e .settings) p Nothing await.Taken 0 (e .length) (e .target)) c (withReply z y)) (unchanged j)
   told-closes c y g n b f k w =
       told-done ts e p Nothing await.Taken c (withReply z y) j [] (
         f .ended,

@@ -206,20 +206,24 @@ is-sound e s h =
 -- and all that is lent
 pub record Seated (s : State) : Type 0 where
   pub sits : Sits (s .engine) (s .stores)
-  pub tables : 128 ≤ length (s .tables)
+  pub tables : 320 ≤ length (s .tables)
   pub realm : longRealm (s .engine .settings) (s .realm) ≡ false
 
-pub tables-room : (t : List ℕ) → shortTables t ≡ false → 128 ≤ length t
+pub tables-room : (t : List ℕ) → shortTables t ≡ false → 320 ≤ length t
 unfolding shortTables
 tables-room t h = ltb-false _ _ h
 
-pub tables-long : (t : List ℕ) → 128 ≤ length t → shortTables t ≡ false
+pub tables-long : (t : List ℕ) → 320 ≤ length t → shortTables t ≡ false
 unfolding shortTables
 tables-long t h = le-ltb _ _ h
 
 -- there is room for the ids
 pub ids-room : (s : State) → Seated s → 64 ≤ length (s .tables)
 ids-room s h = omega (arith, h .tables)
+
+-- and for the nonces
+pub nonces-room : (s : State) → Seated s → 128 ≤ length (s .tables)
+nonces-room s h = omega (arith, h .tables)
 
 -- ---- what a step leads to
 
@@ -252,7 +256,7 @@ tabled-pick e t false x y f g = g
 module _ (e : Engine) (s : Stores) (h : Base e s) where
   pub fine-done : {n : ℕ} (p : Peer) (o : Operation) (a : Await) (c : Outcome) (z : Stores) → PeerFits n p → Room (limitOf e) z
       → soundOperation (limitOf e) o ≡ true → Shape a o
-      → ((w : Waits) → told w c ≡ waitsOf a o) → verdictOf c ≡ goes → FineWith n e (done (engineWith (e .settings) p o a 0 (e .length)) c z)
+      → ((w : Waits) → told w c ≡ waitsOf a o) → verdictOf c ≡ goes → FineWith n e (done (engineWith (e .settings) p o a 0 (e .length) (e .target)) c z)
   unfolding engineWith
   fine-done p o a c z f r k x w g =
       record {

@@ -42,7 +42,7 @@ use Rattle.server.specs.declared.Await.the-variants as await
 use Rattle.server.specs.declared.Engine.{Engine}
 use Rattle.outgoing.proofs.Sent.{body-sends}
 use Rattle.table.proofs.Remembering.{remembered-length, remembered-front, remembered-more}
-use Rattle.model.proofs.Fit.{and-left, and-right, or-left, or-right, room-headers, IsGetting, IsSending, IsConnecting, Shape, roomOf, waitsOf, Base, Seated, ids-room, Fine, fine-code}
+use Rattle.model.proofs.Fit.{and-left, and-right, or-left, or-right, room-headers, IsGetting, IsSending, IsConnecting, Shape, roomOf, waitsOf, Base, Seated, ids-room, nonces-room, Fine, fine-code}
 use Rattle.model.proofs.Steps.{OutgoingFits, outgoing-within, sends-next-fine, sends-packet-fine, reply-fine, password-fine, nonce-fine, connect-sends-fine}
 use Rattle.model.proofs.Coupling.{KeptOpen, OpenedAt, Held, AskedBy, connects, Coupled, Told, told-follows, ToldTabled, tabled-told-pick, told-code}
 use Rattle.model.proofs.Sizes.{early, Brief, brief-done, packet-brief, next-brief, password-brief, sends-brief, sends-connect-brief, nonce-brief, LateIn, LateAt, Sized, brief-sized, sized-pick, connect-sized}
@@ -317,13 +317,13 @@ module _ (w : Known) (s : State) (h : Seated s) (k : Knows w s) where
     nonce-goes : e .awaits ≡ await.Nonce → Agree w s (nonceGiven n) goes (called (after 0 (nonceAnswer e n (s .realm) st)) (rememberedWith n ts))
     nonce-goes at =
         agree-tabled w s h k (nonceGiven n) (nonceAnswer e n (s .realm) st) 0 (rememberedWith n ts) (nonce-fine e st (h .sits .base) n (s .realm))
-        (remembered-length n ts (h .tables))
-        (remembered-more n (e .peer .nonces) ts (h .sits .base .peer .few) (h .tables) ∙ ap (λ (l : List Octets16). take 32 (n ∷ l)) (k .nonces)
+        (remembered-length n ts (nonces-room s h))
+        (remembered-more n (e .peer .nonces) ts (h .sits .base .peer .few) (nonces-room s h) ∙ ap (λ (l : List Octets16). take 32 (n ∷ l)) (k .nonces)
         ∙ take-again 31 n (w .nonces))
         (λ j x. none-taken (j .ended))
         (λ j x. let y = coupled-at w s h k await.Nonce j at x in
         told-follows (entered-over (rememberedWith n ts) (nonceGiven n) j _ (y .held .fixed .ended)
-        (nonce-told ts e st j op.Connect y (rememberedWith n ts) (remembered-front n ts (h .tables) (e .peer .count) (h .sits .base .peer .count)) n (s .realm))))
+        (nonce-told ts e st j op.Connect y (rememberedWith n ts) (remembered-front n ts (nonces-room s h) (e .peer .count) (h .sits .base .peer .count)) n (s .realm))))
         (λ j late x y l. brief-sized _ _ (nonce-brief e st n (s .realm) (h .realm)))
         (λ j o x y l. speaks-spoken _ o (nonce-speaks e st n (s .realm)))
 

@@ -16,7 +16,7 @@ use Rattle.incoming.specs.declared.frame.Frame.{Frame}
 use Rattle.incoming.specs.declared.frame.Frame.the-variants.{More, Whole, Short}
 use Rattle.model.specs.Step.{Stores, Done, done, wants, ends, after, engineWith, limitOf}
 use Rattle.model.specs.Request.{lastPacket}
-use Rattle.model.specs.Dispatch.{lengthOf, packetDone}
+use Rattle.model.specs.Dispatch.{packetTarget, arrived, packetDone}
 use Rattle.model.specs.Calls.{framedAs, withPacket, offers}
 use Rattle.model.specs.Guard.{sameAwait, fits, soundOperation}
 use Rattle.model.specs.Object.{goesOn}
@@ -107,7 +107,7 @@ module _ (w : Known) (s : State) (h : Seated s) (k : Knows w s) where
 
     -- a packet goes on
     more-fine : (q : List ℕ) → Frames-agree (st .packet) f (more q)
-        → Fine e (done (engineWith (e .settings) (e .peer) (e .operation) (e .awaits) n (e .length)) outcome.WantsBytes z)
+        → Fine e (done (engineWith (e .settings) (e .peer) (e .operation) (e .awaits) n (e .length) (e .target)) outcome.WantsBytes z)
     unfolding engineWith
     more-fine q (a, g, l, m) =
         record {
@@ -124,7 +124,7 @@ module _ (w : Known) (s : State) (h : Seated s) (k : Knows w s) where
         }
 
     more-told : (q : List ℕ) → Frames-agree (st .packet) f (more q) → (j : Journal) → Begins j
-        → Told ts (done (engineWith (e .settings) (e .peer) (e .operation) (e .awaits) n (e .length)) outcome.WantsBytes z) (bytesRead j (more q))
+        → Told ts (done (engineWith (e .settings) (e .peer) (e .operation) (e .awaits) n (e .length) (e .target)) outcome.WantsBytes z) (bytesRead j (more q))
     unfolding engineWith
     more-told q (a, g, l, m) j x =
         record {
@@ -135,14 +135,17 @@ module _ (w : Known) (s : State) (h : Seated s) (k : Knows w s) where
         }
 
     -- a packet is whole
-    whole-base : (q : List ℕ) → Frames-agree (st .packet) f (whole q) → Base (lengthOf e n) z
+    abbrev whole-engine : Engine
+    whole-engine = arrived e n (packetTarget (requestOf (take n (f .packet))) e ts)
+
+    whole-base : (q : List ℕ) → Frames-agree (st .packet) f (whole q) → Base whole-engine z
     unfolding engineWith
     whole-base q (a, g, l) = record { room = room-at (g .same-length); peer = h .sits .base .peer; last = l }
 
     whole-fine : (q : List ℕ) → Frames-agree (st .packet) f (whole q) → Fine e (packetDone e n z ts)
     unfolding engineWith packetDone lastPacket
     whole-fine q (a, g, l) =
-        let y = read-fine (lengthOf e n) z (whole-base q (a, g, l)) (subst Octets (g .bytes) (g .octets)) (h .sits .counts) (take n (f .packet)) ts
+        let y = read-fine whole-engine z (whole-base q (a, g, l)) (subst Octets (g .bytes) (g .octets)) (h .sits .counts) (take n (f .packet)) ts
         (requestOf (take n (f .packet))) in
         record { settings = y .settings; nonces = y .nonces; sits = y .sits; waits = y .waits; goes = y .goes }
 
@@ -151,7 +154,7 @@ module _ (w : Known) (s : State) (h : Seated s) (k : Knows w s) where
     unfolding engineWith packetDone journalPacket keptAfter
     whole-told q (a, g, l) j x =
         let w = subst (λ (p : List ℕ). Follows (length (keptRead (j .opened) (requestOf p)) ≤ 65535) ts (packetDone e n z ts) (packetRead (requestOf p) j)) (sym (g .bytes))
-        (read-told ts (lengthOf e n) z j (record { settings = x .fixed .settings; past = x .fixed .past; standing = x .fixed .standing; window = x .fixed .window; ended = x .fixed .ended })
+        (read-told ts whole-engine z j (record { settings = x .fixed .settings; past = x .fixed .past; standing = x .fixed .standing; window = x .fixed .window; ended = x .fixed .ended })
         (whole-base q (a, g, l)) (subst Octets (g .bytes) (g .octets)) (x .opened) (h .sits .counts)
         (take n (f .packet)) (requestOf (take n (f .packet))) refl) in
         record { told = λ y. w .told (y .0); after = w .after }
@@ -161,7 +164,7 @@ module _ (w : Known) (s : State) (h : Seated s) (k : Knows w s) where
     unfolding engineWith packetDone keptAfter
     whole-spoken q (a, g, l) j o x v y =
         subst (λ (p : List ℕ). Spoken (packetDone e n z ts) (packetDue (requestOf p) o j) (packetMode (requestOf p) o j)) (sym (g .bytes))
-        (read-spoken ts (lengthOf e n) z j
+        (read-spoken ts whole-engine z j
         (record { settings = x .fixed .settings; past = x .fixed .past; standing = x .fixed .standing; window = x .fixed .window; ended = x .fixed .ended }) o
         (whole-base q (a, g, l)) (subst Octets (g .bytes) (g .octets)) (x .opened) v
         (take n (f .packet)) (requestOf (take n (f .packet))) refl

@@ -2,7 +2,8 @@
 -- alone (`Fit`, `Steps`), how it stands to the journal (`Coupling`), how long replies are (`Sizes`), packets (`Gathers`, `Dispatch`,
 -- `Packets`), Single Response Mode (`Speaks`), the host's answers (`Answers`), and the calls (`Moments`, `FromPeer`, `FromHost`).
 -- `Contracts`: the same from the contract of a start. `EightWrong`: the count of wrong passwords. `ObjectSent`: the replies to a Get.
--- `Secrecy`: passwords leave no trace. `Closing`: the call that closes connections; `ClosedTogether`: which ids are left.
+-- `Secrecy`: passwords leave no trace. `Closing`: the call that closes connections; `ClosedTogether`: which ids are left. `Carries`,
+-- `Targets`: the Targets that requests name.
 pub mod Cases
 pub mod Fit
 pub mod Steps
@@ -23,3 +24,5 @@ pub mod EightWrong
 pub mod ObjectSent
 pub mod Secrecy
 pub mod ClosedTogether
+pub mod Carries
+pub mod Targets

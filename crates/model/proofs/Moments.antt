@@ -179,7 +179,7 @@ lacksIn s c = lacks (s .engine .settings) c (s .stores) (s .tables)
 abbrev pub verdictAt : Known → State → Journal → Call → Verdict
 verdictAt w s j c = verdict (lacksIn s c) w j c
 
-abbrev atMoment : State → Call → Bool
+abbrev pub atMoment : State → Call → Bool
 atMoment s c = sound (s .engine) && fits (kindOf c) (s .engine .awaits)
 
 -- the guard of the call that closes connections, which asks for the operation too
@@ -192,7 +192,7 @@ closing-is s l false true true false = refl
 closing-is s l false true false t = refl
 closing-is s l false false z t = refl
 
-step-is : (s : State) (c : Call)
+pub step-is : (s : State) (c : Call)
     → stepOf s c ≡ pick (lacksIn s c) (refuses refusal.StoreTooShort s) (pick (atMoment s c) (goFor s c) (refuses refusal.WrongMoment s))
 unfolding bytesOfferedStep streamEndedStep replyTakenStep replyGivenStep objectGivenStep bodyGivenStep bodyFailedStep abortAcknowledgedStep passwordGivenStep nonceGivenStep credentialsGivenStep connectionsClosedStep
 step-is s (bytesOffered i) = kept s (bytesOffered i) (lacksIn s (bytesOffered i)) (atMoment s (bytesOffered i))

@@ -16,7 +16,7 @@ use Rattle.packet.specs.Header.{headerAt, walk, readHeaders, first}
 use Rattle.packet.specs.Packet.{requestOf, packetBytes}
 use Rattle.incoming.specs.Frame.{frameEnd, framed}
 use Rattle.incoming.specs.Survey.{surveyOf}
-use Rattle.model.specs.Dispatch.{packetDone}
+use Rattle.model.specs.Dispatch.{packetTarget, packetDone}
 use Rattle.incoming.specs.declared.gather.Gathered.{Gathered}
 use Rattle.outgoing.specs.declared.object.Outgoing.{Outgoing}
 use Rattle.outgoing.specs.declared.object.Chunk.{Chunk}
@@ -61,13 +61,13 @@ run-before p (some r) ps e = record { rest = r; is = cc; of = refl }
 -- ---- the peer's request to go on
 
 abbrev sendingTo : Engine → Outgoing → Chunk → Bool → Bool → Await → ℕ → Engine
-sendingTo e o c srm wait a n = engineWith (e .settings) (e .peer) (Sending o c srm wait) a 0 n
+sendingTo e o c srm wait a n = engineWith (e .settings) (e .peer) (Sending o c srm wait) a 0 n (e .target)
 
 asks-on : (e : Engine) (o : Outgoing) (c : Chunk) (srm wait : Bool) (n x y z : ℕ) (rest : List ℕ) (s : Stores) (t : List ℕ)
     → let taken = offers (sendingTo e o c srm wait await.Bytes n) (framed (x ∷ y ∷ z ∷ rest) 0 0 goOn) s t .took .taken in
     offers (sendingTo e o c srm wait await.Bytes n) (framed (x ∷ y ∷ z ∷ rest) 0 0 goOn) s t
     ≡ after taken (sendsNext (sendingTo e o c srm wait await.Bytes 3) o srm false (withPacket s (0x83 ∷ 0x00 ∷ 0x03 ∷ rest)))
-unfolding engineWith framed frameEnd packetDone requestOf named firstByte readHeaders walk headerAt sameOpcode surveyOf first
+unfolding engineWith framed frameEnd packetDone packetTarget requestOf named firstByte readHeaders walk headerAt sameOpcode surveyOf first
 asks-on e o c srm wait n x y z rest s t = refl
 
 -- a packet store has three bytes

@@ -67,7 +67,7 @@ module _ (st : Settings) (w : Known) (s : State) (j : Journal) (b : Between st w
   abbrev pub fedTo : Fed
   fedTo = fedBy dueAt (x .call) (getD (s .stores .reply) 0 0)
 
-  performed-agrees : Agree w s (x .call) dueAt (calledIn x)
+  pub performed-agrees : Agree w s (x .call) dueAt (calledIn x)
   performed-agrees =
       subst (λ (y : Settings). Agree w s (x .call) (verdict (lacks y (x .call) (s .stores) (s .tables)) w j (x .call)) (calledIn x)) (b .settings)
       (subst (λ (m : Called). Agree w s (x .call) (verdictAt w s j (x .call)) m) (sym (says .step))

@@ -36,7 +36,9 @@ use Rattle.outgoing.specs.declared.object.Outgoing.{Outgoing}
 use Rattle.outgoing.specs.declared.object.Next.{Next}
 use Rattle.outgoing.specs.declared.object.Next.the-variants as next
 use Rattle.connection.specs.Reply.{fieldsOf, sendBytes, front}
-use Rattle.connection.specs.Peer.{idsOf, Linked, opened, searched, openedFor, limited, verifiedPeer, challengedPeer, checkedPeer}
+use Rattle.table.specs.Targets.{targetBy}
+use Rattle.table.specs.declared.targets.Target.{Target}
+use Rattle.connection.specs.Peer.{idsOf, Linked, opened, searched, targetGiven, openedFor, limited, verifiedPeer, challengedPeer, checkedPeer}
 use Rattle.connection.specs.ConnectReply.{answeredChallenge, connectHeaders, challengeHeader}
 use Rattle.connection.specs.Pieces.{idGiven}
 use Rattle.connection.specs.declared.peer.Challenge.{Challenge}
@@ -49,7 +51,7 @@ use Rattle.model.specs.Guard.{longRealm}
 use Rattle.model.specs.Operation.{gathers, putContinues, putGathered, putPacket, getContinues, getGathered, getPacket, headersPacket}
 use Rattle.model.specs.Object.{sendsMade, sendsPacket, sendsNext, goesOn}
 use Rattle.model.specs.Connect.{srmAsked, connectSends, frontFor, connectChallenged, connectOpened, connectAnswer, verifies, connectPacket, checks, passwordAnswer, optionsOf, realmOf, nonceAnswer, stops, repliesFields, passwordAnswered, demandsUser}
-use Rattle.model.specs.Dispatch.{Rejection, admits, rejects, rejection, drains, dispatches, admittedAs, dispatch, inside, busy, readAs, knownIn, lengthOf, packetDone, trails}
+use Rattle.model.specs.Dispatch.{Rejection, admits, rejects, rejection, drains, dispatches, admittedAs, dispatch, inside, busy, readAs, knownIn, packetTarget, arrived, packetDone, trails}
 use Rattle.model.specs.Replies.{frontIn, isFull, fullFor, acceptedSize, acceptedAt, connectSize, lastSize, answerSize, Late, lateBy}
 use Rattle.model.specs.Theorem.{settingsOf}
 use Rattle.server.specs.declared.Settings.{Settings}
@@ -91,13 +93,13 @@ brief-pick true a b x y = x
 brief-pick false a b x y = y
 
 pub brief-done : (e : Engine) (p : Peer) (o : Operation) (a : Await) (b n : ℕ) (c : Outcome) (z : Stores) → tooLarge c ≡ false → early a ≡ true
-    → Brief (done (engineWith (e .settings) p o a b n) c z)
+    → Brief (done (engineWith (e .settings) p o a b n (e .target)) c z)
 unfolding engineWith
 brief-done e p o a b n c z x y = record { small = x; early = y }
 
 module _ (e : Engine) (s : Stores) where
   leaf : (p : Peer) (o : Operation) (a : Await) (c : Outcome) (z : Stores) → tooLarge c ≡ false → early a ≡ true
-      → Brief (done (engineWith (e .settings) p o a 0 (e .length)) c z)
+      → Brief (done (engineWith (e .settings) p o a 0 (e .length) (e .target)) c z)
   leaf p o a c z x y = brief-done e p o a 0 (e .length) c z x y
 
   -- ---- operations
@@ -260,7 +262,8 @@ module _ (e : Engine) (s : Stores) where
 -- a whole packet
 pub done-brief : (e : Engine) (n : ℕ) (s : Stores) (t : List ℕ) → Brief (packetDone e n s t)
 unfolding packetDone
-done-brief e n s t = read-brief (lengthOf e n) s (take n (s .packet)) t (requestOf (take n (s .packet)))
+done-brief e n s t =
+    let r = requestOf (take n (s .packet)) in read-brief (arrived e n (packetTarget r e t)) s (take n (s .packet)) t r
 
 -- ---- what credentials will lead to
 
@@ -315,17 +318,17 @@ not-full p ts h srm f room q a t = by a t
     size : length (idsOf p ts) ≡ p .count
     size = length-take-le (p .count) ts (omega (arith, f .count, room))
 
-    one : (id next : ℕ) → opened p ts srm id next ≡ some q → isFull (standingOf p ts h) id ≡ false
-    one id next i = go (member id (idsOf p ts)) (leb 64 (p .count)) refl refl i
+    one : (id next : ℕ) (g : Target) → opened p ts srm id next g ≡ some q → isFull (standingOf p ts h) id ≡ false
+    one id next g i = go (member id (idsOf p ts)) (leb 64 (p .count)) refl refl i
       where
-        go : (x u : Bool) → member id (idsOf p ts) ≡ x → leb 64 (p .count) ≡ u → opened p ts srm id next ≡ some q → isFull (standingOf p ts h) id ≡ false
+        go : (x u : Bool) → member id (idsOf p ts) ≡ x → leb 64 (p .count) ≡ u → opened p ts srm id next g ≡ some q → isFull (standingOf p ts h) id ≡ false
         go true u m k i = simp m
         go false true m k i = absurd (let z : _≡_ {A = ℕ} 0 1 = (let y = simp (m, k) at i in cc) in omega arith)
         go false false m k i = simp (m, size, k)
 
     by : (a t : Option (List ℕ)) → openedFor p ts srm a t ≡ some q → fullFor (standingOf p ts h) a t ≡ false
-    by (some v) t i = one (be32 v 0) (p .«next_connection_id») i
-    by none (some v) i = one (searched p ts) ((searched p ts + 1) % 2 ^ 32) i
+    by (some v) t i = one (be32 v 0) (p .«next_connection_id») (targetGiven t) i
+    by none (some v) i = one (searched p ts) ((searched p ts + 1) % 2 ^ 32) (targetBy v) i
     by none none i = refl
 
 module _ (ts : List ℕ) (e : Engine) (s : Stores) (j : Journal) (w : AskedBy ts (e .settings) (e .peer) op.Connect (e .length) s j) (code : ℕ) (hs : List ℕ) where

@@ -91,7 +91,7 @@ pub record Spoken (d : Done) (u : Due) (m : Mode) : Type 0 where
   pub mode : ModeAt (d .engine .operation) m
 
 pub spoken-done : (e : Engine) (p : Peer) (o : Operation) (a : Await) (b n : ℕ) (c : Outcome) (z : Stores) (u : Due) (m : Mode) → Obeys u c (z .reply)
-    → ModeAt o m → Spoken (done (engineWith (e .settings) p o a b n) c z) u m
+    → ModeAt o m → Spoken (done (engineWith (e .settings) p o a b n (e .target)) c z) u m
 unfolding engineWith
 spoken-done e p o a b n c z u m x y = record { obeys = x; mode = y }
 
@@ -105,7 +105,7 @@ spoken-both false a b u v m x y = y
 
 module _ (e : Engine) (s : Stores) where
   said : (p : Peer) (o : Operation) (a : Await) (c : Outcome) (z : Stores) (m : Mode) → wantsBytes c ≡ false → ModeAt o m
-      → Spoken (done (engineWith (e .settings) p o a 0 (e .length)) c z) speaks m
+      → Spoken (done (engineWith (e .settings) p o a 0 (e .length) (e .target)) c z) speaks m
   said p o a c z m x y = spoken-done e p o a 0 (e .length) c z speaks m x y
 
   unsaid : (o : Operation) (z : Stores) (m : Mode) → ModeAt o m → Spoken (wants e (e .peer) o z) silent m
@@ -434,7 +434,7 @@ pub speaks-spoken : (d : Done) (m : Mode) → Speaks d → Spoken d speaks m
 speaks-spoken d m x = record { obeys = x .said; mode = x .free m }
 
 pub speaks-done : (e : Engine) (p : Peer) (o : Operation) (a : Await) (c : Outcome) (z : Stores) → wantsBytes c ≡ false → ((m : Mode) → ModeAt o m)
-    → Speaks (done (engineWith (e .settings) p o a 0 (e .length)) c z)
+    → Speaks (done (engineWith (e .settings) p o a 0 (e .length) (e .target)) c z)
 unfolding engineWith
 speaks-done e p o a c z x y = record { said = x; free = y }
 

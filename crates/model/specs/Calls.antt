@@ -16,6 +16,7 @@ use Rattle.incoming.specs.Frame.{Frames, framed}
 use Rattle.incoming.specs.declared.frame.Frame.{Frame}
 use Rattle.incoming.specs.declared.frame.Frame.the-variants.{More, Whole, Short}
 use Rattle.outgoing.specs.Object.{bodyGiven}
+use Rattle.table.specs.Targets.{unnamed}
 use Rattle.connection.specs.Reply.{front}
 use Rattle.connection.specs.Peer.{freshPeer, Linked, linked, disconnectedPeer}
 use Rattle.table.specs.Nonces.{rememberedWith, remembered, among}
@@ -41,7 +42,7 @@ use Rattle.model.specs.Guard.{refuse, short, sound, shortTables, longRea
 -- What follows by where the frame stands, with `b` bytes of a packet in the packet store and `n` taken.
 abbrev pub framedAs : Frame → Engine → ℕ → ℕ → Stores → List ℕ → Stepped
 framedAs More e b n s t =
-    stepped (record { engine = engineWith (e .settings) (e .peer) (e .operation) (e .awaits) b (e .length); taken = n; outcome = outcome.WantsBytes }) s
+    stepped (record { engine = engineWith (e .settings) (e .peer) (e .operation) (e .awaits) b (e .length) (e .target); taken = n; outcome = outcome.WantsBytes }) s
 framedAs Short e b n s t = after n (ends e (e .peer) end.LengthTooSmall s)
 framedAs Whole e b n s t = after n (packetDone e b s t)
 
@@ -167,11 +168,11 @@ connectionsClosedStep e l t =
 
 -- A fresh engine.
 unfoldable pub started : Settings → Engine
-started st = engineWith st freshPeer Nothing await.Bytes 0 0
+started st = engineWith st freshPeer Nothing await.Bytes 0 0 unnamed
 
 -- The start. It is refused if a lent store is short, then if the realm is over 254 bytes after its charset; the state has then ended.
 unfoldable pub startStep : Settings → List ℕ → Stores → List ℕ → Stepped
 startStep st l s t =
-    pick (shortTables t || short (st .«max_object_size») s) (refuse refusal.StoreTooShort (engineWith st freshPeer Nothing await.Nothing 0 0) s)
-    (pick (longRealm st l) (refuse refusal.BadAnswer (engineWith st freshPeer Nothing await.Nothing 0 0) s)
+    pick (shortTables t || short (st .«max_object_size») s) (refuse refusal.StoreTooShort (engineWith st freshPeer Nothing await.Nothing 0 0 unnamed) s)
+    (pick (longRealm st l) (refuse refusal.BadAnswer (engineWith st freshPeer Nothing await.Nothing 0 0 unnamed) s)
     (stepped (record { engine = started st; taken = 0; outcome = outcome.WantsBytes }) s))

@@ -51,7 +51,7 @@ refuseClosing r e t = closed (record { engine = e; taken = 0; outcome = outcome.
 abbrev pub goesOnWith : Engine → Peer → CallResult
 goesOnWith e p =
     record {
-      engine = engineWith (e .settings) p (e .operation) (e .awaits) (e .begun) (e .length);
+      engine = engineWith (e .settings) p (e .operation) (e .awaits) (e .begun) (e .length) (e .target);
       taken = 0;
       outcome = outcome.WantsBytes;
     }

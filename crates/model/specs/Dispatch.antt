@@ -19,6 +19,8 @@ use Rattle.journal.specs.Ids.{member}
 use Rattle.incoming.specs.Survey.{present, surveyOf}
 use Rattle.incoming.specs.declared.survey.Survey.{Survey}
 use Rattle.outgoing.specs.declared.object.Next.the-variants as next
+use Rattle.table.specs.Targets.{unnamed, placeOf, targetAt}
+use Rattle.table.specs.declared.targets.Target.{Target}
 use Rattle.connection.specs.Peer.{idsOf}
 use Rattle.server.specs.declared.Operation.{Operation}
 use Rattle.server.specs.declared.Operation.the-variants.{Nothing, Trailing, Putting, Getting, Sending, Gathering as GatheringOp, Connecting, Draining}
@@ -138,9 +140,25 @@ readAs (some r) e q s t =
     pick (sameOpcode (r .opcode) op.Abort) (asks e (e .peer) Nothing await.Acknowledgement (request.Abort (e .length)) s)
     (inside (e .operation) e r v (knownIn e t v) s)
 
--- The state after a whole packet of `n` bytes has arrived.
-abbrev pub lengthOf : Engine → ℕ → Engine
-lengthOf e n = engineWith (e .settings) (e .peer) (e .operation) (e .awaits) 0 n
+-- The operations that go under the mark wherever they come: Connect and Abort.
+abbrev pub isMarked : Opcode → Bool
+isMarked o = sameOpcode o op.Connect || sameOpcode o op.Abort
+
+-- The Target of the ConnectionID that the packet names, if it is open; else the mark.
+abbrev pub targetFor : Engine → List ℕ → Survey → Target
+targetFor e t v = pick (knownIn e t v) (targetAt t (placeOf (v .id) (idsOf (e .peer) t))) unnamed
+
+-- The Target under which a packet goes (docs/PROTOCOL.md#targets). Inside an operation that of its first packet stays, and a packet that
+-- cannot be read changes nothing.
+unfoldable pub packetTarget : Option Packet → Engine → List ℕ → Target
+packetTarget none e t = e .target
+packetTarget (some r) e t =
+    pick (isMarked (r .opcode)) unnamed (pick (busy (e .operation)) (e .target) (targetFor e t (surveyOf (some (r .headers)))))
+
+-- The state after a whole packet of `n` bytes has arrived, which goes under the Target `g`.
+abbrev pub arrived : Engine → ℕ → Target → Engine
+arrived e n g = engineWith (e .settings) (e .peer) (e .operation) (e .awaits) 0 n g
 
 unfoldable pub packetDone : Engine → ℕ → Stores → List ℕ → Done
-packetDone e n s t = readAs (requestOf (take n (s .packet))) (lengthOf e n) (take n (s .packet)) s t
+packetDone e n s t =
+    let q = take n (s .packet) in readAs (requestOf q) (arrived e n (packetTarget (requestOf q) e t)) q s t

@@ -3,8 +3,8 @@
 -- (`Close`), refusals (`Guard`) and the calls (`Calls`).
 -- Then what a host sees of a call, and which calls are due to be refused (`Refusals`), lists of calls (`Runs`), the sizes of replies
 -- (`Replies`), the records theorem (`Theorem`), the same from the contract of a start (`Contracts`), the count of wrong passwords
--- (`EightWrong`), the replies to a Get (`ObjectSent`), the proved cases (`Cases`), that passwords leave no trace (`Secrecy`), and which ids are
--- left when connections are closed together (`ClosedTogether`).
+-- (`EightWrong`), the replies to a Get (`ObjectSent`), the proved cases (`Cases`), that passwords leave no trace (`Secrecy`), which ids are
+-- left when connections are closed together (`ClosedTogether`), and the Targets that requests name (`Targets`).
 pub mod Step
 pub mod Request
 pub mod Operation
@@ -24,3 +24,4 @@ pub mod ObjectSent
 pub mod Cases
 pub mod Secrecy
 pub mod ClosedTogether
+pub mod Targets

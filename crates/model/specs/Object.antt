@@ -23,10 +23,10 @@ use Rattle.model.specs.Step.{Stores, withReply, engineWith, Done, done, 
 -- Get (docs/PROTOCOL.md#objects).
 abbrev pub sendsMade : Engine → Bool → Bool → Next → Made → Stores → Done
 sendsMade e srm wait (next.Send n true) m s =
-    done (engineWith (e .settings) (e .peer) Nothing await.Taken 0 (e .length)) (outcome.Reply n) (withReply s (m .reply))
+    done (engineWith (e .settings) (e .peer) Nothing await.Taken 0 (e .length) (e .target)) (outcome.Reply n) (withReply s (m .reply))
 sendsMade e srm wait (next.Send n false) m s =
     done
-    (engineWith (e .settings) (e .peer) (Sending (m .packet .outgoing) (m .packet .chunk) srm wait) await.Taken 0 (e .length))
+    (engineWith (e .settings) (e .peer) (Sending (m .packet .outgoing) (m .packet .chunk) srm wait) await.Taken 0 (e .length) (e .target))
     (outcome.Reply n)
     (withReply s (m .reply))
 sendsMade e srm wait next.Read m s =

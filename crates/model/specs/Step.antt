@@ -9,6 +9,7 @@ use Rattle.packet.specs.Header.{first}
 use Rattle.packet.specs.Packet.{packetBytes}
 use Rattle.packet.specs.declared.tlv.Found.the-variants as place
 use Rattle.incoming.specs.Gather.{Gathering}
+use Rattle.table.specs.declared.targets.Target.{Target}
 use Rattle.connection.specs.Reply.{fieldsOf, sendBytes, front}
 use Rattle.connection.specs.declared.peer.Peer.{Peer}
 use Rattle.server.specs.declared.Settings.{Settings}
@@ -45,8 +46,8 @@ abbrev pub withGathered : Stores → Gathering → Stores
 withGathered s g = stores (s .packet) (g .headers) (g .body) (s .reply)
 
 -- The state with these fields. This is the one place that lists them all.
-unfoldable pub engineWith : Settings → Peer → Operation → Await → ℕ → ℕ → Engine
-engineWith st p o a b n = record { settings = st; peer = p; operation = o; awaits = a; begun = b; length = n }
+unfoldable pub engineWith : Settings → Peer → Operation → Await → ℕ → ℕ → Target → Engine
+engineWith st p o a b n g = record { settings = st; peer = p; operation = o; awaits = a; begun = b; length = n; target = g }
 
 -- What a step leads to: the state, what the call answers, and the stores afterwards.
 pub record Done : Type 0 where
@@ -67,20 +68,20 @@ doneTabled d t = record { done = d; tables = t }
 
 -- The engine wants bytes, inside an operation or not.
 abbrev pub wants : Engine → Peer → Operation → Stores → Done
-wants e p o s = done (engineWith (e .settings) p o await.Bytes 0 (e .length)) outcome.WantsBytes s
+wants e p o s = done (engineWith (e .settings) p o await.Bytes 0 (e .length) (e .target)) outcome.WantsBytes s
 
 -- The engine asks the host and waits for the answer.
 abbrev pub asks : Engine → Peer → Operation → Await → HostRequest → Stores → Done
-asks e p o a r s = done (engineWith (e .settings) p o a 0 (e .length)) (outcome.Request r) s
+asks e p o a r s = done (engineWith (e .settings) p o a 0 (e .length) (e .target)) (outcome.Request r) s
 
 -- The engine ends, and awaits nothing any more.
 abbrev pub ends : Engine → Peer → End → Stores → Done
-ends e p x s = done (engineWith (e .settings) p Nothing await.Nothing 0 (e .length)) (outcome.End x) s
+ends e p x s = done (engineWith (e .settings) p Nothing await.Nothing 0 (e .length) (e .target)) (outcome.End x) s
 
 -- The engine makes a reply, which stands at the front of the reply store until the host has sent it.
 abbrev pub replies : Engine → Peer → Operation → Await → List ℕ → Stores → Done
 replies e p o a q s =
-    done (engineWith (e .settings) p o a 0 (e .length)) (outcome.Reply (length q)) (withReply s (front q (s .reply)))
+    done (engineWith (e .settings) p o a 0 (e .length) (e .target)) (outcome.Reply (length q)) (withReply s (front q (s .reply)))
 
 -- A reply of a code and no headers.
 abbrev pub repliesCode : Engine → Peer → Operation → ℕ → Stores → Done

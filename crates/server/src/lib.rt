@@ -146,6 +146,9 @@ pub struct Engine {
     pub begun: usize,
     // How long the last whole packet was. Later answers read it again from the packet store.
     pub length: usize,
+    // The Target under which the last packet goes. If a call returns a request, this is the Target that the request names
+    // (docs/PROTOCOL.md#targets).
+    pub target: table::targets::Target,
 }
 
 // The body of a Put: so many bytes of the body store, or none if no body header came, which differs from a body of 0 bytes.

@@ -181,3 +181,18 @@ pub same-behind : (t u : List ℕ) → drop 64 t ≡ drop 64 u → SameNonces t 
 unfolding remembered
 same-behind t u e n l =
     ap₂ (λ (a b : List ℕ). joined (take n a) (take n b)) e (sym (drop-drop 32 64 t) ∙ ap (drop 32) e ∙ drop-drop 32 64 u)
+
+-- numbers up to a place, by the store up to a later one
+up-to : (a n m : ℕ) (t : List ℕ) → a + n ≤ m → take n (drop a (take m t)) ≡ take n (drop a t)
+up-to zero n m t h = take-take n m t (omega arith)
+up-to (suc a) n zero t h = absurd (omega arith)
+up-to (suc a) n (suc m) [] h = refl
+up-to (suc a) n (suc m) (x ∷ t) h = up-to a n m t (omega arith)
+
+-- they do if they differ from place 128 on alone
+pub same-before : (t u : List ℕ) → take 128 t ≡ take 128 u → SameNonces t u
+unfolding remembered
+same-before t u e n l =
+    let part : (a : ℕ) → a + n ≤ 128 → take n (drop a t) ≡ take n (drop a u) =
+    λ a h. sym (up-to a n 128 t h) ∙ ap (λ (k : List ℕ). take n (drop a k)) e ∙ up-to a n 128 u h in
+    ap₂ joined (part 64 (omega arith)) (part 96 (omega arith))

@@ -13,6 +13,17 @@ firstHalves = 64
 abbrev pub secondHalves : ℕ
 secondHalves = 96
 
+-- Where the lengths of the Targets begin, beside the ids in their order.
+abbrev pub targetLengths : ℕ
+targetLengths = 128
+
+-- Where the first and the second eight bytes of the Targets begin.
+abbrev pub targetFirsts : ℕ
+targetFirsts = 192
+
+abbrev pub targetSeconds : ℕ
+targetSeconds = 256
+
 -- How long the table store must be.
 abbrev pub tableLength : ℕ
-tableLength = 128
+tableLength = 320

@@ -1,88 +1,32 @@
--- `connection::peer::close_link` meets its contract. The numbers kept of those gone through stand in front (`Closed`), and what is still to
--- be read lies behind them. Assumes nothing.
-use mathlib.Core.Path.{_≡_, refl}
-use mathlib.Core.Logic.{⊎-elim}
-use Prim.Native.Nat.{_≤_, _<_, _+_, _-_}
+-- `connection::peer::close_link` meets its contract: taking the Target out leaves the ids, which are closed then. Assumes nothing.
+use mathlib.Core.Path.{refl}
 use native.Mathlib.Omega.{arith}
-use native.Mathlib.Nat.{le-antisymm}
-use borrow.Author.Needs.{needs}
-use lib.ListN.{length}
+use Rattle.table.proofs.Columns.{columns-front}
 use Rattle.connection.specs.Peer.{closedTables}
-use Rattle.connection.proofs.Closing.{Closed, closed-none, closed-bounds, closed-keeps, closed-skips}
+use borrow.Author.Needs.{needs}
 use Rattle.connection.proofs.peer.close_link.Statement.{statement}
 use Rattle.connection.proofs.peer.close_link.Tie as tie
 
-abbrev Inv-loop : tie.InvT-loop
-Inv-loop tables₀ count id closed kept₀ i₀ tables kept i = (i ≤ count) × (kept ≤ i) × (length tables ≡ length tables₀) × Closed tables₀ id i tables kept
+close-targets-requires : tie.Need-close-targets-requires
+close-targets-requires c κs = search needs
 
-abbrev μ-loop : tie.MeasureT-loop
-μ-loop tables₀ count id closed kept₀ i₀ tables kept i = count - i
+close-id-requires : tie.Need-close-id-requires
+close-id-requires c κs = search needs
 
-loop-holds : tie.Need-loop-holds Inv-loop μ-loop
-loop-holds c = (omega arith, omega arith, refl, closed-none (c .args .tables .now) (c .args .id))
-
-mul-x : tie.Need-mul-x Inv-loop μ-loop
-mul-x c = search needs
-
-slice-read-x : tie.Need-slice-read-x Inv-loop μ-loop
-slice-read-x c = search needs
-
-mul-tables : tie.Need-mul-tables Inv-loop μ-loop
-mul-tables c = search needs
-
-slice-write-tables : tie.Need-slice-write-tables Inv-loop μ-loop
-slice-write-tables c = search needs
-
-add-kept : tie.Need-add-kept Inv-loop μ-loop
-add-kept c = search needs
-
-add-i : tie.Need-add-i Inv-loop μ-loop
-add-i c = search needs
-
-loop-less : tie.Need-loop-less Inv-loop μ-loop
-loop-less c = search needs
-
-loop-again : tie.Need-loop-again Inv-loop μ-loop
-loop-again c =
-    let l = c .before .before .before in
-    let x = l .before .args in
-    let y = x .tables .now in
-    let d = l .loop .inv .3 in
-    let h : l .loop .i < length y = omega arith in
-    let e : Closed y (x .id) (l .loop .i + 1) (c .if1 .tables) (c .if1 .kept) =
-    ⊎-elim
-    (λ w. rw (w .1, w .2) (closed-keeps y (x .id) (l .loop .i) (l .loop .tables) (l .loop .kept) h d (w .0 .taken)))
-    (λ w. rw (w .1, w .2) (closed-skips y (x .id) (l .loop .i) (l .loop .tables) (l .loop .kept) h d (w .0 .left)))
-    (c .if1 .came) in
-    let b = closed-bounds y (x .id) (l .loop .i + 1) (c .if1 .tables) (c .if1 .kept) (omega arith) e in
-    (omega arith, b .0, b .1, e)
-
-same-length : tie.Need-same-length Inv-loop μ-loop
+same-length : tie.Need-same-length
 same-length c = search needs
 
-returns : tie.Need-returns Inv-loop μ-loop
+returns : tie.Need-returns
 unfolding closedTables
 returns c =
-    let l = c .before in
-    let x = l .before .args in
-    let e : l .loop .i ≡ x .count = le-antisymm (l .loop .inv .0) (c .loop-test .left) in
-    let d : Closed (x .tables .now) (x .id) (x .count) (l .loop .tables) (l .loop .kept) = rw e at (l .loop .inv .3) in
-    (d .count, d .store)
+    let m = c .before .before .before .before .before .before in
+    let x = m .before .before .before .args in
+    rw (
+      c .before .before .close-id .ensures .0,
+      c .before .before .close-id .ensures .1,
+      m .close-targets .ensures,
+      columns-front (x .id) (x .count) (x .tables .now) (x .count) (omega arith),
+    ) (refl, refl)
 
 pub close-link-spec : {M : Type 1} → statement M
-close-link-spec =
-    tie.close
-    (tie.spec
-    Inv-loop
-    μ-loop
-    loop-holds
-    mul-x
-    slice-read-x
-    mul-tables
-    slice-write-tables
-    add-kept
-    add-i
-    loop-less
-    loop-again
-    same-length
-    returns)
+close-link-spec = tie.close (tie.spec close-targets-requires close-id-requires same-length returns)

@@ -101,7 +101,7 @@ packet-done-requires c κs =
       omega (arith, w .0),
       omega (arith, w .1, g .room .packet, p .packet .given),
       g .bounds .count,
-      l .ids,
+      l .tables,
       g .bounds .remote,
       g .bounds .operation,
       g .room .headers,

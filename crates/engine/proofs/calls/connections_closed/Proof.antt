@@ -4,6 +4,7 @@ use mathlib.Core.Path.{sym, ap, _∙_}
 use Rattle.model.specs.Close.{closed}
 use Rattle.server.specs.declared.CallResult.{CallResult}
 use Rattle.engine.proofs.Closes.{Closable, guard-turned, guard-passed, judge-turned, all-closed}
+use native.Mathlib.Omega.{arith}
 use borrow.Author.Needs.{needs}
 use Rattle.engine.proofs.calls.connections_closed.Statement.{statement}
 use Rattle.engine.proofs.calls.connections_closed.Tie as tie
@@ -38,7 +39,7 @@ enum-told : tie.Need-enum-told
 enum-told c = search needs
 
 judge-requires : tie.Need-judge-requires
-judge-requires c κs = let g = goes (c .before .before) in (g .few, g .room)
+judge-requires c κs = let g = goes (c .before .before) in (g .few, omega (arith, g .few, g .room))
 
 enum-known-refusal-2 : tie.Need-enum-known-refusal-2
 enum-known-refusal-2 c = search needs

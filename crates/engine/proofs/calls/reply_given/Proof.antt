@@ -80,7 +80,7 @@ connect-answer-requires c κs =
     let k = start (passed z) .args in
     let l = goes z in
     let g = l .goes in
-    (g .bounds .count, l .ids, g .room .reply, g .room .headers, g .last .short, good-reply (k .code) (k .header-bytes .now) _ (b .is-bad-reply .ensures) (u .if1 .left))
+    (g .bounds .count, l .tables, g .room .reply, g .room .headers, g .last .short, good-reply (k .code) (k .header-bytes .now) _ (b .is-bad-reply .ensures) (u .if1 .left))
 
 same-length : tie.Need-same-length
 same-length c = search needs
@@ -113,7 +113,7 @@ slice-aggregate-handle-disconnect : tie.Need-slice-aggregate-handle-disconnect
 slice-aggregate-handle-disconnect c = goes (c .before .before .before .before .before) .goes .last .count
 
 handle-disconnect-requires : tie.Need-handle-disconnect-requires
-handle-disconnect-requires c κs = let g = goes (c .before .before .before .before .before .before) in (g .goes .bounds .count, g .ids)
+handle-disconnect-requires c κs = let g = goes (c .before .before .before .before .before .before) in (g .goes .bounds .count, g .tables)
 
 sends-requires : tie.Need-sends-requires
 sends-requires c κs = goes (c .before .before .before .before .before .before .before .before .before .before) .goes .room .reply

@@ -14,6 +14,9 @@ first-id-requires c κs = search needs
 has-target-requires : tie.Need-has-target-requires
 has-target-requires c κs = search needs
 
+first-target-requires : tie.Need-first-target-requires
+first-target-requires c κs = search needs
+
 opened-for-requires : tie.Need-opened-for-requires
 opened-for-requires c κs = search needs
 
@@ -25,7 +28,8 @@ unfolding answerFor
 returns c =
     let o = c .before .before in
     let t = o .before .before in
-    o .opened-for .ensures ∙ simp (t .has-target .ensures, t .before .first-id .ensures, t .before .before .srm-after .ensures)
+    o .opened-for .ensures
+    ∙ simp (t .first-target .ensures, t .before .has-target .ensures, t .before .before .first-id .ensures, t .before .before .before .srm-after .ensures)
 
 pub opens-spec : {M : Type 1} → statement M
 opens-spec =
@@ -34,6 +38,7 @@ opens-spec =
     srm-after-requires
     first-id-requires
     has-target-requires
+    first-target-requires
     opened-for-requires
     same-length
     returns)

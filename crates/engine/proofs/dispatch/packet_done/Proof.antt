@@ -26,7 +26,7 @@ act-requires c κs =
     (omega (arith, l, a .pre .0), rw w (a .pre .2), a .pre .3, rw w (a .pre .4), rw w (a .pre .5), a .pre .6, rw w (a .pre .7), a .pre .8)
 
 carry-out-requires : tie.Need-carry-out-requires
-carry-out-requires c κs = search needs
+carry-out-requires c κs = omega (arith, c .before .before .before .before .before .before .before .before .before .before .before .before .before .before .before .before .before .before .pre .8)
 
 same-length : tie.Need-same-length
 same-length c = search needs
