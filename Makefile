@@ -1,4 +1,4 @@
-.PHONY: help run test check serve interop faults oracle compare planted perf mutants
+.PHONY: help run test check serve interop faults oracle compare planted perf mutants rust rust-perf
 
 # Bare `make` says what there is, and runs nothing. The times are those of two cores; what is proved stays proved until a file changes.
 help:
@@ -14,6 +14,8 @@ help:
 	@echo 'make planted   the sessions tell wrong readings of the papers apart                    the oracle             half an hour'
 	@echo 'make perf      throughput of port and original in one run                              the oracle, openssl    10 minutes, then 3'
 	@echo 'make mutants   the wrong programs that are not in the gate, NAME=crate for one crate   Rattle                 3 hours; goes on where it stopped'
+	@echo 'make rust      the engine for Rust and C: its archive, the tests of rust/, sessions in both     Rattle, cargo, cc      12 minutes, then 1'
+	@echo 'make rust-perf throughput of both servers through the same Rust API, after make rust           cargo                  1 minute'
 
 # Proves what is needed, then plays the example session through the bench. Only the session goes to standard output.
 run:
@@ -76,3 +78,12 @@ perf: oracle
 # The wrong programs that are not in the gate: the prover must refuse each. NAME=crate for one crate. Last line: 'N refused, 0 alive'.
 mutants:
 	@tools/mutants $(NAME)
+
+# The engine for Rust and C: the archive of engine_c, the tests of rust/, the host in C, the stored sessions, and sessions through the
+# original's server and the proved one. Last line: 'N passed, 0 failed'. N=number of sessions (200,000), SEED=another seed.
+rust:
+	@N=$(or $(N),200000) SEED=$(or $(SEED),7) tools/rust
+
+# Throughput of the original's server and the proved one, through the same Rust API.
+rust-perf:
+	@tools/rust-perf

@@ -1,0 +1,34 @@
+-- The records theorem over the exported calls: what one call leaves in the numbers is the state that the next one reads, so a run of exported
+-- calls is a run of the engine's. Assumes nothing.
+use Prim.Native.Nat.{ℕ}
+use mathlib.Core.Path.{_≡_, refl, sym, subst}
+use mathlib.Core.List.{List, [], _∷_, map}
+use Rattle.model.specs.Step.{Stores}
+use Rattle.model.specs.Runs.{State, next, Ran}
+use Rattle.model.specs.Contracts.{state}
+use Rattle.model.specs.Theorem.{Upholds}
+use Rattle.model.proofs.Contracts.{contracts-uphold}
+use Rattle.engine_c.specs.Words.{settingsIn, engineOf, resultOf}
+use Rattle.engine_c.specs.Theorem.{Kept, stateIn, Made, performedBy, keptAfter, RanOn, AcceptedOn, ExportsUphold}
+
+-- the state that a call leaves is the one that is read from the numbers
+handed-on : (k : Kept) (x : Made) → stateIn (keptAfter k x) ≡ next (stateIn k) (performedBy x)
+unfolding resultOf
+handed-on k x = refl
+
+ran : (k : Kept) (xs : List Made) → RanOn k xs → Ran (stateIn k) (map performedBy xs)
+ran k [] h = tt
+ran k (x ∷ xs) h =
+    (h .0, subst (λ (s : State). Ran s (map performedBy xs)) (handed-on k x) (ran (keptAfter k x) xs (h .1)))
+
+-- the same of the start
+started-on : (k : Kept) → stateIn k ≡ state (k .realm) (resultOf (k .words)) (k .stores) (k .tables)
+unfolding resultOf
+started-on k = refl
+
+pub exports-uphold : ExportsUphold
+exports-uphold w s k xs a h =
+    subst (λ (z : State). Upholds (settingsIn w) z (map performedBy xs)) (sym (started-on k))
+    (contracts-uphold (settingsIn w) (k .realm) s (k .stores) (k .tables) (resultOf (k .words)) (map performedBy xs)
+    (record { says = a .says; accepted = a .accepted })
+    (subst (λ (z : State). Ran z (map performedBy xs)) (started-on k) (ran k xs h)))

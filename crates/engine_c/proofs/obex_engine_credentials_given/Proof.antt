@@ -1,0 +1,46 @@
+-- `engine_c::obex_engine_credentials_given` meets its contract: the state that the numbers hold goes to the engine's call, and `store` leaves its
+-- result in them. Assumes nothing.
+use borrow.Author.Needs.{needs}
+use Rattle.engine_c.proofs.obex_engine_credentials_given.Statement.{statement}
+use Rattle.engine_c.proofs.obex_engine_credentials_given.Tie as tie
+
+engine-of-requires : tie.Need-engine-of-requires
+engine-of-requires c κs = search needs
+
+credentials-given-requires : tie.Need-credentials-given-requires
+credentials-given-requires c κs = search needs
+
+store-requires : tie.Need-store-requires
+store-requires c κs = search needs
+
+same-length : tie.Need-same-length
+same-length c = search needs
+
+same-length-2 : tie.Need-same-length-2
+same-length-2 c = search needs
+
+same-length-3 : tie.Need-same-length-3
+same-length-3 c = search needs
+
+same-length-4 : tie.Need-same-length-4
+same-length-4 c = search needs
+
+returns : tie.Need-returns
+returns c =
+    rw (
+      c .store .ensures,
+      ← c .before .before .before .before .before .before .before .before .before .before .before .before .before .before .before .engine-of .ensures,
+    ) (c .before .before .before .before .before .before .before .before .before .before .credentials-given .ensures)
+
+pub obex-engine-credentials-given-spec : {M : Type 1} → statement M
+obex-engine-credentials-given-spec =
+    tie.close
+    (tie.spec
+    engine-of-requires
+    credentials-given-requires
+    store-requires
+    same-length
+    same-length-2
+    same-length-3
+    same-length-4
+    returns)

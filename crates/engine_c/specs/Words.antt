@@ -1,0 +1,232 @@
+-- How the state and the result of a call stand in the 64 numbers that a host outside Rattle keeps (docs/RUST.md has the table). Every list of
+-- numbers is read as some state: a kind that nothing has is the last kind, and a field keeps the bits that its type has.
+use Prim.Native.Nat.{ℕ, _%_, _^_}
+use mathlib.Core.List.{List}
+use mathlib.Core.Bool.{Bool}
+use lib.ListN.{getD}
+use lib.Dec.{eqb}
+use Rattle.base.specs.Pick.{pick}
+use Rattle.packet.specs.declared.opcode.Opcode.{Opcode}
+use Rattle.packet.specs.declared.opcode.Opcode.the-variants as op
+use Rattle.packet.specs.declared.tlv.Found.{Found}
+use Rattle.packet.specs.declared.tlv.Found.the-variants as place
+use Rattle.incoming.specs.declared.gather.Gathered.{Gathered}
+use Rattle.outgoing.specs.declared.object.Outgoing.{Outgoing}
+use Rattle.outgoing.specs.declared.object.Chunk.{Chunk}
+use Rattle.table.specs.declared.targets.Target.{Target}
+use Rattle.connection.specs.declared.peer.Challenge.{Challenge}
+use Rattle.connection.specs.declared.peer.Challenge.the-variants.{Stored, Absent}
+use Rattle.connection.specs.declared.peer.ConnectionId.{ConnectionId}
+use Rattle.connection.specs.declared.peer.ConnectionId.the-variants as front-id
+use Rattle.connection.specs.declared.peer.Peer.{Peer}
+use Rattle.server.specs.declared.Settings.{Settings}
+use Rattle.server.specs.declared.Operation.{Operation}
+use Rattle.server.specs.declared.Operation.the-variants as operation
+use Rattle.server.specs.declared.Await.{Await}
+use Rattle.server.specs.declared.Await.the-variants as await
+use Rattle.server.specs.declared.Engine.{Engine}
+use Rattle.server.specs.declared.Body.{Body}
+use Rattle.server.specs.declared.Body.the-variants as body
+use Rattle.server.specs.declared.HostRequest.the-variants as request
+use Rattle.server.specs.declared.End.{End}
+use Rattle.server.specs.declared.End.the-variants as end
+use Rattle.server.specs.declared.Refusal.{Refusal}
+use Rattle.server.specs.declared.Refusal.the-variants as refusal
+use Rattle.server.specs.declared.Outcome.{Outcome}
+use Rattle.server.specs.declared.Outcome.the-variants as outcome
+use Rattle.server.specs.declared.CallResult.{CallResult}
+use Rattle.engine_c.specs.declared.words.Numbers.{Numbers}
+
+-- The version of the layout below. It is raised with each change of a place or a kind, and the Rust side compares it at the start.
+abbrev pub version : ℕ
+version = 1
+
+-- The number at a place.
+abbrev pub at : List ℕ → ℕ → ℕ
+at w i = getD w i 0
+
+-- A flag is set if its number is 1.
+abbrev pub flag : ℕ → Bool
+flag n = eqb n 1
+
+-- A kind and eleven numbers.
+abbrev pub twelve : ℕ → ℕ → ℕ → ℕ → ℕ → ℕ → ℕ → ℕ → ℕ → ℕ → ℕ → ℕ → Numbers
+twelve kind a b c d e f g h i j k =
+    record { kind = kind; a = a; b = b; c = c; d = d; e = e; f = f; g = g; h = h; i = i; j = j; k = k }
+
+-- ---- the settings: numbers 0 to 9
+
+abbrev pub settingsOf : ℕ → ℕ → ℕ → ℕ → ℕ → ℕ → ℕ → ℕ → ℕ → ℕ → Settings
+settingsOf object packet charset has srm auth user only enforced trailing =
+    record {
+      «max_object_size» = object % 2 ^ 32;
+      «max_packet_length» = packet % 2 ^ 16;
+      charset = charset % 2 ^ 8;
+      «has_realm» = flag has;
+      «srm_supported» = flag srm;
+      authentication = flag auth;
+      «user_id_required» = flag user;
+      «read_only» = flag only;
+      «user_id_enforced» = flag enforced;
+      «refuse_trailing» = flag trailing;
+    }
+
+abbrev pub settingsBy : Numbers → Settings
+settingsBy n = settingsOf (n .kind) (n .a) (n .b) (n .c) (n .d) (n .e) (n .f) (n .g) (n .h) (n .i)
+
+abbrev pub settingsIn : List ℕ → Settings
+settingsIn w = settingsOf (at w 0) (at w 1) (at w 2) (at w 3) (at w 4) (at w 5) (at w 6) (at w 7) (at w 8) (at w 9)
+
+-- ---- the peer: numbers 12 to 21
+
+abbrev pub challengeOf : ℕ → ℕ → ℕ → Challenge
+challengeOf n a b = pick (eqb n 1) (Stored (record { first = a; second = b })) Absent
+
+abbrev pub peerOf : ℕ → ℕ → ℕ → ℕ → ℕ → ℕ → ℕ → ℕ → ℕ → ℕ → Peer
+peerOf count nonces window next remote srm auth stored a b =
+    record {
+      count = count;
+      nonces = nonces;
+      window = window;
+      «next_connection_id» = next % 2 ^ 32;
+      «remote_max_packet_length» = remote % 2 ^ 16;
+      «srm_enabled» = flag srm;
+      authenticated = flag auth;
+      challenge = challengeOf stored a b;
+    }
+
+abbrev pub peerBy : Numbers → Peer
+peerBy n = peerOf (n .kind) (n .a) (n .b) (n .c) (n .d) (n .e) (n .f) (n .g) (n .h) (n .i)
+
+abbrev pub peerIn : List ℕ → Peer
+peerIn w = peerOf (at w 12) (at w 13) (at w 14) (at w 15) (at w 16) (at w 17) (at w 18) (at w 19) (at w 20) (at w 21)
+
+-- ---- the open operation: numbers 24 to 35
+
+unfoldable pub opcodeOf : ℕ → ℕ → Opcode
+opcodeOf n x =
+    pick (eqb n 0) op.Connect
+    (pick (eqb n 1) op.Disconnect
+    (pick (eqb n 2) op.Put
+    (pick (eqb n 3) op.Get
+    (pick (eqb n 4) op.SetPath
+    (pick (eqb n 5) op.Action
+    (pick (eqb n 6) op.Session
+    (pick (eqb n 7) op.Abort (op.UserDefined (x % 2 ^ 8)))))))))
+
+abbrev pub gatheredOf : ℕ → ℕ → ℕ → ℕ → ℕ → Gathered
+gatheredOf kept n came over full = record { kept = kept; body = n; came = flag came; over = flag over; full = flag full }
+
+abbrev pub idOf : ℕ → ℕ → ConnectionId
+idOf n x = pick (eqb n 1) (front-id.Id (x % 2 ^ 32)) front-id.Missing
+
+abbrev pub outgoingOf : ℕ → ℕ → ℕ → ℕ → ℕ → ℕ → Outgoing
+outgoingOf total sent lead has pending x =
+    record { total = total; sent = sent; lead = flag lead; «has_body» = flag has; «has_pending» = flag pending; pending = x % 2 ^ 8 }
+
+abbrev pub chunkOf : ℕ → ℕ → ℕ → Chunk
+chunkOf place got room = record { at = place; got = got; room = room }
+
+unfoldable pub operationOf : Numbers → Operation
+operationOf n =
+    pick (eqb (n .kind) 1) (operation.Putting (gatheredOf (n .a) (n .b) (n .c) (n .d) (n .e)) (flag (n .f)))
+    (pick (eqb (n .kind) 2) (operation.Getting (gatheredOf (n .a) (n .b) (n .c) (n .d) (n .e)) (flag (n .f)) (flag (n .g)) (flag (n .h)))
+    (pick (eqb (n .kind) 3)
+    (operation.Sending (outgoingOf (n .a) (n .b) (n .c) (n .d) (n .e) (n .f)) (chunkOf (n .g) (n .h) (n .i)) (flag (n .j)) (flag (n .k)))
+    (pick (eqb (n .kind) 4) (operation.Gathering (opcodeOf (n .f) (n .g)) (gatheredOf (n .a) (n .b) (n .c) (n .d) (n .e)))
+    (pick (eqb (n .kind) 5) (operation.Connecting (n .a % 2 ^ 8) (idOf (n .b) (n .c)) (n .d))
+    (pick (eqb (n .kind) 6) (operation.Draining (n .a % 2 ^ 8))
+    (pick (eqb (n .kind) 7) operation.Trailing operation.Nothing))))))
+
+abbrev pub operationIn : List ℕ → Numbers
+operationIn w =
+    twelve (at w 24) (at w 25) (at w 26) (at w 27) (at w 28) (at w 29) (at w 30) (at w 31) (at w 32) (at w 33) (at w 34) (at w 35)
+
+-- ---- the state: numbers 0 to 42
+
+-- The Target is in numbers 36 to 38: its length, over 16 for the mark, and its sixteen bytes in two halves.
+abbrev pub targetOf : ℕ → ℕ → ℕ → Target
+targetOf n a b = record { length = n; bytes = record { first = a; second = b } }
+
+unfoldable pub awaitOf : ℕ → Await
+awaitOf n =
+    pick (eqb n 0) await.Bytes
+    (pick (eqb n 1) await.Taken
+    (pick (eqb n 2) await.Last
+    (pick (eqb n 3) await.Connect
+    (pick (eqb n 4) await.Disconnect
+    (pick (eqb n 5) await.Get
+    (pick (eqb n 6) await.Reply
+    (pick (eqb n 7) await.Acknowledgement
+    (pick (eqb n 8) await.Password
+    (pick (eqb n 9) await.Nonce
+    (pick (eqb n 10) await.Credentials
+    (pick (eqb n 11) await.Body await.Nothing)))))))))))
+
+unfoldable pub engineOf : List ℕ → Engine
+engineOf w =
+    record {
+      settings = settingsIn w;
+      peer = peerIn w;
+      operation = operationOf (operationIn w);
+      awaits = awaitOf (at w 40);
+      begun = at w 41;
+      length = at w 42;
+      target = targetOf (at w 36) (at w 37) (at w 38);
+    }
+
+-- ---- the outcome: numbers 44 to 55
+
+-- An end and a refusal by their numbers (docs/PROTOCOL.md#ends, #refusals).
+unfoldable pub endOf : ℕ → End
+endOf n =
+    pick (eqb n 1) end.Disconnected
+    (pick (eqb n 2) end.Truncated
+    (pick (eqb n 3) end.LengthTooSmall
+    (pick (eqb n 4) end.Unreadable
+    (pick (eqb n 5) end.OtherOperation
+    (pick (eqb n 6) end.HeadersTooLarge end.ReplyTooLarge)))))
+
+unfoldable pub refusalOf : ℕ → Refusal
+refusalOf n =
+    pick (eqb n 8) refusal.BadAnswer
+    (pick (eqb n 9) refusal.WrongMoment
+    (pick (eqb n 10) refusal.StoreTooShort
+    (pick (eqb n 15) refusal.NonceUsed
+    (pick (eqb n 19) refusal.TooManyIds
+    (pick (eqb n 20) refusal.IdNotOpen refusal.IdRepeated)))))
+
+abbrev pub foundOf : ℕ → ℕ → ℕ → Found
+foundOf n a b = pick (eqb n 1) (place.At a b) place.Missing
+
+abbrev pub bodyOf : ℕ → ℕ → Body
+bodyOf n a = pick (eqb n 1) (body.Bytes a) body.Missing
+
+unfoldable pub outcomeOf : Numbers → Outcome
+outcomeOf n =
+    pick (eqb (n .kind) 0) outcome.WantsBytes
+    (pick (eqb (n .kind) 1) (outcome.Reply (n .a))
+    (pick (eqb (n .kind) 2) (outcome.End (endOf (n .a % 2 ^ 8)))
+    (pick (eqb (n .kind) 3) (outcome.Refused (refusalOf (n .a % 2 ^ 8)))
+    (pick (eqb (n .kind) 4) (outcome.Request (request.Connect (n .a)))
+    (pick (eqb (n .kind) 5) (outcome.Request (request.Disconnect (n .a)))
+    (pick (eqb (n .kind) 6) (outcome.Request (request.SetPath (n .a) (flag (n .b)) (flag (n .c))))
+    (pick (eqb (n .kind) 7) (outcome.Request (request.Abort (n .a)))
+    (pick (eqb (n .kind) 8) (outcome.Request (request.Put (n .a) (bodyOf (n .b) (n .c))))
+    (pick (eqb (n .kind) 9) (outcome.Request (request.Get (n .a)))
+    (pick (eqb (n .kind) 10) (outcome.Request (request.Action (n .a)))
+    (pick (eqb (n .kind) 11) (outcome.Request (request.Session (n .a)))
+    (pick (eqb (n .kind) 12) (outcome.Request (request.UserDefined (n .b % 2 ^ 8) (n .a)))
+    (pick (eqb (n .kind) 13) (outcome.Request (request.Password (foundOf (n .a) (n .b) (n .c))))
+    (pick (eqb (n .kind) 14) (outcome.Request request.Nonce)
+    (pick (eqb (n .kind) 15)
+    (outcome.Request (request.Credentials (record { first = n .a; second = n .b }) (flag (n .c)) (flag (n .d)) (foundOf (n .e) (n .f) (n .g))))
+    (outcome.Request (request.Read (n .a))))))))))))))))))
+
+abbrev pub outcomeIn : List ℕ → Numbers
+outcomeIn w =
+    twelve (at w 44) (at w 45) (at w 46) (at w 47) (at w 48) (at w 49) (at w 50) (at w 51) (at w 52) (at w 53) (at w 54) (at w 55)
+
+-- What a call left: the state, in number 43 how many bytes were taken, and the outcome.
+unfoldable pub resultOf : List ℕ → CallResult
+resultOf w = record { engine = engineOf w; taken = at w 43; outcome = outcomeOf (outcomeIn w) }
