@@ -337,7 +337,13 @@ pub fn write_challenge(
 {
     let n = value.len() + 1;
     let need = 21 + tag_len(has_realm, n);
-    let answer = room(store.len(), at, need, LengthField::OneByte, is_long(has_realm, n));
+    let answer = room(
+        store.len(),
+        at,
+        need,
+        LengthField::OneByte,
+        is_long(has_realm, n),
+    );
     let Wrote::Written(next) = answer else {
         return answer;
     };

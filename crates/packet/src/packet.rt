@@ -256,7 +256,13 @@ fn write_packet(store: &mut [u8], byte: u8, fields: [u8; 4], n: usize, headers: 
         ≡ writePacket (now (store .entry)) (packetBytes byte (take n fields) (now (headers .entry))) ⌝ }
 {
     let need = PACKET_PREFIX_LENGTH + n + headers.len();
-    let answer = room(store.len(), 0, need, LengthField::TwoBytes, MAX_PACKET < need);
+    let answer = room(
+        store.len(),
+        0,
+        need,
+        LengthField::TwoBytes,
+        MAX_PACKET < need,
+    );
     let Wrote::Written(next) = answer else {
         return answer;
     };

@@ -137,7 +137,13 @@ pub fn put_tag(store: &mut [u8], at: usize, tag: u8, value: &[u8]) -> Wrote
     ensures { λ r. ⌜ putting r (now (store .exit)) ≡ putTag (now (store .entry)) at tag (now (value .entry)) ⌝ }
 {
     let n = value.len();
-    let answer = room(store.len(), at, 2 + n, LengthField::OneByte, MAX_TAG_VALUE < n);
+    let answer = room(
+        store.len(),
+        at,
+        2 + n,
+        LengthField::OneByte,
+        MAX_TAG_VALUE < n,
+    );
     let Wrote::Written(next) = answer else {
         return answer;
     };
