@@ -11,7 +11,7 @@ ghost use Rattle.connection.specs.Pieces.{answeredIn, credentialsOf};
 ghost use Rattle.model.specs.Request.{realmIn, placedAt};
 ghost use Rattle.engine.specs.Request.{lastConnect};
 ghost use Rattle.engine.specs.Step.{written};
-ghost use Rattle.engine.specs.Connect.{answering, accepting, headersOf, srmAskedBy, connectReplies, acceptedHeaders, answerFor, challengedBy, acceptedBy, Below, answeredBy, verifiesBy, questionOf, stopsBy, limitedPlan, connectPlan, passwordPlan, repliedLink, credentialsBy};
+ghost use Rattle.engine.specs.Connect.{answering, accepting, headersOf, srmAskedBy, connectReplies, acceptedHeaders, answerFor, challengedBy, acceptedBy, Below, answeredBy, verifiesBy, nonceAsked, questionOf, stopsBy, limitedPlan, connectPlan, passwordPlan, repliedLink, credentialsBy};
 ghost use Rattle.table.specs.Places.{tableLength};
 ghost use Rattle.connection.specs.Peer.{linked, answers};
 ghost use Rattle.packet.specs.Packet.{requestOf};
@@ -345,26 +345,30 @@ pub(crate) struct Question {
     pub request: HostRequest,
 }
 
+// The engine asks the host for a nonce.
+fn nonce_question() -> Question
+    ensures { λ r. ⌜ r ≡ nonceAsked ⌝ }
+{
+    Question {
+        awaits: Await::Nonce,
+        request: HostRequest::Nonce,
+    }
+}
+
 // If the client has answered a stored challenge, the engine asks the host for the password. Otherwise it asks for a nonce, to challenge the
-// client (again).
+// client (again): the source's verify_client gives up at the same two places.
 fn verifies(challenge: Challenge, a: Answered) -> Question
     ensures { λ r. ⌜ r ≡ verifiesBy challenge a ⌝ }
 {
     let Challenge::Stored(_) = challenge else {
-        return Question {
-            awaits: Await::Nonce,
-            request: HostRequest::Nonce,
-        };
+        return nonce_question();
     };
-    match a {
-        Answered::User(user_id) => Question {
-            awaits: Await::Password,
-            request: HostRequest::Password { user_id },
-        },
-        _ => Question {
-            awaits: Await::Nonce,
-            request: HostRequest::Nonce,
-        },
+    let Answered::User(user_id) = a else {
+        return nonce_question();
+    };
+    Question {
+        awaits: Await::Password,
+        request: HostRequest::Password { user_id },
     }
 }
 
@@ -398,7 +402,7 @@ fn is_stopped(window: u64, a: Answered) -> bool
 }
 
 // Whether a Connect is stopped, which only happens if a password is required.
-fn is_refused(authentication: bool, window: u64, a: Answered) -> bool
+fn must_stop(authentication: bool, window: u64, a: Answered) -> bool
     ensures { λ r. ⌜ r ≡ (authentication && stopsBy window a) ⌝ }
 {
     if !authentication {
@@ -414,7 +418,7 @@ fn limited_plan(e: Engine, peer: Peer, a: Answered) -> Plan
 {
     let settings = e.settings;
     let authentication = settings.authentication;
-    if is_refused(authentication, peer.window, a) {
+    if must_stop(authentication, peer.window, a) {
         return fields(e, with_check(peer, false), SERVICE_UNAVAILABLE);
     }
     let challenge = peer.challenge;
