@@ -72,6 +72,14 @@ not-answered (some hs) k = go (challenges hs) k
     go none e = refl
     go (some cs) e = let z : _≡_ {A = ℕ} 0 1 = cc in absurd (omega arith)
 
+-- without a challenge none is answered
+pub none-answered : (hs : List Header) → first 0x4D hs ≡ none → challenge.Unreadable ≡ answeredIn hs
+none-answered hs e = go (isKnown (challenges hs)) refl
+  where
+    go : (b : Bool) → isKnown (challenges hs) ≡ b → challenge.Unreadable ≡ answeredIn hs
+    go true k = sym (answered-known hs k ∙ ap readFirst e)
+    go false k = sym (not-answered (some hs) k)
+
 pub answered-at : (s : List ℕ) (from : ℕ) → knownIn (readHeaders s from) ≡ true
     → answeredIn (headersFrom s from) ≡ readFirst (bytesAt s (firstPlace 0x4D s from))
 answered-at s from k = go (readHeaders s from) refl k

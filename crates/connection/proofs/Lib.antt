@@ -12,3 +12,4 @@ pub mod ConnectBytes
 pub mod ByNumbers
 pub mod Standings
 pub mod Openings
+pub mod Requests

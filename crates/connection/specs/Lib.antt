@@ -3,3 +3,4 @@ pub mod Reply
 pub mod Peer
 pub mod ConnectReply
 pub mod Pieces
+pub mod Request

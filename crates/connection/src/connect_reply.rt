@@ -42,7 +42,6 @@ use packet::header_id::AUTHENTICATE_CHALLENGE;
 use packet::header_id::AUTHENTICATE_RESPONSE;
 use packet::header_id::CONNECTION_ID;
 use packet::header_id::SINGLE_RESPONSE_MODE;
-use packet::header_id::TARGET;
 use packet::header_id::WHO;
 use packet::response::UNAUTHORIZED;
 use packet::srm::ENABLE;
@@ -60,14 +59,14 @@ fn readable_len(headers: &[u8]) -> usize
     headers.len()
 }
 
-// Finds the Target in the packet, which Who gives back, unless the host gave a Who itself.
-fn who_place(packet: &[u8], from: usize, headers: &[u8]) -> Found
-    ensures { λ r. ⌜ r ≡ whoPlace (firstIn header-id.target (now (packet .entry)) from) (firstIn header-id.who (now (headers .entry)) 0) ⌝ }
+// Returns the place that Who gives back: that of the packet's `target`, unless the host gave a Who itself.
+fn who_place(target: Found, headers: &[u8]) -> Found
+    ensures { λ r. ⌜ r ≡ whoPlace target (firstIn header-id.who (now (headers .entry)) 0) ⌝ }
 {
     if let Found::At { start: _, end: _ } = first_in(headers, 0, WHO) {
         return Found::Missing;
     }
-    first_in(packet, from, TARGET)
+    target
 }
 
 // Returns how many of the host's header bytes go before Who, which is the second header.
@@ -303,8 +302,8 @@ fn send_pieces(
     begun.sent
 }
 
-// Writes the reply to a Connect that the host accepted: `front` goes in front, the packet's headers start at `from`, and the host's headers
-// and credentials follow; `srm` says whether SRM is granted.
+// Writes the reply to a Connect that the host accepted: `front` goes in front, and the host's headers and credentials follow. The packet's
+// headers start at `from`, and `target` is where the first Target among them stands; `srm` says whether SRM is granted.
 pub fn connect_reply(
     reply: &mut [u8],
     remote: usize,
@@ -313,6 +312,7 @@ pub fn connect_reply(
     front: ConnectionId,
     packet: &[u8],
     from: usize,
+    target: Found,
     headers: &[u8],
     has_credentials: bool,
     has_user: bool,
@@ -321,14 +321,14 @@ pub fn connect_reply(
     srm: bool,
 ) -> Sent
     requires { ⌜ (maxPacket ≤ length (now reply)) × (length (now packet) ≤ maxPacket) × (length (now headers) ≤ maxPacket)
-        × (overlong (given «has_user» (now user)) ≡ false) ⌝ }
+        × (overlong (given «has_user» (now user)) ≡ false) × (target ≡ firstIn header-id.target (now packet) from) ⌝ }
     ensures { λ r. ⌜ sending r (now (reply .exit)) ≡ sentInto (sendBytes remote code (fieldsOf limit) (allBytes
         (connectHeaders (idGiven front) (headersFrom (now (packet .entry)) from) (headersFrom (now (headers .entry)) 0)
         (credentialsOf «has_credentials» (given «has_user» (now (user .entry))) (now (password .entry))) srm))) (now (reply .entry)) ⌝ }
 {
     let n = readable_len(headers);
     let answer = &headers[..n];
-    let who = who_place(packet, from, answer);
+    let who = who_place(target, answer);
     let nonce = nonce_for(packet, from, has_credentials);
     send_pieces(
         reply,

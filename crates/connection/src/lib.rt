@@ -5,3 +5,4 @@ pub mod checks;
 pub mod connect_reply;
 pub mod peer;
 pub mod reply;
+pub mod request;

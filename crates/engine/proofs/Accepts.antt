@@ -86,11 +86,6 @@ module _ (e : Engine) (q t : List ℕ) (m : Bool) (now : m ≡ sameAwait (e .awa
   unfolding repliedLink
   replied-other k = sym (simp (sym now ∙ k))
 
--- the challenge that is answered, or none
-pub challenge-known : (q : List ℕ) (n : ℕ) (d x : DigestChallenge) → n ≡ lastFrom q → d ≡ answeredIn (headersFrom q n) → d ≡ x
-    → x ≡ answeredIn (headersOf q)
-challenge-known q n d x h k i = sym i ∙ k ∙ ap (λ (hs : List Header). answeredIn hs) (ap (λ (m : ℕ). headersFrom q m) h ∙ last-headers q)
-
 -- the bytes of the reply to a Connect
 module _ (e : Engine) (p : Peer) (code : ℕ) (f : ConnectionId) (q hs y : List ℕ) where
   abbrev made : Option Credentials → ℕ → List Header → Bool → Sent
@@ -98,13 +93,13 @@ module _ (e : Engine) (p : Peer) (code : ℕ) (f : ConnectionId) (q hs y : List 
       sentInto (sendBytes n code (fieldsOf (e .settings .«max_packet_length»)) (allBytes (connectHeaders (idGiven f) r (headersFrom hs 0) c b))) y
 
   pub accepted-sent : (c : Option Credentials) (n m : ℕ) (b : Bool) (z : Sent) (x : Plan) (r : CallResult)
-      → z ≡ made c n (headersFrom q m) b → n ≡ p .«remote_max_packet_length» → m ≡ lastFrom q
+      → z ≡ made c n (headersFrom q m) b → n ≡ p .«remote_max_packet_length» → headersFrom q m ≡ headersFrom q (lastFrom q)
       → b ≡ srmAskedBy e q → x ≡ sentPlan e p (z .answer) → r ≡ tookBy x
       → written r (z .reply) ≡ connectReplies e p code (acceptedHeaders e f q hs c) y
   unfolding acceptedHeaders
   accepted-sent c n m b z x r h i j k l t =
       sent-written e p code (fieldsOf (e .settings .«max_packet_length»)) (acceptedHeaders e f q hs c) y n z x r
-      (h ∙ ap₂ (λ (r : List Header) (b : Bool). made c n r b) (ap (λ (m : ℕ). headersFrom q m) j ∙ last-headers q) k) i l t
+      (h ∙ ap₂ (λ (r : List Header) (b : Bool). made c n r b) (j ∙ last-headers q) k) i l t
 
   pub not-challenged : (h : List ℕ) (w : Written) → challenge.Unreadable ≡ answeredIn (headersOf q) → w ≡ connectReplies e p code (acceptedHeaders e f q hs none) y
       → leaving h w ≡ challengedBy (answeredIn (headersOf q)) e p code f hs q h y

@@ -3,32 +3,32 @@ use mathlib.Core.Path.{_≡_, refl, sym, ap, _∙_}
 use mathlib.Core.List.{List, []}
 use mathlib.Core.Bool.{Bool, true, false}
 use mathlib.Core.Option.{Option, none, some}
-use Prim.Native.Nat.{ℕ, _+_, _-_, _≤_}
+use Prim.Native.Nat.{ℕ, _+_, _-_, _≤_, _<_}
 use native.Mathlib.Omega.{arith}
 use lib.ListN.{length, getD, take, drop}
-use lib.Dec.{ltb}
-use lib.Seq.{getD-drop}
+use lib.Dec.{ltb, eqb}
+use lib.Seq.{getD-take, getD-drop}
 use borrow.Author.Tests.{le-leb}
 use Rattle.base.specs.Pick.{pick}
 use Rattle.packet.specs.FirstByte.{firstByte}
-use Rattle.packet.specs.Header.{Header, readHeaders, headerAt, first, firstPlace, part}
+use Rattle.packet.specs.Header.{Header, readHeaders, headerAt, encodingOf, first, firstPlace, part}
 use Rattle.packet.specs.HeaderList.{readableFrom}
-use Rattle.packet.specs.Packet.{Request as Packet, requestOf, requestBy, requestWith, prefixOf}
-use Rattle.packet.specs.PacketRead.{parsedAs}
+use Rattle.packet.specs.Packet.{requestOf, requestBy, requestWith, prefixOf}
+use Rattle.packet.specs.PacketRead.{headBy}
 use Rattle.packet.specs.Tags.{bytesAt}
 use Rattle.packet.specs.Auth.{Response, responseOf}
 use Rattle.packet.specs.AuthRead.{readResponse}
 use Rattle.packet.specs.declared.opcode.Opcode.{Opcode}
 use Rattle.packet.specs.declared.opcode.FirstByte.{FirstByte}
 use Rattle.packet.specs.declared.opcode.FirstByte.the-variants.{Known, Unknown}
-use Rattle.packet.specs.declared.packet.Parsed.the-variants as parsed
+use Rattle.packet.specs.declared.packet.Head.the-variants as head
 use Rattle.packet.specs.declared.header.HeaderAt.the-variants.{End}
 use Rattle.packet.specs.declared.tlv.Found.{Found}
 use Rattle.packet.specs.declared.tlv.Found.the-variants as place
 use Rattle.packet.proofs.HeaderBytes.{Octets}
 use Rattle.packet.proofs.HeaderLaws.{by-cursor, first-found}
 use Rattle.packet.proofs.TextForms.{octets-take}
-use Rattle.journal.specs.Journal.{listOf, headersOf as headersIn, responseIn}
+use Rattle.journal.specs.Journal.{listOf, headersOf as headersIn, responseIn, isEnable}
 use Rattle.incoming.specs.Survey.{idOf, present, surveyOf}
 use Rattle.incoming.specs.declared.survey.Survey.{Survey}
 use Rattle.connection.specs.Peer.{idIn, isGiven}
@@ -37,6 +37,8 @@ use Rattle.connection.specs.declared.peer.ConnectionId.the-variants as connecti
 use Rattle.connection.specs.declared.peer.Challenge.{Challenge}
 use Rattle.connection.specs.declared.peer.Challenge.the-variants.{Stored, Absent}
 use Rattle.connection.proofs.Challenges.{first-in-bytes}
+use Rattle.connection.proofs.Requests.{Finds, finds}
+use Rattle.connection.specs.declared.request.ConnectRequest.{ConnectRequest}
 use Rattle.connection.proofs.ByNumbers.{checkBy, check-by}
 use Rattle.model.specs.Step.{Stores, stepped, after}
 use Rattle.model.specs.Guard.{guarded}
@@ -49,38 +51,53 @@ use Rattle.server.specs.declared.Engine.{Engine}
 use Rattle.server.specs.declared.CallResult.{CallResult}
 use Rattle.engine.specs.declared.step.Plan.{Plan}
 use Rattle.engine.proofs.Guards.{Goes}
-use Rattle.engine.specs.Request.{fromIn, lastFrom}
+use Rattle.engine.specs.Request.{fromBy, lastFrom, lastConnect, isFound}
 
--- where the headers start, by what the reader of packets gives
-pub from-parsed : (r : Option Packet) (n : ℕ) (o : Opcode) (f : Bool) (h l : ℕ) → parsedAs r n ≡ parsed.Request o f h l → h ≡ fromIn r n
-from-parsed none n o f h l e = let z : _≡_ {A = ℕ} 0 1 = cc in absurd (omega arith)
-from-parsed (some r) n o f h l e = cc
-
-pub from-unreadable : (r : Option Packet) (n : ℕ) → parsedAs r n ≡ parsed.Unreadable → n ≡ fromIn r n
-from-unreadable none n e = refl
-from-unreadable (some r) n e = let z : _≡_ {A = ℕ} 0 1 = cc in absurd (omega arith)
-
-at-end : (q : List ℕ) → readHeaders q (length q) ≡ some []
-unfolding headerAt
-at-end q = let n : length q ≤ length q = omega arith in by-cursor q (length q) End (simp (le-leb _ _ n)) .1
-
--- its headers
-pub last-read : (q : List ℕ) → readHeaders q (lastFrom q) ≡ some (headersIn (requestOf q))
-unfolding lastFrom requestOf
-last-read q = go (firstByte (getD q 0 0))
+-- where the headers start, by what stands before them
+pub from-head : (b : FirstByte) (q : List ℕ) (o : Opcode) (f : Bool) (h : ℕ) → headBy b q ≡ head.Known o f h → h ≡ fromBy b (length q)
+from-head Unknown q o f h e = let z : _≡_ {A = ℕ} 0 1 = cc in absurd (omega arith)
+from-head (Known p g) q o f h e = go (ltb (length q) (prefixOf p)) e
   where
-    by : (o : Opcode) (f t : Bool) (r : Option (List Header)) → readHeaders q (prefixOf o) ≡ r
-        → readHeaders q (fromIn (pick t none (requestWith o f q r)) (length q)) ≡ some (headersIn (pick t none (requestWith o f q r)))
-    by o f true r h = at-end q
-    by o f false none h = at-end q
-    by o f false (some hs) h = h
+    go : (t : Bool) → pick t head.Unreadable (head.Known p g (prefixOf p)) ≡ head.Known o f h → h ≡ pick t (length q) (prefixOf p)
+    go true e = let z : _≡_ {A = ℕ} 0 1 = cc in absurd (omega arith)
+    go false e = cc
 
-    go : (b : FirstByte) → readHeaders q (fromIn (requestBy b q) (length q)) ≡ some (headersIn (requestBy b q))
-    go Unknown = at-end q
-    go (Known o f) = by o f (ltb (length q) (prefixOf o)) (readHeaders q (prefixOf o)) refl
+pub from-headless : (b : FirstByte) (q : List ℕ) → headBy b q ≡ head.Unreadable → length q ≡ fromBy b (length q)
+from-headless Unknown q e = refl
+from-headless (Known p g) q e = go (ltb (length q) (prefixOf p)) e
+  where
+    go : (t : Bool) → pick t head.Unreadable (head.Known p g (prefixOf p)) ≡ head.Unreadable → length q ≡ pick t (length q) (prefixOf p)
+    go true e = refl
+    go false e = let z : _≡_ {A = ℕ} 0 1 = cc in absurd (omega arith)
 
+at-end : (q : List ℕ) → headersFrom q (length q) ≡ []
+unfolding headerAt
+at-end q =
+    let n : length q ≤ length q = omega arith in
+    ap (λ (r : Option (List Header)). listOf r) (by-cursor q (length q) End (simp (le-leb _ _ n)) .1)
+
+-- its headers, none if they cannot be read
 pub last-headers : (q : List ℕ) → headersFrom q (lastFrom q) ≡ headersIn (requestOf q)
-last-headers q = ap (λ (r : Option (List Header)). listOf r) (last-read q)
+unfolding lastFrom requestOf
+last-headers q = go (firstByte (getD q 0 0))
+  where
+    with-read : (o : Opcode) (f : Bool) (r : Option (List Header)) → listOf r ≡ headersIn (requestWith o f q r)
+    with-read o f none = refl
+    with-read o f (some hs) = refl
+
+    by : (o : Opcode) (f t : Bool)
+        → headersFrom q (pick t (length q) (prefixOf o)) ≡ headersIn (pick t none (requestWith o f q (readHeaders q (prefixOf o))))
+    by o f true = at-end q
+    by o f false = with-read o f (readHeaders q (prefixOf o))
+
+    go : (b : FirstByte) → headersFrom q (fromBy b (length q)) ≡ headersIn (requestBy b q)
+    go Unknown = at-end q
+    go (Known o f) = by o f (ltb (length q) (prefixOf o))
+
+-- a Connect's headers, as they were read in one walk
+pub last-finds : (q : List ℕ) (c : ConnectRequest) → c ≡ lastConnect q → Finds q (lastFrom q) c
+unfolding lastConnect
+last-finds q c e = finds q (lastFrom q) c e
 
 -- the place of the first header of an id
 pub first-bounds : (id : ℕ) (q : List ℕ) (from a b : ℕ) → firstIn id q from ≡ place.At a b → (a ≤ b) × (b ≤ length q)
@@ -116,15 +133,38 @@ id-missing (some hs) v e h = go (first 0xCB hs) (rw e at h)
     go none k = refl
     go (some x) k = absurd (let z : _≡_ {A = ℕ} 0 1 = cc in omega arith)
 
-pub enabling : (q : List ℕ) (n : ℕ) (v : Survey) → v ≡ surveyOf (readHeaders q n) → n ≡ lastFrom q → v .enable ≡ surveyOf (some (headersIn (requestOf q))) .enable
-enabling q n v e h =
-    ap (λ (x : Survey). x .enable) (e ∙ ap (λ (m : ℕ). surveyOf (readHeaders q m)) h ∙ ap (λ (r : Option (List Header)). surveyOf r) (last-read q))
+-- the first SingleResponseMode of one byte
+pub mode-inside : (q : List ℕ) (a b : ℕ) → firstIn 0x97 q (lastFrom q) ≡ place.At a b → (a < b) × (b ≤ length q)
+unfolding firstIn encodingOf
+mode-inside q a b = go (readableFrom q (lastFrom q))
+  where
+    go : (t : Bool) → pick t (firstPlace 0x97 q (lastFrom q)) place.Missing ≡ place.At a b → (a < b) × (b ≤ length q)
+    go true e =
+        let w = first-found 0x97 q (lastFrom q) a b e .stands in
+        (omega (arith, w .start, w .stop), w .fits)
+    go false e = let z : _≡_ {A = ℕ} 0 1 = cc in absurd (omega arith)
 
-pub given-at : (id : ℕ) (q : List ℕ) (a b : ℕ) → firstIn id q (lastFrom q) ≡ place.At a b → true ≡ isGiven (first id (headersIn (requestOf q)))
-given-at id q a b e = ap (λ (v : Option (List ℕ)). isGiven v) (first-value id q (place.At a b) e)
+pub enabling-at : (q : List ℕ) (a b : ℕ) → firstIn 0x97 q (lastFrom q) ≡ place.At a b
+    → eqb (getD q a 0) 1 ≡ surveyOf (some (headersIn (requestOf q))) .enable
+unfolding surveyOf
+enabling-at q a b e =
+    let w = mode-inside q a b e in
+    let z : a + 0 ≡ a = omega arith in
+    let v : getD (part q a b) 0 0 ≡ getD q a 0 = getD-take (b - a) (drop a q) 0 0 (omega (arith, w .0)) ∙ getD-drop a q 0 0 ∙ ap (λ (m : ℕ). getD q m 0) z in
+    ap (λ (x : ℕ). eqb x 1) (sym v)
+    ∙ ap (λ (v : Option (List ℕ)). isEnable v) (first-value 0x97 q (place.At a b) e)
 
-pub given-missing : (id : ℕ) (q : List ℕ) → firstIn id q (lastFrom q) ≡ place.Missing → false ≡ isGiven (first id (headersIn (requestOf q)))
-given-missing id q e = ap (λ (v : Option (List ℕ)). isGiven v) (first-value id q place.Missing e)
+pub enabling-missing : (q : List ℕ) → firstIn 0x97 q (lastFrom q) ≡ place.Missing → false ≡ surveyOf (some (headersIn (requestOf q))) .enable
+unfolding surveyOf
+enabling-missing q e = ap (λ (v : Option (List ℕ)). isEnable v) (first-value 0x97 q place.Missing e)
+
+-- a Target is found exactly if there is one
+pub found-given : (id : ℕ) (q : List ℕ) (f : Found) → f ≡ firstIn id q (lastFrom q) → isFound f ≡ isGiven (first id (headersIn (requestOf q)))
+found-given id q f e = go f ∙ ap (λ (v : Option (List ℕ)). isGiven v) (first-value id q f (sym e))
+  where
+    go : (f : Found) → isFound f ≡ isGiven (bytesAt q f)
+    go (place.At a b) = refl
+    go place.Missing = refl
 
 -- ---- the password's check
 
@@ -150,9 +190,6 @@ pub right-at : (ch : Challenge) (q : List ℕ) (d : Bool) (p : Option (List ℕ)
 right-at ch q d p a b o e =
     check-by ch (part q a b) d p (octets-take (drop a q) (b - a) (octets-drop a q o)) ∙ same-check ch (responseOf (part q a b)) d p
     ∙ ap (λ (v : Option (List ℕ)). checks ch (responseIn v) d p) (first-value 0x4E q (place.At a b) e)
-
-pub found-last : (id : ℕ) (q : List ℕ) (n : ℕ) (f v : Found) → n ≡ lastFrom q → f ≡ firstIn id q n → f ≡ v → firstIn id q (lastFrom q) ≡ v
-found-last id q n f v h k e = ap (λ (m : ℕ). firstIn id q m) (sym h) ∙ sym k ∙ e
 
 pub password-call : (e : Engine) (s : Stores) (r : CallResult) (x : Plan) (t d : Bool) (p : Option (List ℕ)) → Goes kind.PasswordGiven e s → r ≡ tookBy x → x ≡ passwordPlan e t
     → d ≡ demandsUser (e .settings) → t ≡ checks (e .peer .challenge) (responseIn (first 0x4E (headersIn (requestOf (take (e .length) (s .packet)))))) d p

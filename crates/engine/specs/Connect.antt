@@ -74,11 +74,15 @@ Below n (place.At a b) = (a ≤ b) × (n + b < 2 ^ 64)
 abbrev pub asked : Await → HostRequest → Question
 asked a r = record { awaits = a; request = r }
 
+-- The engine asks the host for a nonce.
+abbrev pub nonceAsked : Question
+nonceAsked = asked await.Nonce request.Nonce
+
 -- If a challenge is stored and the client's response can be read, the engine asks the host for the password. Otherwise it asks for a nonce.
 abbrev pub verifiesBy : Challenge → Answered → Question
-verifiesBy Absent a = asked await.Nonce request.Nonce
-verifiesBy (Stored n) Missing = asked await.Nonce request.Nonce
-verifiesBy (Stored n) Unreadable = asked await.Nonce request.Nonce
+verifiesBy Absent a = nonceAsked
+verifiesBy (Stored n) Missing = nonceAsked
+verifiesBy (Stored n) Unreadable = nonceAsked
 verifiesBy (Stored n) (User u) = asked await.Password (request.Password u)
 
 -- What the host is asked about a Connect that is not stopped: the client is checked if a password is required, and else the host decides.

@@ -62,7 +62,7 @@ fn are_open(ids: &[u32], tables: &[u64], count: usize) -> bool
 }
 
 // Whether `id` is one of `ids` from place `from` on.
-fn occurs(ids: &[u32], from: usize, id: u32) -> bool
+fn is_among(ids: &[u32], from: usize, id: u32) -> bool
     requires { ⌜ from ≤ length (now ids) ⌝ }
     ensures { λ r. ⌜ r ≡ member id (drop from (now (ids .entry))) ⌝ }
 {
@@ -82,7 +82,7 @@ fn has_repeated(ids: &[u32]) -> bool
 {
     let mut i = 0;
     while i < ids.len() {
-        if occurs(ids, i + 1, ids[i]) {
+        if is_among(ids, i + 1, ids[i]) {
             return true;
         }
         i += 1;

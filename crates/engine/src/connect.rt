@@ -9,8 +9,9 @@ ghost use Rattle.packet.specs.Header.{firstPlace, readHeaders, bytesOf};
 ghost use Rattle.packet.specs.AuthWrite.{given, overlong};
 ghost use Rattle.connection.specs.Pieces.{answeredIn, credentialsOf};
 ghost use Rattle.model.specs.Request.{realmIn, placedAt};
+ghost use Rattle.engine.specs.Request.{lastConnect};
 ghost use Rattle.engine.specs.Step.{written};
-ghost use Rattle.engine.specs.Connect.{answering, accepting, headersOf, srmAskedBy, connectReplies, acceptedHeaders, answerFor, challengedBy, acceptedBy, Below, answeredBy, verifiesBy, questionOf, stopsBy, limitedPlan, connectPlan, passwordPlan, repliedLink, credentialsBy};
+ghost use Rattle.engine.specs.Connect.{answering, accepting, headersOf, srmAskedBy, connectReplies, acceptedHeaders, answerFor, challengedBy, acceptedBy, Below, answeredBy, verifiesBy, nonceAsked, questionOf, stopsBy, limitedPlan, connectPlan, passwordPlan, repliedLink, credentialsBy};
 ghost use Rattle.table.specs.Places.{tableLength};
 ghost use Rattle.connection.specs.Peer.{linked, answers};
 ghost use Rattle.packet.specs.Packet.{requestOf};
@@ -27,6 +28,7 @@ use crate::request::first_id;
 use crate::request::first_target;
 use crate::request::has_target;
 use crate::request::is_enabling;
+use crate::request::last_connect;
 use crate::request::last_from;
 use crate::step::Plan;
 use crate::step::asks;
@@ -51,6 +53,7 @@ use connection::peer::opened_for;
 use connection::peer::verified;
 use connection::peer::with_check;
 use connection::reply::Sent;
+use connection::request::ConnectRequest;
 use digest::md5::Octets16;
 use packet::auth::DigestChallenge;
 use packet::auth::DigestResponse;
@@ -72,39 +75,47 @@ use server::Operation;
 use server::Refusal;
 use server::Settings;
 
-// Whether `packet` asks for Single Response Mode (SRM) and the settings support it.
-fn srm_asked(e: Engine, packet: &[u8]) -> bool
+// Whether the Connect `c` in `packet` asks for Single Response Mode (SRM) and the settings support it.
+fn srm_asked(e: Engine, packet: &[u8], c: ConnectRequest) -> bool
+    requires { ⌜ c ≡ lastConnect (now packet) ⌝ }
     ensures { λ r. ⌜ r ≡ srmAskedBy e (now (packet .entry)) ⌝ }
 {
     if !e.settings.srm_supported {
         return false;
     }
-    is_enabling(packet)
+    is_enabling(packet, c)
 }
 
-// Whether SRM is on after the Connect in `packet`. SRM that is on already stays on.
-fn srm_after(e: Engine, packet: &[u8]) -> bool
+// Whether SRM is on after the Connect `c` in `packet`. SRM that is on already stays on.
+fn srm_after(e: Engine, packet: &[u8], c: ConnectRequest) -> bool
+    requires { ⌜ c ≡ lastConnect (now packet) ⌝ }
     ensures { λ r. ⌜ r ≡ e .peer .«srm_enabled» || srmAskedBy e (now (packet .entry)) ⌝ }
 {
     if e.peer.srm_enabled {
         return true;
     }
-    srm_asked(e, packet)
+    srm_asked(e, packet, c)
 }
 
 // Opens the ConnectionID that the host's answer names first. If it names none and the Connect has a Target, the engine looks for a new id
 // and puts it in front of the answer (docs/PROTOCOL.md#connection-ids). The id takes the Connect's Target (docs/PROTOCOL.md#targets).
-fn opens(e: Engine, header_bytes: &[u8], packet: &[u8], tables: &mut [u64]) -> Answer
-    requires { ⌜ (e .peer .count ≤ 64) × (tableLength ≤ length (now tables)) ⌝ }
+fn opens(
+    e: Engine,
+    header_bytes: &[u8],
+    packet: &[u8],
+    c: ConnectRequest,
+    tables: &mut [u64],
+) -> Answer
+    requires { ⌜ (e .peer .count ≤ 64) × (tableLength ≤ length (now tables)) × (c ≡ lastConnect (now packet)) ⌝ }
     ensures { λ r. ⌜ answers r (now (tables .exit))
         ≡ answerFor e (now (tables .entry)) (now («header_bytes» .entry)) (now (packet .entry)) ⌝ }
 {
     opened_for(
         e.peer,
-        srm_after(e, packet),
+        srm_after(e, packet, c),
         first_id(header_bytes, 0),
-        has_target(packet),
-        first_target(packet),
+        has_target(c),
+        first_target(packet, c),
         tables,
     )
 }
@@ -127,6 +138,7 @@ pub(crate) fn connect_sends(
     code: u8,
     front: ConnectionId,
     packet: &[u8],
+    c: ConnectRequest,
     header_bytes: &[u8],
     has_credentials: bool,
     has_user: bool,
@@ -135,11 +147,12 @@ pub(crate) fn connect_sends(
     reply: &mut [u8],
 ) -> CallResult
     requires { ⌜ (65535 ≤ length (now reply)) × (length (now packet) ≤ 65535) × (length (now «header_bytes») ≤ 65535)
-        × (overlong (given «has_user» (now user)) ≡ false) ⌝ }
+        × (overlong (given «has_user» (now user)) ≡ false) × (c ≡ lastConnect (now packet)) ⌝ }
     ensures { λ r. ⌜ written r (now (reply .exit))
         ≡ connectReplies e peer code (acceptedHeaders e front (now (packet .entry)) (now («header_bytes» .entry))
         (credentialsOf «has_credentials» (given «has_user» (now (user .entry))) (now (password .entry)))) (now (reply .entry)) ⌝ }
 {
+    let target = c.target;
     let sent = connect_reply(
         reply,
         wide16(peer.remote_max_packet_length),
@@ -147,13 +160,14 @@ pub(crate) fn connect_sends(
         e.settings.max_packet_length,
         front,
         packet,
-        last_from(packet),
+        c.from,
+        target,
         header_bytes,
         has_credentials,
         has_user,
         user,
         password,
-        srm_asked(e, packet),
+        srm_asked(e, packet, c),
     );
     took(sent_plan(e, peer, sent))
 }
@@ -166,9 +180,11 @@ fn unchallenged(
     front: ConnectionId,
     header_bytes: &[u8],
     packet: &[u8],
+    c: ConnectRequest,
     reply: &mut [u8],
 ) -> CallResult
-    requires { ⌜ (65535 ≤ length (now reply)) × (length (now packet) ≤ 65535) × (length (now «header_bytes») ≤ 65535) ⌝ }
+    requires { ⌜ (65535 ≤ length (now reply)) × (length (now packet) ≤ 65535) × (length (now «header_bytes») ≤ 65535)
+        × (c ≡ lastConnect (now packet)) ⌝ }
     ensures { λ r. ⌜ written r (now (reply .exit))
         ≡ connectReplies e peer code (acceptedHeaders e front (now (packet .entry)) (now («header_bytes» .entry)) none)
         (now (reply .entry)) ⌝ }
@@ -179,6 +195,7 @@ fn unchallenged(
         code,
         front,
         packet,
+        c,
         header_bytes,
         false,
         false,
@@ -186,6 +203,18 @@ fn unchallenged(
         packet,
         reply,
     )
+}
+
+// Reads the challenge of the Connect `c` in `packet` that is to be answered. Only if there is one, the walk that reads all of them follows.
+fn challenge_in(packet: &[u8], c: ConnectRequest) -> DigestChallenge
+    requires { ⌜ c ≡ lastConnect (now packet) ⌝ }
+    ensures { λ r. ⌜ r ≡ answeredIn (headersOf (now (packet .entry))) ⌝ }
+{
+    let challenge = c.challenge;
+    let Found::At { start: _, end: _ } = challenge else {
+        return DigestChallenge::Unreadable;
+    };
+    answered_challenge(packet, c.from)
 }
 
 // Goes on after an id is open or not needed. If the client sent a challenge, the engine keeps the host's headers in the header store and
@@ -197,11 +226,12 @@ fn accepted(
     front: ConnectionId,
     header_bytes: &[u8],
     packet: &[u8],
+    c: ConnectRequest,
     headers: &mut [u8],
     reply: &mut [u8],
 ) -> CallResult
     requires { ⌜ (65535 ≤ length (now reply)) × (65535 ≤ length (now headers)) × (length (now packet) ≤ 65535)
-        × (length (now «header_bytes») ≤ 65535) ⌝ }
+        × (length (now «header_bytes») ≤ 65535) × (c ≡ lastConnect (now packet)) ⌝ }
     ensures { λ r. ⌜ answering r (now (headers .exit)) (now (reply .exit))
         ≡ challengedBy (answeredIn (headersOf (now (packet .entry)))) e peer code front (now («header_bytes» .entry))
         (now (packet .entry)) (now (headers .entry)) (now (reply .entry)) ⌝ }
@@ -211,9 +241,9 @@ fn accepted(
         user_id_required,
         read_only,
         realm: _,
-    } = answered_challenge(packet, last_from(packet))
+    } = challenge_in(packet, c)
     else {
-        return unchallenged(e, peer, code, front, header_bytes, packet, reply);
+        return unchallenged(e, peer, code, front, header_bytes, packet, c, reply);
     };
     copy_into(headers, 0, header_bytes);
     let operation = Operation::Connecting {
@@ -249,7 +279,8 @@ pub(crate) fn connect_answer(
     if !is_success(code) {
         return sends_connect(e, e.peer, code, header_bytes, reply);
     }
-    let answer = opens(e, header_bytes, packet, tables);
+    let c = last_connect(packet);
+    let answer = opens(e, header_bytes, packet, c, tables);
     let opening = answer.opening;
     if opening.full {
         return sends_connect(e, e.peer, SERVICE_UNAVAILABLE, &header_bytes[..0], reply);
@@ -262,6 +293,7 @@ pub(crate) fn connect_answer(
         front,
         header_bytes,
         packet,
+        c,
         headers,
         reply,
     )
@@ -313,26 +345,30 @@ pub(crate) struct Question {
     pub request: HostRequest,
 }
 
+// The engine asks the host for a nonce.
+fn nonce_question() -> Question
+    ensures { λ r. ⌜ r ≡ nonceAsked ⌝ }
+{
+    Question {
+        awaits: Await::Nonce,
+        request: HostRequest::Nonce,
+    }
+}
+
 // If the client has answered a stored challenge, the engine asks the host for the password. Otherwise it asks for a nonce, to challenge the
-// client (again).
+// client (again): the source's verify_client gives up at the same two places.
 fn verifies(challenge: Challenge, a: Answered) -> Question
     ensures { λ r. ⌜ r ≡ verifiesBy challenge a ⌝ }
 {
     let Challenge::Stored(_) = challenge else {
-        return Question {
-            awaits: Await::Nonce,
-            request: HostRequest::Nonce,
-        };
+        return nonce_question();
     };
-    match a {
-        Answered::User(user_id) => Question {
-            awaits: Await::Password,
-            request: HostRequest::Password { user_id },
-        },
-        _ => Question {
-            awaits: Await::Nonce,
-            request: HostRequest::Nonce,
-        },
+    let Answered::User(user_id) = a else {
+        return nonce_question();
+    };
+    Question {
+        awaits: Await::Password,
+        request: HostRequest::Password { user_id },
     }
 }
 
@@ -366,7 +402,7 @@ fn is_stopped(window: u64, a: Answered) -> bool
 }
 
 // Whether a Connect is stopped, which only happens if a password is required.
-fn is_refused(authentication: bool, window: u64, a: Answered) -> bool
+fn must_stop(authentication: bool, window: u64, a: Answered) -> bool
     ensures { λ r. ⌜ r ≡ (authentication && stopsBy window a) ⌝ }
 {
     if !authentication {
@@ -382,7 +418,7 @@ fn limited_plan(e: Engine, peer: Peer, a: Answered) -> Plan
 {
     let settings = e.settings;
     let authentication = settings.authentication;
-    if is_refused(authentication, peer.window, a) {
+    if must_stop(authentication, peer.window, a) {
         return fields(e, with_check(peer, false), SERVICE_UNAVAILABLE);
     }
     let challenge = peer.challenge;
@@ -507,6 +543,7 @@ pub(crate) fn connect_with_credentials(
         code,
         front,
         packet,
+        last_connect(packet),
         &headers[..kept],
         has_credentials,
         named,

@@ -5,40 +5,47 @@ ghost use Rattle.packet.specs.Header.{first};
 ghost use Rattle.packet.specs.Packet.{requestOf};
 ghost use Rattle.packet.specs.AuthWrite.{given};
 ghost use Rattle.incoming.specs.Survey.{surveyOf};
-ghost use Rattle.connection.specs.Peer.{idIn, isGiven, targetGiven};
+ghost use Rattle.connection.specs.Peer.{idIn, targetGiven};
 ghost use Rattle.connection.specs.Pieces.{headersFrom};
 ghost use Rattle.journal.specs.Journal.{responseIn, headersOf as headersIn};
 ghost use Rattle.model.specs.Connect.{checks};
-ghost use Rattle.engine.specs.Request.{lastFrom};
-use connection::challenge::first_in;
+ghost use Rattle.engine.specs.Request.{lastFrom, lastConnect, isFound};
 use connection::challenge::verify_client;
 use connection::peer::Challenge;
 use connection::peer::ConnectionId;
+use connection::request::ConnectRequest;
+use connection::request::connect_request;
 use incoming::survey::survey_headers;
 use packet::auth::read_response;
-use packet::header_id::AUTHENTICATE_RESPONSE;
-use packet::header_id::TARGET;
-use packet::packet::Parsed;
-use packet::packet::parse_packet;
+use packet::packet::Head;
+use packet::packet::packet_head;
+use packet::srm::ENABLE;
 use packet::tlv::Found;
 use table::targets::Target;
 use table::targets::target_of;
 use table::targets::unnamed;
 
-// Where the headers of packet `q` start: at its end if it cannot be read, so that it has none.
+// Where the headers of packet `q` start, whether they can be read or not: at its end if its first byte names no opcode or its fields are not
+// all there, so that it has none.
 pub(crate) fn last_from(q: &[u8]) -> usize
     ensures { λ r. ⌜ r ≡ lastFrom (now (q .entry)) ⌝ }
 {
-    let Parsed::Request {
+    let Head::Known {
         opcode: _,
         is_final: _,
         headers,
-        length: _,
-    } = parse_packet(q)
+    } = packet_head(q)
     else {
         return q.len();
     };
     headers
+}
+
+// Reads the headers of packet `q` that the answer to a Connect looks for, in one walk.
+pub(crate) fn last_connect(q: &[u8]) -> ConnectRequest
+    ensures { λ r. ⌜ r ≡ lastConnect (now (q .entry)) ⌝ }
+{
+    connect_request(q, last_from(q))
 }
 
 // The first ConnectionID among the headers of `s` from a place on.
@@ -52,32 +59,39 @@ pub(crate) fn first_id(s: &[u8], from: usize) -> ConnectionId
     ConnectionId::Missing
 }
 
-// Whether packet `q` has a Target.
-pub(crate) fn has_target(q: &[u8]) -> bool
-    ensures { λ r. ⌜ r ≡ isGiven (first 0x46 (headersIn (requestOf (now (q .entry))))) ⌝ }
+// Whether the Connect `c` has a Target.
+pub(crate) fn has_target(c: ConnectRequest) -> bool
+    ensures { λ r. ⌜ r ≡ isFound (c .target) ⌝ }
 {
-    let Found::At { start: _, end: _ } = first_in(q, last_from(q), TARGET) else {
+    let target = c.target;
+    let Found::At { start: _, end: _ } = target else {
         return false;
     };
     true
 }
 
-// The Target that packet `q` gives an id: that of its first Target header, or the mark.
-pub(crate) fn first_target(q: &[u8]) -> Target
+// The Target that the Connect `c` in packet `q` gives an id: that of its first Target header, or the mark.
+pub(crate) fn first_target(q: &[u8], c: ConnectRequest) -> Target
+    requires { ⌜ c ≡ lastConnect (now q) ⌝ }
     ensures { λ r. ⌜ r ≡ targetGiven (first 0x46 (headersIn (requestOf (now (q .entry))))) ⌝ }
 {
-    let Found::At { start, end } = first_in(q, last_from(q), TARGET) else {
+    let target = c.target;
+    let Found::At { start, end } = target else {
         return unnamed();
     };
     target_of(&q[start..end])
 }
 
-// Whether the first SingleResponseMode header of packet `q` is Enable.
-pub(crate) fn is_enabling(q: &[u8]) -> bool
+// Whether the first SingleResponseMode header of the Connect `c` in packet `q` is Enable.
+pub(crate) fn is_enabling(q: &[u8], c: ConnectRequest) -> bool
+    requires { ⌜ c ≡ lastConnect (now q) ⌝ }
     ensures { λ r. ⌜ r ≡ surveyOf (some (headersIn (requestOf (now (q .entry))))) .enable ⌝ }
 {
-    let v = survey_headers(q, last_from(q));
-    v.enable
+    let mode = c.mode;
+    let Found::At { start, end: _ } = mode else {
+        return false;
+    };
+    q[start] == ENABLE
 }
 
 // Whether the password is right for the stored challenge and the first AuthenticateResponse of packet `q`, which must bring a user id if the
@@ -92,7 +106,9 @@ pub(crate) fn is_right(
     ensures { λ r. ⌜ r ≡ checks stored (responseIn (first 0x4E (headersIn (requestOf (now (q .entry)))))) demands
         (given «has_password» (now (password .entry))) ⌝ }
 {
-    let Found::At { start, end } = first_in(q, last_from(q), AUTHENTICATE_RESPONSE) else {
+    let c = last_connect(q);
+    let response = c.response;
+    let Found::At { start, end } = response else {
         return false;
     };
     verify_client(

@@ -3,6 +3,7 @@
 ghost use mathlib.Core.Path.{_≡_};
 ghost use Prim.Native.Nat.{_+_, _≤_, _<_};
 ghost use lib.ListN.{length, drop};
+ghost use Rattle.base.specs.Bytes.{be16};
 ghost use Rattle.packet.specs.Limits.{maxPacket};
 ghost use Rattle.incoming.specs.Frame.{frameEnd, framed, frames};
 use base::be16_at;
@@ -73,8 +74,8 @@ fn bulk(at: usize, i: usize, input: &[u8], packet: &mut [u8]) -> usize
     m
 }
 
-// Takes offered bytes into the packet store, up to the packet's end and never past it.
-pub fn read_packet(begun: usize, input: &[u8], packet: &mut [u8]) -> Framed
+// Takes offered bytes into the packet store behind the `begun` ones that stand there: the prefix byte by byte, and what follows at once.
+fn read_on(begun: usize, input: &[u8], packet: &mut [u8]) -> Framed
     requires { ⌜ (begun < maxPacket) × (maxPacket ≤ length (now packet)) ⌝ }
     ensures whole { λ r. ⌜ (r .frame ≡ Frame.Whole → (3 ≤ r .begun) × (r .begun ≤ maxPacket)) ⌝ }
     ensures model { λ r. ⌜ frames r (now (packet .exit)) ≡ framed (now (packet .entry)) begun 0 (now (input .entry)) ⌝ }
@@ -113,4 +114,43 @@ pub fn read_packet(begun: usize, input: &[u8], packet: &mut [u8]) -> Framed
             }
         }
     }
+}
+
+// Returns how long the packet is with which `input` begins. Returns 0 if `input` does not hold all of it, or if its length field is under 3.
+fn whole_length(input: &[u8]) -> usize
+    ensures fits { λ r. ⌜ (r ≤ length (now (input .entry))) × (r ≤ maxPacket) ⌝ }
+    ensures field { λ r. ⌜ (0 < r → (3 ≤ r) × (r ≡ be16 (now (input .entry)) 1)) ⌝ }
+{
+    if input.len() < 3 {
+        return 0;
+    }
+    let n = be16_at(input, 1);
+    if n < 3 {
+        return 0;
+    }
+    if n > input.len() {
+        return 0;
+    }
+    n
+}
+
+// Takes offered bytes into the packet store, up to the packet's end and never past it. A packet that is offered whole is copied at once,
+// since most reads bring whole packets.
+pub fn read_packet(begun: usize, input: &[u8], packet: &mut [u8]) -> Framed
+    requires { ⌜ (begun < maxPacket) × (maxPacket ≤ length (now packet)) ⌝ }
+    ensures whole { λ r. ⌜ (r .frame ≡ Frame.Whole → (3 ≤ r .begun) × (r .begun ≤ maxPacket)) ⌝ }
+    ensures model { λ r. ⌜ frames r (now (packet .exit)) ≡ framed (now (packet .entry)) begun 0 (now (input .entry)) ⌝ }
+{
+    if begun == 0 {
+        let n = whole_length(input);
+        if n > 0 {
+            copy_into(packet, 0, &input[..n]);
+            return Framed {
+                begun: n,
+                taken: n,
+                frame: Frame::Whole,
+            };
+        }
+    }
+    read_on(begun, input, packet)
 }

@@ -7,7 +7,8 @@ use lib.ListN.{length, take, length-take}
 use lib.Seq.{length-take-le}
 use Rattle.packet.specs.AuthWrite.{given}
 use Rattle.connection.specs.Reply.{fieldsOf, sendBytes, sentInto}
-use Rattle.connection.specs.Pieces.{firstIn, readable}
+use Rattle.packet.specs.declared.tlv.Found.{Found}
+use Rattle.connection.specs.Pieces.{firstIn, readable, whoPlace}
 use Rattle.connection.proofs.ConnectBytes.{readable-take, connect-as, who-inside}
 use borrow.Author.Needs.{needs}
 use Rattle.connection.proofs.connect_reply.connect_reply.Statement.{statement}
@@ -18,6 +19,11 @@ readable-len-requires c κs = search needs
 
 short : (x : tie.Start) (n : ℕ) → n ≡ length (readable (x .args .headers .now)) → n ≤ length (x .args .headers .now)
 short x n e = omega (arith, e, ap length (readable-take (x .args .headers .now) n e), length-take n (x .args .headers .now))
+
+-- Who gives back the first Target of the packet
+who-of : (x : tie.Start) (n : ℕ) (who : Found) → who ≡ whoPlace (x .args .target) (firstIn 0x4A (take n (x .args .headers .now)) 0)
+    → who ≡ whoPlace (firstIn 0x46 (x .args .packet .now) (x .args .from)) (firstIn 0x4A (take n (x .args .headers .now)) 0)
+who-of x n who e = e ∙ ap (λ (f : Found). whoPlace f (firstIn 0x4A (take n (x .args .headers .now)) 0)) (x .pre .4)
 
 slice-aggregate-answer : tie.Need-slice-aggregate-answer
 slice-aggregate-answer c =
@@ -37,7 +43,8 @@ send-pieces-requires c κs =
       x .pre .0,
       x .pre .1,
       omega (arith, length-take (w .before .before .readable-len .result) (x .args .headers .now), x .pre .2),
-      who-inside (x .args .packet .now) (x .args .from) (firstIn 0x4A (take (w .before .before .readable-len .result) (x .args .headers .now)) 0) _ (w .who-place .ensures),
+      who-inside (x .args .packet .now) (x .args .from) (firstIn 0x4A (take (w .before .before .readable-len .result) (x .args .headers .now)) 0) _
+          (who-of x (w .before .before .readable-len .result) _ (w .who-place .ensures)),
       x .pre .3,
     )
 
@@ -54,7 +61,7 @@ returns c =
     c .before .before .send-pieces .ensures
     ∙ ap (λ (l : List ℕ). sentInto (sendBytes (a .remote) (a .code) (fieldsOf (a .limit)) l) (a .reply .now))
     (connect-as (a .front) (a .packet .now) (a .headers .now) _ (a .from) (a .has-credentials) (given (a .has-user) (a .user .now)) (a .password .now) (a .srm) _ _
-    (readable-take (a .headers .now) (r .readable-len .result) (r .readable-len .ensures)) (w .who-place .ensures) (n .nonce-for .ensures)
+    (readable-take (a .headers .now) (r .readable-len .result) (r .readable-len .ensures)) (who-of x (r .readable-len .result) _ (w .who-place .ensures)) (n .nonce-for .ensures)
     (λ k. omega (arith, r .before .before .before .before .shared-slice-known .given k)) (λ k. omega (arith, r .before .before .before .shared-slice-known2 .given k)))
 
 pub connect-reply-spec : {M : Type 1} → statement M

@@ -18,22 +18,22 @@ abbrev μ-loop : tie.MeasureT-loop
 loop-holds : tie.Need-loop-holds Inv-loop μ-loop
 loop-holds c = (omega arith, refl)
 
-add-occurs : tie.Need-add-occurs Inv-loop μ-loop
-add-occurs c = search needs
+add-is-among : tie.Need-add-is-among Inv-loop μ-loop
+add-is-among c = search needs
 
-mul-occurs : tie.Need-mul-occurs Inv-loop μ-loop
-mul-occurs c = search needs
+mul-is-among : tie.Need-mul-is-among Inv-loop μ-loop
+mul-is-among c = search needs
 
-shared-slice-read-occurs : tie.Need-shared-slice-read-occurs Inv-loop μ-loop
-shared-slice-read-occurs c = search needs
+shared-slice-read-is-among : tie.Need-shared-slice-read-is-among Inv-loop μ-loop
+shared-slice-read-is-among c = search needs
 
-occurs-requires : tie.Need-occurs-requires Inv-loop μ-loop
-occurs-requires c κs = search needs
+is-among-requires : tie.Need-is-among-requires Inv-loop μ-loop
+is-among-requires c κs = search needs
 
 returns : tie.Need-returns Inv-loop μ-loop
 returns c =
     let l = c .before .before .before .before in
-    rw (sym (c .before .occurs .ensures) ∙ c .if1 .taken) at (sym (repeats-from (l .before .before .args .ids .now) (l .loop .i) (omega arith)) ∙ l .loop .inv .1)
+    rw (sym (c .before .is-among .ensures) ∙ c .if1 .taken) at (sym (repeats-from (l .before .before .args .ids .now) (l .loop .i) (omega arith)) ∙ l .loop .inv .1)
 
 add-i : tie.Need-add-i Inv-loop μ-loop
 add-i c = search needs
@@ -45,7 +45,7 @@ loop-again : tie.Need-loop-again Inv-loop μ-loop
 loop-again c =
     let l = c .before .before .before .before in (
       omega arith,
-      rw (sym (c .before .occurs .ensures) ∙ c .if1 .left) at (sym (repeats-from (l .before .before .args .ids .now) (l .loop .i) (omega arith)) ∙ l .loop .inv .1),
+      rw (sym (c .before .is-among .ensures) ∙ c .if1 .left) at (sym (repeats-from (l .before .before .args .ids .now) (l .loop .i) (omega arith)) ∙ l .loop .inv .1),
     )
 
 returns-2 : tie.Need-returns-2 Inv-loop μ-loop
@@ -61,10 +61,10 @@ has-repeated-spec =
     Inv-loop
     μ-loop
     loop-holds
-    add-occurs
-    mul-occurs
-    shared-slice-read-occurs
-    occurs-requires
+    add-is-among
+    mul-is-among
+    shared-slice-read-is-among
+    is-among-requires
     returns
     add-i
     loop-less

@@ -1,18 +1,15 @@
 -- `engine::connect::accepted` meets its contract: the two ways are those of the definition, by the challenge that is answered.
 -- Assumes nothing.
-use mathlib.Core.Path.{_∙_}
+use mathlib.Core.Path.{sym, _∙_}
 use native.Mathlib.Omega.{arith}
 use Rattle.engine.proofs.Objects.{store-front}
-use Rattle.engine.proofs.Accepts.{challenge-known, not-challenged, challenged}
+use Rattle.engine.proofs.Accepts.{not-challenged, challenged}
 use borrow.Author.Needs.{needs}
 use Rattle.engine.proofs.connect.accepted.Statement.{statement}
 use Rattle.engine.proofs.connect.accepted.Tie as tie
 
-last-from-requires : tie.Need-last-from-requires
-last-from-requires c κs = search needs
-
-answered-challenge-requires : tie.Need-answered-challenge-requires
-answered-challenge-requires c κs = search needs
+challenge-in-requires : tie.Need-challenge-in-requires
+challenge-in-requires c κs = search needs
 
 enum-known-nonce : tie.Need-enum-known-nonce
 enum-known-nonce c = search needs
@@ -31,10 +28,9 @@ returns c =
     let s = c .before .before in
     let t = s .before .before in
     let a = t .before .before in
-    let l = a .before in
-    let k = l .before .before .before .before .before .args in
+    let k = a .before .before .before .before .before .args in
     not-challenged (k .e) (k .peer) (k .code) (k .front) (k .packet .now) (k .header-bytes .now) (k .reply .now) (k .headers .now) _
-    (challenge-known (k .packet .now) _ _ _ (l .last-from .ensures) (a .answered-challenge .ensures) (t .enum-told .given .1))
+    (sym (t .enum-told .given .1) ∙ a .challenge-in .ensures)
     (s .unchallenged .ensures)
 
 copy-into-requires : tie.Need-copy-into-requires
@@ -58,11 +54,10 @@ returns-2 c =
     let p = r .before .before .before in
     let n = p .before .before .before in
     let a = n .before .before in
-    let l = a .before in
-    let k = l .before .before .before .before .before .args in
-    let w = l .before .before .before .before .before .pre in
+    let k = a .before .before .before .before .before .args in
+    let w = a .before .before .before .before .before .pre in
     challenged (k .e) (k .peer) (k .code) (k .front) (k .packet .now) (k .header-bytes .now) (k .reply .now) (k .headers .now) _ _ _ _ _ _ _ _
-    (challenge-known (k .packet .now) _ _ _ (l .last-from .ensures) (a .answered-challenge .ensures) (n .nonce .given .1))
+    (sym (n .nonce .given .1) ∙ a .challenge-in .ensures)
     (c .took .ensures) (c .before .asks .ensures) (r .challenge-realm .ensures)
     (p .copy-into .ensures ∙ store-front (k .header-bytes .now) (k .headers .now) (omega (arith, w .1, w .3)))
 
@@ -70,8 +65,7 @@ pub accepted-spec : {M : Type 1} → statement M
 accepted-spec =
     tie.close
     (tie.spec
-    last-from-requires
-    answered-challenge-requires
+    challenge-in-requires
     enum-known-nonce
     enum-told
     unchallenged-requires

@@ -24,6 +24,9 @@ returns c =
     answer-declined (k .e) (k .tables .now) (k .code) (k .header-bytes .now) (k .packet .now) (k .headers .now) (k .reply .now) _ (b .is-success .ensures)
     (not-true (b .is-success .result) (i .if1 .taken)) _ (s .sends-connect .ensures)
 
+last-connect-requires : tie.Need-last-connect-requires
+last-connect-requires c κs = search needs
+
 opens-requires : tie.Need-opens-requires
 opens-requires c κs = search needs
 
@@ -44,7 +47,7 @@ returns-2 c =
     let s = c .before .before in
     let f = s .before .before .before in
     let o = f .before .before .before .before in
-    let i = o .before .before in
+    let i = o .before .before .before in
     let b = i .before in
     let k = b .before .before .before .before .before .before .args in
     answer-full (k .e) (k .tables .now) (k .code) (k .header-bytes .now) (k .packet .now) (k .headers .now) (k .reply .now) _ (b .is-success .ensures)
@@ -67,7 +70,7 @@ returns-3 c =
     let s = c .before .before .before .before in
     let f = s .before .before .before in
     let o = f .before .before .before .before in
-    let i = o .before .before in
+    let i = o .before .before .before in
     let b = i .before in
     let k = b .before .before .before .before .before .before .args in
     answer-accepted (k .e) (k .tables .now) (k .code) (k .header-bytes .now) (k .packet .now) (k .headers .now) (k .reply .now) _ (b .is-success .ensures)
@@ -81,6 +84,7 @@ connect-answer-spec =
     sends-connect-requires
     same-length
     returns
+    last-connect-requires
     opens-requires
     slice-aggregate-sends-connect
     sends-connect-requires-2

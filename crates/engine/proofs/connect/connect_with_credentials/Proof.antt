@@ -47,18 +47,22 @@ returns-2 c =
     (k .e .operation) _ _ _ (w .before .operation .given .1) (k .e) (k .packet .now) (k .headers .now) (k .reply .now)
     _ (l .is-long .ensures) (c .before .if1 .taken) _ (c .refuse2 .ensures)
 
+last-connect-requires : tie.Need-last-connect-requires
+last-connect-requires c κs = search needs
+
 slice-aggregate-connect-sends : tie.Need-slice-aggregate-connect-sends
-slice-aggregate-connect-sends c = kept (c .before .before .before .before) .count
+slice-aggregate-connect-sends c = kept (c .before .before .before .before .before) .count
 
 connect-sends-requires : tie.Need-connect-sends-requires
 connect-sends-requires c κs =
-    let u = c .before .before in
+    let r = c .before .before in
+    let u = r .before in
     let l = u .before in
     let b = l .before in
     let w = b .before in
     let k = start w .args in
     let p = start w .pre in
-    (p .3, p .1, kept w .short, user-fits (k .has-credentials) (k .has-user) _ (b .both .ensures) (k .user .now) (k .password .now) _ (l .is-long .ensures) (u .if1 .left))
+    (p .3, p .1, kept w .short, user-fits (k .has-credentials) (k .has-user) _ (b .both .ensures) (k .user .now) (k .password .now) _ (l .is-long .ensures) (u .if1 .left), r .last-connect .ensures)
 
 same-length : tie.Need-same-length
 same-length c = search needs
@@ -66,7 +70,7 @@ same-length c = search needs
 returns-3 : tie.Need-returns-3
 returns-3 c =
     let a = c .before .before in
-    let u = a .before .before .before in
+    let u = a .before .before .before .before in
     let l = u .before in
     let b = l .before in
     let w = b .before in
@@ -86,6 +90,7 @@ connect-with-credentials-spec =
     is-long-requires
     refuse-requires-2
     returns-2
+    last-connect-requires
     slice-aggregate-connect-sends
     connect-sends-requires
     same-length

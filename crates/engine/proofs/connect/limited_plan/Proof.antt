@@ -10,8 +10,8 @@ use Rattle.engine.proofs.Connects.{is-stopped, not-stopped}
 use Rattle.engine.proofs.connect.limited_plan.Statement.{statement}
 use Rattle.engine.proofs.connect.limited_plan.Tie as tie
 
-is-refused-requires : tie.Need-is-refused-requires
-is-refused-requires c κs = search needs
+must-stop-requires : tie.Need-must-stop-requires
+must-stop-requires c κs = search needs
 
 with-check-requires : tie.Need-with-check-requires
 with-check-requires c κs = search needs
@@ -24,7 +24,7 @@ returns c =
     let t = c .before .before in
     let x = t .before .before .before .args in
     c .fields .ensures ∙ ap (λ (p : Peer). fieldsPlan (x .e) p 0x53) (c .before .with-check .ensures)
-    ∙ is-stopped (x .e) (x .peer) (x .a) (sym (t .before .is-refused .ensures) ∙ t .if1 .taken)
+    ∙ is-stopped (x .e) (x .peer) (x .a) (sym (t .before .must-stop .ensures) ∙ t .if1 .taken)
 
 connect-question-requires : tie.Need-connect-question-requires
 connect-question-requires c κs = search needs
@@ -37,13 +37,13 @@ returns-2 c =
     let t = c .before .before in
     let x = t .before .before .before .args in
     c .asks .ensures ∙ ap (λ (q : Question). questionPlan (x .e) (x .peer) q) (c .before .connect-question .ensures)
-    ∙ not-stopped (x .e) (x .peer) (x .a) (sym (t .before .is-refused .ensures) ∙ t .if1 .left)
+    ∙ not-stopped (x .e) (x .peer) (x .a) (sym (t .before .must-stop .ensures) ∙ t .if1 .left)
 
 pub limited-plan-spec : {M : Type 1} → statement M
 limited-plan-spec =
     tie.close
     (tie.spec
-    is-refused-requires
+    must-stop-requires
     with-check-requires
     fields-requires
     returns

@@ -1,4 +1,4 @@
--- `engine::close::occurs` meets its contract. What is left to search decides the membership, as no number passed was the id. Assumes nothing.
+-- `engine::close::is_among` meets its contract. What is left to search decides the membership, as no number passed was the id. Assumes nothing.
 use mathlib.Core.Path.{_≡_, refl, sym, _∙_}
 use Prim.Native.Nat.{_≤_, _-_}
 use lib.ListN.{length, getD, drop}
@@ -7,8 +7,8 @@ use borrow.Author.Needs.{needs}
 use borrow.Author.Tests.{eq-eqb, ne-eqb}
 use Rattle.journal.specs.Ids.{member}
 use Rattle.engine.proofs.Closes.{member-from, none-behind}
-use Rattle.engine.proofs.close.occurs.Statement.{statement}
-use Rattle.engine.proofs.close.occurs.Tie as tie
+use Rattle.engine.proofs.close.is_among.Statement.{statement}
+use Rattle.engine.proofs.close.is_among.Tie as tie
 
 abbrev Inv-loop : tie.InvT-loop
 Inv-loop ids from id i₀ i = (i ≤ length ids) × (member id (drop i ids) ≡ member id (drop from ids))
@@ -54,8 +54,8 @@ returns-2 c =
     let x = l .before .args in
     rw (none-behind (x .ids .now) (l .loop .i) (c .loop-test .left)) at (l .loop .inv .1)
 
-pub occurs-spec : {M : Type 1} → statement M
-occurs-spec =
+pub is-among-spec : {M : Type 1} → statement M
+is-among-spec =
     tie.close
     (tie.spec
     Inv-loop
