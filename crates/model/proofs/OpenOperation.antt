@@ -13,7 +13,7 @@ use Rattle.server.specs.declared.Settings.{Settings}
 use Rattle.model.specs.Step.{Stores}
 use Rattle.model.specs.Dispatch.{busy}
 use Rattle.model.specs.Guard.{sameAwait}
-use Rattle.model.specs.Refusals.{bytes, sameWait, Known, atStart, learns, feedFrom}
+use Rattle.model.specs.Refusals.{Known, atStart, learns, feedFrom}
 use Rattle.model.specs.Runs.{State, Performed, next, Ran, seen}
 use Rattle.model.specs.Theorem.{journalOf}
 use Rattle.model.specs.Contracts.{state}
@@ -36,7 +36,7 @@ both-open a b = or-true a ∙ sym (or-true b)
 
 open-at : (ts : List ℕ) (a : Await) (o : Operation) (st : Settings) (p : Peer) (b n : ℕ) (s : Stores) (j : Journal)
     → CoupledAt ts a o st p b n s j
-    → (busy o || not (sameAwait a await.Bytes)) ≡ (busyOpened (j .opened) || not (sameWait (waitsOf a o) bytes))
+    → (busy o || not (sameAwait a await.Bytes)) ≡ isOpenBy j (waitsOf a o)
 open-at ts await.Bytes o st p b n s j x = ap (λ (t : Bool). t || false) (sym (busy-same _ o (s .headers) (s .body) (j .opened) (x .opened)))
 open-at ts await.Taken o st p b n s j x = both-open (busy o) (busyOpened (j .opened))
 open-at ts await.Last o st p b n s j x = both-open (busy o) (busyOpened (j .opened))
