@@ -1,6 +1,6 @@
--- A call takes no more bytes than it is offered, so the part of the input that is left moves on within its store. The two calls of `feed`, the end of
--- the stream and an offer, meet the definition `Feeds`. Assumes nothing.
-use mathlib.Core.Path.{_≡_, refl, sym, ap, _∙_}
+-- A call takes no more bytes than it is offered, so the part of the input that is left moves on within its store. The two calls of `feed`,
+-- the end of the stream and an offer, meet the definition `Feeds`. Assumes nothing.
+use mathlib.Core.Path.{_≡_, refl, ap, _∙_}
 use mathlib.Core.List.{List, [], _∷_, _++_}
 use mathlib.Core.Bool.{Bool, true, false, _&&_, _||_}
 use Prim.Native.Nat.{ℕ, _+_, _-_, _≤_, _<_}
@@ -11,10 +11,10 @@ use lib.ListN.{length, take, drop, set, length-drop, length-append}
 use lib.Seq.{length-take-le}
 use lib.Dec.{ltb, leb, eqb}
 use Rattle.base.specs.Pick.{pick}
-use Rattle.incoming.specs.Frame.{framed, frameEnd, framesAt, Frames}
+use Rattle.incoming.specs.Frame.{framed, frameEnd, framesAt}
 use Rattle.incoming.specs.declared.frame.Frame.{Frame}
 use Rattle.incoming.specs.declared.frame.Frame.the-variants.{More, Whole, Short}
-use Rattle.journal.specs.Calls.{Call, bytesOffered, streamEnded}
+use Rattle.journal.specs.Calls.{bytesOffered, streamEnded}
 use Rattle.model.specs.Step.{Stores, Stepped, stepped, called, after, ends, limitOf}
 use Rattle.model.specs.Calls.{bytesOfferedStep, streamEndedStep, offers, framedAs, withPacket}
 use Rattle.model.specs.Guard.{refuse, short, shortTables, sound, fits}
@@ -27,9 +27,8 @@ use Rattle.server.specs.declared.End.the-variants as end
 use Rattle.server.specs.declared.Refusal.{Refusal}
 use Rattle.server.specs.declared.Refusal.the-variants as refusal
 use Rattle.host.specs.Rest.{Within}
-use Rattle.host.specs.Feed.{left, hasLeft, frontOf, Reads, RefilledBy, Refilled, offer, movedOn, Feeds}
+use Rattle.host.specs.Feed.{left, hasLeft, frontOf, RefilledBy, Refilled, offer, movedOn, Feeds}
 use Rattle.host.specs.declared.feed.Rest.{Rest}
-use Rattle.host.specs.declared.feed.Step.{Step}
 
 -- ---- how many bytes a call takes
 
@@ -59,7 +58,8 @@ guarded-takes false false x y e s m n h = omega arith
 offer-takes : (e : Engine) (i : List ℕ) (s : Stores) (t : List ℕ) → bytesOfferedStep e i s t .took .taken ≤ length i
 unfolding bytesOfferedStep
 offer-takes e i s t =
-    guarded-takes (shortTables t || short (limitOf e) s) (sound e && fits kind.FromPeer (e .awaits)) refusal.StoreTooShort refusal.WrongMoment e s (offers e (framed (s .packet) (e .begun) 0 i) s t) (length i) go
+    guarded-takes (shortTables t || short (limitOf e) s) (sound e && fits kind.FromPeer (e .awaits)) refusal.StoreTooShort refusal.WrongMoment
+    e s (offers e (framed (s .packet) (e .begun) 0 i) s t) (length i) go
   where
     go : offers e (framed (s .packet) (e .begun) 0 i) s t .took .taken ≤ length i
     go =
@@ -120,8 +120,16 @@ reads-on r i l a n h b k e =
     (let w : a ≤ length i = rw b (front-within (length i)) in
     record {
       begins = b;
-      within =
-          (omega arith, omega (arith, k, length-append (take a i) (l ++ postOf a (length i - a) i), length-append l (postOf a (length i - a) i), length-take-le a i w));
+      within = (
+        omega arith,
+        omega (
+          arith,
+          k,
+          length-append (take a i) (l ++ postOf a (length i - a) i),
+          length-append l (postOf a (length i - a) i),
+          length-take-le a i w,
+        ),
+      );
       same-length = e;
       front = take-put a (length i - a) i l w;
     })
@@ -139,7 +147,8 @@ offer-none (x ∷ xs) h = absurd (omega (arith, h))
 
 -- ---- the two calls
 
-module _ (e : Engine) (r q : Rest) (i : List ℕ) (s : Stores) (t : List ℕ) (took : CallResult) (j : List ℕ) (z : Stores) (h : Refilled r i q j) where
+module _ (e : Engine) (r q : Rest) (i : List ℕ) (s : Stores) (t : List ℕ) (took : CallResult) (j : List ℕ) (z : Stores)
+    (h : Refilled r i q j) where
   pub feeds-end : q .at ≡ q .end → stepped took z ≡ streamEndedStep e s → Feeds e r i s t (record { took = took; rest = q }) j z
   feeds-end n m =
       let none : length (left q j) ≡ 0 = left-length q j (refilled-within r q i j h .0) ∙ omega (arith, n) in

@@ -1,6 +1,6 @@
--- What one offer of the peer's bytes comes to. The host keeps an input store and the part of it that the engine has not taken yet. If nothing is left,
--- standard input is read once; what is left then is offered, or the stream has ended. The call is that of the model, and the part moves on by as many
--- bytes as the call took.
+-- What one offer of the peer's bytes comes to. The host keeps an input store and the part of it that the engine has not taken yet. If
+-- nothing is left, standard input is read once; what is left then is offered, or the stream has ended. The call is that of the model, and
+-- the part moves on by as many bytes as the call took.
 use Prim.Native.Nat.{ℕ, _+_, _-_}
 use mathlib.Core.Bool.{Bool, true, false, _&&_}
 use mathlib.Core.List.{List, [], _∷_}
@@ -28,8 +28,8 @@ hasLeft r i = ltb (r .at) (r .end) && leb (r .end) (length i)
 unfoldable pub frontOf : ℕ → ℕ
 frontOf n = pick (ltb n 67584) 0 2048
 
--- A read of standard input turns the store `i` into `j`, and leaves the part `r` to be offered. Which bytes come is the kernel's to say; what lies in
--- front of them stays.
+-- A read of standard input turns the store `i` into `j`, and leaves the part `r` to be offered. Which bytes come is the kernel's to say;
+-- what lies in front of them stays.
 pub record Reads (i : List ℕ) (r : Rest) (j : List ℕ) : Type 0 where
   pub begins : r .at ≡ frontOf (length i)
   pub within : Within r (length j)
@@ -54,9 +54,9 @@ offer (x ∷ xs) = bytesOffered (x ∷ xs)
 abbrev pub movedOn : Rest → ℕ → Rest
 movedOn r n = record { at = r .at + n; end = r .end }
 
--- The engine `e` was offered the part `r` of the store `i`, with the four stores `s` and the table store `t`. It came to the step `x`, the input store
--- `j` and the four stores `z`. Between them lies the part that was offered, `offered`. `says` is what the call's contract says, so that the call is one
--- of a run of the records theorem; the realm is one of no bytes.
+-- The engine `e` was offered the part `r` of the store `i`, with the four stores `s` and the table store `t`. It came to the step `x`, the
+-- input store `j` and the four stores `z`. Between them lies the part that was offered, `offered`. `says` is what the call's contract says,
+-- so that the call is one of a run of the records theorem; the realm is one of no bytes.
 pub record Feeds (e : Engine) (r : Rest) (i : List ℕ) (s : Stores) (t : List ℕ) (x : Step) (j : List ℕ) (z : Stores) : Type 0 where
   pub offered : Rest
   pub refilled : Refilled r i offered j

@@ -1,5 +1,5 @@
--- `host::feed::feed` meets its contract: if nothing is left after the refill, the call is the end of the stream; otherwise the part that is left is
--- offered, and since a call takes no more than that, the part moves on within the store. Assumes nothing.
+-- `host::feed::feed` meets its contract: if nothing is left after the refill, the call is the end of the stream; otherwise the part that is
+-- left is offered, and since a call takes no more than that, the part moves on within the store. Assumes nothing.
 use borrow.Author.Needs.{needs}
 use mathlib.Core.Path.{_≡_}
 use native.Mathlib.Omega.{arith}
@@ -16,7 +16,8 @@ lent a = stores (a .args .packet .now) (a .args .headers .now) (a .args .body .n
 
 -- The input store after the refill, and the part of it that is left then.
 kept : (k : tie.After-refilled)
-    → Within (k .refilled .result) (length (k .refilled .last .1 .0)) × (length (k .refilled .last .1 .0) ≡ length (k .before .before .before .args .input .now))
+    → Within (k .refilled .result) (length (k .refilled .last .1 .0))
+    × (length (k .refilled .last .1 .0) ≡ length (k .before .before .before .args .input .now))
 kept k =
     let x = k .before .before .before .args in
     refilled-within (x .rest) (k .refilled .result) (x .input .now) (k .refilled .last .1 .0) (k .refilled .ensures)
@@ -34,7 +35,8 @@ returns : tie.Need-returns
 returns c =
     let k = c .before .before .before .before .before .before .before .before in
     let x = k .before .before .before .args in
-    feeds-end (x .e) (x .rest) (k .refilled .result) (x .input .now) (lent (k .before .before .before)) (x .tables .now) _ (k .refilled .last .1 .0) _ (k .refilled .ensures)
+    feeds-end (x .e) (x .rest) (k .refilled .result) (x .input .now) (lent (k .before .before .before)) (x .tables .now) _
+    (k .refilled .last .1 .0) _ (k .refilled .ensures)
     (c .before .before .before .before .before .if1 .taken) (c .stream-ended .ensures)
 
 sub-bytes-offered : tie.Need-sub-bytes-offered
@@ -56,7 +58,8 @@ add-t26 c =
     omega (
       arith,
       kept k,
-      takes-left (x .e) (x .rest) (k .refilled .result) (x .input .now) (lent (k .before .before .before)) (x .tables .now) _ (k .refilled .last .1 .0) _ (k .refilled .ensures) (c .before .bytes-offered .ensures .0),
+      takes-left (x .e) (x .rest) (k .refilled .result) (x .input .now) (lent (k .before .before .before)) (x .tables .now) _
+          (k .refilled .last .1 .0) _ (k .refilled .ensures) (c .before .bytes-offered .ensures .0),
     )
 
 same-length-2 : tie.Need-same-length-2
@@ -66,8 +69,10 @@ returns-2 : tie.Need-returns-2
 returns-2 c =
     let k = c .before .before .before .before .before .before .before .before .before .before .before .before in
     let x = k .before .before .before .args in
-    feeds-offer (x .e) (x .rest) (k .refilled .result) (x .input .now) (lent (k .before .before .before)) (x .tables .now) _ (k .refilled .last .1 .0) _ (k .refilled .ensures)
-    (c .before .before .before .before .before .before .before .before .before .if1 .left) (c .before .bytes-offered .ensures .0) (c .before .bytes-offered .ensures .1)
+    feeds-offer (x .e) (x .rest) (k .refilled .result) (x .input .now) (lent (k .before .before .before)) (x .tables .now) _
+    (k .refilled .last .1 .0) _ (k .refilled .ensures)
+    (c .before .before .before .before .before .before .before .before .before .if1 .left)
+    (c .before .bytes-offered .ensures .0) (c .before .bytes-offered .ensures .1)
 
 pub feed-spec : {M : Type 1} → statement M
 feed-spec =

@@ -1,4 +1,5 @@
--- `host::feed::front_of` meets its contract: a store shorter than `INPUT` is read from its first byte, any other behind the lead. Assumes nothing.
+-- `host::feed::front_of` meets its contract: a store shorter than `INPUT` is read from its first byte, any other behind the lead. Assumes
+-- nothing.
 use borrow.Author.Tests.{lt-ltb, le-ltb}
 use mathlib.Core.Bool.{Bool}
 use mathlib.Core.Path.{sym, ap}

@@ -1,5 +1,5 @@
--- `host::feed::refilled` meets its contract. Bytes that are left and lie in the store are kept, and nothing is read; otherwise nothing is left or it
--- reaches beyond the store, and the read begins where `front_of` says, so that what lies before stays. Assumes nothing.
+-- `host::feed::refilled` meets its contract. Bytes that are left and lie in the store are kept, and nothing is read; otherwise nothing is
+-- left or it reaches beyond the store, and the read begins where `front_of` says, so that what lies before stays. Assumes nothing.
 use borrow.Author.Needs.{needs}
 use borrow.Author.Tests.{lt-ltb, le-leb}
 use mathlib.Core.Bool.{false}
@@ -41,7 +41,8 @@ returns-2 c =
     let x = k .before .before .before .args in
     let h : hasLeft (x .rest) (x .input .now) ≡ false =
     ⊎-elim (λ w. left-beyond (x .rest) (x .input .now) (w .2 .left)) (λ w. none-left (x .rest) (x .input .now) (w .left)) (k .if1 .came) in
-    reads-on (x .rest) (x .input .now) (c .before .before .read .last .0) _ _ h (c .before .before .before .before .front-of .ensures) (c .before .before .read .ensures) (same-length c)
+    reads-on (x .rest) (x .input .now) (c .before .before .read .last .0) _ _ h (c .before .before .before .before .front-of .ensures)
+    (c .before .before .read .ensures) (same-length c)
 
 pub refilled-spec : {M : Type 1} → statement M
 refilled-spec =
