@@ -2,7 +2,7 @@
 -- other packet a reply is due. Assumes nothing.
 use mathlib.Core.Path.{_≡_, refl}
 use mathlib.Core.Bool.{Bool, true, false, _&&_, _||_, not}
-use mathlib.Core.List.{List, [], _∷_, _++_}
+use mathlib.Core.List.{[], _∷_}
 use mathlib.Core.Option.{Option, none, some}
 use Prim.Native.Nat.{ℕ}
 use native.Mathlib.Omega.{arith}
@@ -66,7 +66,9 @@ module _ (j : Journal) (r : Request) where
 
   first-opens : (o : Opcode) → firstDue o j r ≡ silent → busy (firstRead o j r .next .opened) ≡ true
   unfolding firstRead
-  first-opens Put e = either-opens (admitted (j .settings) (j .standing) r) _ _ (put-opens (j .standing .srm) _ (newly j r) (asksMore (r .headers)) _ (carriedBy (r .headers))) e
+  first-opens Put e =
+      either-opens (admitted (j .settings) (j .standing) r) _ _
+      (put-opens (j .standing .srm) _ (newly j r) (asksMore (r .headers)) _ (carriedBy (r .headers))) e
   first-opens Get e = either-opens (admitted (j .settings) (j .standing) r) (getDue (r .final) (j .standing .srm) (newly j r)) _ (λ h. refl) e
   first-opens Action e = absurd (gathered (admitted (j .settings) (j .standing) r) (r .final) e)
   first-opens Session e = absurd (gathered (admitted (j .settings) (j .standing) r) (r .final) e)
@@ -94,7 +96,9 @@ module _ (j : Journal) (r : Request) where
   request-opens : (m : Mode) (o : Opened) → requestDue o m j r ≡ silent → busy (requestRead o j r .next .opened) ≡ true
   request-opens m nothing e = first-opens (r .opcode) e
   request-opens m trailing e = first-speaks (trails r) _ _ (firstDue (r .opcode) j r) (first-opens (r .opcode)) e
-  request-opens m (putting c s) e = other-speaks (sameOpcode (r .opcode) Put) _ _ (stopped j) (put-opens s s false (asksMore (r .headers)) _ (joined c (carriedBy (r .headers)))) e
+  request-opens m (putting c s) e =
+      other-speaks (sameOpcode (r .opcode) Put) _ _ (stopped j)
+      (put-opens s s false (asksMore (r .headers)) _ (joined c (carriedBy (r .headers)))) e
   request-opens m (getting k) e = other-speaks (sameOpcode (r .opcode) Get) (getDue (r .final) (m .on) (m .asked)) _ (stopped j) (λ h. refl) e
   request-opens m sending e = absurd (spoken e)
   request-opens m (gathering o k) e = absurd (gathered (sameOpcode (r .opcode) o) (r .final) e)
@@ -102,7 +106,8 @@ module _ (j : Journal) (r : Request) where
 
 packet-opens : (m : Mode) (j : Journal) (q : Option Request) → packetDue q m j ≡ silent → busy (packetRead q j .next .opened) ≡ true
 packet-opens m j none e = absurd (spoken e)
-packet-opens m j (some r) e = first-speaks j r (sameOpcode (r .opcode) Abort) (dropped j r) _ (requestDue (j .opened) m j r) (request-opens j r m (j .opened)) e
+packet-opens m j (some r) e =
+    first-speaks j r (sameOpcode (r .opcode) Abort) (dropped j r) _ (requestDue (j .opened) m j r) (request-opens j r m (j .opened)) e
 
 pub opens-or-replies : OpensOrReplies
 unfolding journalPacket

@@ -3,7 +3,7 @@
 use Prim.Native.Nat.{ℕ}
 use mathlib.Core.List.{List}
 use mathlib.Core.Bool.{Bool, _&&_, _||_, not}
-use mathlib.Core.Option.{Option, none}
+use mathlib.Core.Option.{Option}
 use lib.ListN.{length, take}
 use lib.Dec.{ltb, eqb}
 use Rattle.base.specs.Pick.{pick}
@@ -29,14 +29,12 @@ use Rattle.server.specs.declared.CallKind.the-variants as kind
 use Rattle.server.specs.declared.End.the-variants as end
 use Rattle.server.specs.declared.Refusal.the-variants as refusal
 use Rattle.server.specs.declared.Engine.{Engine}
-use Rattle.server.specs.declared.Body.the-variants as body
-use Rattle.server.specs.declared.HostRequest.the-variants as request
 use Rattle.server.specs.declared.Outcome.the-variants as outcome
-use Rattle.model.specs.Step.{Stores, stores, withHeaders, engineWith, Done, done, DoneTabled, doneTabled, ends, repliesCode, sent, sends, Stepped, stepped, Called, called, after}
+use Rattle.model.specs.Step.{Stores, stores, withHeaders, engineWith, done, DoneTabled, doneTabled, ends, repliesCode, sends, Stepped, stepped, Called, called, after}
 use Rattle.model.specs.Request.{lastHeaders}
 use Rattle.model.specs.Object.{sendsPacket, sendsNext, goesOn, objectOf}
 use Rattle.model.specs.Connect.{connectSends, connectAnswer, passwordAnswer, nonceAnswer}
-use Rattle.model.specs.Dispatch.{inside, busy, packetDone}
+use Rattle.model.specs.Dispatch.{busy, packetDone}
 use Rattle.model.specs.Close.{Closed, refuseClosing, closeChecked}
 use Rattle.model.specs.Guard.{refuse, short, sound, shortTables, longRealm, sameAwait, guarded, guardedTables, guardedCalled, badHeaders, badReply, checked, longUser}
 
