@@ -1,3 +1,4 @@
 -- What the programs over the engine know of their input and of their host.
 pub mod Answers
 pub mod Rest
+pub mod Feed

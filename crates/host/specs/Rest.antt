@@ -5,11 +5,11 @@ use Rattle.server.specs.declared.Outcome.{Outcome}
 use Rattle.server.specs.declared.Outcome.the-variants as outcome
 use Rattle.host.specs.declared.feed.Rest.{Rest}
 
--- what is left lies in a store of some length
+-- What is left lies in a store of `n` bytes.
 abbrev pub Within : Rest → ℕ → Type 0
 Within r n = (r .at ≤ r .end) × (r .end ≤ n)
 
--- 0 while the session goes on
+-- The number of the end or of the refusal with which the session is over, or 0 while it goes on.
 abbrev pub endedBy : Outcome → ℕ
 endedBy outcome.WantsBytes = 0
 endedBy (outcome.Reply n) = 0

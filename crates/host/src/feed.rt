@@ -11,7 +11,9 @@ use server::refusal_number;
 ghost use mathlib.Core.Path.{_≡_};
 ghost use lib.ListN.{length};
 ghost use Prim.Native.Nat.{_≤_};
-ghost use Rattle.host.specs.Rest.{Within, endedBy};
+ghost use Rattle.model.specs.Step.{stores};
+ghost use Rattle.host.specs.Rest.{endedBy};
+ghost use Rattle.host.specs.Feed.{frontOf, Refilled, Feeds};
 
 // The part of the input store that was read and that the engine has not taken yet.
 pub struct Rest {
@@ -89,7 +91,7 @@ fn read(s: &mut [u8]) -> usize
 
 // Returns where a read of standard input begins in a store of `len` bytes.
 fn front_of(len: usize) -> usize
-    ensures { λ r. ⌜ r ≤ len ⌝ }
+    ensures { λ r. ⌜ r ≡ frontOf len ⌝ }
 {
     if len < INPUT {
         return 0;
@@ -99,7 +101,7 @@ fn front_of(len: usize) -> usize
 
 // Reads standard input once if nothing is left. If nothing is left after that, the stream has ended.
 fn refilled(rest: Rest, input: &mut [u8]) -> Rest
-    ensures { λ r. ⌜ Within r (length (now (input .exit))) ⌝ }
+    ensures { λ r. ⌜ Refilled rest (now (input .entry)) r (now (input .exit)) ⌝ }
 {
     if rest.at < rest.end {
         if rest.end <= input.len() {
@@ -111,21 +113,8 @@ fn refilled(rest: Rest, input: &mut [u8]) -> Rest
     Rest { at, end: at + n }
 }
 
-// Returns what is left of `rest` once `taken` bytes of it are taken. A call never takes more than it was offered.
-fn without(rest: Rest, taken: usize, len: usize) -> Rest
-    requires { ⌜ Within rest len ⌝ }
-    ensures { λ r. ⌜ Within r len ⌝ }
-{
-    if rest.end - rest.at < taken {
-        return rest;
-    }
-    Rest {
-        at: rest.at + taken,
-        end: rest.end,
-    }
-}
-
-// Offers the engine what is left of the input, or tells it that the stream has ended.
+// Offers the engine what is left of the input, or tells it that the stream has ended. A call never takes more than it was offered, so what
+// is left afterwards lies in `input`.
 pub fn feed(
     e: Engine,
     rest: Rest,
@@ -136,7 +125,9 @@ pub fn feed(
     body: &mut [u8; 1048576],
     reply: &mut [u8; 65535],
 ) -> Step
-    ensures { λ r. ⌜ Within (r .rest) (length (now (input .exit))) ⌝ }
+    ensures { λ r. ⌜ Feeds e rest (now (input .entry)) (stores (now (packet .entry)) (now (headers .entry)) (now (body .entry))
+        (now (reply .entry))) (now (tables .entry)) r (now (input .exit)) (stores (now (packet .exit)) (now (headers .exit))
+        (now (body .exit)) (now (reply .exit))) ⌝ }
 {
     let r = refilled(rest, input);
     let at = r.at;
@@ -146,6 +137,11 @@ pub fn feed(
         return Step { took, rest: r };
     }
     let took = calls::bytes_offered(e, &input[at..end], tables, packet, headers, body, reply);
-    let left = without(r, took.taken, input.len());
-    Step { took, rest: left }
+    Step {
+        took,
+        rest: Rest {
+            at: at + took.taken,
+            end,
+        },
+    }
 }

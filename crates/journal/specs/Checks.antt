@@ -12,6 +12,7 @@ use lib.Dec.{leb}
 pub data Check : Type 0 where
   right wrong stop : Check
 
+-- The check failed; a stop is no check.
 abbrev pub isWrong : Check → Bool
 isWrong right = false
 isWrong wrong = true

@@ -449,6 +449,7 @@ journalFed j noStep = unchanged j
 journalFed j (stepBy c) = pick (j .ended) (unchanged j) (journalCall j c)
 journalFed j (replySent b) = pick (j .ended) (lastTaken j) (unchanged (takenAt (j .opened) j b))
 
+-- The same, shut, so that proofs along a list of calls carry it as one word.
 unfoldable pub journalStep : Journal → Fed → Entry
 journalStep j f = journalFed j f
 

@@ -68,6 +68,7 @@ packetNames (some r) j n =
     (pick (marked (r .opcode)) none
     (pick (busy (j .opened)) (n .under) (underId (n .openings) (j .standing .ids) (first header-id.connectionId (r .headers)))))
 
+-- Only a whole packet names anything.
 abbrev pub bytesName : Read → Journal → Naming → Naming
 bytesName (more p) j n = n
 bytesName (whole p) j n = packetNames (requestOf p) j n
@@ -85,6 +86,7 @@ idOpened s (some v) t = fitting s (be32 v 0)
 idOpened s none (some t) = fitting s (newId (s .ids) (s .next))
 idOpened s none none = none
 
+-- The id that is opened, if one is, takes the Target `t`.
 abbrev pub opensAs : Option ℕ → Option (List ℕ) → Naming → Naming
 opensAs none t n = n
 opensAs (some id) t n = record { openings = record { id = id; target = upTo16 t } ∷ n .openings; under = n .under }
@@ -121,6 +123,7 @@ fedNames j n noStep = n
 fedNames j n (stepBy c) = pick (j .ended) n (callNames j n c)
 fedNames j n (replySent b) = n
 
+-- The same, shut, so that proofs along a list of calls carry it as one word.
 unfoldable pub namingStep : Journal → Naming → Fed → Naming
 namingStep j n f = fedNames j n f
 

@@ -77,7 +77,8 @@ isTrailed j p = isTrailing (j .opened) && trailsRequest (requestOf p)
 abbrev pub Starts : List Marked → Type 0
 Starts [] = ⊥
 Starts (p ∷ ps) =
-    (busy (p .before .opened) ≡ false) × (p .before .ended ≡ false) × (admits (p .before) (p .bytes) ≡ true) × (isTrailed (p .before) (p .bytes) ≡ false)
+    (busy (p .before .opened) ≡ false) × (p .before .ended ≡ false) × (admits (p .before) (p .bytes) ≡ true)
+    × (isTrailed (p .before) (p .bytes) ≡ false)
 
 -- All are readable Put packets, and only the last has the Final bit.
 abbrev pub Puts : List Marked → Type 0

@@ -37,10 +37,11 @@ abbrev pub parameter : (ℕ → Bool) → Option (List ℕ) → Bool
 parameter f none = false
 parameter f (some v) = f (getD v 0 0)
 
--- The request asks for an additional Continue (0 or 2), or to wait (1 or 2).
+-- The request asks for an additional Continue (0 or 2).
 abbrev pub asksMore : List Header → Bool
 asksMore hs = parameter modes.additional (first header-id.singleResponseModeParameters hs)
 
+-- The request asks the server to wait for the next one (1 or 2).
 abbrev pub asksWait : List Header → Bool
 asksWait hs = parameter modes.wait (first header-id.singleResponseModeParameters hs)
 
@@ -48,8 +49,9 @@ asksWait hs = parameter modes.wait (first header-id.singleResponseModeParameters
 abbrev pub newly : Journal → Request → Bool
 newly j r = not (j .standing .srm) && asksSrm (j .settings) (r .headers)
 
--- ---- the mode of a Get: SRM is on, SRM was asked for and is still to be granted, the last request asked to wait
+-- ---- the mode of a Get
 
+-- The mode of a Get: SRM is on; SRM was asked for and is still to be granted; the last request asked to wait.
 pub record Mode : Type 0 where
   pub on : Bool
   pub asked : Bool
@@ -71,6 +73,7 @@ modeRead (putting c s) m j r = m
 modeRead (gathering o k) m j r = m
 modeRead draining m j r = m
 
+-- A packet that could not be read leaves the mode.
 abbrev pub packetMode : Option Request → Mode → Journal → Mode
 packetMode none m j = m
 packetMode (some r) m j = modeRead (j .opened) m j r
@@ -93,10 +96,11 @@ getDue true on asked = speaks
 getDue false true asked = silent
 getDue false false asked = continues asked
 
--- After a packet of an operation of headers alone, and in a drain.
+-- After a packet of an operation of headers alone: up to the last one each gets a Continue.
 abbrev pub gatherDue : Bool → Due
 gatherDue final = pick final speaks (continues false)
 
+-- After a packet in a drain: no reply up to the last one.
 abbrev pub drainDue : Bool → Due
 drainDue final = pick final speaks silent
 
@@ -131,6 +135,7 @@ requestDue sending m j r = speaks
 requestDue (gathering o k) m j r = pick (sameOpcode (r .opcode) o) (gatherDue (r .final)) speaks
 requestDue draining m j r = drainDue (r .final)
 
+-- A packet that cannot be read and an Abort are answered, whatever was open.
 abbrev pub packetDue : Option Request → Mode → Journal → Due
 packetDue none m j = speaks
 packetDue (some r) m j = pick (sameOpcode (r .opcode) Abort) speaks (requestDue (j .opened) m j r)
@@ -143,6 +148,7 @@ readDue (more p) m j = silent
 readDue (whole p) m j = packetDue (requestOf p) m j
 readDue short m j = speaks
 
+-- The mode after some bytes: only a whole packet changes it.
 abbrev pub readMode : Read → Mode → Journal → Mode
 readMode (more p) m j = m
 readMode (whole p) m j = packetMode (requestOf p) m j
@@ -159,6 +165,8 @@ takenDue (getting k) m = silent
 takenDue (gathering o k) m = silent
 takenDue draining m = silent
 
+-- What is due after a call. A refusal, an end, a request to the host and a reply of the host are no silence; only bytes, a reply taken and
+-- connections closed can be followed by one.
 abbrev pub dueIn : Mode → Journal → Fed → Due
 dueIn m j noStep = speaks
 dueIn m j (replySent b) = pick (j .ended) speaks (takenDue (takenAt (j .opened) j b .opened) m)
@@ -175,6 +183,7 @@ dueIn m j (stepBy (nonceGiven n)) = speaks
 dueIn m j (stepBy (credentialsGiven c)) = speaks
 dueIn m j (stepBy (connectionsClosed l)) = silent
 
+-- The mode after a call: packets and the host's object change it.
 abbrev pub modeAfter : Mode → Journal → Fed → Mode
 modeAfter m j noStep = m
 modeAfter m j (replySent b) = m
@@ -196,5 +205,6 @@ abbrev pub duesFrom : Mode → Journal → List Fed → List Due
 duesFrom m j [] = []
 duesFrom m j (f ∷ fs) = dueIn m j f ∷ duesFrom (modeAfter m j f) (journalStep j f .next) fs
 
+-- The same from a start, where SRM is not on and nothing was asked.
 abbrev pub dues : Journal → List Fed → List Due
 dues j fs = duesFrom (record { on = false; asked = false; wait = false }) j fs

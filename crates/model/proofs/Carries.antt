@@ -94,7 +94,8 @@ carries-pick m e s true a b x y = x
 carries-pick m e s false a b x y = y
 
 -- a step that may lead to such a request
-marked-leaf : (m : Bool) (e : Engine) (s : Stores) (p : Peer) (o : Operation) (a : Await) (c : Outcome) (z : Stores) → m ≡ true → z .packet ≡ s .packet
+marked-leaf : (m : Bool) (e : Engine) (s : Stores) (p : Peer) (o : Operation) (a : Await) (c : Outcome) (z : Stores) → m ≡ true
+    → z .packet ≡ s .packet
     → verdictOf c ≡ goes
     → Carries m e s (done (engineWith (e .settings) p o a 0 (e .length) (e .target)) c z)
 unfolding engineWith
@@ -137,8 +138,10 @@ module _ (m : Bool) (e : Engine) (s : Stores) where
 
   put-continues : (g : Gathered) (srm confirm additional : Bool) (z : Stores) → z .packet ≡ s .packet
       → Carries m e s (putContinues e g srm confirm additional z)
-  put-continues g true confirm additional z k = either additional _ _ (leaf (e .peer) _ await.Taken _ _ k refl refl) (leaf (e .peer) _ await.Bytes _ _ k refl refl)
-  put-continues g false confirm additional z k = either (g .over) _ _ (leaf (e .peer) _ await.Taken _ _ k refl refl) (leaf (e .peer) _ await.Taken _ _ k refl refl)
+  put-continues g true confirm additional z k =
+      either additional _ _ (leaf (e .peer) _ await.Taken _ _ k refl refl) (leaf (e .peer) _ await.Bytes _ _ k refl refl)
+  put-continues g false confirm additional z k =
+      either (g .over) _ _ (leaf (e .peer) _ await.Taken _ _ k refl refl) (leaf (e .peer) _ await.Taken _ _ k refl refl)
 
   put-carries : (r : Packet) (v : Survey) (srm confirm : Bool) (g : Gathered) → Carries m e s (putPacket e r v srm confirm g s)
   unfolding putPacket
@@ -176,7 +179,8 @@ module _ (m : Bool) (e : Engine) (s : Stores) where
   headers-carries r o g =
       let x = gathers e keep.All (r .headers) g s in
       either (x .got .full) _ _ (leaf (e .peer) _ await.Nothing _ _ refl refl refl)
-      (either (r .final) _ _ (leaf (e .peer) _ await.Reply _ _ refl (headers-plain o (x .got .kept)) refl) (leaf (e .peer) _ await.Taken _ _ refl refl refl))
+      (either (r .final) _ _ (leaf (e .peer) _ await.Reply _ _ refl (headers-plain o (x .got .kept)) refl)
+      (leaf (e .peer) _ await.Taken _ _ refl refl refl))
 
   -- ---- an object
 
@@ -195,7 +199,8 @@ module _ (m : Bool) (e : Engine) (s : Stores) where
       let d = nextPacket (capacityOf e) o (z .headers) (z .reply) in made-carries z k srm wait (d .packet .next) d
 
   pub goes-on-carries : (o : Operation) → Carries m e s (goesOn o e s)
-  goes-on-carries (Sending o c srm wait) = either (srm && not wait) _ _ (next-carries s refl o srm wait) (leaf (e .peer) _ await.Bytes _ _ refl refl refl)
+  goes-on-carries (Sending o c srm wait) =
+      either (srm && not wait) _ _ (next-carries s refl o srm wait) (leaf (e .peer) _ await.Bytes _ _ refl refl refl)
   goes-on-carries Nothing = leaf (e .peer) _ await.Bytes _ _ refl refl refl
   goes-on-carries Trailing = leaf (e .peer) _ await.Bytes _ _ refl refl refl
   goes-on-carries (Putting g srm) = leaf (e .peer) _ await.Bytes _ _ refl refl refl
@@ -253,7 +258,8 @@ module _ (m : Bool) (e : Engine) (s : Stores) where
 
       go : (b : Bool)
           → Carries m e s
-          (pick b (connectOpened e t (openedFor (e .peer) t srm answer target) code (frontFor (e .peer) t answer target) hs s) (doneTabled (sendsConnect e (e .peer) code hs s) t) .done)
+          (pick b (connectOpened e t (openedFor (e .peer) t srm answer target) code (frontFor (e .peer) t answer target) hs s)
+          (doneTabled (sendsConnect e (e .peer) code hs s) t) .done)
       go true = opened-carries i t (openedFor (e .peer) t srm answer target) code (frontFor (e .peer) t answer target) hs
       go false = sends-connect-carries (e .peer) code hs
 
@@ -284,7 +290,8 @@ module _ (e : Engine) (s : Stores) (r : Packet) (v : Survey) where
   admitted-carries : (x : Rejection) → Carries marked e s (admittedAs x e r v s)
   admitted-carries admits = dispatches-carries (r .opcode)
   admitted-carries (rejects code) =
-      by (e .peer .«srm_enabled» && (drains (r .opcode) && not (r .final))) _ _ (leaf marked e s (e .peer) _ await.Bytes _ _ refl refl refl) (leaf marked e s (e .peer) _ await.Taken _ _ refl refl refl)
+      by (e .peer .«srm_enabled» && (drains (r .opcode) && not (r .final))) _ _ (leaf marked e s (e .peer) _ await.Bytes _ _ refl refl refl)
+      (leaf marked e s (e .peer) _ await.Taken _ _ refl refl refl)
 
   dispatch-carries : (known : Bool) → Carries marked e s (dispatch e r v known s)
   unfolding dispatch
@@ -303,7 +310,8 @@ module _ (e : Engine) (s : Stores) (r : Packet) (v : Survey) where
   inside-carries (Sending o c srm wait) known = by (sameOpcode (r .opcode) op.Get) _ _ (next-carries marked e s s refl o srm (v .wait)) last
   inside-carries (GatheringOp o g) known = by (sameOpcode (r .opcode) o) _ _ (headers-carries marked e s r o g) last
   inside-carries (Connecting c f n) known = last
-  inside-carries (Draining code) known = by (r .final) _ _ (leaf marked e s (e .peer) _ await.Taken _ _ refl refl refl) (leaf marked e s (e .peer) _ await.Bytes _ _ refl refl refl)
+  inside-carries (Draining code) known =
+      by (r .final) _ _ (leaf marked e s (e .peer) _ await.Taken _ _ refl refl refl) (leaf marked e s (e .peer) _ await.Bytes _ _ refl refl refl)
 
 -- whether a packet goes under the mark
 abbrev pub markedIn : Option Packet → Bool
@@ -312,7 +320,8 @@ markedIn (some r) = isMarked (r .opcode)
 
 pub read-carries : (e : Engine) (s : Stores) (q t : List ℕ) (x : Option Packet) → Carries (markedIn x) e s (readAs x e q s t)
 read-carries e s q t none =
-    carries-pick false e s (busy (e .operation)) _ _ (leaf false e s (e .peer) _ await.Nothing _ _ refl refl refl) (leaf false e s (e .peer) _ await.Taken _ _ refl refl refl)
+    carries-pick false e s (busy (e .operation)) _ _ (leaf false e s (e .peer) _ await.Nothing _ _ refl refl refl)
+    (leaf false e s (e .peer) _ await.Taken _ _ refl refl refl)
 read-carries e s q t (some r) = go (sameOpcode (r .opcode) op.Abort) refl
   where
     or-second : (a b : Bool) → b ≡ true → (a || b) ≡ true

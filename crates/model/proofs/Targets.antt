@@ -98,7 +98,8 @@ request-given : (p : List ℕ) (id : ℕ) → Octets p → Given (first id (head
 unfolding requestOf first
 request-given p id o = go (firstByte (getD p 0 0))
   where
-    with-headers : (c : Opcode) (f : Bool) (hs : Option (List Header)) → readHeaders p (prefixOf c) ≡ hs → Given (first id (headersOf (requestWith c f p hs)))
+    with-headers : (c : Opcode) (f : Bool) (hs : Option (List Header)) → readHeaders p (prefixOf c) ≡ hs
+        → Given (first id (headersOf (requestWith c f p hs)))
     with-headers c f none i = tt
     with-headers c f (some hs) i = subst Given (first-agrees id p (prefixOf c) hs i) (octets-at p (firstPlace id p (prefixOf c)) o)
 
@@ -229,7 +230,8 @@ module _ (s : State) (h : Seated s) (j : Journal) (x : Coupled (s .tables) (s .e
   body-rests b (Sending o c srm wait) = go (ltb (c .room) (length b))
     where
       go : (y : Bool)
-          → Names (s .realm) (keeps s (pick y (refuse refusal.WrongMoment e st) (after 0 (sendsPacket e srm wait (givenBody o c b (st .reply)) st)))) j n
+          → Names (s .realm) (keeps s (pick y (refuse refusal.WrongMoment e st)
+          (after 0 (sendsPacket e srm wait (givenBody o c b (st .reply)) st)))) j n
       go true = refused-names refusal.WrongMoment
       go false = rests 0 _ (packet-carries false e st srm wait (givenBody o c b (st .reply)))
   body-rests b Nothing = refused-names refusal.WrongMoment
@@ -255,7 +257,8 @@ module _ (s : State) (h : Seated s) (j : Journal) (x : Coupled (s .tables) (s .e
   taken-rests false = rests 0 _ (leaf false e st (e .peer) _ await.Nothing _ _ refl refl refl)
 
   -- a password is asked for by a Connect alone
-  password-rests : (p : Option (List ℕ)) → fits kind.PasswordGiven (e .awaits) ≡ true → Names (s .realm) (keeps s (after 0 (passwordAnswer e p st))) j n
+  password-rests : (p : Option (List ℕ)) → fits kind.PasswordGiven (e .awaits) ≡ true
+      → Names (s .realm) (keeps s (after 0 (passwordAnswer e p st))) j n
   password-rests p r =
       let i : connecting (e .awaits) ≡ true = ap connecting (same-await (e .awaits) await.Password r) in
       settled (s .realm) true e st _ (password-carries true e st refl p) j n (t .target) (λ k. t .marked i) (λ k. t .octets i) 0 ts (t .ids)
@@ -268,7 +271,8 @@ module _ (s : State) (h : Seated s) (j : Journal) (x : Coupled (s .tables) (s .e
   nonce-rests o true y = refused-names refusal.BadAnswer
   nonce-rests o false true = refused-names refusal.NonceUsed
   nonce-rests o false false =
-      settled (s .realm) false e st _ (nonce-carries false e st o (s .realm)) j n (t .target) (λ i. absurd (false≢true i)) (λ i. absurd (false≢true i)) 0
+      settled (s .realm) false e st _ (nonce-carries false e st o (s .realm)) j n (t .target) (λ i. absurd (false≢true i))
+      (λ i. absurd (false≢true i)) 0
       (rememberedWith o ts) (λ y m. ap targetBytes (remembered-targets o ts (nonces-room s h) (placeOf y (j .standing .ids))) ∙ t .ids y m)
 
   -- ---- a packet
@@ -313,7 +317,8 @@ module _ (s : State) (h : Seated s) (j : Journal) (x : Coupled (s .tables) (s .e
 
   marked-under : (r : Option Packet) → markedIn r ≡ true → packetNames r j n .under ≡ none
   marked-under none i = absurd (false≢true i)
-  marked-under (some r) i = ap (λ (b : Bool). pick b none (pick (busyOpened (j .opened)) (n .under) (underId (n .openings) (j .standing .ids) (first 0xCB (r .headers))))) i
+  marked-under (some r) i =
+      ap (λ (b : Bool). pick b none (pick (busyOpened (j .opened)) (n .under) (underId (n .openings) (j .standing .ids) (first 0xCB (r .headers))))) i
 
   packet-openings : (r : Option Packet) → packetNames r j n .openings ≡ n .openings
   packet-openings none = refl
@@ -474,7 +479,8 @@ module _ (s : State) (h : Seated s) (j : Journal) (x : Coupled (s .tables) (s .e
     read-after : (r : Read) → readUp (take (e .begun) (st .packet)) i ≡ r → (m : Called) → verdictOf (m .took .outcome) ≡ goes
         → Names (s .realm) m j (bytesName r j n) → After (bytesOffered i) m
     read-after r q m v w =
-        subst (λ (u : Verdict). Names (s .realm) m (journalStep j (fedBy u (bytesOffered i) (getD (st .reply) 0 0)) .next) (namingStep j n (fedBy u (bytesOffered i) (getD (st .reply) 0 0))))
+        subst (λ (u : Verdict). Names (s .realm) m (journalStep j (fedBy u (bytesOffered i) (getD (st .reply) 0 0)) .next)
+        (namingStep j n (fedBy u (bytesOffered i) (getD (st .reply) 0 0))))
         (sym v)
         (subst (λ (l : Naming). Names (s .realm) m (journalStep j (stepBy (bytesOffered i)) .next) l) (sym (named-read r q))
         (record {
@@ -527,19 +533,22 @@ module _ (s : State) (h : Seated s) (j : Journal) (x : Coupled (s .tables) (s .e
         → After (bytesOffered i) (keeps s (offers e f st ts))
     frame-after c q a = subst (λ (l : Frame). After (bytesOffered i) (keeps s (framedAs l e k (f .result .taken) z ts))) (sym q) a
 
-    bytes-go : (r : Read) → readUp (take (e .begun) (st .packet)) i ≡ r → Frames-agree (st .packet) f r → After (bytesOffered i) (keeps s (offers e f st ts))
+    bytes-go : (r : Read) → readUp (take (e .begun) (st .packet)) i ≡ r → Frames-agree (st .packet) f r
+        → After (bytesOffered i) (keeps s (offers e f st ts))
     bytes-go (more q) u g = frame-after More (g .0) (read-after (more q) u _ refl more-names)
     bytes-go (whole q) u g =
         frame-after Whole (g .0)
         (read-after (whole q) u _ (whole-carries .goes)
-        (subst (λ (p : List ℕ). Names (s .realm) (keeps s (framedAs Whole e k (f .result .taken) z ts)) j (packetNames (requestOf p) j n)) (sym (g .1 .bytes)) (whole-names q g)))
+        (subst (λ (p : List ℕ). Names (s .realm) (keeps s (framedAs Whole e k (f .result .taken) z ts)) j (packetNames (requestOf p) j n))
+        (sym (g .1 .bytes)) (whole-names q g)))
     bytes-go short u g = frame-after Short (g .0) (read-after short u _ refl short-names)
 
   bytes-after : (i : List ℕ) → Octets i → After (bytesOffered i) (stepOf s (bytesOffered i))
   bytes-after i o =
       at-moment (bytesOffered i) (After (bytesOffered i)) (refused-after (bytesOffered i))
       (λ r. bytes-go i o (same-await (e .awaits) await.Bytes (and-right (sound e) _ r)) _ refl
-      (frames-agree (st .packet) i (e .begun) 0 (h .sits .begun .small) (h .sits .base .room .packet) (h .sits .begun .octets) o (h .sits .begun .goes-on)))
+      (frames-agree (st .packet) i (e .begun) 0 (h .sits .begun .small) (h .sits .base .room .packet) (h .sits .begun .octets) o
+      (h .sits .begun .goes-on)))
 
   -- ---- a reply
 
@@ -554,7 +563,8 @@ module _ (s : State) (h : Seated s) (j : Journal) (x : Coupled (s .tables) (s .e
         → After c (called (after 0 (d .done)) (d .tables))
     unfolding namingStep journalStep
     reply-after i d ids l v q p w =
-        subst (λ (u : Verdict). Names (s .realm) (called (after 0 (d .done)) (d .tables)) (journalStep j (fedBy u c (getD (st .reply) 0 0)) .next) (namingStep j n (fedBy u c (getD (st .reply) 0 0))))
+        subst (λ (u : Verdict). Names (s .realm) (called (after 0 (d .done)) (d .tables))
+        (journalStep j (fedBy u c (getD (st .reply) 0 0)) .next) (namingStep j n (fedBy u c (getD (st .reply) 0 0))))
         (sym v)
         (subst (λ (k : Naming). Names (s .realm) (called (after 0 (d .done)) (d .tables)) (journalStep j (stepBy c) .next) k)
         (sym (ap (λ (b : Bool). pick b n (answerNames (j .last) j code hs n)) i ∙ p))
@@ -599,9 +609,11 @@ module _ (s : State) (h : Seated s) (j : Journal) (x : Coupled (s .tables) (s .e
       unfolding sameOpcode
       connect-naming =
           ap (λ (l : Option Packet). answerNames l j code hs n) (w .last)
-          ∙ ap (λ (b : Opened). pick (not (busyOpened b) && (sameOpcode (w .request .opcode) op.Connect && isSuccess code)) (given (j .standing) (w .request .headers)) n) (w .held .opened)
+          ∙ ap (λ (b : Opened). pick (not (busyOpened b) && (sameOpcode (w .request .opcode) op.Connect && isSuccess code))
+          (given (j .standing) (w .request .headers)) n) (w .held .opened)
           ∙ ap (λ (b : Opcode). pick (sameOpcode b op.Connect && isSuccess code) (given (j .standing) (w .request .headers)) n) (w .opcode)
-          ∙ ap₂ (λ (k : Standing) (l : List Header). pick (isSuccess code) (given k l) n) (w .held .fixed .standing) (headers-are ts e st j op.Connect w)
+          ∙ ap₂ (λ (k : Standing) (l : List Header). pick (isSuccess code) (given k l) n) (w .held .fixed .standing)
+          (headers-are ts e st j op.Connect w)
         where
           given : Standing → List Header → Naming
           given k l = opensAs (idOpened k named (first 0x46 l)) (first 0x46 l) n
@@ -617,7 +629,8 @@ module _ (s : State) (h : Seated s) (j : Journal) (x : Coupled (s .tables) (s .e
       past = w .held .fixed .past
 
       opened-at : (q : Option Linked) → openedFor (e .peer) ts grants named asked ≡ q
-          → Carried (connectOpened e ts q code (frontFor (e .peer) ts named asked) hs st .tables) (opensFor before grants named asked .ids) (opens .openings)
+          → Carried (connectOpened e ts q code (frontFor (e .peer) ts named asked) hs st .tables) (opensFor before grants named asked .ids)
+          (opens .openings)
       opened-at none i =
           subst (λ (l : List ℕ). Carried ts l (opens .openings))
           (sym (ap (λ (k : Standing). k .ids) (full-standing (e .peer) ts past grants (own-fits (h .sits .base .peer)) (ids-room s h) named asked i)))
@@ -635,7 +648,8 @@ module _ (s : State) (h : Seated s) (j : Journal) (x : Coupled (s .tables) (s .e
         where
           go : (b : Bool)
               → Carried
-              (pick b (connectOpened e ts (openedFor (e .peer) ts grants named asked) code (frontFor (e .peer) ts named asked) hs st) (doneTabled (sendsConnect e (e .peer) code hs st) ts) .tables)
+              (pick b (connectOpened e ts (openedFor (e .peer) ts grants named asked) code (frontFor (e .peer) ts named asked) hs st)
+              (doneTabled (sendsConnect e (e .peer) code hs st) ts) .tables)
               (pick b (opensFor before grants named asked) before .ids) (pick b opens n .openings)
           go true = opened-at (openedFor (e .peer) ts grants named asked) refl
           go false = carried
@@ -651,7 +665,8 @@ module _ (s : State) (h : Seated s) (j : Journal) (x : Coupled (s .tables) (s .e
           let u = under-stays (isSuccess code) (idOpened before named asked) in
           let i = ap connecting at in
           reply-after (w .held .fixed .ended) (connectAnswer e code hs st ts) _ _ (d .goes) connect-ids connect-naming
-          (λ k r. settled (s .realm) true e st _ d k _ (t .target ∙ sym u) (λ b. u ∙ t .marked i) (λ b. t .octets i) 0 (connectAnswer e code hs st ts .tables)
+          (λ k r. settled (s .realm) true e st _ d k _ (t .target ∙ sym u) (λ b. u ∙ t .marked i) (λ b. t .octets i) 0
+          (connectAnswer e code hs st ts .tables)
           (subst (λ (l : List ℕ). Carried (connectAnswer e code hs st ts .tables) l (pick (isSuccess code) opens n .openings)) (sym r) answered))
 
     -- ---- to a Disconnect
@@ -669,7 +684,8 @@ module _ (s : State) (h : Seated s) (j : Journal) (x : Coupled (s .tables) (s .e
       disconnect-ids : replied (j .opened) j code hs .standing .ids ≡ disconnected (stood ts e st j op.Disconnect v) parted .ids
       disconnect-ids =
           ap (λ (k : Journal). k .standing .ids) (replied-to ts e st j op.Disconnect v code hs)
-          ∙ ap₂ (λ (k : Standing) (l : List Header). disconnected k (first 0xCB l) .ids) (v .held .fixed .standing) (headers-are ts e st j op.Disconnect v)
+          ∙ ap₂ (λ (k : Standing) (l : List Header). disconnected k (first 0xCB l) .ids) (v .held .fixed .standing)
+          (headers-are ts e st j op.Disconnect v)
 
       disconnect-naming : answerNames (j .last) j code hs n ≡ n
       unfolding sameOpcode
@@ -679,7 +695,8 @@ module _ (s : State) (h : Seated s) (j : Journal) (x : Coupled (s .tables) (s .e
       disconnect-after : After c (called (after 0 (sends e (left .peer) code hs st)) (left .tables))
       disconnect-after =
           let d = sends-carries false e st (left .peer) code hs in
-          reply-after (v .held .fixed .ended) (doneTabled (sends e (left .peer) code hs st) (left .tables)) _ n (d .goes) disconnect-ids disconnect-naming
+          reply-after (v .held .fixed .ended) (doneTabled (sends e (left .peer) code hs st) (left .tables)) _ n
+          (d .goes) disconnect-ids disconnect-naming
           (λ k r. settled (s .realm) false e st _ d k n (t .target) (λ b. absurd (false≢true b)) (λ b. absurd (false≢true b)) 0 (left .tables)
           (subst (λ (l : List ℕ). Carried (left .tables) l (n .openings)) (sym r)
           (disconnected-carried (e .peer) ts (v .held .fixed .past) false (h .sits .base .peer) (h .tables) n
@@ -699,14 +716,16 @@ module _ (s : State) (h : Seated s) (j : Journal) (x : Coupled (s .tables) (s .e
     other-after at =
         let y = coupled-at await.Reply at in
         plain-after (y .0 .fixed .ended)
-        (ap (λ (k : Journal). k .standing .ids) (ap (λ (o : Opened). replied o j code hs) (y .0 .opened) ∙ y .1 .0 code hs)) (not-connect code hs (j .last) (y .1 .1))
+        (ap (λ (k : Journal). k .standing .ids) (ap (λ (o : Opened). replied o j code hs) (y .0 .opened) ∙ y .1 .0 code hs))
+        (not-connect code hs (j .last) (y .1 .1))
 
     either-after : (b : Bool) (y z : DoneTabled) → (b ≡ true → After c (called (after 0 (y .done)) (y .tables)))
         → (b ≡ false → After c (called (after 0 (z .done)) (z .tables))) → After c (called (after 0 (pick b y z .done)) (pick b y z .tables))
     either-after true y z f g = f refl
     either-after false y z f g = g refl
 
-    answer-after : fits kind.ReplyGiven (e .awaits) ≡ true → After c (called (after 0 (replyAnswer e code hs st ts .done)) (replyAnswer e code hs st ts .tables))
+    answer-after : fits kind.ReplyGiven (e .awaits) ≡ true
+        → After c (called (after 0 (replyAnswer e code hs st ts .done)) (replyAnswer e code hs st ts .tables))
     unfolding replyAnswer
     answer-after r =
         either-after (sameAwait (e .awaits) await.Connect) _ _ (λ i. connect-after (same-await (e .awaits) await.Connect i))
@@ -722,7 +741,8 @@ module _ (s : State) (h : Seated s) (j : Journal) (x : Coupled (s .tables) (s .e
     given-after = at-moment c (After c) (refused-after c) (λ r. go (badReply code hs) (and-right (sound e) _ r))
       where
         go : (b : Bool) → fits kind.ReplyGiven (e .awaits) ≡ true
-            → After c (pick b (refuses refusal.BadAnswer s) (called (after 0 (replyAnswer e code hs st ts .done)) (replyAnswer e code hs st ts .tables)))
+            → After c (pick b (refuses refusal.BadAnswer s)
+            (called (after 0 (replyAnswer e code hs st ts .done)) (replyAnswer e code hs st ts .tables)))
         go true r = refused-after c refusal.BadAnswer
         go false r = answer-after r
 
@@ -745,7 +765,8 @@ module _ (s : State) (h : Seated s) (j : Journal) (x : Coupled (s .tables) (s .e
     unfolding namingStep journalStep engineWith
     closed-after at =
         let y = coupled-at await.Bytes at in
-        subst (λ (m : Naming). Names (s .realm) (beside s (closes e l left-over)) (journalStep j (stepBy (connectionsClosed l)) .next) m) (sym (ended-same (j .ended)))
+        subst (λ (m : Naming). Names (s .realm) (beside s (closes e l left-over)) (journalStep j (stepBy (connectionsClosed l)) .next) m)
+        (sym (ended-same (j .ended)))
         (record {
           due = tt;
           after = record {
@@ -753,7 +774,8 @@ module _ (s : State) (h : Seated s) (j : Journal) (x : Coupled (s .tables) (s .e
             marked = t .marked;
             octets = t .octets;
             ids = subst (λ (m : List ℕ). Carried (left-over .tables) m (n .openings))
-                (sym (ap (λ (b : Bool). pick b (unchanged j) (journalCall j (connectionsClosed l)) .next .standing .ids) (y .fixed .ended) ∙ closes-ids l ∙ ap (withoutAll l) (ids-are (y .fixed))))
+                (sym (ap (λ (b : Bool). pick b (unchanged j) (journalCall j (connectionsClosed l)) .next .standing .ids) (y .fixed .ended)
+                ∙ closes-ids l ∙ ap (withoutAll l) (ids-are (y .fixed))))
                 (carried-all l (e .peer .count) ts (n .openings) (h .sits .base .peer .count) (h .tables)
                 (subst (λ (m : List ℕ). Carried ts m (n .openings)) (ids-are (y .fixed)) (t .ids)));
           };
@@ -767,13 +789,15 @@ module _ (s : State) (h : Seated s) (j : Journal) (x : Coupled (s .tables) (s .e
       where
         ids-go : e .awaits ≡ await.Bytes → (a b c : Bool)
             → After (connectionsClosed l)
-            (beside s (pick a (refuseClosing refusal.TooManyIds e ts) (pick b (refuseClosing refusal.IdNotOpen e ts) (pick c (refuseClosing refusal.IdRepeated e ts) (closes e l left-over)))))
+            (beside s (pick a (refuseClosing refusal.TooManyIds e ts)
+            (pick b (refuseClosing refusal.IdNotOpen e ts) (pick c (refuseClosing refusal.IdRepeated e ts) (closes e l left-over)))))
         ids-go at true b c = refused-after (connectionsClosed l) refusal.TooManyIds
         ids-go at false true c = refused-after (connectionsClosed l) refusal.IdNotOpen
         ids-go at false false true = refused-after (connectionsClosed l) refusal.IdRepeated
         ids-go at false false false = closed-after at
 
-        idle : (b : Bool) → e .awaits ≡ await.Bytes → After (connectionsClosed l) (pick b (beside s (closeChecked e l ts)) (refuses refusal.WrongMoment s))
+        idle : (b : Bool) → e .awaits ≡ await.Bytes
+            → After (connectionsClosed l) (pick b (beside s (closeChecked e l ts)) (refuses refusal.WrongMoment s))
         idle true at = ids-go at (ltb 64 (length l)) (not (allOpen l (idsOf (e .peer) ts))) (repeats l)
         idle false at = refused-after (connectionsClosed l) refusal.WrongMoment
 
@@ -795,13 +819,15 @@ module _ (s : State) (h : Seated s) (j : Journal) (x : Coupled (s .tables) (s .e
 
 -- ---- a run
 
-module _ (st : Settings) (w : Known) (s : State) (j : Journal) (b : Between st w s j) (n : Naming) (y : Performed) (says : Says s y) (t : Targeted s j n) where
+module _ (st : Settings) (w : Known) (s : State) (j : Journal) (b : Between st w s j) (n : Naming) (y : Performed) (says : Says s y)
+    (t : Targeted s j n) where
   abbrev fedNow : Fed
   fedNow = fedTo st w s j b y says
 
   performed-names : Names (s .realm) (calledIn y) (journalStep j fedNow .next) (namingStep j n fedNow)
   performed-names =
-      subst (λ (v : Verdict). Names (s .realm) (calledIn y) (journalStep j (fedBy v (y .call) (getD (s .stores .reply) 0 0)) .next) (namingStep j n (fedBy v (y .call) (getD (s .stores .reply) 0 0))))
+      subst (λ (v : Verdict). Names (s .realm) (calledIn y) (journalStep j (fedBy v (y .call) (getD (s .stores .reply) 0 0)) .next)
+      (namingStep j n (fedBy v (y .call) (getD (s .stores .reply) 0 0))))
       (performed-agrees st w s j b y says .due)
       (subst (λ (m : Called). Names (s .realm) m (journalStep j (fedBy (verdictOf (m .took .outcome)) (y .call) (getD (s .stores .reply) 0 0)) .next)
       (namingStep j n (fedBy (verdictOf (m .took .outcome)) (y .call) (getD (s .stores .reply) 0 0)))) (sym (says .step))
@@ -814,7 +840,8 @@ run-named st (y ∷ xs) w s j n b r t =
     let p = performed-names st w s j b n y (r .0) t in
     let f = fedTo st w s j b y (r .0) in (
       p .due,
-      run-named st xs (learns w (y .call) (y .result .outcome)) (next s y) (journalStep j f .next) (namingStep j n f) (between-next st w s j b y (r .0)) (r .1) (p .after),
+      run-named st xs (learns w (y .call) (y .result .outcome)) (next s y) (journalStep j f .next) (namingStep j n f)
+          (between-next st w s j b y (r .0)) (r .1) (p .after),
     )
 
 start-targeted : (st : Settings) (s : State) → Started st s → Targeted s (journalOf st) unnamedYet

@@ -1,8 +1,9 @@
--- The model: what each call does, as a total function of the state, the lent stores and the arguments. The engine's contracts say that the code equals it.
+-- The model: what each call does, as a total function of the state, the lent stores and the arguments. The engine's contracts say that the
+-- code equals it.
 use Prim.Native.Nat.{ℕ}
 use mathlib.Core.List.{List}
 use mathlib.Core.Bool.{Bool, _&&_, _||_, not}
-use mathlib.Core.Option.{Option, none}
+use mathlib.Core.Option.{Option}
 use lib.ListN.{length, take}
 use lib.Dec.{ltb, eqb}
 use Rattle.base.specs.Pick.{pick}
@@ -28,21 +29,19 @@ use Rattle.server.specs.declared.CallKind.the-variants as kind
 use Rattle.server.specs.declared.End.the-variants as end
 use Rattle.server.specs.declared.Refusal.the-variants as refusal
 use Rattle.server.specs.declared.Engine.{Engine}
-use Rattle.server.specs.declared.Body.the-variants as body
-use Rattle.server.specs.declared.HostRequest.the-variants as request
 use Rattle.server.specs.declared.Outcome.the-variants as outcome
-use Rattle.model.specs.Step.{Stores, stores, withHeaders, engineWith, Done, DoneTabled, doneTabled, ends, repliesCode, sent, sends, Stepped, stepped, Called, called, after}
+use Rattle.model.specs.Step.{Stores, stores, withHeaders, engineWith, done, DoneTabled, doneTabled, ends, repliesCode, sends, Stepped, stepped, Called, called, after}
 use Rattle.model.specs.Request.{lastHeaders}
 use Rattle.model.specs.Object.{sendsPacket, sendsNext, goesOn, objectOf}
 use Rattle.model.specs.Connect.{connectSends, connectAnswer, passwordAnswer, nonceAnswer}
-use Rattle.model.specs.Dispatch.{inside, busy, packetDone}
+use Rattle.model.specs.Dispatch.{busy, packetDone}
 use Rattle.model.specs.Close.{Closed, refuseClosing, closeChecked}
 use Rattle.model.specs.Guard.{refuse, short, sound, shortTables, longRealm, sameAwait, guarded, guardedTables, guardedCalled, badHeaders, badReply, checked, longUser}
 
 -- What follows by where the frame stands, with `b` bytes of a packet in the packet store and `n` taken.
 abbrev pub framedAs : Frame → Engine → ℕ → ℕ → Stores → List ℕ → Stepped
 framedAs More e b n s t =
-    stepped (record { engine = engineWith (e .settings) (e .peer) (e .operation) (e .awaits) b (e .length) (e .target); taken = n; outcome = outcome.WantsBytes }) s
+    after n (done (engineWith (e .settings) (e .peer) (e .operation) (e .awaits) b (e .length) (e .target)) outcome.WantsBytes s)
 framedAs Short e b n s t = after n (ends e (e .peer) end.LengthTooSmall s)
 framedAs Whole e b n s t = after n (packetDone e b s t)
 
@@ -64,7 +63,8 @@ streamEndedStep e s = guarded kind.FromPeer e s (after 0 (ends e (e .peer) (pick
 -- The host has sent the reply. After the reply to an interrupting packet the engine ends.
 unfoldable pub replyTakenStep : Engine → Stores → Stepped
 replyTakenStep e s =
-    guarded kind.ReplyTaken e s (after 0 (pick (sameAwait (e .awaits) await.Taken) (goesOn (e .operation) e s) (ends e (e .peer) end.OtherOperation s)))
+    guarded kind.ReplyTaken e s
+    (after 0 (pick (sameAwait (e .awaits) await.Taken) (goesOn (e .operation) e s) (ends e (e .peer) end.OtherOperation s)))
 
 -- The host's reply by what it answers: a Disconnect closes ids before its reply is made; to a Get or any other request the reply is sent as
 -- it is.
@@ -173,6 +173,7 @@ started st = engineWith st freshPeer Nothing await.Bytes 0 0 unnamed
 -- The start. It is refused if a lent store is short, then if the realm is over 254 bytes after its charset; the state has then ended.
 unfoldable pub startStep : Settings → List ℕ → Stores → List ℕ → Stepped
 startStep st l s t =
-    pick (shortTables t || short (st .«max_object_size») s) (refuse refusal.StoreTooShort (engineWith st freshPeer Nothing await.Nothing 0 0 unnamed) s)
+    pick (shortTables t || short (st .«max_object_size») s)
+    (refuse refusal.StoreTooShort (engineWith st freshPeer Nothing await.Nothing 0 0 unnamed) s)
     (pick (longRealm st l) (refuse refusal.BadAnswer (engineWith st freshPeer Nothing await.Nothing 0 0 unnamed) s)
     (stepped (record { engine = started st; taken = 0; outcome = outcome.WantsBytes }) s))

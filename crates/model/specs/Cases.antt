@@ -42,7 +42,13 @@ abbrev pub freshWith : Settings → State
 freshWith st =
     record {
       engine = started st;
-      stores = record { packet = replicate 65535 0; headers = replicate 65535 0; body = replicate (st .«max_object_size») 0; reply = replicate 65535 0 };
+      stores =
+          record {
+            packet = replicate 65535 0;
+            headers = replicate 65535 0;
+            body = replicate (st .«max_object_size») 0;
+            reply = replicate 65535 0;
+          };
       tables = replicate tableLength 0;
       realm = [];
     }
@@ -130,13 +136,16 @@ table =
     ∷ row (calls 8 (bytesOffered (0x82 ∷ 0x00 ∷ 0x06 ∷ 0x49 ∷ 0x00 ∷ 0x03 ∷ []) ∷ [])) (session [] (putBody [] ∷ []))
     -- P7: limit 2; P8: limit 1, without and with the setting that refuses what trails
     ∷ row
-    (calls 2 (bytesOffered (0x02 ∷ 0x00 ∷ 0x08 ∷ 0x48 ∷ 0x00 ∷ 0x05 ∷ 0x41 ∷ 0x42 ∷ []) ∷ replyTaken ∷ bytesOffered (0x82 ∷ 0x00 ∷ 0x07 ∷ 0x49 ∷ 0x00 ∷ 0x04 ∷ 0x43 ∷ []) ∷ []))
+    (calls 2 (bytesOffered (0x02 ∷ 0x00 ∷ 0x08 ∷ 0x48 ∷ 0x00 ∷ 0x05 ∷ 0x41 ∷ 0x42 ∷ []) ∷ replyTaken
+    ∷ bytesOffered (0x82 ∷ 0x00 ∷ 0x07 ∷ 0x49 ∷ 0x00 ∷ 0x04 ∷ 0x43 ∷ []) ∷ []))
     (session ((0x90 ∷ 0x00 ∷ 0x03 ∷ []) ∷ (0xCD ∷ 0x00 ∷ 0x03 ∷ []) ∷ []) [])
     ∷ row
-    (calls 1 (bytesOffered (0x02 ∷ 0x00 ∷ 0x08 ∷ 0x48 ∷ 0x00 ∷ 0x05 ∷ 0x41 ∷ 0x42 ∷ []) ∷ replyTaken ∷ bytesOffered (0x82 ∷ 0x00 ∷ 0x07 ∷ 0x49 ∷ 0x00 ∷ 0x04 ∷ 0x43 ∷ []) ∷ []))
+    (calls 1 (bytesOffered (0x02 ∷ 0x00 ∷ 0x08 ∷ 0x48 ∷ 0x00 ∷ 0x05 ∷ 0x41 ∷ 0x42 ∷ []) ∷ replyTaken
+    ∷ bytesOffered (0x82 ∷ 0x00 ∷ 0x07 ∷ 0x49 ∷ 0x00 ∷ 0x04 ∷ 0x43 ∷ []) ∷ []))
     (session ((0xCD ∷ 0x00 ∷ 0x03 ∷ []) ∷ []) (putBody (0x43 ∷ []) ∷ []))
     ∷ row
-    (refusing 1 (bytesOffered (0x02 ∷ 0x00 ∷ 0x08 ∷ 0x48 ∷ 0x00 ∷ 0x05 ∷ 0x41 ∷ 0x42 ∷ []) ∷ replyTaken ∷ bytesOffered (0x82 ∷ 0x00 ∷ 0x07 ∷ 0x49 ∷ 0x00 ∷ 0x04 ∷ 0x43 ∷ []) ∷ []))
+    (refusing 1 (bytesOffered (0x02 ∷ 0x00 ∷ 0x08 ∷ 0x48 ∷ 0x00 ∷ 0x05 ∷ 0x41 ∷ 0x42 ∷ []) ∷ replyTaken
+    ∷ bytesOffered (0x82 ∷ 0x00 ∷ 0x07 ∷ 0x49 ∷ 0x00 ∷ 0x04 ∷ 0x43 ∷ []) ∷ []))
     (session ((0xCD ∷ 0x00 ∷ 0x03 ∷ []) ∷ (0xCD ∷ 0x00 ∷ 0x03 ∷ []) ∷ []) [])
     -- P9: the counter at its end; 0 open
     ∷ row (counter [] 4294967295) (id 0)
@@ -149,6 +158,7 @@ table =
     ∷ row (calls 8 (bytesOffered (0x83 ∷ 0x00 ∷ 0x03 ∷ []) ∷ objectGiven [] true ∷ bodyGiven (replicate 249 0x61) ∷ bodyGiven [] ∷ []))
     (session ((0xA0 ∷ 0x00 ∷ 0xFF ∷ 0x49 ∷ 0x00 ∷ 0xFC ∷ replicate 249 0x61) ∷ []) [])
     ∷ row
-    (calls 8 (bytesOffered (0x83 ∷ 0x00 ∷ 0x03 ∷ []) ∷ objectGiven [] true ∷ bodyGiven (replicate 250 0x61) ∷ replyTaken ∷ bytesOffered (0x83 ∷ 0x00 ∷ 0x03 ∷ []) ∷ bodyGiven [] ∷ []))
+    (calls 8 (bytesOffered (0x83 ∷ 0x00 ∷ 0x03 ∷ []) ∷ objectGiven [] true ∷ bodyGiven (replicate 250 0x61)
+    ∷ replyTaken ∷ bytesOffered (0x83 ∷ 0x00 ∷ 0x03 ∷ []) ∷ bodyGiven [] ∷ []))
     (session ((0x90 ∷ 0x00 ∷ 0xFF ∷ 0x48 ∷ 0x00 ∷ 0xFC ∷ replicate 249 0x61) ∷ (0xA0 ∷ 0x00 ∷ 0x07 ∷ 0x49 ∷ 0x00 ∷ 0x04 ∷ 0x61 ∷ []) ∷ []) [])
     ∷ []

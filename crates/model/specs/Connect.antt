@@ -85,7 +85,8 @@ frontFor p t none (some v) = front-id.Id (searched p t)
 -- What the host is told of the client's challenge.
 abbrev pub credentialsFor : List ℕ → PeerChallenge → HostRequest
 credentialsFor q c =
-    request.Credentials (numbers16 (c .nonce)) (userIdRequired (c .options)) (readOnly (c .options)) (realmIn q (firstPlace header-id.authenticateChallenge q 7))
+    request.Credentials (numbers16 (c .nonce)) (userIdRequired (c .options)) (readOnly (c .options))
+    (realmIn q (firstPlace header-id.authenticateChallenge q 7))
 
 -- If the client sent challenges that can all be read, the host is asked for credentials, and its headers wait in the header store;
 -- otherwise the reply is made.
@@ -143,4 +144,5 @@ realmOf st l = pick (st .«has_realm») (some (st .charset ∷ l)) none
 -- The reply with a new challenge: 0x41 with Connect's fields.
 unfoldable pub nonceAnswer : Engine → Octets16 → List ℕ → Stores → Done
 nonceAnswer e n l s =
-    sendsConnect e (challengedPeer (e .peer) n) response.unauthorized (bytesOf (challengeHeader (octets16 n) (optionsOf (e .settings)) (realmOf (e .settings) l))) s
+    sendsConnect e (challengedPeer (e .peer) n) response.unauthorized
+    (bytesOf (challengeHeader (octets16 n) (optionsOf (e .settings)) (realmOf (e .settings) l))) s

@@ -35,15 +35,16 @@ unfoldable pub short : ℕ → Stores → Bool
 short limit s =
     ltb (length (s .packet)) 65535 || (ltb (length (s .headers)) 65535 || (ltb (length (s .reply)) 65535 || ltb (length (s .body)) limit))
 
--- Whether the counts of a state are ones that a call can leave. Any other state is refused as after the end, so that a call is defined for
--- every state.
+-- The kept headers and the body bytes lie in their stores.
 abbrev pub soundGathered : ℕ → Gathered → Bool
 soundGathered limit g = leb (g .kept) 65535 && leb (g .body) limit
 
+-- The headers that are still to be sent lie in the header store, and the packet that is being made in the reply store.
 abbrev pub soundOutgoing : Outgoing → Chunk → Bool
 soundOutgoing o c =
     leb (o .total) 65535 && (leb (o .sent) (o .total) && (leb (c .at + c .got) 65532 && leb (c .at + c .got + c .room) 65533))
 
+-- The counts of an operation lie in their stores.
 abbrev pub soundOperation : ℕ → Operation → Bool
 soundOperation limit Nothing = true
 soundOperation limit Trailing = true
@@ -54,7 +55,8 @@ soundOperation limit (GatheringOp o g) = soundGathered limit g
 soundOperation limit (Connecting code f n) = leb n 65535
 soundOperation limit (Draining code) = true
 
--- Whether the whole state is one that a call can leave, by its counts.
+-- Whether the counts of a state are ones that a call can leave. Any other state is refused as after the end, so that a call is defined for
+-- every state.
 unfoldable pub sound : Engine → Bool
 sound e =
     ltb (e .begun) 65535 && (leb (e .length) 65535 && (leb (e .peer .count) maxConnections && (leb 255 (e .peer .«remote_max_packet_length»)
@@ -85,6 +87,7 @@ awaitNumber await.Credentials = 10
 awaitNumber await.Body = 11
 awaitNumber await.Nothing = 12
 
+-- Two things awaited are the same.
 abbrev pub sameAwait : Await → Await → Bool
 sameAwait a b = eqb (awaitNumber a) (awaitNumber b)
 
@@ -127,6 +130,7 @@ guardedCalled k e s t go =
 unfoldable pub badHeaders : List ℕ → Bool
 badHeaders hs = ltb 65535 (length hs) || not (canonical hs)
 
+-- Whether a reply is none that a host may give, by its code or its headers.
 unfoldable pub badReply : ℕ → List ℕ → Bool
 badReply code hs = not (isCode code) || badHeaders hs
 
@@ -139,6 +143,7 @@ abbrev pub longId : Option (List ℕ) → Bool
 longId none = false
 longId (some u) = ltb 255 (length u)
 
+-- Whether the user id of credentials is too long.
 abbrev pub longUser : Option Credentials → Bool
 longUser none = false
 longUser (some c) = longId (c .user)

@@ -4,7 +4,8 @@
 -- Then what a host sees of a call, and which calls are due to be refused (`Refusals`), lists of calls (`Runs`), the sizes of replies
 -- (`Replies`), the records theorem (`Theorem`), the same from the contract of a start (`Contracts`), the count of wrong passwords
 -- (`EightWrong`), the replies to a Get (`ObjectSent`), the proved cases (`Cases`), that passwords leave no trace (`Secrecy`), which ids are
--- left when connections are closed together (`ClosedTogether`), and the Targets that requests name (`Targets`).
+-- left when connections are closed together (`ClosedTogether`), the Targets that requests name (`Targets`), and when an operation is open
+-- (`OpenOperation`).
 pub mod Step
 pub mod Request
 pub mod Operation
@@ -25,3 +26,4 @@ pub mod Cases
 pub mod Secrecy
 pub mod ClosedTogether
 pub mod Targets
+pub mod OpenOperation

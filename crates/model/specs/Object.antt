@@ -30,7 +30,8 @@ sendsMade e srm wait (next.Send n false) m s =
     (outcome.Reply n)
     (withReply s (m .reply))
 sendsMade e srm wait next.Read m s =
-    asks e (e .peer) (Sending (m .packet .outgoing) (m .packet .chunk) srm wait) await.Body (request.Read (m .packet .chunk .room)) (withReply s (m .reply))
+    asks e (e .peer) (Sending (m .packet .outgoing) (m .packet .chunk) srm wait) await.Body (request.Read (m .packet .chunk .room))
+    (withReply s (m .reply))
 sendsMade e srm wait next.TooLarge m s = repliesCode e (e .peer) Nothing response.internalServerError (withReply s (m .reply))
 
 abbrev pub sendsPacket : Engine → Bool → Bool → Made → Stores → Done

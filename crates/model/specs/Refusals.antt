@@ -53,8 +53,9 @@ endOf (outcome.Reply n) = none
 endOf (outcome.Request r) = none
 endOf (outcome.Refused r) = none
 
--- ---- what waits: bytes, that a reply is taken, an answer, nothing any more
+-- ---- what waits
 
+-- What the host must do next: offer bytes, send the reply that waits, answer what was asked, or nothing, since the engine has ended.
 pub data Waits : Type 0 where
   bytes taking reply object acknowledgement password nonce credentials nothing : Waits
   -- body bytes, at most so many
@@ -97,6 +98,7 @@ waitNumber credentials = 7
 waitNumber (reading n) = 8
 waitNumber nothing = 9
 
+-- Two waits are of one kind.
 abbrev pub sameWait : Waits → Waits → Bool
 sameWait w v = eqb (waitNumber w) (waitNumber v)
 
@@ -252,16 +254,18 @@ fedCall (nonceGiven n) b = stepBy (nonceGiven n)
 fedCall (credentialsGiven c) b = stepBy (credentialsGiven c)
 fedCall (connectionsClosed l) b = stepBy (connectionsClosed l)
 
+-- What the journal is fed of a call with this verdict.
 abbrev pub fedBy : Verdict → Call → ℕ → Fed
 fedBy (refused n) c b = noStep
 fedBy goes c b = fedCall c b
 
 -- ---- along a list of calls, from where `k` is known and the journal is `j`
 
--- The verdict that is due on a call, and what the journal is fed of it: the verdict that is due, and not the one that was returned.
+-- The verdict that is due on a call. The journal is fed by it, and not by the verdict that was returned.
 abbrev pub dueOn : Known → Journal → Seen → Verdict
 dueOn k j x = verdict (x .short) k j (x .call)
 
+-- What the journal is fed of a call.
 abbrev pub fedOn : Known → Journal → Seen → Fed
 fedOn k j x = fedBy (dueOn k j x) (x .call) (x .reply)
 
@@ -275,9 +279,10 @@ abbrev pub feedFrom : Known → Journal → List Seen → List Fed
 feedFrom k j [] = []
 feedFrom k j (x ∷ xs) = fedOn k j x ∷ feedFrom (learns k (x .call) (x .outcome)) (journalStep j (fedOn k j x) .next) xs
 
--- The same along a list of calls from an accepted start, with the journal of a fresh engine.
+-- The verdicts that are due from an accepted start, with the journal of a fresh engine.
 abbrev pub due : Journal → List Seen → List Verdict
 due j xs = dueFrom atStart j xs
 
+-- What the journal is fed from there.
 abbrev pub feed : Journal → List Seen → List Fed
 feed j xs = feedFrom atStart j xs

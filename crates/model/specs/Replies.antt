@@ -32,6 +32,7 @@ frontIn s none (some t) = some (newId (s .ids) (s .next))
 unfoldable pub isFull : Standing → ℕ → Bool
 isFull s id = not (member id (s .ids)) && leb maxConnections (length (s .ids))
 
+-- The same of the id that an accepted Connect is to open: the host's own, or a new one for a Target.
 abbrev pub fullFor : Standing → Option (List ℕ) → Option (List ℕ) → Bool
 fullFor s (some v) target = isFull s (be32 v 0)
 fullFor s none (some t) = isFull s (newId (s .ids) (s .next))
@@ -60,6 +61,7 @@ abbrev pub lastSize : Option Request → Journal → ℕ → List ℕ → ℕ
 lastSize none j code hs = 3 + length hs
 lastSize (some r) j code hs = pick (sameOpcode (r .opcode) Connect) (connectSize j r code hs) (3 + length hs)
 
+-- The reply to the host's answer, by what is open.
 abbrev pub answerSize : Opened → Journal → ℕ → List ℕ → ℕ
 answerSize nothing j code hs = lastSize (j .last) j code hs
 answerSize trailing j code hs = 3 + length hs
@@ -69,15 +71,18 @@ answerSize sending j code hs = 3 + length hs
 answerSize (gathering o k) j code hs = 3 + length hs
 answerSize draining j code hs = 3 + length hs
 
--- ---- along what the journal is fed; `late` is the reply to the last answer, by credentials that may still come
+-- ---- along what the journal is fed
 
+-- How long the reply to a Connect becomes, by the credentials that the host may still give.
 abbrev pub Late : Type 0
 Late = Option Credentials → ℕ
 
+-- It is the reply to the last packet, which was the Connect, with the header bytes `hs` of the host.
 abbrev pub lateBy : Option Request → Journal → List ℕ → Late
 lateBy none j hs c = 0
 lateBy (some r) j hs c = acceptedSize j r hs c
 
+-- A host's reply decides it anew, and no other call changes it.
 abbrev pub lateAfter : Late → Journal → Fed → Late
 lateAfter late j noStep = late
 lateAfter late j (replySent b) = late
@@ -116,5 +121,6 @@ abbrev pub RepliesFrom : Late → Journal → List Fed → Type 0
 RepliesFrom late j [] = Unit {0}
 RepliesFrom late j (f ∷ fs) = (replySize late j f ≤ 65535) × RepliesFrom (lateAfter late j f) (journalStep j f .next) fs
 
+-- The same from a start.
 abbrev pub Replies : Journal → List Fed → Type 0
 Replies j fs = RepliesFrom (λ c. 0) j fs

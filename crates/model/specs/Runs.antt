@@ -66,6 +66,7 @@ pub record Performed : Type 0 where
   pub stores : Stores
   pub tables : List ℕ
 
+-- Makes a `Performed`.
 abbrev pub performed : Call → CallResult → Stores → List ℕ → Performed
 performed c r t u = record { call = c; result = r; stores = t; tables = u }
 
@@ -109,10 +110,12 @@ Ran s (x ∷ xs) = Says s x × Ran (next s x) xs
 
 -- ---- handing over: a call returns the Put request, with its kept headers and its body bytes or none (docs/PROTOCOL.md#handing-over)
 
+-- The body bytes that a Put request tells of, at the front of the body store `b`; none if no body header came.
 abbrev pub bodyIn : Body → List ℕ → Option (List ℕ)
 bodyIn body.Missing b = none
 bodyIn (body.Bytes n) b = some (take n b)
 
+-- The record that a request hands over: only a Put has one.
 abbrev pub handedBy : HostRequest → Stores → List Record
 handedBy (request.Put k b) s = record { headers = take k (s .headers); body = bodyIn b (s .body) } ∷ []
 handedBy (request.Connect n) s = []
@@ -169,6 +172,7 @@ seenOf st s x =
       reply = getD (s .stores .reply) 0 0;
     }
 
+-- What the host sees of a run, call for call.
 abbrev pub seen : Settings → State → List Performed → List Seen
 seen st s [] = []
 seen st s (x ∷ xs) = seenOf st s x ∷ seen st (next s x) xs

@@ -81,6 +81,7 @@ forCredentials (request.Password u) = false
 forCredentials request.Nonce = false
 forCredentials (request.Read n) = false
 
+-- Whether a call asks for credentials.
 abbrev pub asksCredentials : Outcome → Bool
 asksCredentials (outcome.Request r) = forCredentials r
 asksCredentials outcome.WantsBytes = false
@@ -102,6 +103,7 @@ pub record Shown : Type 0 where
   pub outcome : Outcome
   pub reply : List (List ℕ)
 
+-- What a call that was performed shows.
 abbrev pub shownIn : Called → Shown
 shownIn m = record { taken = m .took .taken; outcome = m .took .outcome; reply = replyIn (m .took .outcome) (m .stores) }
 

@@ -33,15 +33,19 @@ pub record Stores : Type 0 where
   pub body : List ℕ
   pub reply : List ℕ
 
+-- Makes `Stores`.
 abbrev pub stores : List ℕ → List ℕ → List ℕ → List ℕ → Stores
 stores p h b y = record { packet = p; headers = h; body = b; reply = y }
 
+-- The stores with another reply store.
 abbrev pub withReply : Stores → List ℕ → Stores
 withReply s y = stores (s .packet) (s .headers) (s .body) y
 
+-- The stores with another header store.
 abbrev pub withHeaders : Stores → List ℕ → Stores
 withHeaders s h = stores (s .packet) h (s .body) (s .reply)
 
+-- The stores with what was gathered in the header store and the body store.
 abbrev pub withGathered : Stores → Gathering → Stores
 withGathered s g = stores (s .packet) (g .headers) (g .body) (s .reply)
 
@@ -55,6 +59,7 @@ pub record Done : Type 0 where
   pub outcome : Outcome
   pub stores : Stores
 
+-- Makes a `Done`.
 abbrev pub done : Engine → Outcome → Stores → Done
 done e o s = record { engine = e; outcome = o; stores = s }
 
@@ -63,6 +68,7 @@ pub record DoneTabled : Type 0 where
   pub done : Done
   pub tables : List ℕ
 
+-- Makes a `DoneTabled`.
 abbrev pub doneTabled : Done → List ℕ → DoneTabled
 doneTabled d t = record { done = d; tables = t }
 
@@ -87,11 +93,12 @@ replies e p o a q s =
 abbrev pub repliesCode : Engine → Peer → Operation → ℕ → Stores → Done
 repliesCode e p o code s = replies e p o await.Taken (packetBytes (sentCode code) [] []) s
 
--- Continue, with a SingleResponseMode header if Single Response Mode (SRM) is granted.
+-- The bytes of a Continue, with a SingleResponseMode header if Single Response Mode (SRM) is granted.
 abbrev pub continueBytes : Bool → List ℕ
 continueBytes false = packetBytes 0x90 [] []
 continueBytes true = packetBytes 0x90 [] (0x97 ∷ 0x01 ∷ [])
 
+-- The engine replies with a Continue, and `o` stays open.
 abbrev pub continues : Engine → Operation → Bool → Stores → Done
 continues e o grant s = replies e (e .peer) o await.Taken (continueBytes grant) s
 
@@ -104,6 +111,7 @@ sent e p (some q) s = replies e p Nothing await.Taken q s
 unfoldable pub sends : Engine → Peer → ℕ → List ℕ → Stores → Done
 sends e p code hs s = sent e p (sendBytes (p .«remote_max_packet_length») code [] hs) s
 
+-- A reply with Connect's fields.
 unfoldable pub sendsConnect : Engine → Peer → ℕ → List ℕ → Stores → Done
 sendsConnect e p code hs s =
     sent e p (sendBytes (p .«remote_max_packet_length») code (fieldsOf (e .settings .«max_packet_length»)) hs) s
@@ -121,6 +129,7 @@ pub record Stepped : Type 0 where
   pub took : CallResult
   pub stores : Stores
 
+-- Makes a `Stepped`.
 abbrev pub stepped : CallResult → Stores → Stepped
 stepped r s = record { took = r; stores = s }
 
@@ -130,6 +139,7 @@ pub record Called : Type 0 where
   pub stores : Stores
   pub tables : List ℕ
 
+-- Makes a `Called`.
 abbrev pub called : Stepped → List ℕ → Called
 called m t = record { took = m .took; stores = m .stores; tables = t }
 

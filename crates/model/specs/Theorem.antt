@@ -19,7 +19,7 @@ use Rattle.server.specs.declared.Settings.{Settings}
 use Rattle.server.specs.declared.Outcome.{Outcome}
 use Rattle.server.specs.declared.Outcome.the-variants as outcome
 
--- The settings that the journal keeps, and the journal of a fresh engine with these settings.
+-- The settings that the journal keeps.
 abbrev pub settingsOf : Settings → JournalSettings
 settingsOf st =
     record {
@@ -30,6 +30,7 @@ settingsOf st =
       refuses = st .«refuse_trailing»;
     }
 
+-- The journal of a fresh engine with these settings.
 abbrev pub journalOf : Settings → Journal
 journalOf st = fresh (settingsOf st)
 
@@ -47,8 +48,7 @@ abbrev pub Unmoved : State → List Performed → Type 0
 Unmoved s [] = Unit {0}
 Unmoved s (x ∷ xs) = ((n : ℕ) → verdictOf (x .result .outcome) ≡ refused n → next s x ≡ s) × Unmoved (next s x) xs
 
--- A call does what is due, by its outcome and the reply store afterwards: it wants bytes, or it makes that Continue, or it does not want
--- bytes.
+-- The call returned that it wants bytes, so it made no reply and no request.
 abbrev pub wantsBytes : Outcome → Bool
 wantsBytes outcome.WantsBytes = true
 wantsBytes (outcome.Reply n) = false
@@ -56,11 +56,14 @@ wantsBytes (outcome.Request r) = false
 wantsBytes (outcome.End n) = false
 wantsBytes (outcome.Refused r) = false
 
+-- A call does what is due, by its outcome `o` and the reply store `y` afterwards: it wants bytes, or it makes that Continue, or it does not
+-- want bytes.
 abbrev pub Obeys : Due → Outcome → List ℕ → Type 0
 Obeys silent o y = o ≡ outcome.WantsBytes
 Obeys (continues g) o y = (o ≡ outcome.Reply (length (continueReply g))) × (take (length (continueReply g)) y ≡ continueReply g)
 Obeys speaks o y = wantsBytes o ≡ false
 
+-- Each call of a run does what is due after it.
 abbrev pub AllObey : List Due → List Performed → Type 0
 AllObey [] [] = Unit {0}
 AllObey [] (x ∷ xs) = ⊥
