@@ -238,7 +238,7 @@ pub(crate) fn guard(
     Guarded::Refuse(Refusal::WrongMoment)
 }
 
-// Returns the refusal of a call that is lent the table store too, which holds 128 numbers, or says that it may proceed.
+// Returns the refusal of a call that is lent the table store too, which holds `TABLE_LENGTH` numbers, or says that it may proceed.
 pub(crate) fn guard_lent(
     e: Engine,
     k: CallKind,
