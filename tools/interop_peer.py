@@ -1,10 +1,11 @@
 #!/usr/bin/env python3
-"""interop_peer: two connections that no stock client was seen to make, against a server on a port of the loopback: one that goes on after an
-Abort, and one that drops a Put and sends another. For tools/interop.
+"""interop_peer: connections that no stock client was seen to make, against a server on a port of the loopback: one that goes on after an Abort,
+one that drops a Put and sends another, and one to two services. For tools/interop, which makes the folders of the services `rules` and `records`.
 
 Usage: tools/interop_peer.py PORT        Prints a line 'ok ..' or 'failed ..' for each step."""
 import socket, sys
-from obex import ABORT, BODY, CONTINUE, DISCONNECT, END_OF_BODY, FINAL, PUT, SUCCESS, connect, long_header, name, packet
+from obex import (ABORT, BODY, CONTINUE, DISCONNECT, END_OF_BODY, FINAL, GET, PUT, SUCCESS, TARGET_ID, connect, connection, long_header, name,
+                  packet)
 
 
 class Peer:
@@ -23,11 +24,10 @@ class Peer:
         return got
 
     def ask(self, request):
-        """Sends `request` and returns the first byte of its reply."""
+        """Sends `request` and returns the first byte of its reply, and the rest."""
         self.socket.sendall(request)
         head = self.read(3)
-        self.read(int.from_bytes(head[1:], 'big') - 3)
-        return head[0]
+        return head[0], self.read(int.from_bytes(head[1:], 'big') - 3)
 
 
 def put(final, *headers):
@@ -38,21 +38,41 @@ def session(port, what, steps):
     """Plays `steps`, a request and the reply that is due to it each, between Connect and Disconnect."""
     try:
         peer = Peer(port)
-        said = [peer.ask(request) for request, _ in [(connect(1024), SUCCESS)] + steps + [(packet(DISCONNECT), SUCCESS)]]
+        said = [peer.ask(request)[0] for request, _ in [(connect(1024), SUCCESS)] + steps + [(packet(DISCONNECT), SUCCESS)]]
         due = [SUCCESS] + [reply for _, reply in steps] + [SUCCESS]
         print('ok %s' % what if said == due else 'failed %s: %s' % (what, bytes(said).hex()))
     except (OSError, EOFError) as why:
         print('failed %s: %s' % (what, why))
 
 
+def end_of_body(text):
+    return long_header(END_OF_BODY, text)
+
+
+def services(port):
+    """Two services in one connection, each under an id of its own; the ids are 1 and 2, as the engine counts them."""
+    peer = Peer(port)
+    for target in (b'rules', b'records'):
+        peer.ask(connect(1024, long_header(TARGET_ID, target)))
+    for id, text in ((connection(1), b'of rules'), (connection(2), b'of records'), (b'', b'of none')):
+        peer.ask(put(True, id, name('same'), end_of_body(text)))
+    got = [peer.ask(packet(GET, id + name('same'))) for id in (connection(1), connection(2), b'')]
+    due = [(SUCCESS, end_of_body(text)) for text in (b'of rules', b'of records', b'of none')]
+    print('%s two services in one connection' % ('ok' if got == due else 'failed'))
+
+
 def main(port):
     session(port, 'an Abort, and another Put in the same connection', [
         (put(False, name('begun'), long_header(BODY, b'begun')), CONTINUE),
         (packet(ABORT), SUCCESS),
-        (put(True, name('later'), long_header(END_OF_BODY, b'later')), SUCCESS)])
+        (put(True, name('later'), end_of_body(b'later')), SUCCESS)])
     session(port, 'a Put that is dropped, and another', [
         (put(False, name('dropped'), long_header(BODY, b'first ')), CONTINUE),
-        (put(True, name('second'), long_header(END_OF_BODY, b'second')), SUCCESS)])
+        (put(True, name('second'), end_of_body(b'second')), SUCCESS)])
+    try:
+        services(port)
+    except (OSError, EOFError) as why:
+        print('failed two services in one connection: %s' % why)
 
 
 if len(sys.argv) != 2:

@@ -41,6 +41,8 @@ pub struct Options {
     pub read_only: bool,
     pub user_id_enforced: bool,
     pub refuse_trailing: bool,
+    // Whether the Target of each request is printed.
+    pub targets: bool,
     // Whether the stores are filled with zeros.
     pub clear: bool,
 }
@@ -85,6 +87,7 @@ enum Key {
     ReadOnly,
     UserIdEnforced,
     RefuseTrailing,
+    Targets,
     Clear,
     Other,
 }
@@ -170,6 +173,9 @@ fn key_of(w: &[u8]) -> Key {
     if same(w, b"refuse_trailing") {
         return Key::RefuseTrailing;
     }
+    if same(w, b"targets") {
+        return Key::Targets;
+    }
     if same(w, b"clear") {
         return Key::Clear;
     }
@@ -190,6 +196,7 @@ pub(crate) fn default_options() -> Options {
         read_only: false,
         user_id_enforced: false,
         refuse_trailing: false,
+        targets: false,
         clear: false,
     }
 }
@@ -224,6 +231,7 @@ fn with_option(o: Options, key: Key, w: &[u8], realm: usize) -> Options {
         Key::ReadOnly => r.read_only = is_set(w),
         Key::UserIdEnforced => r.user_id_enforced = is_set(w),
         Key::RefuseTrailing => r.refuse_trailing = is_set(w),
+        Key::Targets => r.targets = is_set(w),
         Key::Clear => r.clear = is_set(w),
         Key::Other => {}
     }

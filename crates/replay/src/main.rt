@@ -33,6 +33,7 @@ use show::outcome_line;
 use show::put_line;
 use show::shown_line;
 use show::state_line;
+use show::target_line;
 use state::Replay;
 use state::after_call;
 use state::begun;
@@ -182,9 +183,10 @@ fn print_shown<'a>(
     with_shown(with_output(s, n), false, false)
 }
 
-// The two lines after a call: what it returned, and the state if one stands after it.
+// The lines after a call: what it returned, the Target that a request names, and the state if one stands after it.
 struct Lines {
     outcome: show::Line,
+    target: show::Line,
     state: show::Line,
 }
 
@@ -194,9 +196,11 @@ fn lines_after(s: Replay, took: CallResult, opcode: u8) -> Lines {
     let call = due.call;
     let e = took.engine;
     let peer = e.peer;
+    let target = e.target;
     let shows = shows_state(call, took);
     Lines {
         outcome: outcome_line(outcome, opcode, s.longest),
+        target: target_line(outcome, target, s.targets),
         state: state_line(peer, shows),
     }
 }
@@ -205,6 +209,23 @@ fn lines_after(s: Replay, took: CallResult, opcode: u8) -> Lines {
 fn after_result(s: Replay, took: CallResult) -> Replay {
     let outcome = took.outcome;
     after_call(with_taken(s, took.taken), outcome)
+}
+
+// Puts the line of what a call returned, and behind it the line of the Target.
+fn put_result<'a>(
+    out: &mut [u8],
+    n: usize,
+    l: Lines,
+    tables: &[u64],
+    packet: &'a [u8],
+    headers: &'a [u8],
+    body: &'a [u8],
+    reply: &'a [u8],
+) -> usize {
+    let outcome = l.outcome;
+    let target = l.target;
+    let k = put_line(out, n, outcome, tables, packet, headers, body, reply);
+    put_line(out, k, target, tables, packet, headers, body, reply)
 }
 
 // Prints the lines after a call.
@@ -218,9 +239,8 @@ fn print_lines<'a>(
     reply: &'a [u8],
     out: &mut [u8],
 ) -> Replay {
-    let outcome = l.outcome;
     let state = l.state;
-    let n = put_line(out, s.n, outcome, tables, packet, headers, body, reply);
+    let n = put_result(out, s.n, l, tables, packet, headers, body, reply);
     let m = put_line(out, n, state, tables, packet, headers, body, reply);
     with_output(s, flush(out, m))
 }

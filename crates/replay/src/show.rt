@@ -25,6 +25,8 @@ use server::HostRequest;
 use server::Outcome;
 use server::end_number;
 use server::refusal_number;
+use table::targets::Target;
+use table::targets::is_named;
 
 // The values of a form, with the letters that stand for them.
 pub struct Values {
@@ -351,7 +353,9 @@ pub(crate) fn put_line<'a>(
         state remote_max=%1 srm=%2 authenticated=%3 ids=%l next=%i challenge=%o\n\
         state remote_max=%1 srm=%2 authenticated=%3 ids=%l next=%i challenge=none\n\
         stores %P %H %B %R\n\
-        own window=%w nonces=%1\n";
+        own window=%w nonces=%1\n\
+        target %1 %o\n\
+        target none\n";
     put_form_of(out, n, forms, line, tables, packet, headers, body, reply)
 }
 
@@ -536,6 +540,38 @@ pub(crate) fn state_line(p: Peer, shows: bool) -> Line {
     v.count = p.count;
     let challenge = p.challenge;
     with_challenge(v, challenge)
+}
+
+// A line with a number and sixteen bytes.
+fn with_octets(v: Values, form: usize, x: usize, octets: Octets16) -> Line {
+    let mut values = v;
+    values.first = x;
+    values.octets = octets;
+    Line { form, values }
+}
+
+// The line of a Target: its length and its sixteen bytes, or none for the mark.
+fn named_line(v: Values, target: Target) -> Line {
+    if is_named(target) {
+        let bytes = target.bytes;
+        return with_octets(v, 23, target.length, bytes);
+    }
+    Line {
+        form: 24,
+        values: v,
+    }
+}
+
+// The line of the Target that a request names. There is none without a request, or if `shows` is false.
+pub(crate) fn target_line(outcome: Outcome, target: Target, shows: bool) -> Line {
+    let v = no_values(0);
+    if !shows {
+        return no_line(v);
+    }
+    match outcome {
+        Outcome::Request(_) => named_line(v, target),
+        _ => no_line(v),
+    }
 }
 
 // The line of the stores as far as they are lent.

@@ -47,6 +47,8 @@ pub struct Replay {
     pub lent: Lent,
     // How many bytes of the realm store are the realm of the last start.
     pub realm: usize,
+    // Whether the Target of each request is printed, by the last start.
+    pub targets: bool,
     // How many bytes of output are collected.
     pub n: usize,
     // Longer byte strings are printed by length and MD5.
@@ -101,6 +103,7 @@ pub(crate) fn begun() -> Replay {
         stream: no_bytes(),
         lent: whole(),
         realm: 0,
+        targets: false,
         n: 0,
         longest: 512,
         hold: false,
@@ -142,6 +145,7 @@ pub(crate) fn with_realm(s: Replay) -> Replay {
     if let Call::Start(o) = call {
         let mut r = s;
         r.realm = o.realm_length;
+        r.targets = o.targets;
         return r;
     }
     s

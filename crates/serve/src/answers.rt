@@ -2,6 +2,7 @@
 use crate::file;
 use crate::file::Opened;
 use crate::file::front;
+use crate::folder::folder_of;
 use crate::log;
 use engine::calls;
 use packet::response::SUCCESS;
@@ -19,7 +20,7 @@ pub struct Answered {
     pub file: i32,
 }
 
-// Writes a Put's body to the file of its Name, and replies with what became of it.
+// Writes a Put's body to the file of its Name, in the folder of the service that the request names, and replies with what became of it.
 fn put(
     e: Engine,
     kept: usize,
@@ -30,7 +31,8 @@ fn put(
     body: &mut [u8; 1048576],
     reply: &mut [u8; 65535],
 ) -> CallResult {
-    let code = file::put_body(front(headers, kept), content, body);
+    let folder = folder_of(e.target);
+    let code = file::put_body(folder, front(headers, kept), content, body);
     calls::reply_given(e, code, b"", tables, packet, headers, body, reply)
 }
 
@@ -67,7 +69,7 @@ fn file_of(opened: Opened) -> i32 {
     }
 }
 
-// Answers a Get with the file of its Name.
+// Answers a Get with the file of its Name, in the folder of the service that the request names.
 fn get(
     e: Engine,
     kept: usize,
@@ -77,7 +79,7 @@ fn get(
     body: &mut [u8; 1048576],
     reply: &mut [u8; 65535],
 ) -> Answered {
-    let opened = file::get(front(headers, kept));
+    let opened = file::get(folder_of(e.target), front(headers, kept));
     Answered {
         took: give(e, opened, tables, packet, headers, body, reply),
         file: file_of(opened),
@@ -139,7 +141,7 @@ fn read(
     }
 }
 
-// Answers a request that needs no file. SetPath is granted and does nothing: clients send it first, and there is one folder.
+// Answers a request that needs no file. SetPath is granted and does nothing: clients send it first, and there is one folder for a service.
 fn plain(
     e: Engine,
     request: HostRequest,

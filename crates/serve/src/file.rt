@@ -1,8 +1,12 @@
-// Files of the working folder. Only a name that may be served is opened or written.
+// Files of a folder: the working folder, or that of a service. Only a name that may be served is opened or written.
+use crate::folder::Folder;
+use crate::folder::LONGEST;
+use crate::folder::join;
 use crate::log;
 use crate::name::is_file_name;
 use crate::name::name_in;
 use crate::path::is_link;
+use crate::path::part_name;
 use libc::SEEK_CUR;
 use packet::response::CONFLICT;
 use packet::response::FORBIDDEN;
@@ -50,10 +54,12 @@ fn filled(fd: i32, bytes: &[u8]) -> bool {
     false
 }
 
-// Returns whether the working folder itself is on the disk, so that a name that was given in it stays. A file system that has no such thing
-// says so, and then nothing more can be done.
-fn is_folder_synced() -> bool {
-    let fd = os::open_read(b".");
+// Returns whether the folder itself is on the disk, so that a name that was given in it stays. A file system that has no such thing says so,
+// and then nothing more can be done.
+fn is_folder_synced(folder: Folder) -> bool {
+    let mut path = [0u8; LONGEST];
+    let n = join(folder, b".", &mut path);
+    let fd = os::open_read(&path[0..n]);
     if fd < 0 {
         return false;
     }
@@ -67,10 +73,12 @@ fn is_folder_synced() -> bool {
 }
 
 // Takes a name that no file has, and returns the code of the reply if that is not possible. Two Puts of one Name cannot both take it.
-fn reserved(name: &[u8]) -> u8
+fn reserved(folder: Folder, name: &[u8]) -> u8
     requires { ⌜ fileName (now name) ≡ true ⌝ }
 {
-    let fd = os::create(name);
+    let mut path = [0u8; LONGEST];
+    let n = join(folder, name, &mut path);
+    let fd = os::create(&path[0..n]);
     if fd >= 0 {
         libc::close(fd);
         return SUCCESS;
@@ -83,11 +91,13 @@ fn reserved(name: &[u8]) -> u8
 }
 
 // Gives a whole file its name.
-fn renamed(from: &[u8], name: &[u8]) -> u8
+fn renamed(folder: Folder, from: &[u8], name: &[u8]) -> u8
     requires { ⌜ fileName (now name) ≡ true ⌝ }
 {
-    if os::rename(from, name) == 0 {
-        if is_folder_synced() {
+    let mut path = [0u8; LONGEST];
+    let n = join(folder, name, &mut path);
+    if os::rename(from, &path[0..n]) == 0 {
+        if is_folder_synced(folder) {
             return SUCCESS;
         }
         os::fail(b"folder");
@@ -97,74 +107,94 @@ fn renamed(from: &[u8], name: &[u8]) -> u8
     INTERNAL_SERVER_ERROR
 }
 
-// Gives a whole file its name if no file has it. A name that was taken for it is given up if that fails.
-fn renamed_new(from: &[u8], name: &[u8]) -> u8
+// Removes the empty file by which a name was taken.
+fn remove(folder: Folder, name: &[u8])
     requires { ⌜ fileName (now name) ≡ true ⌝ }
 {
-    let taken = reserved(name);
+    let mut path = [0u8; LONGEST];
+    let n = join(folder, name, &mut path);
+    os::unlink(&path[0..n]);
+}
+
+// Gives a whole file its name if no file has it. A name that was taken for it is given up if that fails.
+fn renamed_new(folder: Folder, from: &[u8], name: &[u8]) -> u8
+    requires { ⌜ fileName (now name) ≡ true ⌝ }
+{
+    let taken = reserved(folder, name);
     if taken != SUCCESS {
         return taken;
     }
-    let code = renamed(from, name);
+    let code = renamed(folder, from, name);
     if code != SUCCESS {
-        os::unlink(name);
+        remove(folder, name);
     }
     code
 }
 
-fn named(from: &[u8], name: &[u8]) -> u8
+fn named(folder: Folder, from: &[u8], name: &[u8]) -> u8
     requires { ⌜ fileName (now name) ≡ true ⌝ }
 {
     if keeps() {
-        return renamed_new(from, name);
+        return renamed_new(folder, from, name);
     }
-    renamed(from, name)
+    renamed(folder, from, name)
 }
 
-// Writes under another name first, so that no half of a file is ever seen and a link is replaced. Nobody can ask for that name. It carries
-// the number of this process, by which the next start knows whose it was. Gives the code of the reply.
-fn write(name: &[u8], bytes: &[u8]) -> u8
+// Writes a new file whose path is `temporary`, of which `os::create_temp` replaces the end, and gives it its name. Gives the code of the reply.
+fn write_as(folder: Folder, temporary: &mut [u8], name: &[u8], bytes: &[u8]) -> u8
     requires { ⌜ fileName (now name) ≡ true ⌝ }
 {
-    let mut temporary = crate::path::part_name();
-    let fd = os::create_temp(&mut temporary);
+    let fd = os::create_temp(temporary);
     if fd < 0 {
         os::fail(b"create");
         return INTERNAL_SERVER_ERROR;
     }
     if filled(fd, bytes) {
-        let code = named(&temporary, name);
+        let code = named(folder, temporary, name);
         if code == SUCCESS {
             return SUCCESS;
         }
-        os::unlink(&temporary);
+        os::unlink(temporary);
         return code;
     }
-    os::unlink(&temporary);
+    os::unlink(temporary);
     INTERNAL_SERVER_ERROR
 }
 
+// Writes under another name first, so that no half of a file is ever seen and a link is replaced. Nobody can ask for that name. It carries
+// the number of this process, by which the next start knows whose it was. Gives the code of the reply.
+fn write(folder: Folder, name: &[u8], bytes: &[u8]) -> u8
+    requires { ⌜ fileName (now name) ≡ true ⌝ }
+{
+    let part = part_name();
+    let mut temporary = [0u8; LONGEST];
+    let n = join(folder, &part, &mut temporary);
+    write_as(folder, &mut temporary[0..n], name, bytes)
+}
+
 // Gives the code of the reply.
-fn write_named(name: &[u8], bytes: &[u8]) -> u8 {
+fn write_named(folder: Folder, name: &[u8], bytes: &[u8]) -> u8 {
     if is_file_name(name) {
-        return write(name, bytes);
+        return write(folder, name, bytes);
     }
     FORBIDDEN
 }
 
 // A Put's body goes to the file of its Name.
-fn put(headers: &[u8], bytes: &[u8]) -> u8 {
+fn put(folder: Folder, headers: &[u8], bytes: &[u8]) -> u8 {
     let mut store = [0u8; 255];
     let n = name_in(headers, &mut store);
-    let code = write_named(&store[0..n], bytes);
-    log::put(&store[0..n], bytes.len(), code);
+    let code = write_named(folder, &store[0..n], bytes);
+    let mut path = [0u8; LONGEST];
+    let k = join(folder, &store[0..n], &mut path);
+    log::put(&path[0..k], bytes.len(), code);
     code
 }
 
 // By convention a Put without a body asks for the file to be removed. That is not done here.
-pub(crate) fn put_body(headers: &[u8], content: Body, body: &[u8]) -> u8 {
+pub(crate) fn put_body(folder: Folder, headers: &[u8], content: Body, body: &[u8]) -> u8 {
     match content {
-        Body::Bytes(n) => put(headers, front(body, n)),
+        Body::Bytes(n) => put(folder, headers, front(body, n)),
         Body::Missing => {
             log::put(b"", 0, NOT_IMPLEMENTED);
             NOT_IMPLEMENTED
@@ -198,15 +228,17 @@ fn is_read_only(error: i32) -> bool {
 
 // Opens a file for reading, or answers -1. An open for reading waits for ever at a pipe that nobody writes to, and one for reading and
 // writing does not; so that comes first, and nothing is written.
-fn open_file(name: &[u8]) -> i32
+fn open_file(folder: Folder, name: &[u8]) -> i32
     requires { ⌜ fileName (now name) ≡ true ⌝ }
 {
-    let fd = os::open_update(name);
+    let mut path = [0u8; LONGEST];
+    let n = join(folder, name, &mut path);
+    let fd = os::open_update(&path[0..n]);
     if fd >= 0 {
         return fd;
     }
     if is_read_only(os::errno()) {
-        return os::open_read(name);
+        return os::open_read(&path[0..n]);
     }
     fd
 }
@@ -220,33 +252,44 @@ fn seekable(fd: i32) -> Opened {
     Opened::Code(FORBIDDEN)
 }
 
-// Opens a plain file of the folder: neither a link nor a folder nor a pipe.
-fn open_plain(name: &[u8]) -> Opened
+// Returns whether a name is that of a symbolic link.
+fn is_linked(folder: Folder, name: &[u8]) -> bool
     requires { ⌜ fileName (now name) ≡ true ⌝ }
 {
-    if is_link(name) {
+    let mut path = [0u8; LONGEST];
+    let n = join(folder, name, &mut path);
+    is_link(&path[0..n])
+}
+
+// Opens a plain file of the folder: neither a link nor a folder nor a pipe.
+fn open_plain(folder: Folder, name: &[u8]) -> Opened
+    requires { ⌜ fileName (now name) ≡ true ⌝ }
+{
+    if is_linked(folder, name) {
         return Opened::Code(FORBIDDEN);
     }
-    let fd = open_file(name);
+    let fd = open_file(folder, name);
     if fd < 0 {
         return Opened::Code(refusal_of(os::errno()));
     }
     seekable(fd)
 }
 
-fn open_named(name: &[u8]) -> Opened {
+fn open_named(folder: Folder, name: &[u8]) -> Opened {
     if is_file_name(name) {
-        return open_plain(name);
+        return open_plain(folder, name);
     }
     Opened::Code(FORBIDDEN)
 }
 
 // Opens the file of a Get's Name.
-pub(crate) fn get(headers: &[u8]) -> Opened {
+pub(crate) fn get(folder: Folder, headers: &[u8]) -> Opened {
     let mut store = [0u8; 255];
     let n = name_in(headers, &mut store);
-    let opened = open_named(&store[0..n]);
-    log::get(&store[0..n], opened);
+    let opened = open_named(folder, &store[0..n]);
+    let mut path = [0u8; LONGEST];
+    let k = join(folder, &store[0..n], &mut path);
+    log::get(&path[0..k], opened);
     opened
 }
 

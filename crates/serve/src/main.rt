@@ -1,8 +1,9 @@
-// A server for a person: the peer's bytes come on standard input, and replies go to standard output. A Put writes a file of the
-// working folder, a Get reads one. The program tells what it does on standard error, a line for each operation. With the argument `--keep` it
-// refuses a Put whose Name a file has already.
+// A server for a person: the peer's bytes come on standard input, and replies go to standard output. A Put writes a file of the working
+// folder, or of the folder of the service that its connection was opened for, and a Get reads one. The program tells what it does on
+// standard error, a line for each operation. With the argument `--keep` it refuses a Put whose Name a file has already.
 mod answers;
 mod file;
+mod folder;
 mod log;
 mod name;
 mod path;

@@ -2,33 +2,31 @@
 use base::copy_into;
 use libc::PATH_MAX;
 ghost use mathlib.Core.Path.{_≡_};
-ghost use mathlib.Core.Bool.{true};
 ghost use Prim.Native.Nat.{_≤_};
 ghost use lib.IntN.{pos};
 ghost use lib.ListN.{length};
 ghost use lib.Signed.{_≤ℤ_};
 ghost use Rattle.libc.specs.Io.{Ended};
-ghost use Rattle.serve.specs.Name.{fileName};
 
-// Returns `name` with zeros behind it, as C wants a path.
-fn path_of(name: &[u8]) -> [u8; PATH_MAX]
-    requires { ⌜ length (now name) ≤ 255 ⌝ }
+// Returns `path` with zeros behind it, as C wants a path.
+fn path_of(path: &[u8]) -> [u8; PATH_MAX]
+    requires { ⌜ length (now path) ≤ 4095 ⌝ }
     ensures { λ r. ⌜ Ended r ⌝ }
 {
-    let mut path = io::buffer();
-    copy_into(&mut path, 0, name);
-    path[4095] = 0;
-    path
+    let mut ended = io::buffer();
+    copy_into(&mut ended, 0, path);
+    ended[4095] = 0;
+    ended
 }
 
-// Returns whether a file is a symbolic link. A name of over 255 bytes is none of a file.
-pub(crate) fn is_link(name: &[u8]) -> bool {
-    if 255 < name.len() {
+// Returns whether a file is a symbolic link. A path for which C has no room is none of a file.
+pub(crate) fn is_link(path: &[u8]) -> bool {
+    if PATH_MAX <= path.len() {
         return false;
     }
-    let path = path_of(name);
+    let ended = path_of(path);
     let mut target = [0u8; 1];
-    libc::readlink(&path, &mut target) >= 0
+    libc::readlink(&ended, &mut target) >= 0
 }
 
 // Returns `x`, which is not negative.
