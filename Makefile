@@ -13,7 +13,7 @@ help:
 	@echo 'make compare   port beside original: questions, then sessions: N=1000000 SEED=1        the oracle, Rattle     13 minutes, then 2'
 	@echo 'make planted   the sessions tell wrong readings of the papers apart                    the oracle             half an hour'
 	@echo 'make perf      throughput of port and original in one run                              the oracle, openssl    10 minutes, then 3'
-	@echo 'make mutants   the wrong programs that are not in the gate, NAME=crate for one crate   Rattle                 an hour; goes on where it stopped'
+	@echo 'make mutants   the wrong programs that are not in the gate, NAME=crate for one crate   Rattle                 1 to 2 hours; goes on where it stopped'
 	@echo 'make rust      the engine for Rust and C: its archive, the tests of rust/, sessions in both     Rattle, cargo, cc      12 minutes, then 1'
 	@echo 'make rust-perf throughput of both servers through the same Rust API, after make rust           cargo                  1 minute'
 
