@@ -106,7 +106,8 @@ stops s from at c d h w e = rw (w .same, by-cursor s at Unreadable h) e
 
 -- ---- what the places are
 
-at-end : (s : List ℕ) → readHeaders s (length s) ≡ some []
+-- no header stands at the end
+pub at-end : (s : List ℕ) → readHeaders s (length s) ≡ some []
 unfolding headerAt
 at-end s = let n : length s ≤ length s = omega arith in by-cursor s (length s) End (simp (le-leb _ _ n)) .1
 

@@ -8,10 +8,9 @@ use native.Mathlib.Omega.{arith}
 use lib.ListN.{length, getD, take, drop}
 use lib.Dec.{ltb, eqb}
 use lib.Seq.{getD-take, getD-drop}
-use borrow.Author.Tests.{le-leb}
 use Rattle.base.specs.Pick.{pick}
 use Rattle.packet.specs.FirstByte.{firstByte}
-use Rattle.packet.specs.Header.{Header, readHeaders, headerAt, encodingOf, first, firstPlace, part}
+use Rattle.packet.specs.Header.{Header, readHeaders, encodingOf, first, firstPlace, part}
 use Rattle.packet.specs.HeaderList.{readableFrom}
 use Rattle.packet.specs.Packet.{requestOf, requestBy, requestWith, prefixOf}
 use Rattle.packet.specs.PacketRead.{headBy}
@@ -22,11 +21,10 @@ use Rattle.packet.specs.declared.opcode.Opcode.{Opcode}
 use Rattle.packet.specs.declared.opcode.FirstByte.{FirstByte}
 use Rattle.packet.specs.declared.opcode.FirstByte.the-variants.{Known, Unknown}
 use Rattle.packet.specs.declared.packet.Head.the-variants as head
-use Rattle.packet.specs.declared.header.HeaderAt.the-variants.{End}
 use Rattle.packet.specs.declared.tlv.Found.{Found}
 use Rattle.packet.specs.declared.tlv.Found.the-variants as place
 use Rattle.packet.proofs.HeaderBytes.{Octets}
-use Rattle.packet.proofs.HeaderLaws.{by-cursor, first-found}
+use Rattle.packet.proofs.HeaderLaws.{first-found}
 use Rattle.packet.proofs.TextForms.{octets-take}
 use Rattle.journal.specs.Journal.{listOf, headersOf as headersIn, responseIn, isEnable}
 use Rattle.incoming.specs.Survey.{idOf, present, surveyOf}
@@ -37,7 +35,7 @@ use Rattle.connection.specs.declared.peer.ConnectionId.the-variants as connecti
 use Rattle.connection.specs.declared.peer.Challenge.{Challenge}
 use Rattle.connection.specs.declared.peer.Challenge.the-variants.{Stored, Absent}
 use Rattle.connection.proofs.Challenges.{first-in-bytes}
-use Rattle.connection.proofs.Requests.{Finds, finds}
+use Rattle.connection.proofs.Requests.{Finds, finds, at-end}
 use Rattle.connection.specs.declared.request.ConnectRequest.{ConnectRequest}
 use Rattle.connection.proofs.ByNumbers.{checkBy, check-by}
 use Rattle.model.specs.Step.{Stores, stepped, after}
@@ -70,11 +68,8 @@ from-headless (Known p g) q e = go (ltb (length q) (prefixOf p)) e
     go true e = refl
     go false e = let z : _≡_ {A = ℕ} 0 1 = cc in absurd (omega arith)
 
-at-end : (q : List ℕ) → headersFrom q (length q) ≡ []
-unfolding headerAt
-at-end q =
-    let n : length q ≤ length q = omega arith in
-    ap (λ (r : Option (List Header)). listOf r) (by-cursor q (length q) End (simp (le-leb _ _ n)) .1)
+none-at-end : (q : List ℕ) → headersFrom q (length q) ≡ []
+none-at-end q = ap (λ (r : Option (List Header)). listOf r) (at-end q)
 
 -- its headers, none if they cannot be read
 pub last-headers : (q : List ℕ) → headersFrom q (lastFrom q) ≡ headersIn (requestOf q)
@@ -87,11 +82,11 @@ last-headers q = go (firstByte (getD q 0 0))
 
     by : (o : Opcode) (f t : Bool)
         → headersFrom q (pick t (length q) (prefixOf o)) ≡ headersIn (pick t none (requestWith o f q (readHeaders q (prefixOf o))))
-    by o f true = at-end q
+    by o f true = none-at-end q
     by o f false = with-read o f (readHeaders q (prefixOf o))
 
     go : (b : FirstByte) → headersFrom q (fromBy b (length q)) ≡ headersIn (requestBy b q)
-    go Unknown = at-end q
+    go Unknown = none-at-end q
     go (Known o f) = by o f (ltb (length q) (prefixOf o))
 
 -- a Connect's headers, as they were read in one walk

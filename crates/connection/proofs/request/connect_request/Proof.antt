@@ -4,7 +4,6 @@ use native.Mathlib.Omega.{arith}
 use Prim.Native.Nat.{_-_}
 use mathlib.Core.Path.{sym, _∙_}
 use lib.ListN.{length}
-use Rattle.packet.specs.declared.header.HeaderAt.the-variants.{Unreadable, End}
 use Rattle.packet.proofs.HeaderBytes.{header-at-within}
 use Rattle.connection.proofs.Requests.{Walked, begins, goes-on, ends, stops}
 use Rattle.connection.proofs.request.connect_request.Statement.{statement}

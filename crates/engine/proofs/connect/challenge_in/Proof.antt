@@ -1,5 +1,5 @@
 -- `engine::connect::challenge_in` meets its contract: without a challenge none is answered, and else the first of all.
-use mathlib.Core.Path.{_≡_, sym, ap, _∙_}
+use mathlib.Core.Path.{sym, ap, _∙_}
 use mathlib.Core.List.{List}
 use Rattle.packet.specs.Header.{Header}
 use Rattle.connection.specs.Pieces.{answeredIn}

@@ -1,5 +1,5 @@
 -- `engine::request::first_target` meets its contract: the header is found and its bytes are the Target's, or it is not there. Assumes nothing.
-use mathlib.Core.Path.{_≡_, sym, ap, _∙_}
+use mathlib.Core.Path.{sym, ap, _∙_}
 use Prim.Native.Nat.{_≤_}
 use lib.ListN.{length}
 use Rattle.connection.specs.Peer.{targetGiven}
