@@ -21,13 +21,13 @@ connectRequest s from =
     foundRequest (pick (readableFrom s from) from (length s)) (firstIn header-id.target s from) (firstIn header-id.authenticateChallenge s from)
     (firstIn header-id.authenticateResponse s from) (firstIn header-id.singleResponseMode s from)
 
--- Nothing is found.
+-- The request in which nothing is found, with headers that start at `from`.
 abbrev pub headerless : ℕ → ConnectRequest
 headerless from = foundRequest from place.Missing place.Missing place.Missing place.Missing
 
 -- ---- as the walk has it
 
--- The first of two places.
+-- The first of two places that was found.
 abbrev pub orFound : Found → Found → Found
 orFound (place.At a b) f = place.At a b
 orFound place.Missing f = f
@@ -36,6 +36,7 @@ orFound place.Missing f = f
 abbrev pub notedFound : Found → ℕ → ℕ → ℕ → ℕ → Found
 notedFound f wanted id a b = pick (eqb id wanted) (orFound f (place.At a b)) f
 
+-- The header is noted at each of the four places, by its id.
 unfoldable pub notedRequest : ConnectRequest → ℕ → ℕ → ℕ → ConnectRequest
 notedRequest c id a b =
     foundRequest (c .from) (notedFound (c .target) header-id.target id a b) (notedFound (c .challenge) header-id.authenticateChallenge id a b)

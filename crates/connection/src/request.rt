@@ -51,7 +51,7 @@ fn note(c: ConnectRequest, id: u8, start: usize, end: usize) -> ConnectRequest
     }
 }
 
-// Nothing is found, and the headers start at `from`.
+// Returns the request in which nothing is found, with headers that start at `from`.
 fn nothing_found(from: usize) -> ConnectRequest
     ensures { λ r. ⌜ r ≡ headerless from ⌝ }
 {
