@@ -5,6 +5,7 @@ ghost use Rattle.model.specs.Calls.{streamEndedStep, startStep, bytesOfferedSte
 ghost use Rattle.model.specs.Close.{closed};
 ghost use Rattle.model.specs.Runs.{Octets};
 ghost use Rattle.packet.specs.AuthWrite.{given};
+ghost use Rattle.incoming.specs.Frame.{coming};
 ghost use Rattle.connection.specs.Pieces.{credentialsOf};
 use crate::close::close_all;
 use crate::close::closed_peer;
@@ -96,10 +97,12 @@ pub fn start(
     }
 }
 
-// Offers the engine bytes from the client. The engine takes them up to the end of a packet and never past it; the host offers the rest
-// again after the packet is answered (docs/PROTOCOL.md#frames). The open ids in `tables` decide whether a packet is admitted.
+// Offers the engine bytes from the client: first the `placed` ones that the host has put into the packet store itself, behind the `begun`
+// ones of an unfinished packet, then those of `input`. The engine takes them up to the end of a packet and never past it; the host offers the
+// rest again after the packet is answered (docs/PROTOCOL.md#frames). The open ids in `tables` decide whether a packet is admitted.
 pub fn bytes_offered(
     e: Engine,
+    placed: usize,
     input: &[u8],
     tables: &[u64],
     packet: &mut [u8],
@@ -108,9 +111,9 @@ pub fn bytes_offered(
     reply: &mut [u8],
 ) -> CallResult
     ensures step { λ r. ⌜ stepped r (stores (now (packet .exit)) (now (headers .exit)) (now (body .exit)) (now (reply .exit)))
-        ≡ bytesOfferedStep e (now (input .entry)) (stores (now (packet .entry)) (now (headers .entry)) (now (body .entry))
-        (now (reply .entry))) (now (tables .entry)) ⌝ }
-    ensures octets { λ r. ⌜ Octets (now (input .entry)) ⌝ }
+        ≡ bytesOfferedStep e (coming (now (packet .entry)) (e .begun) placed (now (input .entry)))
+        (stores (now (packet .entry)) (now (headers .entry)) (now (body .entry)) (now (reply .entry))) (now (tables .entry)) ⌝ }
+    ensures octets { λ r. ⌜ Octets (coming (now (packet .entry)) (e .begun) placed (now (input .entry))) ⌝ }
 {
     if let Guarded::Refuse(refusal) = guard_lent(
         e,
@@ -123,7 +126,7 @@ pub fn bytes_offered(
     ) {
         return refuse(e, refusal);
     }
-    let f = read_packet(e.begun, input, packet);
+    let f = read_packet(e.begun, placed, input, packet);
     let frame = f.frame;
     match frame {
         Frame::More => more(e, f.begun, f.taken),

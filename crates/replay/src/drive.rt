@@ -2,9 +2,11 @@
 use crate::command::Call;
 use crate::command::Options;
 use crate::state::Replay;
+use base::copy_into;
 use engine::calls;
 use lines::output::least;
 use packet::header::be32_at;
+use server::Await;
 use server::CallResult;
 use server::Engine;
 use server::Settings;
@@ -108,6 +110,37 @@ fn close(e: Engine, a: &[u8], tables: &mut [u64]) -> CallResult {
 
 // ---- one call
 
+// Returns how many bytes of a piece of `length` bytes are put into the packet store: half of them, if their number is odd and `awaits` says
+// that bytes are awaited. At any other moment the packet store holds the last packet, which an answer may read again.
+fn half(awaits: Await, length: usize) -> usize {
+    let Await::Bytes = awaits else {
+        return 0;
+    };
+    if length % 2 == 0 {
+        return 0;
+    }
+    length / 2
+}
+
+// Offers a piece of the client's bytes. Some bytes are put into the packet store first, as by a host that reads straight into it, so that
+// sessions try both ways.
+fn offer(
+    e: Engine,
+    input: &[u8],
+    tables: &[u64],
+    packet: &mut [u8],
+    headers: &mut [u8],
+    body: &mut [u8],
+    reply: &mut [u8],
+) -> CallResult {
+    let awaits = e.awaits;
+    let at = least(e.begun, packet.len());
+    let n = least(half(awaits, input.len()), packet.len() - at);
+    let m = least(n, input.len());
+    copy_into(packet, at, &input[0..m]);
+    calls::bytes_offered(e, m, &input[m..], tables, packet, headers, body, reply)
+}
+
 // Makes a call that comes from the peer, or one that answers no question. A reply is taken if `call` is no other call.
 fn peer_call(
     e: Engine,
@@ -121,7 +154,7 @@ fn peer_call(
     reply: &mut [u8],
 ) -> CallResult {
     match call {
-        Call::Bytes => calls::bytes_offered(e, input, tables, packet, headers, body, reply),
+        Call::Bytes => offer(e, input, tables, packet, headers, body, reply),
         Call::EndOfStream => calls::stream_ended(e, packet, headers, body, reply),
         Call::Acknowledge => calls::abort_acknowledged(e, packet, headers, body, reply),
         Call::Start(o) => start(o, realm, tables, packet, headers, body, reply),
