@@ -16,7 +16,7 @@ use Rattle.packet.specs.declared.opcode.Opcode.{Opcode}
 use Rattle.packet.specs.declared.opcode.Opcode.the-variants.{Connect, Disconnect, Put, Get, SetPath, Action, Session, Abort, UserDefined}
 use Rattle.journal.specs.Record.{Record, bare, joined, sizeOf, carriedBy, keptByGet}
 use Rattle.journal.specs.Calls.{Call, bytesOffered, streamEnded, replyTaken, replyGiven, objectGiven, bodyGiven, bodyFailed, abortAcknowledged, passwordGiven, nonceGiven, credentialsGiven, connectionsClosed, Fed, noStep, stepBy, replySent}
-use Rattle.journal.specs.Journal.{Opened, nothing, putting, getting, sending, gathering, draining, busy, Journal, fresh, Entry, unchanged, begin, after, opens, stands, end, endsWith, admitted, asksSrm, putRead, gatherRead, turnedAway, dropped, firstRead, stopped, requestRead, packetRead, journalPacket, Read, more, whole, short, readUp, bytesRead, replyTo, replyLast, replied, objectSent, takenAt, passwordChecked, challenged, closes, passes, streamNumber, lastTaken, journalCall, journalFed, journalStep, journalRecords, Marked, readIn, callReads, fedReads, packets, trailing, overrun, trails, isStopped, withCheck, connectRead}
+use Rattle.journal.specs.Journal.{Opened, nothing, putting, getting, sending, gathering, draining, busy, Journal, fresh, Entry, unchanged, begin, after, opens, stands, end, endsWith, admitted, asksSrm, putRead, gatherRead, turnedAway, dropped, firstRead, stopped, requestRead, packetRead, journalPacket, Read, more, whole, short, readUp, bytesRead, replyTo, replyLast, replied, objectSent, takenAt, passwordChecked, challenged, closes, passes, streamNumber, journalCall, journalFed, journalStep, journalRecords, Marked, readIn, callReads, fedReads, packets, trailing, overrun, trails, isStopped, withCheck, connectRead}
 use Rattle.journal.specs.PutForm.{readablePut, isFinal, carriedIn, admits, Form, Apart, isTrailing, trailsRequest, isTrailed}
 use Rattle.journal.specs.Checks.{stop}
 use Rattle.journal.specs.Claim.{PutForms}

@@ -18,7 +18,7 @@ use Rattle.packet.specs.declared.opcode.Opcode.{Opcode}
 use Rattle.packet.specs.declared.opcode.Opcode.the-variants as op
 use Rattle.journal.specs.Record.{bare, carriedBy}
 use Rattle.journal.specs.Ids.{member}
-use Rattle.journal.specs.Checks.{Check, stop, mostWrong, tooMany}
+use Rattle.journal.specs.Checks.{stop, mostWrong, tooMany}
 use Rattle.journal.specs.Journal.{Settings as JournalSettings, Standing, nothing, draining, Journal, Entry, unchanged, after, stands, unauthorized, notOpen, admitted, asksSrm, isStopped, withCheck, connectRead, putRead, gatherRead, turnedAway, dropped, firstRead, responseIn, headersOf as headersIn}
 use Rattle.incoming.specs.Survey.{idOf, present, surveyOf}
 use Rattle.incoming.specs.Gather.{gathering as gatheringOf}
@@ -34,7 +34,6 @@ use Rattle.model.specs.Request.{lastPacket, lastHeaders, clientResponse,
 use Rattle.model.specs.Connect.{verifies, stops, repliesFields, connectPacket}
 use Rattle.model.specs.Dispatch.{Rejection, admits, rejects, rejection, knownIn, drains, rejected, confirms, dispatches, admittedAs, dispatch}
 use Rattle.model.specs.Runs.{handedBy}
-use Rattle.model.specs.Theorem.{settingsOf}
 use Rattle.server.specs.declared.Operation.the-variants.{Nothing, Draining}
 use Rattle.server.specs.declared.Await.{Await}
 use Rattle.server.specs.declared.Await.the-variants as await
@@ -45,7 +44,7 @@ use Rattle.server.specs.declared.Outcome.the-variants as outcome
 use Rattle.connection.proofs.Standings.{standingOf, limited-standing, stopped-standing, Windowed, limited-window, checked-window, too-many}
 use Rattle.incoming.proofs.Gathers.{KeptAgrees, put-begins, carried-headers, kept-headers, kept-begins}
 use Rattle.model.proofs.Fit.{Base}
-use Rattle.model.proofs.Coupling.{Plain, Fixed, AskedBy, CoupledAt, Told, told-pick, told-done, told-wants, told-replies, told-code}
+use Rattle.model.proofs.Coupling.{Plain, Fixed, AskedBy, CoupledAt, Told, told-done, told-wants, told-replies, told-code}
 use Rattle.model.proofs.Gathers.{held-after, still-after, put-packet, get-packet, headers-packet}
 
 -- ---- admission

@@ -7,11 +7,10 @@ use mathlib.Core.Option.{Option}
 use Prim.Native.Nat.{ℕ}
 use native.Mathlib.Omega.{arith}
 use lib.Count.{ones}
-use lib.Dec.{leb}
 use lib.ListN.{getD}
 use Rattle.base.specs.Pick.{pick}
 use Rattle.journal.specs.Calls.{Call, bytesOffered, streamEnded, replyTaken, replyGiven, objectGiven, bodyGiven, bodyFailed, abortAcknowledged, passwordGiven, nonceGiven, credentialsGiven, connectionsClosed, Verdict, goes, refused, stepBy}
-use Rattle.journal.specs.Checks.{Check, mostWrong, tooMany, windowOf, Ruled}
+use Rattle.journal.specs.Checks.{tooMany, windowOf, Ruled}
 use Rattle.journal.specs.Journal.{Standing, Journal, journalStep, journalAfter}
 use Rattle.journal.proofs.Checked.{counts, passes-after, few-stops}
 use Rattle.journal.proofs.Rules.{taken-standing, step-ruled}
@@ -20,7 +19,6 @@ use Rattle.connection.proofs.Standings.{Windowed, too-many}
 use Rattle.server.specs.declared.Await.{Await}
 use Rattle.server.specs.declared.Await.the-variants as await
 use Rattle.server.specs.declared.Operation.{Operation}
-use Rattle.server.specs.declared.Engine.{Engine}
 use Rattle.server.specs.declared.Settings.{Settings}
 use Rattle.model.specs.Step.{Stores}
 use Rattle.model.specs.Guard.{sameAwait}

@@ -19,7 +19,7 @@ use Rattle.outgoing.specs.declared.object.Outgoing.{Outgoing}
 use Rattle.outgoing.specs.declared.object.Chunk.{Chunk}
 use Rattle.connection.specs.Reply.{front}
 use Rattle.connection.specs.declared.peer.Peer.{Peer}
-use Rattle.model.specs.Step.{Stores, withHeaders, stores, withReply, engineWith, Done, done, DoneTabled, wants, asks, ends, replies, repliesCode, continueBytes, continues, limitOf}
+use Rattle.model.specs.Step.{Stores, withHeaders, withReply, engineWith, Done, done, DoneTabled, wants, asks, ends, replies, repliesCode, continueBytes, continues, limitOf}
 use Rattle.model.specs.Guard.{short, shortTables, longRealm, soundOperation, sound}
 use Rattle.model.specs.Runs.{State}
 use Rattle.model.specs.Refusals.{Waits, bytes, taking, reply, object, acknowledgement, password, nonce, credentials, nothing, reading, asked, told, verdictOf}

@@ -5,12 +5,12 @@ use mathlib.Core.Bool.{Bool, true, false, _&&_, not}
 use Prim.Native.Nat.{ℕ, zero, suc, _≤_}
 use native.Mathlib.Omega.{arith}
 use lib.ListN.{length, getD, take}
-use lib.Dec.{leb, eqb}
-use borrow.Author.Tests.{leb-true, eqb-true, eqb-false, ne-eqb}
+use lib.Dec.{eqb}
+use borrow.Author.Tests.{ne-eqb}
 use Rattle.base.specs.Pick.{pick}
 use Rattle.packet.specs.Packet.{requestOf}
-use Rattle.journal.specs.Calls.{bytesOffered, streamEnded, replyTaken, goes, stepBy, replySent}
-use Rattle.journal.specs.Journal.{Journal, unchanged, begin, end, endsWith, Read, more, whole, short, readUp, bytesRead, packetRead, journalPacket, takenUp, streamNumber, takenAt, lastTaken, journalCall, journalFed, readIn, fedTakes, fedReads, keptRead, keptAfter}
+use Rattle.journal.specs.Calls.{bytesOffered, streamEnded, replyTaken, goes, stepBy}
+use Rattle.journal.specs.Journal.{Journal, unchanged, begin, end, endsWith, Read, more, whole, short, readUp, bytesRead, packetRead, journalPacket, takenUp, streamNumber, takenAt, lastTaken, journalFed, readIn, fedTakes, fedReads, keptRead, keptAfter}
 use Rattle.incoming.specs.Frame.{Frames, framed}
 use Rattle.incoming.specs.declared.frame.Frame.{Frame}
 use Rattle.incoming.specs.declared.frame.Frame.the-variants.{More, Whole, Short}
@@ -34,7 +34,7 @@ use Rattle.server.specs.declared.Await.the-variants as await
 use Rattle.server.specs.declared.Engine.{Engine}
 use Rattle.server.specs.declared.Outcome.the-variants as outcome
 use Rattle.incoming.proofs.Frames.{Octets, Agrees as Frames-agree, frames-agree, frames-count}
-use Rattle.model.proofs.Fit.{and-left, and-right, Room, Shape, waitsOf, Base, Seated, Fine, fine-pick, fine-wants, fine-ends}
+use Rattle.model.proofs.Fit.{Room, Shape, waitsOf, Base, Seated, Fine, fine-pick, fine-wants, fine-ends}
 use Rattle.model.proofs.Steps.{outgoing-within, sends-next-fine, read-fine}
 use Rattle.model.proofs.Coupling.{OpenedAt, Held, CoupledAt, Coupled, Told, Follows, told-follows, told-pick, told-ends, told-wants}
 use Rattle.model.proofs.Sizes.{early, Brief, brief-done, done-brief, goes-on-brief}

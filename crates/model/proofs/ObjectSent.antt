@@ -1,15 +1,15 @@
 -- The replies to a Get are the packets of the object that the host gives: the calls go as the run of the object does, with a request of the
 -- peer between two replies unless Single Response Mode spares it. Assumes nothing.
-use mathlib.Core.Path.{_≡_, refl, sym, ap, subst, _∙_}
-use mathlib.Core.List.{List, [], _∷_, _++_}
+use mathlib.Core.Path.{_≡_, refl, sym, ap, _∙_}
+use mathlib.Core.List.{List, [], _∷_}
 use mathlib.Core.Bool.{Bool, true, false, _&&_, _||_, not}
 use mathlib.Core.Option.{Option, none, some}
-use Prim.Native.Nat.{ℕ, zero, suc, _+_, _-_, _≤_, min}
+use Prim.Native.Nat.{ℕ, zero, suc, _≤_}
 use native.Mathlib.Omega.{arith}
 use lib.ListN.{length, take, drop, length-take}
 use lib.Seq.{take-append-seam}
 use lib.Dec.{ltb, leb}
-use borrow.Author.Tests.{ltb-false, leb-true, le-ltb, le-leb}
+use borrow.Author.Tests.{ltb-false, leb-true, le-ltb}
 use Rattle.base.specs.Pick.{pick}
 use Rattle.packet.specs.FirstByte.{named, firstByte, sameOpcode}
 use Rattle.packet.specs.Header.{headerAt, walk, readHeaders, first}
@@ -28,16 +28,14 @@ use Rattle.outgoing.specs.Claims.{Reads, gives, beforeRun, runBy, run, fresh, h
 use Rattle.outgoing.proofs.Sent.{SendsFrom, next-sends, body-sends}
 use Rattle.outgoing.proofs.ObjectRuns.{sent-as-packets}
 use Rattle.connection.specs.Reply.{front}
-use Rattle.server.specs.declared.Operation.{Operation}
-use Rattle.server.specs.declared.Operation.the-variants.{Nothing, Sending, Getting}
+use Rattle.server.specs.declared.Operation.the-variants.{Sending, Getting}
 use Rattle.server.specs.declared.Await.{Await}
 use Rattle.server.specs.declared.Await.the-variants as await
 use Rattle.server.specs.declared.CallKind.{CallKind}
 use Rattle.server.specs.declared.CallKind.the-variants as kind
 use Rattle.server.specs.declared.Engine.{Engine}
-use Rattle.server.specs.declared.Outcome.the-variants as outcome
-use Rattle.model.specs.Step.{Stores, withReply, withHeaders, engineWith, Done, wants, repliesCode, capacityOf, limitOf, Stepped, after}
-use Rattle.model.specs.Object.{sendsMade, sendsPacket, sendsNext, goesOn, objectOf}
+use Rattle.model.specs.Step.{Stores, withReply, withHeaders, engineWith, wants, capacityOf, limitOf, Stepped, after}
+use Rattle.model.specs.Object.{sendsMade, sendsPacket, sendsNext}
 use Rattle.model.specs.Guard.{short, shortTables, sound, badHeaders, fits, guarded}
 use Rattle.model.specs.Calls.{withPacket, offers, bytesOfferedStep, replyTakenStep, objectGivenStep, bodyGivenStep}
 use Rattle.model.specs.ObjectSent.{goOn, repliesFrom, asReplies, GetSends}

@@ -28,7 +28,6 @@ use Rattle.server.specs.declared.Operation.the-variants.{Nothing, Trailing, Put
 use Rattle.server.specs.declared.Await.the-variants as await
 use Rattle.server.specs.declared.End.the-variants as why
 use Rattle.server.specs.declared.Engine.{Engine}
-use Rattle.server.specs.declared.HostRequest.{HostRequest}
 use Rattle.server.specs.declared.HostRequest.the-variants as request
 use Rattle.server.specs.declared.Outcome.the-variants as outcome
 use Rattle.incoming.proofs.Frames.{Octets}

@@ -1,8 +1,8 @@
 -- No reply is too long by itself: only a host's answer can lead to a reply of over 65,535 bytes, and then the answer's own size says so. And
 -- only a host's reply leads to where credentials are awaited. Assumes nothing.
 use mathlib.Core.Path.{_≡_, refl, sym, ap, ap₂, _∙_, subst}
-use mathlib.Core.List.{List, [], _∷_}
-use mathlib.Core.Bool.{Bool, true, false, _&&_, _||_, not, true≢false, false≢true}
+use mathlib.Core.List.{List, []}
+use mathlib.Core.Bool.{Bool, true, false, _&&_, _||_, not, true≢false}
 use mathlib.Core.Option.{Option, none, some}
 use Prim.Native.Nat.{ℕ, _+_, _%_, _^_, _≤_}
 use native.Mathlib.Omega.{arith}
@@ -15,7 +15,6 @@ use Rattle.base.specs.Bytes.{be32}
 use Rattle.digest.specs.Md5.{octets16}
 use Rattle.digest.specs.declared.md5.Octets16.{Octets16}
 use Rattle.packet.specs.FirstByte.{sameOpcode}
-use Rattle.packet.specs.AuthWrite.{given}
 use Rattle.packet.specs.Codes.{isSuccess, sentCode}
 use Rattle.packet.specs.Header.{Header, readHeaders, first, bytesOf, allBytes}
 use Rattle.packet.specs.Packet.{Request as Packet, requestOf, connectLimit, packetBytes}
@@ -27,7 +26,6 @@ use Rattle.journal.specs.Calls.{Credentials}
 use Rattle.journal.specs.Checks.{Check}
 use Rattle.journal.specs.Journal.{Settings as JournalSettings, Standing, Opened, Journal, asksSrm, listOf}
 use Rattle.incoming.specs.Survey.{surveyOf}
-use Rattle.incoming.specs.Gather.{Gathering}
 use Rattle.incoming.specs.declared.survey.Survey.{Survey}
 use Rattle.incoming.specs.declared.gather.Keep.the-variants as keep
 use Rattle.incoming.specs.declared.gather.Gathered.{Gathered}
@@ -45,12 +43,12 @@ use Rattle.connection.specs.declared.peer.Challenge.{Challenge}
 use Rattle.connection.specs.declared.peer.Challenge.the-variants.{Stored, Absent}
 use Rattle.connection.specs.declared.peer.Peer.{Peer}
 use Rattle.connection.specs.declared.peer.ConnectionId.{ConnectionId}
-use Rattle.model.specs.Step.{Stores, withReply, withGathered, engineWith, Done, done, DoneTabled, doneTabled, wants, ends, sent, sends, sendsConnect, capacityOf}
+use Rattle.model.specs.Step.{Stores, withReply, withGathered, engineWith, Done, done, DoneTabled, doneTabled, sent, sends, sendsConnect, capacityOf}
 use Rattle.model.specs.Request.{lastPacket, lastHeaders, clientResponse}
 use Rattle.model.specs.Guard.{longRealm}
-use Rattle.model.specs.Operation.{gathers, putContinues, putGathered, putPacket, getContinues, getGathered, getPacket, headersPacket}
+use Rattle.model.specs.Operation.{gathers, putContinues, putPacket, getContinues, getPacket, headersPacket}
 use Rattle.model.specs.Object.{sendsMade, sendsPacket, sendsNext, goesOn}
-use Rattle.model.specs.Connect.{srmAsked, connectSends, frontFor, connectChallenged, connectOpened, connectAnswer, verifies, connectPacket, checks, passwordAnswer, optionsOf, realmOf, nonceAnswer, stops, repliesFields, passwordAnswered, demandsUser}
+use Rattle.model.specs.Connect.{srmAsked, connectSends, frontFor, connectChallenged, connectOpened, connectAnswer, verifies, connectPacket, checks, passwordAnswer, optionsOf, realmOf, nonceAnswer, stops, passwordAnswered, demandsUser}
 use Rattle.model.specs.Dispatch.{Rejection, admits, rejects, rejection, drains, dispatches, admittedAs, dispatch, inside, busy, readAs, knownIn, packetTarget, arrived, packetDone, trails}
 use Rattle.model.specs.Replies.{frontIn, isFull, fullFor, acceptedSize, acceptedAt, connectSize, lastSize, answerSize, Late, lateBy}
 use Rattle.model.specs.Theorem.{settingsOf}

@@ -1,12 +1,12 @@
 -- The engine makes a reply, and grants Single Response Mode (SRM), where the definition of SRM says so. By packets and by what is open, beside
 -- what `Packets` says of records. Assumes nothing.
 use mathlib.Core.Path.{_≡_, refl, sym, ap, ap₂, _∙_, subst}
-use mathlib.Core.List.{List, [], _∷_, _++_}
+use mathlib.Core.List.{List, [], _++_}
 use mathlib.Core.Bool.{Bool, true, false, _&&_, _||_, not, and-false, true≢false}
 use mathlib.Core.Option.{Option, none, some}
 use Prim.Native.Nat.{ℕ, _≤_}
 use native.Mathlib.Omega.{arith}
-use lib.ListN.{length, getD, take, drop, length-take}
+use lib.ListN.{length, take, drop, length-take}
 use lib.Seq.{take-append-seam}
 use lib.Dec.{leb}
 use Rattle.base.specs.Pick.{pick}
@@ -17,11 +17,10 @@ use Rattle.packet.specs.Packet.{Request as Packet, requestOf, packetBytes, conn
 use Rattle.packet.specs.Auth.{Challenge as PeerChallenge, Response}
 use Rattle.packet.specs.declared.opcode.Opcode.{Opcode}
 use Rattle.packet.specs.declared.opcode.Opcode.the-variants as op
-use Rattle.packet.proofs.OpcodeLaws.{same-equal}
 use Rattle.digest.specs.declared.md5.Octets16.{Octets16}
 use Rattle.journal.specs.Calls.{Credentials}
 use Rattle.journal.specs.Record.{Record, bare, joined, sizeOf, carriedBy, keptByGet}
-use Rattle.journal.specs.Journal.{Settings as JournalSettings, Standing, Opened, nothing, putting, getting, sending, gathering, draining, Journal, asksSrm, admitted, unauthorized, notOpen, listOf, keptWith, keptRead}
+use Rattle.journal.specs.Journal.{Opened, getting, sending, Journal, admitted, unauthorized, notOpen, listOf, keptWith, keptRead}
 use Rattle.incoming.specs.Survey.{surveyOf}
 use Rattle.incoming.specs.Gather.{Gathering, gathering as gatheringOf}
 use Rattle.incoming.specs.declared.survey.Survey.{Survey}
@@ -31,14 +30,14 @@ use Rattle.outgoing.specs.Object.{Made, nextPacket}
 use Rattle.outgoing.specs.declared.object.Outgoing.{Outgoing}
 use Rattle.outgoing.specs.declared.object.Next.{Next}
 use Rattle.outgoing.specs.declared.object.Next.the-variants as next
-use Rattle.connection.specs.Reply.{fieldsOf, sendBytes, front}
+use Rattle.connection.specs.Reply.{fieldsOf, sendBytes}
 use Rattle.connection.specs.ConnectReply.{answeredChallenge}
 use Rattle.connection.specs.Peer.{Linked, openedFor, limited, verifiedPeer, challengedPeer, checkedPeer}
 use Rattle.connection.specs.declared.peer.Challenge.{Challenge}
 use Rattle.connection.specs.declared.peer.Challenge.the-variants.{Stored, Absent}
 use Rattle.connection.specs.declared.peer.Peer.{Peer}
 use Rattle.connection.specs.declared.peer.ConnectionId.{ConnectionId}
-use Rattle.model.specs.Step.{Stores, withReply, withGathered, engineWith, Done, done, DoneTabled, sent, sends, sendsConnect, wants, asks, replies, repliesCode, continueBytes, limitOf, capacityOf}
+use Rattle.model.specs.Step.{Stores, withGathered, engineWith, Done, done, DoneTabled, sent, sends, sendsConnect, wants, asks, replies, repliesCode, continueBytes, limitOf, capacityOf}
 use Rattle.model.specs.Request.{lastPacket, lastHeaders, clientResponse}
 use Rattle.model.specs.Operation.{nothingGathered, gathers, putGathered, putPacket, getGathered, getPacket, headersGathered, headersPacket, overrun}
 use Rattle.model.specs.Object.{sendsMade, sendsPacket, sendsNext, goesOn}
@@ -46,7 +45,7 @@ use Rattle.model.specs.Connect.{srmAsked, frontFor, verifies, connectPac
 use Rattle.model.specs.Dispatch.{Rejection, admits, rejects, rejection, drains, rejected, confirms, dispatches, admittedAs, dispatch, interrupts, inside, busy, readAs, knownIn, trails}
 use Rattle.model.specs.Guard.{sameAwait}
 use Rattle.model.specs.Calls.{replyAnswer}
-use Rattle.journal.specs.Srm.{Due, silent, continues, speaks, continueReply, asksMore, asksWait, newly, Mode, requested, modeRead, packetMode, putDue, getDue, gatherDue, drainDue, turnedDue, firstDue, requestDue, packetDue, takenDue}
+use Rattle.journal.specs.Srm.{Due, silent, continues, speaks, continueReply, asksMore, asksWait, newly, Mode, requested, modeRead, packetMode, putDue, getDue, gatherDue, turnedDue, firstDue, requestDue, packetDue, takenDue}
 use Rattle.model.specs.Theorem.{wantsBytes, Obeys}
 use Rattle.server.specs.declared.Operation.{Operation}
 use Rattle.server.specs.declared.Operation.the-variants.{Nothing, Putting, Getting, Sending, Gathering as GatheringOp, Connecting, Draining, Trailing}

@@ -6,7 +6,7 @@ use mathlib.Core.Option.{Option, none, some}
 use Prim.Native.Nat.{ℕ, _+_, _≤_}
 use native.Mathlib.Omega.{arith}
 use lib.ListN.{length, getD, length-append}
-use lib.Dec.{ltb, leb, eqb}
+use lib.Dec.{ltb, leb}
 use borrow.Author.Tests.{ltb-false, leb-true, le-leb}
 use Rattle.base.specs.Pick.{pick}
 use Rattle.digest.specs.declared.md5.Octets16.{Octets16}
@@ -52,7 +52,6 @@ use Rattle.connection.specs.declared.peer.ConnectionId.{ConnectionId}
 use Rattle.server.specs.declared.Await.the-variants as await
 use Rattle.server.specs.declared.End.the-variants as end
 use Rattle.server.specs.declared.Engine.{Engine}
-use Rattle.server.specs.declared.HostRequest.{HostRequest}
 use Rattle.server.specs.declared.HostRequest.the-variants as request
 use Rattle.server.specs.declared.Outcome.the-variants as outcome
 use Rattle.connection.proofs.Standings.{PeerFits, limited-fits, checked-fits, verified-fits, challenged-fits, disconnected-fits, disconnected-length, disconnected-nonces, opened-fits, opened-length, opened-nonces}

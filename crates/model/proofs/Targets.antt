@@ -26,7 +26,6 @@ use Rattle.packet.specs.declared.opcode.Opcode.{Opcode}
 use Rattle.packet.specs.declared.opcode.Opcode.the-variants as op
 use Rattle.table.specs.Targets.{unnamed, targetBytes, placeOf, targetAt}
 use Rattle.table.specs.Nonces.{rememberedWith, remembered, among}
-use Rattle.table.specs.declared.targets.Target.{Target}
 use Rattle.journal.specs.Ids.{member, without, withoutAll, allOpen, repeats}
 use Rattle.journal.specs.Checks.{Check}
 use Rattle.journal.specs.Calls.{Call, bytesOffered, streamEnded, replyTaken, replyGiven, objectGiven, bodyGiven, bodyFailed, abortAcknowledged, passwordGiven, nonceGiven, credentialsGiven, connectionsClosed, Credentials, Verdict, goes, refused, Fed, stepBy}

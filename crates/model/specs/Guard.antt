@@ -21,14 +21,11 @@ use Rattle.server.specs.declared.Await.{Await}
 use Rattle.server.specs.declared.Await.the-variants as await
 use Rattle.server.specs.declared.CallKind.{CallKind}
 use Rattle.server.specs.declared.CallKind.the-variants as kind
-use Rattle.server.specs.declared.End.the-variants as end
 use Rattle.server.specs.declared.Refusal.{Refusal}
 use Rattle.server.specs.declared.Refusal.the-variants as refusal
 use Rattle.server.specs.declared.Engine.{Engine}
-use Rattle.server.specs.declared.Body.{Body}
-use Rattle.server.specs.declared.Body.the-variants as body
 use Rattle.server.specs.declared.Outcome.the-variants as outcome
-use Rattle.model.specs.Step.{Stores, Done, sent, limitOf, Stepped, stepped, Called, called, after}
+use Rattle.model.specs.Step.{Stores, Done, limitOf, Stepped, stepped, Called, called, after}
 
 -- Whether one of the four stores is too short.
 unfoldable pub short : ℕ → Stores → Bool
