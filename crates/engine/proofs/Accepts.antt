@@ -29,7 +29,7 @@ use Rattle.connection.specs.declared.peer.Peer.{Peer}
 use Rattle.connection.specs.declared.peer.ConnectionId.{ConnectionId}
 use Rattle.connection.proofs.ByNumbers.{opened-by, disconnected-by}
 use Rattle.journal.specs.Journal.{listOf}
-use Rattle.model.specs.Step.{Stores, Stepped, stepped, Called, called, Done, DoneTabled, doneTabled, after, sends, sendsConnect}
+use Rattle.model.specs.Step.{Stores, Stepped, stepped, Called, called, DoneTabled, doneTabled, after, sends, sendsConnect}
 use Rattle.model.specs.Guard.{badReply, longUser, checked, soundOperation, sameAwait}
 use Rattle.model.specs.Calls.{replyGivenStep, credentialsWith, credentialsGivenStep, sendsLinked, replyAnswer}
 use Rattle.model.specs.Request.{lastPacket, lastHeaders, realmIn}

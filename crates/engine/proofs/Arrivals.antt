@@ -51,6 +51,7 @@ use Rattle.server.specs.declared.End.the-variants as end
 use Rattle.server.specs.declared.Engine.{Engine}
 use Rattle.server.specs.declared.CallResult.{CallResult}
 use Rattle.engine.specs.declared.step.Plan.{Plan}
+use Rattle.engine.specs.declared.operation.GatherFlags.{GatherFlags}
 use Rattle.engine.specs.declared.operation.GatherKind.{GatherKind}
 use Rattle.engine.specs.declared.dispatch.Heading.{Heading}
 use Rattle.engine.specs.declared.dispatch.Route.{Route}
@@ -166,10 +167,10 @@ pub gathered-way : (e : Engine) (k : GatherKind) (q : List ℕ) (hs : List Heade
     → limit ≡ limitOf e → readHeaders q (fromOf k) ≡ some hs → x ≡ gathers e (keepOf k) hs g s
 gathered-way e k q hs g s from limit keep x h a b c r = h ∙ rw (a, b, c, r)
 
-pub gathered-planned : (e : Engine) (k : GatherKind) (final asked srm confirm : Bool) (got : Gathered) (h b : List ℕ) (s : Stores) (x : Gathering) (p : Plan)
-    → gathering got h b ≡ x → p ≡ kindPlan e k got final asked srm confirm
-    → planned p (stores (s .packet) h b (s .reply)) ≡ actsGathered e k final asked srm confirm x s
-gathered-planned e k final asked srm confirm got h b s x p w z = rw (← w, z)
+pub gathered-planned : (e : Engine) (k : GatherKind) (f : GatherFlags) (got : Gathered) (h b : List ℕ) (s : Stores) (x : Gathering) (p : Plan)
+    → gathering got h b ≡ x → p ≡ kindPlan e k got f
+    → planned p (stores (s .packet) h b (s .reply)) ≡ actsGathered e k f x s
+gathered-planned e k f got h b s x p w z = rw (← w, z)
 
 -- by the way that the code was told, under the Target `g`
 pub by-route : (e : Engine) (g : Target) (q t : List ℕ) (s : Stores) (x : Route) (d : Done) → packetRoute e q t ≡ x → d ≡ acts x (targeted e g) q s

@@ -72,7 +72,8 @@ pick-planned-as false false e a b = b
 -- ---- a gathered packet
 
 pub put-planned : (e : Engine) (r : Packet) (v : Survey) (srm confirm : Bool) (g : Gathering) (s : Stores)
-    → Carries (putPlan e (g .got) (r .final) (v .additional) srm confirm) (withGathered s g) (putGathered e r v srm confirm g s)
+    → Carries (putPlan e (g .got) (record { «is_final» = r .final; asked = v .additional; srm = srm; «confirm_srm» = confirm })) (withGathered s g)
+    (putGathered e r v srm confirm g s)
 unfolding putPlan
 put-planned e r v srm confirm g s =
     pick-planned (g .got .full) (ends-planned e (e .peer) end.HeadersTooLarge t)
@@ -81,12 +82,15 @@ put-planned e r v srm confirm g s =
     t : Stores
     t = withGathered s g
 
-    go : (srm : Bool) → Carries (putContinuePlan e (g .got) srm confirm (v .additional)) t (putContinues e (g .got) srm confirm (v .additional) t)
+    go : (srm : Bool)
+        → Carries (putContinuePlan e (g .got) (record { «is_final» = r .final; asked = v .additional; srm = srm; «confirm_srm» = confirm })) t
+        (putContinues e (g .got) srm confirm (v .additional) t)
     go true = pick-planned (v .additional) (continue-planned e (Putting (g .got) true) false t) (wants-planned e (e .peer) (Putting (g .got) true) t)
     go false = pick-planned (g .got .over) (code-keeping-planned e _ 0xCD t) (continue-planned e (Putting (g .got) confirm) confirm t)
 
 pub get-planned : (e : Engine) (r : Packet) (v : Survey) (srm confirm : Bool) (g : Gathering) (s : Stores)
-    → Carries (getPlan e (g .got) (r .final) (v .wait) srm confirm) (withGathered s g) (getGathered e r v srm confirm g s)
+    → Carries (getPlan e (g .got) (record { «is_final» = r .final; asked = v .wait; srm = srm; «confirm_srm» = confirm })) (withGathered s g)
+    (getGathered e r v srm confirm g s)
 unfolding getPlan
 get-planned e r v srm confirm g s =
     pick-planned (g .got .full) (ends-planned e (e .peer) end.HeadersTooLarge t)
@@ -95,7 +99,9 @@ get-planned e r v srm confirm g s =
     t : Stores
     t = withGathered s g
 
-    go : (srm : Bool) → Carries (getContinuePlan e (g .got) srm confirm (v .wait)) t (getContinues e (g .got) srm confirm (v .wait) t)
+    go : (srm : Bool)
+        → Carries (getContinuePlan e (g .got) (record { «is_final» = r .final; asked = v .wait; srm = srm; «confirm_srm» = confirm })) t
+        (getContinues e (g .got) srm confirm (v .wait) t)
     go true = wants-planned e (e .peer) (Getting (g .got) true confirm (v .wait)) t
     go false = continue-planned e (Getting (g .got) confirm false (v .wait)) confirm t
 

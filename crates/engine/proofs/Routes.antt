@@ -48,6 +48,7 @@ use Rattle.server.specs.declared.Engine.{Engine}
 use Rattle.server.specs.declared.HostRequest.{HostRequest}
 use Rattle.server.specs.declared.HostRequest.the-variants as request
 use Rattle.engine.specs.declared.dispatch.Simple.the-variants as brief
+use Rattle.engine.specs.declared.operation.GatherFlags.{GatherFlags}
 use Rattle.engine.specs.declared.operation.GatherKind.{GatherKind}
 use Rattle.engine.specs.declared.operation.GatherKind.the-variants as kind
 use Rattle.engine.specs.declared.dispatch.Route.{Route}
@@ -138,25 +139,25 @@ module _ (e : Engine) (s : Stores) where
 
 module _ (e : Engine) (r : Packet) (s : Stores) (open-id trailed : Bool) (known : requestOf (lastPacket e s) ≡ some r) where
   -- the packet's headers are the request's
-  known-acts : (k : GatherKind) (g : Gathered) (final asked srm confirm : Bool)
-      → acts (Gather k g final asked srm confirm) e (lastPacket e s) s ≡ actsGathered e k final asked srm confirm (gathers e (keepOf k) (r .headers) g s) s
-  known-acts k g final asked srm confirm =
-      ap (λ (x : Option Packet). actsGathered e k final asked srm confirm (gathers e (keepOf k) (headersIn x) g s) s) known
+  known-acts : (k : GatherKind) (g : Gathered) (f : GatherFlags)
+      → acts (Gather f k g) e (lastPacket e s) s ≡ actsGathered e k f (gathers e (keepOf k) (r .headers) g s) s
+  known-acts k g f = ap (λ (x : Option Packet). actsGathered e k f (gathers e (keepOf k) (headersIn x) g s) s) known
 
   put-acts : (g : Gathered) (srm confirm : Bool) → Acts (putRoute (headingOf r open-id trailed) g srm confirm) e (lastPacket e s) s (putPacket e r (surveyOf (some (r .headers))) srm confirm g s)
   unfolding putPacket kindPlan
   put-acts g srm confirm =
-      record { is = known-acts kind.Put g _ _ srm confirm ∙ put-planned e r (surveyOf (some (r .headers))) srm confirm (gathers e keep.Put (r .headers) g s) s .is }
+      record { is = known-acts kind.Put g _ ∙ put-planned e r (surveyOf (some (r .headers))) srm confirm (gathers e keep.Put (r .headers) g s) s .is }
 
   get-acts : (g : Gathered) (srm confirm : Bool) → Acts (getRoute (headingOf r open-id trailed) g srm confirm) e (lastPacket e s) s (getPacket e r (surveyOf (some (r .headers))) srm confirm g s)
   unfolding getPacket kindPlan
   get-acts g srm confirm =
-      record { is = known-acts kind.Get g _ _ srm confirm ∙ get-planned e r (surveyOf (some (r .headers))) srm confirm (gathers e keep.Get (r .headers) g s) s .is }
+      record { is = known-acts kind.Get g _ ∙ get-planned e r (surveyOf (some (r .headers))) srm confirm (gathers e keep.Get (r .headers) g s) s .is }
 
   headers-acts : (o : Opcode) (g : Gathered) → Acts (headersRoute (headingOf r open-id trailed) o g) e (lastPacket e s) s (headersPacket e r o g s)
   unfolding headersPacket kindPlan
   headers-acts o g =
-      record { is = known-acts (kind.Headers o) g (r .final) false false false ∙ headers-planned e r o (gathers e keep.All (r .headers) g s) s .is }
+      let f : GatherFlags = record { «is_final» = r .final; asked = false; srm = false; «confirm_srm» = false } in
+      record { is = known-acts (kind.Headers o) g f ∙ headers-planned e r o (gathers e keep.All (r .headers) g s) s .is }
 
   rejected-acts : (code : ℕ) → Acts (rejectedRoute e (headingOf r open-id trailed) code) e (lastPacket e s) s (rejected e r code s)
   rejected-acts code =
