@@ -50,14 +50,7 @@ stream-number [] (suc b) l = absurd (omega (arith, l))
 stream-number (x ∷ p) (suc b) l = rw (ne-eqb (suc b) 0 (λ i. omega (arith, i))) refl
 
 module _ (w : Known) (s : State) (h : Seated s) (k : Knows w s) where
-  abbrev e : Engine
-  e = s .engine
-
-  abbrev st : Stores
-  st = s .stores
-
-  abbrev ts : List ℕ
-  ts = s .tables
+  open State s using (engine as e, stores as st, tables as ts)
 
   -- the coupling, where it is known what is awaited
   pub coupled-at : (a : Await) (j : Journal) → e .awaits ≡ a → Coupled ts e st j
@@ -92,7 +85,8 @@ module _ (w : Known) (s : State) (h : Seated s) (k : Knows w s) where
     kept-reads : (j : Journal) (r : Read) → Begins j → readUp (take (e .begun) (st .packet)) i ≡ r → Kept (fedReads j (stepBy (bytesOffered i)))
         → Kept (readIn j r)
     kept-reads j r x q y =
-        subst Kept (ap (λ (t : Bool). pick t [] (readIn j (readUp (j .begun) i))) (x .fixed .ended) ∙ ap (readIn j) (ap (λ (l : List ℕ). readUp l i) (x .begun) ∙ q)) y
+        subst Kept (ap (λ (t : Bool). pick t [] (readIn j (readUp (j .begun) i))) (x .fixed .ended)
+        ∙ ap (readIn j) (ap (λ (l : List ℕ). readUp l i) (x .begun) ∙ q)) y
 
     -- as many bytes are taken as the journal says
     count-at : (j : Journal) → Begins j → reported ≡ fedTakes j (stepBy (bytesOffered i))
@@ -124,7 +118,8 @@ module _ (w : Known) (s : State) (h : Seated s) (k : Knows w s) where
         }
 
     more-told : (q : List ℕ) → Frames-agree (st .packet) f (more q) → (j : Journal) → Begins j
-        → Told ts (done (engineWith (e .settings) (e .peer) (e .operation) (e .awaits) n (e .length) (e .target)) outcome.WantsBytes z) (bytesRead j (more q))
+        → Told ts (done (engineWith (e .settings) (e .peer) (e .operation) (e .awaits) n (e .length) (e .target)) outcome.WantsBytes z)
+        (bytesRead j (more q))
     unfolding engineWith
     more-told q (a, g, l, m) j x =
         record {
@@ -153,7 +148,9 @@ module _ (w : Known) (s : State) (h : Seated s) (k : Knows w s) where
         → Follows (Kept (readIn j (whole q))) ts (packetDone e n z ts) (bytesRead j (whole q))
     unfolding engineWith packetDone journalPacket keptAfter
     whole-told q (a, g, l) j x =
-        let w = subst (λ (p : List ℕ). Follows (length (keptRead (j .opened) (requestOf p)) ≤ 65535) ts (packetDone e n z ts) (packetRead (requestOf p) j)) (sym (g .bytes))
+        let w =
+        subst (λ (p : List ℕ). Follows (length (keptRead (j .opened) (requestOf p)) ≤ 65535) ts (packetDone e n z ts) (packetRead (requestOf p) j))
+        (sym (g .bytes))
         (read-told ts whole-engine z j (record { settings = x .fixed .settings; past = x .fixed .past; standing = x .fixed .standing; window = x .fixed .window; ended = x .fixed .ended })
         (whole-base q (a, g, l)) (subst Octets (g .bytes) (g .octets)) (x .opened) (h .sits .counts)
         (take n (f .packet)) (requestOf (take n (f .packet))) refl) in
@@ -188,7 +185,8 @@ module _ (w : Known) (s : State) (h : Seated s) (k : Knows w s) where
         frame-at More (g .0)
         (agree-goes w s h k (bytesOffered i) refl reported _ (more-fine q g)
         (λ j x. count-at j (coupled-at await.Bytes j at x))
-        (λ j x. told-follows (subst (Told ts _) (sym (journal-reads j (more q) (coupled-at await.Bytes j at x) y)) (more-told q g j (coupled-at await.Bytes j at x))))
+        (λ j x. told-follows (subst (Told ts _) (sym (journal-reads j (more q) (coupled-at await.Bytes j at x) y))
+        (more-told q g j (coupled-at await.Bytes j at x))))
         (λ j late x v l. brief-done e (e .peer) (e .operation) (e .awaits) n (e .length) outcome.WantsBytes z refl (ap early at))
         (λ j o x v l. read-spoken-at j o (more q) (coupled-at await.Bytes j at x) y
         (spoken-done e (e .peer) (e .operation) (e .awaits) n (e .length) outcome.WantsBytes z silent o refl v)))
@@ -204,9 +202,11 @@ module _ (w : Known) (s : State) (h : Seated s) (k : Knows w s) where
         (whole-spoken q g j o (coupled-at await.Bytes j at x) v (kept-reads j (whole q) (coupled-at await.Bytes j at x) y l))))
     read-agrees short y g =
         frame-at Short (g .0)
-        (agree-goes w s h k (bytesOffered i) refl reported _ (fine-ends e st (h .sits .base) (e .peer) why.LengthTooSmall z (h .sits .base .peer) (room-at (g .1)))
+        (agree-goes w s h k (bytesOffered i) refl reported _
+        (fine-ends e st (h .sits .base) (e .peer) why.LengthTooSmall z (h .sits .base .peer) (room-at (g .1)))
         (λ j x. count-at j (coupled-at await.Bytes j at x))
-        (λ j x. told-follows (subst (Told ts _) (sym (journal-reads j short (coupled-at await.Bytes j at x) y)) (told-ends ts e (e .peer) z (end j) why.LengthTooSmall)))
+        (λ j x. told-follows (subst (Told ts _) (sym (journal-reads j short (coupled-at await.Bytes j at x) y))
+        (told-ends ts e (e .peer) z (end j) why.LengthTooSmall)))
         (λ j late x v l. brief-done e (e .peer) Nothing await.Nothing 0 (e .length) (outcome.End why.LengthTooSmall) z refl refl)
         (λ j o x v l. read-spoken-at j o short (coupled-at await.Bytes j at x) y
         (spoken-done e (e .peer) Nothing await.Nothing 0 (e .length) (outcome.End why.LengthTooSmall) z speaks o refl tt)))
@@ -216,7 +216,8 @@ module _ (w : Known) (s : State) (h : Seated s) (k : Knows w s) where
   bytes-agree i o =
       agrees w s h k (bytesOffered i)
       (λ r j x. read-agrees i o (same-await (e .awaits) await.Bytes r) _ refl
-      (frames-agree (st .packet) i (e .begun) 0 (h .sits .begun .small) (h .sits .base .room .packet) (h .sits .begun .octets) o (h .sits .begun .goes-on)))
+      (frames-agree (st .packet) i (e .begun) 0 (h .sits .begun .small) (h .sits .base .room .packet) (h .sits .begun .octets) o
+      (h .sits .begun .goes-on)))
 
   -- ---- the end of the stream
 
@@ -224,14 +225,18 @@ module _ (w : Known) (s : State) (h : Seated s) (k : Knows w s) where
   unfolding bad used
   end-agrees =
       agrees w s h k streamEnded
-      (λ r j x. agree-goes w s h k streamEnded refl 0 _ (fine-ends e st (h .sits .base) (e .peer) (pick (eqb (e .begun) 0) why.Disconnected why.Truncated) st (h .sits .base .peer) (h .sits .base .room))
+      (λ r j x. agree-goes w s h k streamEnded refl 0 _
+      (fine-ends e st (h .sits .base) (e .peer) (pick (eqb (e .begun) 0) why.Disconnected why.Truncated) st (h .sits .base .peer)
+      (h .sits .base .room))
       (λ j x. none-taken (j .ended))
       (λ j x. let y = coupled-at await.Bytes j (same-await (e .awaits) await.Bytes r) x in
       told-follows (subst (Told ts _) (sym (fed-goes j streamEnded (y .fixed .ended)
-      ∙ ap (λ (n : ℕ). endsWith n j) (ap streamNumber (y .begun) ∙ stream-number (st .packet) (e .begun) (omega (arith, h .sits .begun .small, h .sits .base .room .packet)))))
+      ∙ ap (λ (n : ℕ). endsWith n j) (ap streamNumber (y .begun)
+      ∙ stream-number (st .packet) (e .begun) (omega (arith, h .sits .begun .small, h .sits .base .room .packet)))))
       (told-ends ts e (e .peer) st (end j) (pick (eqb (e .begun) 0) why.Disconnected why.Truncated))))
       (λ j late x v l. stream-brief (eqb (e .begun) 0))
-      (λ j o x v l. spoken-done e (e .peer) Nothing await.Nothing 0 (e .length) (outcome.End (pick (eqb (e .begun) 0) why.Disconnected why.Truncated)) st speaks o refl tt))
+      (λ j o x v l. spoken-done e (e .peer) Nothing await.Nothing 0 (e .length)
+      (outcome.End (pick (eqb (e .begun) 0) why.Disconnected why.Truncated)) st speaks o refl tt))
     where
       stream-brief : (t : Bool) → Brief (ends e (e .peer) (pick t why.Disconnected why.Truncated) st)
       stream-brief true = brief-done e (e .peer) Nothing await.Nothing 0 (e .length) (outcome.End why.Disconnected) st refl refl
@@ -270,27 +275,36 @@ module _ (w : Known) (s : State) (h : Seated s) (k : Knows w s) where
   taken-goes true i r =
       agree-goes w s h k replyTaken refl 0 _
       (goes-on-fine (e .operation) (h .sits .counts)
-      (fine-wants e st (h .sits .base) (e .peer) (e .operation) st (h .sits .base .peer) (h .sits .base .room) (h .sits .counts) (subst (λ (x : Await). Shape x (e .operation)) at (h .sits .shape))))
+      (fine-wants e st (h .sits .base) (e .peer) (e .operation) st (h .sits .base .peer) (h .sits .base .room) (h .sits .counts)
+      (subst (λ (x : Await). Shape x (e .operation)) at (h .sits .shape))))
       (λ j x. refl)
       (λ j x. let y = coupled-at await.Taken j at x in
-      told-follows (subst (Told ts _) (sym (ap (λ (t : Bool). pick t (lastTaken j) (unchanged (takenAt (j .opened) j (getD (st .reply) 0 0)))) (y .0)))
+      told-follows (subst (Told ts _) (sym
+      (ap (λ (t : Bool). pick t (lastTaken j) (unchanged (takenAt (j .opened) j (getD (st .reply) 0 0)))) (y .0)))
       (goes-on-told (takenAt (j .opened) j (getD (st .reply) 0 0)) (y .1) (e .operation) (y .1 .opened) (h .sits .counts)
       (told-wants ts e (e .peer) st _ (e .operation) (y .1)))))
       (λ j late x v l. goes-on-brief e st (e .operation))
       (λ j o x v l. let y = coupled-at await.Taken j at x in
-      subst (λ (t : Bool). Spoken (goesOn (e .operation) e st) (pick t speaks (takenDue (takenAt (j .opened) j (getD (st .reply) 0 0) .opened) o)) o) (sym (y .0))
-      (goes-on-spoken e st (limitOf e) (e .operation) (st .headers) (st .body) (takenAt (j .opened) j (getD (st .reply) 0 0) .opened) o refl (y .1 .opened) v))
+      subst (λ (t : Bool). Spoken (goesOn (e .operation) e st)
+      (pick t speaks (takenDue (takenAt (j .opened) j (getD (st .reply) 0 0) .opened) o)) o) (sym (y .0))
+      (goes-on-spoken e st (limitOf e) (e .operation) (st .headers) (st .body) (takenAt (j .opened) j (getD (st .reply) 0 0) .opened) o refl
+      (y .1 .opened) v))
     where
       at : e .awaits ≡ await.Taken
       at = same-await (e .awaits) await.Taken i
   taken-goes false i r =
-      agree-goes w s h k replyTaken refl 0 _ (fine-ends e st (h .sits .base) (e .peer) why.OtherOperation st (h .sits .base .peer) (h .sits .base .room))
+      agree-goes w s h k replyTaken refl 0 _
+      (fine-ends e st (h .sits .base) (e .peer) why.OtherOperation st (h .sits .base .peer) (h .sits .base .room))
       (λ j x. refl)
-      (λ j x. told-follows (subst (Told ts _) (sym (ap (λ (t : Bool). pick t (lastTaken j) (unchanged (takenAt (j .opened) j (getD (st .reply) 0 0)))) (coupled-at await.Last j at x))) (told-ends ts e (e .peer) st j why.OtherOperation)))
+      (λ j x. told-follows (subst (Told ts _)
+      (sym (ap (λ (t : Bool). pick t (lastTaken j) (unchanged (takenAt (j .opened) j (getD (st .reply) 0 0)))) (coupled-at await.Last j at x)))
+      (told-ends ts e (e .peer) st j why.OtherOperation)))
       (λ j late x v l. brief-done e (e .peer) Nothing await.Nothing 0 (e .length) (outcome.End why.OtherOperation) st refl refl)
       (λ j o x v l.
-      subst (λ (t : Bool). Spoken (ends e (e .peer) why.OtherOperation st) (pick t speaks (takenDue (takenAt (j .opened) j (getD (st .reply) 0 0) .opened) o)) o)
-      (sym (coupled-at await.Last j at x)) (spoken-done e (e .peer) Nothing await.Nothing 0 (e .length) (outcome.End why.OtherOperation) st speaks o refl tt))
+      subst (λ (t : Bool). Spoken (ends e (e .peer) why.OtherOperation st)
+      (pick t speaks (takenDue (takenAt (j .opened) j (getD (st .reply) 0 0) .opened) o)) o)
+      (sym (coupled-at await.Last j at x))
+      (spoken-done e (e .peer) Nothing await.Nothing 0 (e .length) (outcome.End why.OtherOperation) st speaks o refl tt))
     where
       at : e .awaits ≡ await.Last
       at = same-await (e .awaits) await.Last (or-second _ _ r i)

@@ -154,7 +154,8 @@ module _ (reads : Reads) (t : List ℕ) (tables : shortTables t ≡ false) where
         → Gives left (after i (sendsNext e′ q srm wait′ s′)) qs
     unfolding sendsNext
     next-follows i wait′ e′ s′ qs b′ p h y r =
-        let v = next-sends (capacityOf e′) q (s′ .headers) (s′ .reply) (omega (arith, b′ .peer .least)) (omega (arith, b′ .peer .most)) (b′ .room .reply)
+        let v =
+        next-sends (capacityOf e′) q (s′ .headers) (s′ .reply) (omega (arith, b′ .peer .least)) (omega (arith, b′ .peer .most)) (b′ .room .reply)
         (omega (arith, w .total, w .sent)) (omega (arith, w .total)) (omega (arith, w .total, b′ .room .headers)) in
         ih i left srm wait′ e′ s′ q (nextPacket (capacityOf e′) q (s′ .headers) (s′ .reply)) qs b′ (omega (arith, w .total)) v (rw (p, h, y) r)
 
@@ -195,7 +196,8 @@ module _ (reads : Reads) (t : List ℕ) (tables : shortTables t ≡ false) where
         last-call left (after x (sendsMade e srm wait (next.Send n true) m s)) ps (λ j. rw (p, w .last n i))
     follows-by (next.Send n false) i f r =
         let e′ = sendingTo e q c srm wait await.Taken (e .length) in
-        let y = run-before (take n (m .reply)) (run (capacityOf e) (s .headers) reads k left (nextPacket (capacityOf e) q (s .headers) (m .reply))) ps r in
+        let y =
+        run-before (take n (m .reply)) (run (capacityOf e) (s .headers) reads k left (nextPacket (capacityOf e) q (s .headers) (m .reply))) ps r in
         next-call left left (after x (sendsMade e srm wait (next.Send n false) m s))
         (after 0 (pick (srm && not wait) (sendsNext e′ q srm wait z) (wants e′ (e .peer) (Sending q c srm wait) z))) ps (y .rest)
         (goes-follows n (y .rest) (f .sits) (y .of) (srm && not wait))
@@ -207,7 +209,8 @@ module _ (reads : Reads) (t : List ℕ) (tables : shortTables t ≡ false) where
         let a : length d ≤ c .room = omega (arith, length-take g left) in
         let h = f .sits .base in
         let v = body-sends q c d (m .reply) (h .room .reply) a (w .begun) (w .chunk) (omega (arith, w .total, w .sent)) in
-        next-call left (drop g left) (after x (sendsMade e srm wait next.Read m s)) (after 0 (sendsPacket e′ srm wait (bodyGiven q c d (m .reply)) z)) ps ps
+        next-call left (drop g left) (after x (sendsMade e srm wait next.Read m s))
+        (after 0 (sendsPacket e′ srm wait (bodyGiven q c d (m .reply)) z)) ps ps
         (ih 0 (drop g left) srm wait e′ z q (bodyGiven q c d (m .reply)) ps h (omega (arith, w .total)) v r)
         (λ j u. ap (repliesFrom reads t j (drop g left)) (given-more e′ z q c srm wait d refl refl a (f .sits)) ∙ u)
     follows-by next.TooLarge i f r =
@@ -266,8 +269,10 @@ get-sends e s tables g srm confirm wait hs headers body reads a ta h most w o y 
     let t : take (length hs) store ≡ hs = take-append-seam hs (drop (length hs) (s .headers)) in
     let object = fresh (length hs) confirm (hasBody body) in
     let m = nextPacket (capacityOf e) object store (s .reply) in
-    let v = next-sends (capacityOf e) object store (s .reply) (omega (arith, b .peer .least)) (omega (arith, most)) (b .room .reply) (omega arith) l n in
-    let ran = sent-as-packets (capacityOf e) (length hs) confirm store (s .reply) headers body reads (omega (arith, b .peer .least)) (omega (arith, most))
+    let v =
+    next-sends (capacityOf e) object store (s .reply) (omega (arith, b .peer .least)) (omega (arith, most)) (b .room .reply) (omega arith) l n in
+    let ran =
+    sent-as-packets (capacityOf e) (length hs) confirm store (s .reply) headers body reads (omega (arith, b .peer .least)) (omega (arith, most))
     (b .room .reply) n (rw t octets) (rw t e′) in
     rw (object-given e s g srm confirm wait hs (hasBody body) a h w o y)
     (follows reads tables ta (ran .0) 0 (bodyBytes body) (srm || confirm) wait e z object m (packetsOf (capacityOf e) confirm headers body) b′ l v

@@ -160,7 +160,8 @@ module _ (e : Engine) (s : Stores) (h : Base e s) where
   put-continues : (g : Gathered) (srm confirm additional : Bool) (z : Stores) → Room (limitOf e) z → soundGathered (limitOf e) g ≡ true
       → Fine e (putContinues e g srm confirm additional z)
   put-continues g true confirm additional z r c =
-      fine-pick e additional _ _ (fine-continues e s h (Putting g true) false z r c refl) (fine-wants e s h (e .peer) (Putting g true) z (h .peer) r c refl)
+      fine-pick e additional _ _ (fine-continues e s h (Putting g true) false z r c refl)
+      (fine-wants e s h (e .peer) (Putting g true) z (h .peer) r c refl)
   put-continues g false confirm additional z r c =
       fine-pick e (g .over) _ _ (overrun-fine (e .settings .«refuse_trailing») z r) (fine-continues e s h (Putting g confirm) confirm z r c refl)
 
@@ -191,7 +192,8 @@ module _ (e : Engine) (s : Stores) (h : Base e s) where
       let z = withGathered s x in
       fine-pick e (x .got .full) _ _ (fine-ends e s h (e .peer) end.HeadersTooLarge z (h .peer) (w .room))
       (fine-pick e (r .final) _ _
-      (fine-done e s h (e .peer) (Getting (x .got) srm confirm (v .wait)) await.Get (outcome.Request (request.Get (x .got .kept))) z (h .peer) (w .room)
+      (fine-done e s h (e .peer) (Getting (x .got) srm confirm (v .wait)) await.Get (outcome.Request (request.Get (x .got .kept))) z (h .peer)
+      (w .room)
       (w .counts) (record { gathered = x .got; srm = srm; confirm = confirm; wait = v .wait; is = refl }) (λ u. refl) refl)
       (get-continues (x .got) srm confirm (v .wait) z (w .room) (w .counts)))
 
@@ -224,7 +226,8 @@ module _ (e : Engine) (s : Stores) (h : Base e s) where
 
   -- ---- an object
 
-  made-fine : (o : Outgoing) (srm wait : Bool) (n : Next) (m : Made) → o .total ≤ 65535 → SendsFrom o (s .reply) m → Fine e (sendsMade e srm wait n m s)
+  made-fine : (o : Outgoing) (srm wait : Bool) (n : Next) (m : Made) → o .total ≤ 65535 → SendsFrom o (s .reply) m
+      → Fine e (sendsMade e srm wait n m s)
   made-fine o srm wait n m t w = go n
     where
       filled : Room (limitOf e) (withReply s (m .reply))
@@ -270,7 +273,8 @@ module _ (e : Engine) (s : Stores) (h : Base e s) where
   fields-fine : (p : Peer) (code : ℕ) → PeerFits (e .peer .nonces) p → Fine e (repliesFields e p code s)
   unfolding packetBytes
   fields-fine p code f =
-      fine-replies e s h p Nothing await.Taken (packetBytes (sentCode code) (fieldsOf (e .settings .«max_packet_length»)) []) s f (h .room) refl refl refl
+      fine-replies e s h p Nothing await.Taken (packetBytes (sentCode code) (fieldsOf (e .settings .«max_packet_length»)) []) s f
+      (h .room) refl refl refl
       (omega arith)
 
   connect-fine : Octets (lastPacket e s) → Fine e (connectPacket e s)
@@ -402,7 +406,8 @@ module _ (e : Engine) (s : Stores) (h : Base e s) where
   read-fine o c q t none = go (busy (e .operation)) refl
     where
       go : (b : Bool) → busy (e .operation) ≡ b
-          → Fine e (pick b (ends e (e .peer) end.Unreadable s) (repliesCode e (e .peer) (e .operation) (pick (unknownByte (firstByte (getD q 0 0))) 0x51 0x40) s))
+          → Fine e (pick b (ends e (e .peer) end.Unreadable s)
+          (repliesCode e (e .peer) (e .operation) (pick (unknownByte (firstByte (getD q 0 0))) 0x51 0x40) s))
       go true m = fine-ends e s h (e .peer) end.Unreadable s (h .peer) (h .room)
       go false m = fine-code-in e s h (e .peer) (e .operation) _ s (h .peer) (h .room) c (idle-shape (e .operation) m)
   read-fine o c q t (some r) =

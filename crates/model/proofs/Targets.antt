@@ -191,14 +191,7 @@ module _ (l : List ℕ) (mk : Bool) (e : Engine) (st : Stores) (d : Done) (c : C
 -- ---- a call, in a state that is coupled to the journal
 
 module _ (s : State) (h : Seated s) (j : Journal) (x : Coupled (s .tables) (s .engine) (s .stores) j) (n : Naming) (t : Targeted s j n) where
-  abbrev e : Engine
-  e = s .engine
-
-  abbrev st : Stores
-  st = s .stores
-
-  abbrev ts : List ℕ
-  ts = s .tables
+  open State s using (engine as e, stores as st, tables as ts)
 
   coupled-at : (a : Await) → e .awaits ≡ a → CoupledAt ts a (e .operation) (e .settings) (e .peer) (e .begun) (e .length) st j
   coupled-at a i = subst (λ (y : Await). CoupledAt ts y (e .operation) (e .settings) (e .peer) (e .begun) (e .length) st j) i x

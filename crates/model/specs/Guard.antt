@@ -14,6 +14,7 @@ use Rattle.journal.specs.Calls.{Credentials}
 use Rattle.incoming.specs.declared.gather.Gathered.{Gathered}
 use Rattle.outgoing.specs.declared.object.Outgoing.{Outgoing}
 use Rattle.outgoing.specs.declared.object.Chunk.{Chunk}
+use Rattle.server.specs.Numbers.{awaitNumber}
 use Rattle.server.specs.declared.Settings.{Settings}
 use Rattle.server.specs.declared.Operation.{Operation}
 use Rattle.server.specs.declared.Operation.the-variants.{Nothing, Trailing, Putting, Getting, Sending, Gathering as GatheringOp, Connecting, Draining}
@@ -67,22 +68,6 @@ shortTables t = ltb (length t) tableLength
 -- Without a realm in the settings the bytes that are lent do not count.
 unfoldable pub longRealm : Settings → List ℕ → Bool
 longRealm st l = st .«has_realm» && ltb maxRealm (length l)
-
--- A number for each thing awaited, by which two of them are told apart.
-abbrev pub awaitNumber : Await → ℕ
-awaitNumber await.Bytes = 0
-awaitNumber await.Taken = 1
-awaitNumber await.Last = 2
-awaitNumber await.Connect = 3
-awaitNumber await.Disconnect = 4
-awaitNumber await.Get = 5
-awaitNumber await.Reply = 6
-awaitNumber await.Acknowledgement = 7
-awaitNumber await.Password = 8
-awaitNumber await.Nonce = 9
-awaitNumber await.Credentials = 10
-awaitNumber await.Body = 11
-awaitNumber await.Nothing = 12
 
 -- Two things awaited are the same.
 abbrev pub sameAwait : Await → Await → Bool

@@ -1,0 +1,14 @@
+-- `engine_c::words::awaits_number` meets its contract. What the engine waits for is given back by its number (`Back`). Assumes nothing.
+use Rattle.engine_c.proofs.Back.{await-back}
+use borrow.Author.Needs.{needs}
+use Rattle.engine_c.proofs.words.awaits_number.Statement.{statement}
+use Rattle.engine_c.proofs.words.awaits_number.Tie as tie
+
+await-number-requires : tie.Need-await-number-requires
+await-number-requires c κs = search needs
+
+returns : tie.Need-returns
+returns c = rw (c .await-number .ensures) (await-back _)
+
+pub awaits-number-spec : {M : Type 1} → statement M
+awaits-number-spec = tie.close (tie.spec await-number-requires returns)
