@@ -1,13 +1,11 @@
--- What the engine waits for, an end and a refusal are given back by their numbers, as the numbers that the host keeps are read.
+-- An end and a refusal are given back by their numbers, as the outcome's numbers are read.
 use mathlib.Core.Path.{_≡_, refl}
-use Rattle.server.specs.Numbers.{endNumber, refusalNumber, awaitNumber}
-use Rattle.server.specs.declared.Await.{Await}
-use Rattle.server.specs.declared.Await.the-variants as await
+use Rattle.server.specs.Numbers.{endNumber, refusalNumber}
 use Rattle.server.specs.declared.End.{End}
 use Rattle.server.specs.declared.End.the-variants as end
 use Rattle.server.specs.declared.Refusal.{Refusal}
 use Rattle.server.specs.declared.Refusal.the-variants as refusal
-use Rattle.engine_c.specs.Words.{awaitOf, endOf, refusalOf}
+use Rattle.engine_c.specs.Words.{endOf, refusalOf}
 
 pub end-back : (x : End) → endOf (endNumber x) ≡ x
 unfolding endOf
@@ -28,19 +26,3 @@ refusal-back refusal.NonceUsed = refl
 refusal-back refusal.TooManyIds = refl
 refusal-back refusal.IdNotOpen = refl
 refusal-back refusal.IdRepeated = refl
-
-pub await-back : (x : Await) → awaitOf (awaitNumber x) ≡ x
-unfolding awaitOf
-await-back await.Bytes = refl
-await-back await.Taken = refl
-await-back await.Last = refl
-await-back await.Connect = refl
-await-back await.Disconnect = refl
-await-back await.Get = refl
-await-back await.Reply = refl
-await-back await.Acknowledgement = refl
-await-back await.Password = refl
-await-back await.Nonce = refl
-await-back await.Credentials = refl
-await-back await.Body = refl
-await-back await.Nothing = refl

@@ -2,7 +2,8 @@
 // mean. Decoding what `store` wrote gives the result back, whatever it was; the other direction is not claimed and not needed.
 ghost use mathlib.Core.Path.{_≡_};
 ghost use Prim.Native.Nat.{_%_, _^_};
-ghost use Rattle.engine_c.specs.Words.{flag, opcodeOf, gatheredOf, idOf, challengeOf, outgoingOf, chunkOf, operationOf, operationIn, awaitOf};
+ghost use Rattle.engine_c.specs.Words.{flag, opcodeOf, gatheredOf, idOf, challengeOf, outgoingOf, chunkOf, operationOf, operationIn};
+ghost use Rattle.server.specs.Numbers.{awaitOf};
 ghost use Rattle.engine_c.specs.Words.{settingsBy, settingsIn, peerBy, peerIn, targetOf, engineOf, foundOf, outcomeOf, resultOf, twelve};
 use connection::peer::Challenge;
 use connection::peer::ConnectionId;

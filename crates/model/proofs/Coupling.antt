@@ -80,6 +80,11 @@ pub record Fixed (ts : List ℕ) (st : Settings) (p : Peer) (j : Journal) : Type
   pub window : Windowed p past
   pub ended : j .ended ≡ false
 
+-- which says nothing of what is open, of the packet read last and of the bytes of a packet begun
+pub fixed-kept : {ts : List ℕ} {st : Settings} {p : Peer} {j : Journal} {b : List ℕ} {l : Option Packet} {o : Opened} → Fixed ts st p j
+    → Fixed ts st p (record { settings = j .settings; begun = b; last = l; opened = o; standing = j .standing; ended = j .ended })
+fixed-kept f = record { settings = f .settings; past = f .past; standing = f .standing; window = f .window; ended = f .ended }
+
 -- and so are what is open and the bytes of a packet begun
 pub record Held (ts : List ℕ) (st : Settings) (p : Peer) (o : Operation) (s : Stores) (q : List ℕ) (j : Journal) : Type 0 where
   pub fixed : Fixed ts st p j
@@ -242,7 +247,7 @@ module _ (ts : List ℕ) (e : Engine) (p : Peer) (z : Stores) (j : Journal) wher
         f .ended,
         subst (λ (x : Journal). Held ts (e .settings) p Nothing (withReply z y) [] x)
             (sym (ap (λ (u : Opened). takenAt u j (getD y 0 0)) w ∙ ap (λ (t : Bool). pick t j (opens j nothing)) b))
-            (record { fixed = record { settings = f .settings; past = f .past; standing = f .standing; window = f .window; ended = f .ended }; begun = k; opened = refl }),
+            (record { fixed = fixed-kept f; begun = k; opened = refl }),
       )
       g
       n

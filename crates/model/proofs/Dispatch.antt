@@ -136,7 +136,17 @@ module _ (ts : List ℕ) (e : Engine) (s : Stores) (j : Journal) (f : Fixed ts (
     asks-told o p a q i k w g =
         told-done ts e p Nothing a (outcome.Request q) s (after j (some r) nothing) []
         (w (record {
-          held = record { fixed = record { settings = f .settings; past = f .past; standing = f .standing ∙ sym (k .0); window = k .1 ∙ f .window; ended = f .ended }; begun = refl; opened = refl };
+          held = record {
+            fixed = record {
+              settings = f .settings;
+              past = f .past;
+              standing = f .standing ∙ sym (k .0);
+              window = k .1 ∙ f .window;
+              ended = f .ended;
+            };
+            begun = refl;
+            opened = refl;
+          };
           request = r;
           last = refl;
           opcode = i;

@@ -43,7 +43,7 @@ use Rattle.outgoing.proofs.Sent.{body-sends}
 use Rattle.table.proofs.Remembering.{remembered-length, remembered-front, remembered-more}
 use Rattle.model.proofs.Fit.{or-left, or-right, room-headers, IsGetting, IsSending, IsConnecting, Shape, roomOf, waitsOf, Base, Seated, ids-room, nonces-room, Fine, fine-code}
 use Rattle.model.proofs.Steps.{OutgoingFits, outgoing-within, sends-next-fine, sends-packet-fine, reply-fine, password-fine, nonce-fine, connect-sends-fine}
-use Rattle.model.proofs.Coupling.{KeptOpen, OpenedAt, Held, AskedBy, connects, Coupled, Told, told-follows, ToldTabled, tabled-told-pick, told-code}
+use Rattle.model.proofs.Coupling.{KeptOpen, OpenedAt, Held, AskedBy, connects, Coupled, fixed-kept, Told, told-follows, ToldTabled, tabled-told-pick, told-code}
 use Rattle.model.proofs.Sizes.{early, Brief, brief-done, packet-brief, next-brief, password-brief, sends-brief, sends-connect-brief, nonce-brief, LateIn, LateAt, Sized, brief-sized, sized-pick, connect-sized}
 use Rattle.model.proofs.Speaks.{ModeAt, spoken-done, next-spoken, packet-spoken, speaks-spoken, reply-speaks, password-speaks, nonce-speaks, connect-sends-speaks}
 use Rattle.model.proofs.Gathers.{next-told, fails-told, sends-told as made-told}
@@ -107,7 +107,7 @@ module _ (w : Known) (s : State) (h : Seated s) (k : Knows w s) where
         entered (replyGiven code hs) j _ (y .fixed .ended)
         (subst (λ (u : Opened). Told ts (sends e (e .peer) code hs st) (unchanged (replied u j code hs))) (sym (g .is))
         (sends-told ts e st (e .peer) (opens j nothing)
-        (record { fixed = record { settings = y .fixed .settings; past = y .fixed .past; standing = y .fixed .standing; window = y .fixed .window; ended = y .fixed .ended }; begun = y .begun; opened = refl }) code hs))
+        (record { fixed = fixed-kept (y .fixed); begun = y .begun; opened = refl }) code hs))
     plain-reply false i o j x =
         let y = coupled-at w s h k await.Reply j (o i) x in
         entered (replyGiven code hs) j _ (y .0 .fixed .ended)
@@ -208,7 +208,7 @@ module _ (w : Known) (s : State) (h : Seated s) (k : Knows w s) where
         let g = get-open at j (y .opened) in
         entered (objectGiven hs has) j _ (y .fixed .ended)
         (subst (λ (u : Opened). Told ts (sendsNext e (objectOf (length hs) confirm has) srm wait z) (unchanged (objectSent u j))) (sym (g .is))
-        (next-told ts e z (opens j sending) (record { settings = y .fixed .settings; past = y .fixed .past; standing = y .fixed .standing; window = y .fixed .window; ended = y .fixed .ended }) (y .begun) refl
+        (next-told ts e z (opens j sending) (fixed-kept (y .fixed)) (y .begun) refl
         (object-base l) (objectOf (length hs) confirm has) srm wait (omega arith) l))
 
     object-at : (at : e .awaits ≡ await.Get) → IsGetting (e .operation)

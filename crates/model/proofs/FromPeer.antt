@@ -36,7 +36,7 @@ use Rattle.server.specs.declared.Outcome.the-variants as outcome
 use Rattle.incoming.proofs.Frames.{Octets, Agrees as Frames-agree, frames-agree, frames-count}
 use Rattle.model.proofs.Fit.{Room, Shape, waitsOf, Base, Seated, Fine, fine-pick, fine-wants, fine-ends}
 use Rattle.model.proofs.Steps.{outgoing-within, sends-next-fine, read-fine}
-use Rattle.model.proofs.Coupling.{OpenedAt, Held, CoupledAt, Coupled, Told, Follows, told-follows, told-pick, told-ends, told-wants}
+use Rattle.model.proofs.Coupling.{OpenedAt, Held, CoupledAt, Coupled, fixed-kept, Told, Follows, told-follows, told-pick, told-ends, told-wants}
 use Rattle.model.proofs.Sizes.{early, Brief, brief-done, done-brief, goes-on-brief}
 use Rattle.model.proofs.Speaks.{ModeAt, Spoken, spoken-done, goes-on-spoken, read-spoken}
 use Rattle.model.proofs.Gathers.{next-told}
@@ -97,7 +97,8 @@ module _ (w : Known) (s : State) (h : Seated s) (k : Knows w s) where
 
     room-at : length (f .packet) ≡ length (st .packet) → Room (limitOf e) z
     room-at l =
-        record { packet = rw l (h .sits .base .room .packet); headers = h .sits .base .room .headers; reply = h .sits .base .room .reply; body = h .sits .base .room .body }
+        let r = h .sits .base .room in
+        record { packet = rw l (r .packet); headers = r .headers; reply = r .reply; body = r .body }
 
     -- a packet goes on
     more-fine : (q : List ℕ) → Frames-agree (st .packet) f (more q)
@@ -126,7 +127,7 @@ module _ (w : Known) (s : State) (h : Seated s) (k : Knows w s) where
           ends = λ u. refl;
           given = refl;
           after = subst (λ (y : Await). CoupledAt ts y (e .operation) (e .settings) (e .peer) n (e .length) z (begin j q)) (sym at)
-              (record { fixed = record { settings = x .fixed .settings; past = x .fixed .past; standing = x .fixed .standing; window = x .fixed .window; ended = x .fixed .ended }; begun = g .bytes; opened = x .opened });
+              (record { fixed = fixed-kept (x .fixed); begun = g .bytes; opened = x .opened });
         }
 
     -- a packet is whole
@@ -151,7 +152,7 @@ module _ (w : Known) (s : State) (h : Seated s) (k : Knows w s) where
         let w =
         subst (λ (p : List ℕ). Follows (length (keptRead (j .opened) (requestOf p)) ≤ 65535) ts (packetDone e n z ts) (packetRead (requestOf p) j))
         (sym (g .bytes))
-        (read-told ts whole-engine z j (record { settings = x .fixed .settings; past = x .fixed .past; standing = x .fixed .standing; window = x .fixed .window; ended = x .fixed .ended })
+        (read-told ts whole-engine z j (fixed-kept (x .fixed))
         (whole-base q (a, g, l)) (subst Octets (g .bytes) (g .octets)) (x .opened) (h .sits .counts)
         (take n (f .packet)) (requestOf (take n (f .packet))) refl) in
         record { told = λ y. w .told (y .0); after = w .after }
@@ -162,7 +163,7 @@ module _ (w : Known) (s : State) (h : Seated s) (k : Knows w s) where
     whole-spoken q (a, g, l) j o x v y =
         subst (λ (p : List ℕ). Spoken (packetDone e n z ts) (packetDue (requestOf p) o j) (packetMode (requestOf p) o j)) (sym (g .bytes))
         (read-spoken ts whole-engine z j
-        (record { settings = x .fixed .settings; past = x .fixed .past; standing = x .fixed .standing; window = x .fixed .window; ended = x .fixed .ended }) o
+        (fixed-kept (x .fixed)) o
         (whole-base q (a, g, l)) (subst Octets (g .bytes) (g .octets)) (x .opened) v
         (take n (f .packet)) (requestOf (take n (f .packet))) refl
         (subst (λ (p : List ℕ). length (keptRead (j .opened) (requestOf p)) ≤ 65535) (g .bytes) (y .0)))

@@ -42,7 +42,7 @@ use Rattle.incoming.proofs.Gathers.{PutAgrees, KeptAgrees, put-agrees, get-agre
 use Rattle.outgoing.proofs.Sent.{SendsFrom}
 use Rattle.model.proofs.Fit.{Base}
 use Rattle.model.proofs.Steps.{headers-request, next-made}
-use Rattle.model.proofs.Coupling.{PutOpen, Plain, OpenedAt, Fixed, Held, Still, Told, Follows, follows-kept, told-pick, told-done, told-wants, told-replies, told-code, told-closes}
+use Rattle.model.proofs.Coupling.{PutOpen, Plain, OpenedAt, Fixed, Held, Still, fixed-kept, Told, Follows, follows-kept, told-pick, told-done, told-wants, told-replies, told-code, told-closes}
 
 -- the body that a Put request hands over
 body-handed : (g : Gathered) (b : List ℕ) → bodyIn (putBody g) b ≡ pick (g .came) (some (take (g .body) b)) none
@@ -56,11 +56,13 @@ module _ (ts : List ℕ) (e : Engine) (s : Stores) (j : Journal) (f : Fixed ts (
   -- the journal after the packet, with something open
   pub held-after : (o : Operation) (x : Opened) (z : Stores) → OpenedAt (limitOf e) o (z .headers) (z .body) x
       → Held ts (e .settings) (e .peer) o z [] (after j (some r) x)
-  held-after o x z w = record { fixed = record { settings = f .settings; past = f .past; standing = f .standing; window = f .window; ended = f .ended }; begun = refl; opened = w }
+  held-after o x z w = record { fixed = fixed-kept f; begun = refl; opened = w }
 
   pub still-after : (o : Opcode) (x : Opened) → r .opcode ≡ o → Plain o → Still (after j (some r) x)
-  still-after o x i p =
-      (λ code hs. ap (λ (u : Opcode). replyTo u (after j (some r) x) r code hs) i ∙ p .0 (after j (some r) x) r code hs, ap (λ (u : Opcode). sameOpcode u op.Connect) i ∙ p .1)
+  still-after o x i p = (
+    λ code hs. ap (λ (u : Opcode). replyTo u (after j (some r) x) r code hs) i ∙ p .0 (after j (some r) x) r code hs,
+    ap (λ (u : Opcode). sameOpcode u op.Connect) i ∙ p .1,
+  )
 
   -- ---- Put
 

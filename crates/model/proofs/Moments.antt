@@ -26,7 +26,7 @@ use Rattle.model.specs.Refusals.{Waits, roomIn, Known, noted, learns, al
 use Rattle.model.specs.Replies.{Late, lateAfter, replySize}
 use Rattle.journal.specs.Srm.{Mode, dueIn, modeAfter}
 use Rattle.model.specs.Theorem.{Kept}
-use Rattle.server.specs.Numbers.{refusalNumber, awaitNumber}
+use Rattle.server.specs.Numbers.{refusalNumber, awaitNumber, awaitOf}
 use Rattle.server.specs.declared.CallKind.{CallKind}
 use Rattle.server.specs.declared.CallKind.the-variants as kind
 use Rattle.server.specs.declared.End.the-variants as end
@@ -109,18 +109,12 @@ moment (connectionsClosed l) o a = each (Moment (connectionsClosed l) o) refl re
 moment (credentialsGiven c) o a = each (Moment (credentialsGiven c) o) refl refl refl refl refl refl refl refl refl refl refl refl refl a
 
 -- what is awaited is told by its number
-abbrev awaitOf : ℕ → Await
-awaitOf n =
-    pick (eqb n 0) await.Bytes (pick (eqb n 1) await.Taken (pick (eqb n 2) await.Last (pick (eqb n 3) await.Connect (pick (eqb n 4) await.Disconnect
-    (pick (eqb n 5) await.Get (pick (eqb n 6) await.Reply
-    (pick (eqb n 7) await.Acknowledgement (pick (eqb n 8) await.Password (pick (eqb n 9) await.Nonce
-    (pick (eqb n 10) await.Credentials (pick (eqb n 11) await.Body await.Nothing)))))))))))
+pub await-back : (x : Await) → awaitOf (awaitNumber x) ≡ x
+unfolding awaitOf
+await-back x = each (λ (y : Await). awaitOf (awaitNumber y) ≡ y) refl refl refl refl refl refl refl refl refl refl refl refl refl x
 
 pub same-await : (a b : Await) → sameAwait a b ≡ true → a ≡ b
-same-await a b h = let n : awaitNumber a ≡ awaitNumber b = eqb-true _ _ h in sym (back a) ∙ ap awaitOf n ∙ back b
-  where
-    back : (x : Await) → awaitOf (awaitNumber x) ≡ x
-    back x = each (λ (y : Await). awaitOf (awaitNumber y) ≡ y) refl refl refl refl refl refl refl refl refl refl refl refl refl x
+same-await a b h = let n : awaitNumber a ≡ awaitNumber b = eqb-true _ _ h in sym (await-back a) ∙ ap awaitOf n ∙ await-back b
 
 -- where one of two tests holds and the first fails, the second holds
 pub or-second : (a b : Bool) → (a || b) ≡ true → a ≡ false → b ≡ true
@@ -198,7 +192,8 @@ closing-is s l false false z t = refl
 
 pub step-is : (s : State) (c : Call)
     → stepOf s c ≡ pick (lacksIn s c) (refuses refusal.StoreTooShort s) (pick (atMoment s c) (goFor s c) (refuses refusal.WrongMoment s))
-unfolding bytesOfferedStep streamEndedStep replyTakenStep replyGivenStep objectGivenStep bodyGivenStep bodyFailedStep abortAcknowledgedStep passwordGivenStep nonceGivenStep credentialsGivenStep connectionsClosedStep
+unfolding bytesOfferedStep streamEndedStep replyTakenStep replyGivenStep objectGivenStep bodyGivenStep bodyFailedStep
+    abortAcknowledgedStep passwordGivenStep nonceGivenStep credentialsGivenStep connectionsClosedStep
 step-is s (bytesOffered i) = kept s (bytesOffered i) (lacksIn s (bytesOffered i)) (atMoment s (bytesOffered i))
 step-is s streamEnded = kept s streamEnded (lacksIn s streamEnded) (atMoment s streamEnded)
 step-is s replyTaken = kept s replyTaken (lacksIn s replyTaken) (atMoment s replyTaken)

@@ -175,12 +175,22 @@ module _ (reads : Reads) (t : List ℕ) (tables : shortTables t ≡ false) where
         let a : length (s′ .packet) ≡ length (z .packet) = ap length (sym (v .is)) in
         let b′ : Base e′ s′ =
         record {
-          room = record { packet = omega (arith, h .base .room .packet); headers = h .base .room .headers; reply = h .base .room .reply; body = h .base .room .body };
+          room = record {
+            packet = omega (arith, h .base .room .packet);
+            headers = h .base .room .headers;
+            reply = h .base .room .reply;
+            body = h .base .room .body;
+          };
           peer = h .base .peer;
           last = omega arith;
         } in
         let f : Sits (sendingTo e q c srm wait await.Bytes (e .length)) z =
-        record { base = record { room = h .base .room; peer = h .base .peer; last = h .base .last }; begun = none-begun (z .packet); counts = h .counts; shape = refl } in
+        record {
+          base = record { room = h .base .room; peer = h .base .peer; last = h .base .last };
+          begun = none-begun (z .packet);
+          counts = h .counts;
+          shape = refl;
+        } in
         let y = offered-more e z q c srm wait (e .length) v f in
         next-call left left (after 0 (wants (sendingTo e q c srm wait await.Taken (e .length)) (e .peer) (Sending q c srm wait) z))
         (after (y .0) (sendsNext e′ q srm false s′)) qs qs

@@ -34,7 +34,7 @@ use Rattle.incoming.proofs.Frames.{Octets}
 use Rattle.packet.proofs.HeaderBytes.{request-headers}
 use Rattle.model.proofs.Fit.{Base}
 use Rattle.model.proofs.Steps.{outgoing-within}
-use Rattle.model.proofs.Coupling.{OpenedAt, Fixed, Told, Follows, told-follows, quiet, told-done, told-ends, told-wants, told-replies, told-code}
+use Rattle.model.proofs.Coupling.{OpenedAt, Fixed, fixed-kept, Told, Follows, told-follows, quiet, told-done, told-ends, told-wants, told-replies, told-code}
 use Rattle.model.proofs.Gathers.{held-after, put-follows, get-follows, headers-follows, next-told}
 use Rattle.model.proofs.Dispatch.{dispatch-told}
 
@@ -143,7 +143,7 @@ module _ (ts : List ℕ) (e : Engine) (s : Stores) (j : Journal) (f : Fixed ts (
         (requestRead y j r)) (sym w)
         (sent-on (goes-on op.Get _ _ []
         (λ i. told-follows (next-told ts e s (after j (some r) sending)
-        (record { settings = f .settings; past = f .past; standing = f .standing; window = f .window; ended = f .ended }) refl refl h o srm
+        (fixed-kept f) refl refl h o srm
         (v .wait) (z .sent) (z .total)))))
       where
         nil-short : (t : Bool) → length (pick {A = List ℕ} t [] []) ≤ 65535
@@ -185,7 +185,7 @@ module _ (ts : List ℕ) (e : Engine) (s : Stores) (j : Journal) (f : Fixed ts (
       go false m =
           told-replies ts e (e .peer) s (after j none (j .opened)) (e .operation)
           (packetBytes (sentCode (pick (unknownByte (firstByte (getD q 0 0))) 0x51 0x40)) [] []) (idle-quiet (e .operation) m)
-          (record { fixed = record { settings = f .settings; past = f .past; standing = f .standing; window = f .window; ended = f .ended }; begun = refl; opened = w })
+          (record { fixed = fixed-kept f; begun = refl; opened = w })
   read-told o w c q (some r) i = go (sameOpcode (r .opcode) op.Abort) refl
     where
       short : length (allBytes (r .headers)) ≤ 65535

@@ -308,7 +308,11 @@ module _ (e : Engine) (s : Stores) (h : Base e s) where
         → FineTabled e t (connectOpened e t p code f hs s)
     connect-opened-fine none code f hs k l = record { done = sends-connect-fine (e .peer) 0x53 [] (h .peer); tables = refl; nonces = λ n l. refl }
     connect-opened-fine (some q) code f hs k l =
-        record { done = connect-challenged-fine (q .peer) code f hs (answeredChallenge (lastHeaders e s)) (k q refl .0) l; tables = k q refl .1; nonces = k q refl .2 }
+        record {
+          done = connect-challenged-fine (q .peer) code f hs (answeredChallenge (lastHeaders e s)) (k q refl .0) l;
+          tables = k q refl .1;
+          nonces = k q refl .2;
+        }
 
     connect-answer-fine : (code : ℕ) (hs : List ℕ) → length hs ≤ 65535 → FineTabled e t (connectAnswer e code hs s t)
     unfolding connectAnswer

@@ -1,6 +1,8 @@
 -- The numbers of ends and refusals (docs/PROTOCOL.md#ends, #refusals): 1 to 7 end the engine; 8 to 10, 15, and 19 to 21 refuse a call. What
 -- the engine waits for has a number too.
 use Prim.Native.Nat.{ℕ}
+use lib.Dec.{eqb}
+use Rattle.base.specs.Pick.{pick}
 use Rattle.server.specs.declared.Await.{Await}
 use Rattle.server.specs.declared.Await.the-variants as await
 use Rattle.server.specs.declared.End.{End}
@@ -41,3 +43,19 @@ awaitNumber await.Nonce = 9
 awaitNumber await.Credentials = 10
 awaitNumber await.Body = 11
 awaitNumber await.Nothing = 12
+
+-- What is awaited, by its number.
+unfoldable pub awaitOf : ℕ → Await
+awaitOf n =
+    pick (eqb n 0) await.Bytes
+    (pick (eqb n 1) await.Taken
+    (pick (eqb n 2) await.Last
+    (pick (eqb n 3) await.Connect
+    (pick (eqb n 4) await.Disconnect
+    (pick (eqb n 5) await.Get
+    (pick (eqb n 6) await.Reply
+    (pick (eqb n 7) await.Acknowledgement
+    (pick (eqb n 8) await.Password
+    (pick (eqb n 9) await.Nonce
+    (pick (eqb n 10) await.Credentials
+    (pick (eqb n 11) await.Body await.Nothing)))))))))))

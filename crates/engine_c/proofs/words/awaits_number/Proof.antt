@@ -1,5 +1,5 @@
--- `engine_c::words::awaits_number` meets its contract. What the engine waits for is given back by its number (`Back`). Assumes nothing.
-use Rattle.engine_c.proofs.Back.{await-back}
+-- `engine_c::words::awaits_number` meets its contract. What the engine waits for is told by its number (model: proofs/Moments). Assumes nothing.
+use Rattle.model.proofs.Moments.{await-back}
 use borrow.Author.Needs.{needs}
 use Rattle.engine_c.proofs.words.awaits_number.Statement.{statement}
 use Rattle.engine_c.proofs.words.awaits_number.Tie as tie
