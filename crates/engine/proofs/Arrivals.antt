@@ -138,7 +138,15 @@ module _ (e : Engine) (q t : List ℕ) (o : Opcode) (final : Bool) (from : ℕ) 
   Heading-way =
       packetRouted e q t
       ≡ routed
-      (headingRoute e (record { survey = surveyOf (readHeaders q from); opcode = o; backup = backup q; «no_create» = noCreate q; «is_final» = final; known = knownIn e t (surveyOf (readHeaders q from)); trails = trailedBy (e .operation) o q }))
+      (headingRoute e (record {
+        survey = surveyOf (readHeaders q from);
+        opcode = o;
+        backup = backup q;
+        «no_create» = noCreate q;
+        «is_final» = final;
+        known = knownIn e t (surveyOf (readHeaders q from));
+        trails = trailedBy (e .operation) o q;
+      }))
       (targetUnder e t o (surveyOf (readHeaders q from)))
 
   pub unreadable-way : surveyOf (readHeaders q from) .readable ≡ false
@@ -162,7 +170,8 @@ module _ (e : Engine) (q t : List ℕ) (o : Opcode) (final : Bool) (from : ℕ) 
           ∙ rw (k, trailed-way (e .operation) hs k) refl
 
 -- what `gather` gives, in the words of the model
-pub gathered-way : (e : Engine) (k : GatherKind) (q : List ℕ) (hs : List Header) (g : Gathered) (s : Stores) (from limit : ℕ) (keep : Keep) (x : Gathering)
+pub gathered-way : (e : Engine) (k : GatherKind) (q : List ℕ) (hs : List Header) (g : Gathered) (s : Stores) (from limit : ℕ) (keep : Keep)
+    (x : Gathering)
     → x ≡ gatherAll keep limit (headersOf (readHeaders q from)) (gathering g (s .headers) (s .body)) → from ≡ fromOf k → keep ≡ keepOf k
     → limit ≡ limitOf e → readHeaders q (fromOf k) ≡ some hs → x ≡ gathers e (keepOf k) hs g s
 gathered-way e k q hs g s from limit keep x h a b c r = h ∙ rw (a, b, c, r)
@@ -193,7 +202,8 @@ done-call e n s t at p h b y w l k c =
     ap (λ (x : Written). stepped (x .took) (stores (s .packet) h b (x .reply))) c
     ∙ ap (λ (d : Done). after 0 d)
     (k
-    ∙ ap (λ (x : Engine). acts (packetRoute x (take n (s .packet)) t) (targeted x (packetTarget (requestOf (take n (s .packet))) x t)) (take n (s .packet)) s) l
+    ∙ ap (λ (x : Engine). acts (packetRoute x (take n (s .packet)) t) (targeted x (packetTarget (requestOf (take n (s .packet))) x t))
+    (take n (s .packet)) s) l
     ∙ packet-acts e n s t)
 
 -- ---- bytes

@@ -80,7 +80,8 @@ module _ (e : Engine) (q : List ℕ) (r : Packet) (known trails : Bool) where
   fresh : soundGathered (limitOf e) nothingGathered ≡ true
   fresh = le-leb 0 (limitOf e) (omega arith)
 
-  dispatch-ready : (o : Opcode) → readHeaders q (prefixOf o) ≡ some (r .headers) → Ready (dispatchRoute o e (headingOf r known trails)) e q (r .headers)
+  dispatch-ready : (o : Opcode) → readHeaders q (prefixOf o) ≡ some (r .headers)
+      → Ready (dispatchRoute o e (headingOf r known trails)) e q (r .headers)
   dispatch-ready op.Connect k = k
   dispatch-ready op.Abort k = tt
   dispatch-ready op.Disconnect k = tt

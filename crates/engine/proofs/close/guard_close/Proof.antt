@@ -31,7 +31,11 @@ unfolding guardedClose
 returns-3 c =
     let a = c .before in
     let s = a .before .before in
-    simp (le-ltb _ _ (s .before .if1 .left), sym (s .is-sound .ensures) ∙ not-false _ (a .before .if2 .left), sym (a .same-await .ensures) ∙ not-true _ (c .if3 .taken))
+    simp (
+      le-ltb _ _ (s .before .if1 .left),
+      sym (s .is-sound .ensures) ∙ not-false _ (a .before .if2 .left),
+      sym (a .same-await .ensures) ∙ not-true _ (c .if3 .taken),
+    )
 
 is-busy-requires : tie.Need-is-busy-requires
 is-busy-requires c κs = search needs
