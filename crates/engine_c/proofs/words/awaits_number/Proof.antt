@@ -7,8 +7,11 @@ use Rattle.engine_c.proofs.words.awaits_number.Tie as tie
 await-number-requires : tie.Need-await-number-requires
 await-number-requires c κs = search needs
 
+cast-result : tie.Need-cast-result
+cast-result c = search needs
+
 returns : tie.Need-returns
 returns c = rw (c .await-number .ensures) (await-back _)
 
 pub awaits-number-spec : {M : Type 1} → statement M
-awaits-number-spec = tie.close (tie.spec await-number-requires returns)
+awaits-number-spec = tie.close (tie.spec await-number-requires cast-result returns)
