@@ -38,7 +38,6 @@ use Rattle.server.specs.declared.Engine.{Engine}
 use Rattle.server.specs.declared.HostRequest.{HostRequest}
 use Rattle.server.specs.declared.HostRequest.the-variants as request
 use Rattle.server.specs.declared.CallResult.{CallResult}
-use Rattle.connection.specs.declared.reply.Sent.the-variants as sent
 use Rattle.engine.specs.declared.step.Plan.{Plan}
 use Rattle.packet.specs.ResponseCodes as response
 use Rattle.packet.specs.Auth.{Response, responseOf}
@@ -49,7 +48,6 @@ use Rattle.connection.specs.declared.peer.Challenge.the-variants.{Stored, Absen
 use Rattle.engine.specs.declared.connect.Answered.{Answered}
 use Rattle.engine.specs.declared.connect.Question.{Question}
 use Rattle.engine.specs.declared.connect.Answered.the-variants.{Missing, Unreadable, User}
-use Rattle.engine.specs.declared.dispatch.Route.the-variants.{Connect}
 
 -- The client's response can be read or not; `u` is the place of its user id.
 abbrev pub answeredRead : Option Response → Found → Answered

@@ -14,6 +14,7 @@ use Rattle.journal.specs.Calls.{Credentials}
 use Rattle.incoming.specs.declared.gather.Gathered.{Gathered}
 use Rattle.outgoing.specs.declared.object.Outgoing.{Outgoing}
 use Rattle.outgoing.specs.declared.object.Chunk.{Chunk}
+use Rattle.server.specs.Numbers.{awaitNumber}
 use Rattle.server.specs.declared.Settings.{Settings}
 use Rattle.server.specs.declared.Operation.{Operation}
 use Rattle.server.specs.declared.Operation.the-variants.{Nothing, Trailing, Putting, Getting, Sending, Gathering as GatheringOp, Connecting, Draining}
@@ -21,14 +22,11 @@ use Rattle.server.specs.declared.Await.{Await}
 use Rattle.server.specs.declared.Await.the-variants as await
 use Rattle.server.specs.declared.CallKind.{CallKind}
 use Rattle.server.specs.declared.CallKind.the-variants as kind
-use Rattle.server.specs.declared.End.the-variants as end
 use Rattle.server.specs.declared.Refusal.{Refusal}
 use Rattle.server.specs.declared.Refusal.the-variants as refusal
 use Rattle.server.specs.declared.Engine.{Engine}
-use Rattle.server.specs.declared.Body.{Body}
-use Rattle.server.specs.declared.Body.the-variants as body
 use Rattle.server.specs.declared.Outcome.the-variants as outcome
-use Rattle.model.specs.Step.{Stores, Done, sent, limitOf, Stepped, stepped, Called, called, after}
+use Rattle.model.specs.Step.{Stores, Done, limitOf, Stepped, stepped, Called, called, after}
 
 -- Whether one of the four stores is too short.
 unfoldable pub short : ℕ → Stores → Bool
@@ -70,22 +68,6 @@ shortTables t = ltb (length t) tableLength
 -- Without a realm in the settings the bytes that are lent do not count.
 unfoldable pub longRealm : Settings → List ℕ → Bool
 longRealm st l = st .«has_realm» && ltb maxRealm (length l)
-
--- A number for each thing awaited, by which two of them are told apart.
-abbrev pub awaitNumber : Await → ℕ
-awaitNumber await.Bytes = 0
-awaitNumber await.Taken = 1
-awaitNumber await.Last = 2
-awaitNumber await.Connect = 3
-awaitNumber await.Disconnect = 4
-awaitNumber await.Get = 5
-awaitNumber await.Reply = 6
-awaitNumber await.Acknowledgement = 7
-awaitNumber await.Password = 8
-awaitNumber await.Nonce = 9
-awaitNumber await.Credentials = 10
-awaitNumber await.Body = 11
-awaitNumber await.Nothing = 12
 
 -- Two things awaited are the same.
 abbrev pub sameAwait : Await → Await → Bool

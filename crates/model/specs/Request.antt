@@ -2,7 +2,7 @@
 use Prim.Native.Nat.{ℕ, _+_}
 use mathlib.Core.List.{List}
 use mathlib.Core.Option.{Option}
-use lib.ListN.{length, take}
+use lib.ListN.{take}
 use Rattle.packet.specs.HeaderIds as header-id
 use Rattle.packet.specs.Tags.{lastValue}
 use Rattle.packet.specs.Header.{Header, first, firstPlace, part}

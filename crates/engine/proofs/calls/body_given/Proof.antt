@@ -56,7 +56,8 @@ returns-2 c =
     let z = c .before .before in
     let k = start (passed z) .args in
     let s = lent (passed z) in
-    ap (λ (r : CallResult). stepped r s) (c .refuse2 .ensures) ∙ body-other (k .e .operation) (k .e) (k .d .now) s (c .before .match2 .keys2) ∙ sym (goes z .whole _)
+    ap (λ (r : CallResult). stepped r s) (c .refuse2 .ensures) ∙ body-other (k .e .operation) (k .e) (k .d .now) s (c .before .match2 .keys2)
+    ∙ sym (goes z .whole _)
 
 refuse-requires-3 : tie.Need-refuse-requires-3
 refuse-requires-3 c κs = search needs
