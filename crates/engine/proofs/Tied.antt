@@ -14,8 +14,8 @@ use borrow.Fn.World.{ArgsD, ResD}
 use borrow.Fn.Kinds.{endedOf}
 use Rattle.packet.specs.AuthWrite.{given}
 use Rattle.incoming.specs.Frame.{placedIn, coming}
-use Rattle.incoming.proofs.Placed.{placed-there}
-use Rattle.model.proofs.Placed.{placed-as-offered}
+use Rattle.incoming.proofs.BytesPlaced.{placed-there}
+use Rattle.model.proofs.BytesPlaced.{placed-as-offered}
 use Rattle.connection.specs.Pieces.{credentialsOf}
 use Rattle.journal.specs.Calls.{Call, bytesOffered, streamEnded, replyTaken, replyGiven, objectGiven, bodyGiven, bodyFailed, abortAcknowledged, passwordGiven, nonceGiven, credentialsGiven, connectionsClosed}
 use Rattle.model.specs.Step.{Stores, stores, Stepped, stepped, called}

@@ -5,7 +5,7 @@ use mathlib.Core.Path.{_≡_, ap, _∙_}
 use mathlib.Core.List.{List}
 use Prim.Native.Nat.{ℕ}
 use Rattle.incoming.specs.Frame.{coming}
-use Rattle.incoming.proofs.Placed.{octets-coming}
+use Rattle.incoming.proofs.BytesPlaced.{octets-coming}
 use Rattle.incoming.specs.declared.frame.Frame.{Frame}
 use Rattle.model.specs.Step.{Stores, Stepped, stores, stepped}
 use Rattle.model.specs.Guard.{refuse}

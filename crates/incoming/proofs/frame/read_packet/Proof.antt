@@ -14,7 +14,7 @@ use Rattle.incoming.specs.declared.frame.Frame.{Frame}
 use Rattle.incoming.specs.declared.frame.Frame.the-variants.{More, Whole, Short}
 use Rattle.incoming.specs.declared.frame.Framed.{Framed}
 use Rattle.incoming.specs.Frame.{Frames, frames, framed, placedIn, coming}
-use Rattle.incoming.proofs.Placed.{thenAll, in-turn, later, taken-later, counts}
+use Rattle.incoming.proofs.BytesPlaced.{thenAll, in-turn, later, taken-later, counts}
 use Rattle.incoming.proofs.frame.read_packet.Statement.{statement}
 use Rattle.incoming.proofs.frame.read_packet.Tie as tie
 

@@ -1,5 +1,5 @@
 -- `incoming::frame::read_placed` meets its contract. The bytes end where the store or their count does; the packet ends at `stop` or goes on
--- (`Placed`).
+-- (`BytesPlaced`).
 use borrow.Author.Needs.{needs}
 use native.Mathlib.Omega.{arith}
 use borrow.Author.Tests.{lt-ltb, le-ltb}
@@ -14,7 +14,7 @@ use Rattle.base.specs.Bytes.{be16}
 use Rattle.incoming.specs.declared.frame.Frame.{Frame}
 use Rattle.incoming.specs.declared.frame.Frame.the-variants.{More, Whole, Short}
 use Rattle.incoming.specs.Frame.{Frames, framed, frames, placedIn}
-use Rattle.incoming.proofs.Placed.{EndsAt, endingOf, goes-on, ends-there, up-to}
+use Rattle.incoming.proofs.BytesPlaced.{EndsAt, endingOf, goes-on, ends-there, up-to}
 use Rattle.incoming.proofs.frame.read_placed.Statement.{statement}
 use Rattle.incoming.proofs.frame.read_placed.Tie as tie
 

@@ -11,7 +11,7 @@ use Rattle.base.specs.Pick.{pick}
 use Rattle.incoming.specs.Frame.{Frames, framed}
 use Rattle.incoming.specs.declared.frame.Frame.{Frame}
 use Rattle.incoming.specs.declared.frame.Frame.the-variants.{More, Whole, Short}
-use Rattle.incoming.proofs.Placed.{as-offered}
+use Rattle.incoming.proofs.BytesPlaced.{as-offered}
 use Rattle.server.specs.declared.Engine.{Engine}
 use Rattle.server.specs.declared.CallKind.the-variants as kind
 use Rattle.server.specs.declared.Refusal.the-variants as refusal
@@ -19,7 +19,7 @@ use Rattle.model.specs.Step.{Stores, Stepped, limitOf, Called, called}
 use Rattle.model.specs.Calls.{framedAs, withPacket, offers, bytesOfferedStep}
 use Rattle.model.specs.Guard.{short, sound, shortTables, fits, refuse}
 use Rattle.model.specs.Runs.{stepOf}
-use Rattle.model.specs.Placed.{placing, placed, PlacedAsOffered}
+use Rattle.model.specs.BytesPlaced.{placing, placed, PlacedAsOffered}
 
 -- the stores are as long as before
 same-short : (n : ℕ) (e : Engine) (i : List ℕ) (s : Stores) → short n (placing e i s) ≡ short n s
