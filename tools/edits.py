@@ -3,7 +3,7 @@
 An edit is a file of lines: `# ` and a full sentence that says what the wrong program does; if it is known, a second line `# ` with the fact that
 refuses it; then `file: PATH` in the crate and pairs of `old: TEXT`, which must stand there exactly once, and `new: TEXT`.
 crates/NAME/must-fail/LABEL.edit is tried by the gate, crates/NAME/mutants/MODULE/LABEL.edit by `make mutants`; MODULE is the module whose text
-the edit changes, or the file of specs/ in lower case."""
+the edit changes, or the module of the same name as the file of specs/ that it changes, or, if there is none, that file in lower case."""
 import glob, os, re
 
 ROOT = os.path.realpath(os.path.join(os.path.dirname(os.path.abspath(__file__)), '..'))
@@ -34,8 +34,13 @@ class Edit:
                 self.head.append(line)
 
     def module(self):
-        """The module, or the file of specs/ in lower case, whose text is changed first."""
-        return os.path.splitext(os.path.basename(self.pairs[0][0]))[0].lower()
+        """The module whose text is changed first, or that of the file of specs/ (`ConnectReply` is that of `connect_reply`), or else that file
+        in lower case."""
+        name = os.path.splitext(os.path.basename(self.pairs[0][0]))[0]
+        module = re.sub('(?<=[a-z0-9])(?=[A-Z])', '_', name).lower()
+        if os.path.exists(os.path.join(ROOT, 'crates', self.crate, 'src', module + '.rt')):
+            return module
+        return name.lower()
 
     def applied(self):
         """The changed files by their path in the crate."""
