@@ -66,16 +66,20 @@ pub fn line_at(text: &[u8], k: usize) -> Place
 }
 
 // Returns the word with the number `k` of a line. The words are counted from 0; if there are fewer, there are no bytes.
-pub fn word_of(line: &[u8], k: usize) -> &[u8] {
+pub fn word_of(line: &[u8], k: usize) -> &[u8]
+    ensures { λ r. ⌜ length (now r) ≤ length (now (line .entry)) ⌝ }
+{
     let place = piece_at(line, k, b' ');
     let start = place.start;
     let end = place.end;
     &line[start..end]
 }
 
-// Returns the number of the line of `text` that is `w`, counted from 0, or the number of all the lines if none is. A word that names a case is
-// looked up in one text, so that a function that tells the cases apart has a number to tell them by.
-pub fn line_number(text: &[u8], w: &[u8]) -> usize {
+// Returns the number of the line of `text` that is `w`, counted from 0, or the number of all the lines if none is. A word that names a case
+// is looked up in one text, so that a function that tells the cases apart has a number to tell them by.
+pub fn line_number(text: &[u8], w: &[u8]) -> usize
+    ensures { λ r. ⌜ r ≤ length (now (text .entry)) ⌝ }
+{
     let mut at = 0;
     let mut k = 0;
     while at < text.len() {

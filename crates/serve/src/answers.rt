@@ -141,8 +141,8 @@ fn read(
     }
 }
 
-// Answers a request. `file` is the file that is being sent, which any request but a Put and a Read ends. SetPath is granted and does nothing:
-// clients send it first, and there is one folder for a service.
+// Answers a request. `file` is the file that is being sent, which any request but a Put and a Read ends. SetPath is granted and does
+// nothing: clients send it first, and there is one folder for a service.
 pub(crate) fn answer(
     e: Engine,
     request: HostRequest,

@@ -1,15 +1,15 @@
 -- `lines::word::line_number` meets its contract. Each turn passes a line, so the number of lines is at most that of the bytes. Assumes nothing.
 use borrow.Author.Needs.{needs}
-use Prim.Native.Nat.{_≤_, _-_, _+_}
+use Prim.Native.Nat.{_≤_, _-_}
 use lib.ListN.{length}
 use Rattle.lines.proofs.word.line_number.Statement.{statement}
 use Rattle.lines.proofs.word.line_number.Tie as tie
 
 abbrev Inv-loop : tie.InvT-loop
-Inv-loop text w at₀ k₀ at k = (k ≤ at) × (at ≤ length text + 1)
+Inv-loop text w at₀ k₀ at k = (k ≤ at) × (k ≤ length text)
 
 abbrev μ-loop : tie.MeasureT-loop
-μ-loop text w at₀ k₀ at k = length text + 1 - at
+μ-loop text w at₀ k₀ at k = length text - at
 
 loop-holds : tie.Need-loop-holds Inv-loop μ-loop
 loop-holds c = search needs
