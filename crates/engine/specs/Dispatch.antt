@@ -133,7 +133,7 @@ openRoute e h =
 
 -- Another opcode inside an operation gets 0x40, and the engine ends once the host has sent that reply.
 abbrev pub interruptsRoute : Route
-interruptsRoute = Plain (brief.Code await.Last (sentCode 0x40))
+interruptsRoute = Plain (brief.Code await.Last (sentCode response.badRequest))
 
 -- A packet of the open operation's opcode `o` goes on with it.
 abbrev pub continuedRoute : Heading → Opcode → Route → Route
@@ -188,7 +188,7 @@ headingRoute e h =
 -- An unreadable packet ends the engine inside an operation. Otherwise it gets 0x51 if its first byte is `unknown`, else 0x40, and what is
 -- open stays.
 abbrev pub unreadableRoute : Operation → Bool → Route
-unreadableRoute o unknown = pick (busy o) (Plain (brief.End end.Unreadable)) (keepRoute (pick unknown 0x51 0x40))
+unreadableRoute o unknown = pick (busy o) (Plain (brief.End end.Unreadable)) (keepRoute (pick unknown response.notImplemented response.badRequest))
 
 -- The engine decides by whether packet `q` reads as a request.
 abbrev pub routeAs : Option Packet → Engine → List ℕ → List ℕ → Route

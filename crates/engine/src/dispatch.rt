@@ -7,6 +7,7 @@ ghost use Rattle.engine.specs.Dispatch.{admissionOf, unauthorizedFor, co
 ghost use mathlib.Core.Bool.{true};
 ghost use mathlib.Core.List.{List};
 ghost use lib.ListN.{length};
+ghost use Rattle.packet.specs.Limits.{maxPacket};
 ghost use Rattle.packet.specs.FirstByte.{firstByte};
 ghost use Rattle.packet.specs.Packet.{requestOf};
 ghost use Rattle.table.specs.Places.{tableLength};
@@ -634,8 +635,8 @@ fn act(
     reply: &mut [u8],
 ) -> Plan
     requires { ⌜ (1 ≤ length (now p)) × (e .peer .count ≤ 64) × (tableLength ≤ length (now tables)) × (255 ≤ e .peer .«remote_max_packet_length»)
-        × (soundOperation (limitOf e) (e .operation) ≡ true) × (65535 ≤ length (now headers)) × (limitOf e ≤ length (now body))
-        × (65535 ≤ length (now reply)) ⌝ }
+        × (soundOperation (limitOf e) (e .operation) ≡ true) × (maxPacket ≤ length (now headers)) × (limitOf e ≤ length (now body))
+        × (maxPacket ≤ length (now reply)) ⌝ }
     ensures { λ r. ⌜ ((q : List ℕ) → planned r (stores q (now (headers .exit)) (now (body .exit)) (now (reply .exit)))
         ≡ acts (packetRoute e (now (p .entry)) (now (tables .entry)))
         (targeted e (packetTargetOf (requestOf (now (p .entry))) e (now (tables .entry)))) (now (p .entry))
@@ -685,8 +686,8 @@ pub(crate) fn packet_done(
     reply: &mut [u8],
 ) -> CallResult
     requires { ⌜ (1 ≤ n) × (n ≤ length (now packet)) × (e .peer .count ≤ 64) × (tableLength ≤ length (now tables)) × (255 ≤ e .peer .«remote_max_packet_length»)
-        × (soundOperation (limitOf e) (e .operation) ≡ true) × (65535 ≤ length (now headers)) × (limitOf e ≤ length (now body))
-        × (65535 ≤ length (now reply)) ⌝ }
+        × (soundOperation (limitOf e) (e .operation) ≡ true) × (maxPacket ≤ length (now headers)) × (limitOf e ≤ length (now body))
+        × (maxPacket ≤ length (now reply)) ⌝ }
     ensures { λ r. ⌜ stepped r (stores (now (packet .entry)) (now (headers .exit)) (now (body .exit)) (now (reply .exit)))
         ≡ after 0 (packetDone e n (stores (now (packet .entry)) (now (headers .entry)) (now (body .entry)) (now (reply .entry)))
         (now (tables .entry))) ⌝ }

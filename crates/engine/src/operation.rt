@@ -8,6 +8,7 @@ ghost use mathlib.Core.Bool.{true};
 ghost use mathlib.Core.Option.{some};
 ghost use mathlib.Core.List.{List};
 ghost use lib.ListN.{length};
+ghost use Rattle.packet.specs.Limits.{maxPacket};
 ghost use Rattle.packet.specs.Header.{readHeaders};
 ghost use Rattle.packet.specs.Packet.{requestOf};
 ghost use Rattle.journal.specs.Journal.{headersOf as headersIn};
@@ -276,7 +277,7 @@ pub(crate) fn gather_packet(
     body: &mut [u8],
 ) -> Plan
     requires { ⌜ (readHeaders (now p) (fromOf kind) ≡ some (headersIn (requestOf (now p)))) × (soundGathered (limitOf e) begun ≡ true)
-        × (65535 ≤ length (now headers)) × (limitOf e ≤ length (now body)) ⌝ }
+        × (maxPacket ≤ length (now headers)) × (limitOf e ≤ length (now body)) ⌝ }
     ensures { λ r. ⌜ ((q y : List ℕ) → planned r (stores q (now (headers .exit)) (now (body .exit)) y)
         ≡ actsGathered e kind flags (gathers e (keepOf kind) (headersIn (requestOf (now (p .entry)))) begun
         (stores q (now (headers .entry)) (now (body .entry)) y)) (stores q (now (headers .entry)) (now (body .entry)) y)) ⌝ }

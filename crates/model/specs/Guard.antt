@@ -6,7 +6,7 @@ use mathlib.Core.Option.{Option, none, some}
 use lib.ListN.{length}
 use lib.Dec.{ltb, leb, eqb}
 use Rattle.base.specs.Pick.{pick}
-use Rattle.packet.specs.Limits.{maxConnections, maxRealm}
+use Rattle.packet.specs.Limits.{maxPacket, minPacket, maxCapacity, maxConnections, maxRealm}
 use Rattle.table.specs.Places.{maxNonces, tableLength}
 use Rattle.packet.specs.Codes.{isCode}
 use Rattle.packet.specs.Canonical.{canonical}
@@ -31,16 +31,18 @@ use Rattle.model.specs.Step.{Stores, Done, limitOf, Stepped, stepped, Ca
 -- Whether one of the four stores is too short.
 unfoldable pub short : ℕ → Stores → Bool
 short limit s =
-    ltb (length (s .packet)) 65535 || (ltb (length (s .headers)) 65535 || (ltb (length (s .reply)) 65535 || ltb (length (s .body)) limit))
+    ltb (length (s .packet)) maxPacket
+    || (ltb (length (s .headers)) maxPacket || (ltb (length (s .reply)) maxPacket || ltb (length (s .body)) limit))
 
 -- The kept headers and the body bytes lie in their stores.
 abbrev pub soundGathered : ℕ → Gathered → Bool
-soundGathered limit g = leb (g .kept) 65535 && leb (g .body) limit
+soundGathered limit g = leb (g .kept) maxPacket && leb (g .body) limit
 
 -- The headers that are still to be sent lie in the header store, and the packet that is being made in the reply store.
 abbrev pub soundOutgoing : Outgoing → Chunk → Bool
 soundOutgoing o c =
-    leb (o .total) 65535 && (leb (o .sent) (o .total) && (leb (c .at + c .got) 65532 && leb (c .at + c .got + c .room) 65533))
+    leb (o .total) maxPacket
+    && (leb (o .sent) (o .total) && (leb (c .at + c .got) maxCapacity && leb (c .at + c .got + c .room) (maxCapacity + 1)))
 
 -- The counts of an operation lie in their stores.
 abbrev pub soundOperation : ℕ → Operation → Bool
@@ -50,14 +52,15 @@ soundOperation limit (Putting g srm) = soundGathered limit g
 soundOperation limit (Getting g srm confirm wait) = soundGathered limit g
 soundOperation limit (Sending o c srm wait) = soundOutgoing o c
 soundOperation limit (GatheringOp o g) = soundGathered limit g
-soundOperation limit (Connecting code f n) = leb n 65535
+soundOperation limit (Connecting code f n) = leb n maxPacket
 soundOperation limit (Draining code) = true
 
 -- Whether the counts of a state are ones that a call can leave. Any other state is refused as after the end, so that a call is defined for
 -- every state.
 unfoldable pub sound : Engine → Bool
 sound e =
-    ltb (e .begun) 65535 && (leb (e .length) 65535 && (leb (e .peer .count) maxConnections && (leb 255 (e .peer .«remote_max_packet_length»)
+    ltb (e .begun) maxPacket && (leb (e .length) maxPacket && (leb (e .peer .count) maxConnections
+    && (leb minPacket (e .peer .«remote_max_packet_length»)
     && (leb (e .peer .nonces) maxNonces && soundOperation (limitOf e) (e .operation)))))
 
 -- Whether the table store, which holds the open ids and the nonces taken last, is too short. Only the calls that look at it are lent it.
@@ -110,7 +113,7 @@ guardedCalled k e s t go =
 
 -- Whether header bytes are none that a host may give: over 65,535, or not what the writer gives for what the reader reads.
 unfoldable pub badHeaders : List ℕ → Bool
-badHeaders hs = ltb 65535 (length hs) || not (canonical hs)
+badHeaders hs = ltb maxPacket (length hs) || not (canonical hs)
 
 -- Whether a reply is none that a host may give, by its code or its headers.
 unfoldable pub badReply : ℕ → List ℕ → Bool

@@ -36,7 +36,7 @@ userIn q place.Missing = place.Missing
 userIn q (place.At a b) = placedAt a (lastValue (part q a b) 1)
 
 unfoldable pub userPlace : Engine → Stores → Found
-userPlace e s = userIn (lastPacket e s) (firstPlace 0x4E (lastPacket e s) 7)
+userPlace e s = userIn (lastPacket e s) (firstPlace header-id.authenticateResponse (lastPacket e s) 7)
 
 -- Where the realm of the client's challenge stands in the packet.
 abbrev pub realmIn : List ℕ → Found → Found
