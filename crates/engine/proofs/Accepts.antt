@@ -115,8 +115,8 @@ module _ (e : Engine) (p : Peer) (code : ℕ) (f : ConnectionId) (q hs y : List 
       → answering t z y ≡ challengedBy (answeredIn (headersOf q)) e p code f hs q h y
   challenged h z n u r a m x t k i j l o =
       ap₂ (λ (t : CallResult) (z : List ℕ). answering t z y)
-      (i ∙ ap (λ (x : Plan). tookBy x) (j ∙ ap
-      (λ (m : Found). asksPlan e p (Connecting code f (length hs)) await.Credentials (request.Credentials n u r m)) l)) o
+      (i ∙ ap (λ (x : Plan). tookBy x)
+      (j ∙ ap (λ (m : Found). asksPlan e p (Connecting code f (length hs)) await.Credentials (request.Credentials n u r m)) l)) o
       ∙ ap (λ (d : DigestChallenge). challengedBy d e p code f hs q h y) k
 
 -- the ways of the answer

@@ -49,7 +49,6 @@ use Rattle.engine.specs.Operation.{keepOf, actsGathered}
 use Rattle.engine.specs.Connect.{connectPlan}
 use Rattle.server.specs.declared.Outcome.the-variants as outcome
 use Rattle.server.specs.declared.CallResult.{CallResult}
-use Rattle.engine.specs.declared.object.Turn.the-variants.{Send}
 
 -- The parts of a request that decide its way; `known` says that it names an open ConnectionID, `trails` that it is refused with the Put that
 -- it trails.

@@ -280,8 +280,8 @@ module _ (w : Known) (s : State) (h : Seated s) (k : Knows w s) where
       (subst (λ (x : Await). Shape x (e .operation)) at (h .sits .shape))))
       (λ j x. refl)
       (λ j x. let y = coupled-at await.Taken j at x in
-      told-follows (subst (Told ts _) (sym
-      (ap (λ (t : Bool). pick t (lastTaken j) (unchanged (takenAt (j .opened) j (getD (st .reply) 0 0)))) (y .0)))
+      told-follows (subst (Told ts _)
+      (sym (ap (λ (t : Bool). pick t (lastTaken j) (unchanged (takenAt (j .opened) j (getD (st .reply) 0 0)))) (y .0)))
       (goes-on-told (takenAt (j .opened) j (getD (st .reply) 0 0)) (y .1) (e .operation) (y .1 .opened) (h .sits .counts)
       (told-wants ts e (e .peer) st _ (e .operation) (y .1)))))
       (λ j late x v l. goes-on-brief e st (e .operation))

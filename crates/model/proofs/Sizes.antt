@@ -365,8 +365,8 @@ module _ (ts : List ℕ) (e : Engine) (s : Stores) (j : Journal) (w : AskedBy ts
   accepted-is c =
       ap (λ (l : List Header). acceptedBy l (j .settings) (j .standing) c) headers-are
       ∙ ap₂ (λ (x : JournalSettings) (y : Standing). acceptedBy (lastHeaders e s) x y c) (w .held .fixed .settings) (w .held .fixed .standing)
-      ∙ ap (λ (i : Option ℕ). 7 + length (allBytes
-      (connectHeaders i (lastHeaders e s) (listOf (readHeaders hs 0)) c (asksSrm (settingsOf (e .settings)) (lastHeaders e s)))))
+      ∙ ap (λ (i : Option ℕ).
+      7 + length (allBytes (connectHeaders i (lastHeaders e s) (listOf (readHeaders hs 0)) c (asksSrm (settingsOf (e .settings)) (lastHeaders e s)))))
       (front-is (e .peer) ts (w .held .fixed .past) named target)
 
   size-is : answerSize (j .opened) j code hs ≡ connectSize j (w .request) code hs
@@ -390,8 +390,8 @@ module _ (ts : List ℕ) (e : Engine) (s : Stores) (j : Journal) (w : AskedBy ts
       record {
         small = refl;
         waiting =
-            λ i c. ap (λ (q : List ℕ). 7 + length
-            (allBytes (connectHeaders (idGiven (frontFor (e .peer) ts named target)) (lastHeaders e s) (listOf (readHeaders q 0)) c
+            λ i c. ap (λ (q : List ℕ).
+            7 + length (allBytes (connectHeaders (idGiven (frontFor (e .peer) ts named target)) (lastHeaders e s) (listOf (readHeaders q 0)) c
             (srmAsked e (surveyOf (some (lastHeaders e s)))))))
             (take-append-seam hs (drop (length hs) (s .headers))) ∙ sym (late-is c ∙ accepted-is c);
       }
