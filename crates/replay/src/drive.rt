@@ -109,6 +109,24 @@ fn close(e: Engine, a: &[u8], tables: &mut [u64]) -> CallResult {
 
 // ---- one call
 
+// Whether a lent store is too short by its length, so that the engine refuses bytes and leaves all stores as they are.
+fn is_short(
+    e: Engine,
+    tables: usize,
+    packet: usize,
+    headers: usize,
+    body: usize,
+    reply: usize,
+) -> bool {
+    if tables < 320 {
+        return true;
+    }
+    if least(packet, least(headers, reply)) < 65535 {
+        return true;
+    }
+    body < e.settings.max_object_size as usize
+}
+
 // Returns how many bytes of a piece of `length` bytes are put into the packet store: half of them, if their number is odd and `awaits` says
 // that bytes are awaited. At any other moment the packet store holds the last packet, which an answer may read again.
 fn half(awaits: Await, length: usize) -> usize {
@@ -119,6 +137,14 @@ fn half(awaits: Await, length: usize) -> usize {
         return 0;
     }
     length / 2
+}
+
+// Puts bytes of `input` into the packet store behind those of an unfinished packet, at most `count`, and returns how many.
+fn place(begun: usize, count: usize, input: &[u8], packet: &mut [u8]) -> usize {
+    let at = least(begun, packet.len());
+    let n = least(least(count, input.len()), packet.len() - at);
+    copy_into(packet, at, &input[0..n]);
+    n
 }
 
 // Offers a piece of the client's bytes. Some bytes are put into the packet store first, as by a host that reads straight into it, so that
@@ -132,12 +158,22 @@ fn offer(
     body: &mut [u8],
     reply: &mut [u8],
 ) -> CallResult {
+    if is_short(
+        e,
+        tables.len(),
+        packet.len(),
+        headers.len(),
+        body.len(),
+        reply.len(),
+    ) {
+        return calls::bytes_offered(e, 0, input, tables, packet, headers, body, reply);
+    }
     let awaits = e.awaits;
-    let at = least(e.begun, packet.len());
-    let n = least(half(awaits, input.len()), packet.len() - at);
-    let m = least(n, input.len());
-    copy_into(packet, at, &input[0..m]);
-    calls::bytes_offered(e, m, &input[m..], tables, packet, headers, body, reply)
+    let n = least(
+        place(e.begun, half(awaits, input.len()), input, packet),
+        input.len(),
+    );
+    calls::bytes_offered(e, n, &input[n..], tables, packet, headers, body, reply)
 }
 
 // Makes a call that hands over nothing but the stores. A reply is taken if `call` is no other call.
