@@ -3,8 +3,8 @@
 # Bare `make` says what there is, and runs nothing. The times are those of two cores; what is proved stays proved until a file changes.
 help:
 	@echo 'command        what it does                                                            needs                  about'
-	@echo 'make run       proves the bench and plays a session through the engine, line by line   Rattle (rt)            9 minutes, then at once'
-	@echo 'make test      the gate: proves all from nothing, refuses wrong programs, runs all     Rattle                 30 minutes'
+	@echo 'make run       proves the bench and plays a session through the engine, line by line   Rattle (rt), python3   10 minutes, then at once'
+	@echo 'make test      the gate: proves all from nothing, refuses wrong programs, runs all     Rattle, python3        30 minutes'
 	@echo 'make check     what needs no prover: trace, edits, contracts, stored sessions          python3                5 seconds'
 	@echo 'make serve     a server of the files in a folder: DIR=./served PORT=6500               Rattle, python3        10 minutes, then at once'
 	@echo 'make faults    that server with slow and full disks, kills, many and silent clients    Rattle, cc, root       12 minutes, then 2'
@@ -13,9 +13,9 @@ help:
 	@echo 'make compare   port beside original: questions, then sessions: N=1000000 SEED=1        the oracle, Rattle     13 minutes, then 2'
 	@echo 'make planted   the sessions tell wrong readings of the papers apart                    the oracle             half an hour'
 	@echo 'make perf      throughput of port and original in one run                              the oracle, openssl    10 minutes, then 3'
-	@echo 'make mutants   the wrong programs that are not in the gate, NAME=crate for one crate   Rattle                 1 to 2 hours; goes on where it stopped'
-	@echo 'make rust      the engine for Rust and C: its archive, the tests of rust/, sessions in both     Rattle, cargo, cc      12 minutes, then 1'
-	@echo 'make rust-perf throughput of both servers through the same Rust API, after make rust           cargo                  1 minute'
+	@echo 'make mutants   the wrong programs that are not in the gate, NAME=crate for one crate   Rattle, python3        1 to 2 hours; goes on where it stopped'
+	@echo 'make rust      the engine for Rust and C: its archive, tests, sessions through both    Rattle, cargo, cc      12 minutes, then 1'
+	@echo 'make rust-perf throughput of both servers through one Rust API, after make rust        cargo                  1 minute'
 
 # Proves what is needed, then plays the example session through the bench. Only the session goes to standard output.
 run:

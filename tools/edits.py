@@ -3,7 +3,7 @@
 An edit is a file of lines: `# ` and a full sentence that says what the wrong program does; if it is known, a second line `# ` with the fact that
 refuses it; then `file: PATH` in the crate and pairs of `old: TEXT`, which must stand there exactly once, and `new: TEXT`.
 crates/NAME/must-fail/LABEL.edit is tried by the gate, crates/NAME/mutants/MODULE/LABEL.edit by `make mutants`; MODULE is the module whose text
-the edit changes, or the file of specs/ in lower case."""
+the edit changes, or the file of specs/, written as a module is: connect_reply for ConnectReply."""
 import glob, os, re
 
 ROOT = os.path.realpath(os.path.join(os.path.dirname(os.path.abspath(__file__)), '..'))
@@ -34,8 +34,9 @@ class Edit:
                 self.head.append(line)
 
     def module(self):
-        """The module, or the file of specs/ in lower case, whose text is changed first."""
-        return os.path.splitext(os.path.basename(self.pairs[0][0]))[0].lower()
+        """The module, or the file of specs/ in the letters of a module, whose text is changed first: ConnectReply is connect_reply."""
+        name = os.path.splitext(os.path.basename(self.pairs[0][0]))[0]
+        return re.sub('(?<=[a-z0-9])(?=[A-Z])', '_', name).lower()
 
     def applied(self):
         """The changed files by their path in the crate."""

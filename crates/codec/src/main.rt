@@ -6,12 +6,16 @@ use digest::md5::Octets16;
 use libc::STDOUT_FILENO;
 use lines::input::keep;
 use lines::input::read;
+use lines::input::whole;
 use lines::output::digits;
 use lines::output::pair;
 use lines::word::after;
 use lines::word::byte_at;
 use lines::word::find;
+use lines::word::line_at;
+use lines::word::line_number;
 use lines::word::unhex;
+use lines::word::word_of;
 use packet::action::permissions;
 use packet::auth;
 use packet::auth::DigestChallenge;
@@ -135,66 +139,68 @@ fn put_final(is_final: bool) {
     }
 }
 
-fn put_name(op: Opcode) {
+// Puts the line of `text` with the number `k`.
+fn put_line(text: &[u8], k: usize) {
+    let place = line_at(text, k);
+    let start = place.start;
+    let end = place.end;
+    put(&text[start..end]);
+}
+
+// Returns which line of the names in `put_name` is that of an opcode.
+fn line_of(op: Opcode) -> usize {
     match op {
-        Opcode::Connect => put(b"connect"),
-        Opcode::Disconnect => put(b"disconnect"),
-        Opcode::Put => put(b"put"),
-        Opcode::Get => put(b"get"),
-        Opcode::SetPath => put(b"set_path"),
-        Opcode::Action => put(b"action"),
-        Opcode::Session => put(b"session"),
-        Opcode::Abort => put(b"abort"),
-        Opcode::UserDefined(_) => put(b"user_defined"),
+        Opcode::Connect => 0,
+        Opcode::Disconnect => 1,
+        Opcode::Put => 2,
+        Opcode::Get => 3,
+        Opcode::SetPath => 4,
+        Opcode::Action => 5,
+        Opcode::Session => 6,
+        Opcode::Abort => 7,
+        Opcode::UserDefined(_) => 8,
     }
+}
+
+fn put_name(op: Opcode) {
+    let names = b"connect\ndisconnect\nput\nget\nset_path\naction\nsession\nabort\nuser_defined\n";
+    put_line(names, line_of(op));
 }
 
 // ---- reading
 
 fn question_of(w: &[u8]) -> Question {
-    if same(w, b"first") {
-        return Question::First;
+    let names = b"first\n\
+        code\n\
+        length\n\
+        tags\n\
+        headers\n\
+        packet\n\
+        challenge\n\
+        response-list\n\
+        verify\n\
+        write-challenge\n\
+        respond\n\
+        request\n\
+        response\n\
+        digest\n";
+    match line_number(names, w) {
+        0 => Question::First,
+        1 => Question::Code,
+        2 => Question::Length,
+        3 => Question::Tags,
+        4 => Question::Headers,
+        5 => Question::Packet,
+        6 => Question::Challenge,
+        7 => Question::ResponseList,
+        8 => Question::Verify,
+        9 => Question::WriteChallenge,
+        10 => Question::Respond,
+        11 => Question::Request,
+        12 => Question::Response,
+        13 => Question::Digest,
+        _ => Question::Unknown,
     }
-    if same(w, b"code") {
-        return Question::Code;
-    }
-    if same(w, b"length") {
-        return Question::Length;
-    }
-    if same(w, b"tags") {
-        return Question::Tags;
-    }
-    if same(w, b"headers") {
-        return Question::Headers;
-    }
-    if same(w, b"packet") {
-        return Question::Packet;
-    }
-    if same(w, b"challenge") {
-        return Question::Challenge;
-    }
-    if same(w, b"response-list") {
-        return Question::ResponseList;
-    }
-    if same(w, b"verify") {
-        return Question::Verify;
-    }
-    if same(w, b"write-challenge") {
-        return Question::WriteChallenge;
-    }
-    if same(w, b"respond") {
-        return Question::Respond;
-    }
-    if same(w, b"request") {
-        return Question::Request;
-    }
-    if same(w, b"response") {
-        return Question::Response;
-    }
-    if same(w, b"digest") {
-        return Question::Digest;
-    }
-    Question::Unknown
 }
 
 // ---- bytes that name things
@@ -686,7 +692,8 @@ fn request(byte: u8, is_final: bool, fields: Fields, headers: &[u8]) {
     );
 }
 
-fn reply(byte: u8, connect: ConnectParameters, size: usize, headers: &[u8]) {
+// `is_none` says that the reply has no Connect parameters; otherwise `parameters` are their bytes.
+fn reply(byte: u8, is_none: bool, parameters: &[u8], headers: &[u8]) {
     let code = byte & 0x7F;
     if !response::is_code(code) {
         put(b"unknown");
@@ -697,12 +704,13 @@ fn reply(byte: u8, connect: ConnectParameters, size: usize, headers: &[u8]) {
         return;
     }
     let mut store = [0u8; 150000];
+    let connect = parameters_of(parameters, is_none);
     let done = packets::write_response(&mut store, code, connect, headers);
     put_done(
         done,
         &store,
         b"error PacketTooLarge ",
-        sum(size, headers.len()),
+        sum(prefix(is_none), headers.len()),
     );
 }
 
@@ -884,61 +892,38 @@ fn answer_one(q: Question, a: &[u8]) {
     }
 }
 
-// Words 2 to 4 as they stand, and words 1 to 4 as bytes.
-fn answer(q: Question, w2: &[u8], w3: &[u8], w4: &[u8], a: &[u8], b: &[u8], c: &[u8], d: &[u8]) {
+// Answers the line `s`, of which `a` to `d` are the words 1 to 4 as bytes.
+fn answer(s: &[u8], a: &[u8], b: &[u8], c: &[u8], d: &[u8]) {
+    let q = question_of(word_of(s, 0));
     match q {
         Question::Verify => verify(a, b, c),
-        Question::Respond => respond(a, !same(w2, b"nouser"), b, c),
+        Question::Respond => respond(a, !same(word_of(s, 2), b"nouser"), b, c),
         Question::WriteChallenge => write_challenge(
             a,
-            same(w2, b"1"),
-            same(w3, b"1"),
-            !same(w4, b"none"),
+            same(word_of(s, 2), b"1"),
+            same(word_of(s, 3), b"1"),
+            !same(word_of(s, 4), b"none"),
             d,
         ),
         Question::Digest => digest(a, b),
         Question::Request => request(
             byte_at(a, 0),
-            same(w2, b"final"),
-            fields_of(c, same(w3, b"default")),
+            same(word_of(s, 2), b"final"),
+            fields_of(c, same(word_of(s, 3), b"default")),
             d,
         ),
-        Question::Response => reply(
-            byte_at(a, 0),
-            parameters_of(c, same(w3, b"none")),
-            prefix(same(w3, b"none")),
-            d,
-        ),
+        Question::Response => reply(byte_at(a, 0), same(word_of(s, 3), b"none"), c, d),
         _ => answer_one(q, a),
     }
+    put(b"\n");
 }
 
 fn words(s: &[u8], a: &mut [u8], b: &mut [u8], c: &mut [u8], d: &mut [u8]) {
-    let e0 = find(s, 0, b' ');
-    let q = question_of(&s[0..e0]);
-    let s1 = after(s, e0);
-    let e1 = find(s, s1, b' ');
-    let s2 = after(s, e1);
-    let e2 = find(s, s2, b' ');
-    let s3 = after(s, e2);
-    let e3 = find(s, s3, b' ');
-    let s4 = after(s, e3);
-    let e4 = find(s, s4, b' ');
-    let na = unhex(&s[s1..e1], a);
-    let nb = unhex(&s[s2..e2], b);
-    let nc = unhex(&s[s3..e3], c);
-    let nd = unhex(&s[s4..e4], d);
-    answer(
-        q,
-        &s[s2..e2],
-        &s[s3..e3],
-        &s[s4..e4],
-        &a[0..na],
-        &b[0..nb],
-        &c[0..nc],
-        &d[0..nd],
-    );
-    put(b"\n");
+    let na = unhex(word_of(s, 1), a);
+    let nb = unhex(word_of(s, 2), b);
+    let nc = unhex(word_of(s, 3), c);
+    let nd = unhex(word_of(s, 4), d);
+    answer(s, &a[0..na], &b[0..nb], &c[0..nc], &d[0..nd]);
 }
 
 fn line_short(s: &[u8]) {
@@ -968,20 +953,14 @@ fn line(s: &[u8]) {
     line_long(s);
 }
 
-// Answers the whole lines, and gives where the rest starts.
-fn lines_of(s: &[u8]) -> usize
-    ensures { λ r. ⌜ r ≤ length (now (s .entry)) ⌝ }
-{
+// Answers the lines of `s`, all of which are whole.
+fn lines_of(s: &[u8]) {
     let mut at = 0;
     while at < s.len() {
         let end = find(s, at, b'\n');
-        if s.len() <= end {
-            return at;
-        }
         line(&s[at..end]);
         at = end + 1;
     }
-    at
 }
 
 // Reads on behind what stands in the store, answers, and gives how much is left; the store's length where there is no more.
@@ -994,7 +973,8 @@ fn turn(s: &mut [u8], have: usize) -> usize
         return s.len();
     }
     let end = have + n;
-    let from = lines_of(&s[0..end]);
+    let from = whole(&s[0..end]);
+    lines_of(&s[0..from]);
     keep(s, from, end)
 }
 

@@ -29,7 +29,7 @@ use Rattle.connection.specs.declared.peer.Peer.{Peer}
 use Rattle.connection.specs.declared.peer.ConnectionId.{ConnectionId}
 use Rattle.connection.proofs.ByNumbers.{opened-by, disconnected-by}
 use Rattle.journal.specs.Journal.{listOf}
-use Rattle.model.specs.Step.{Stores, Stepped, stepped, Called, called, Done, DoneTabled, doneTabled, after, sends, sendsConnect}
+use Rattle.model.specs.Step.{Stores, Stepped, stepped, Called, called, DoneTabled, doneTabled, after, sends, sendsConnect}
 use Rattle.model.specs.Guard.{badReply, longUser, checked, soundOperation, sameAwait}
 use Rattle.model.specs.Calls.{replyGivenStep, credentialsWith, credentialsGivenStep, sendsLinked, replyAnswer}
 use Rattle.model.specs.Request.{lastPacket, lastHeaders, realmIn}
@@ -78,7 +78,8 @@ module _ (e : Engine) (q t : List ℕ) (m : Bool) (now : m ≡ sameAwait (e .awa
   unfolding repliedLink
   replied-closing k n i l h c w =
       w
-      ∙ ap (λ (i : ConnectionId). disconnectedBy (e .peer) t i) (c ∙ ap (λ (n : ℕ). idIn (first 0xCB (headersFrom q n))) h ∙ ap (λ (hs : List Header). idIn (first 0xCB hs)) (last-headers q))
+      ∙ ap (λ (i : ConnectionId). disconnectedBy (e .peer) t i)
+      (c ∙ ap (λ (n : ℕ). idIn (first 0xCB (headersFrom q n))) h ∙ ap (λ (hs : List Header). idIn (first 0xCB hs)) (last-headers q))
       ∙ sym (disconnected-by (e .peer) t (first 0xCB (headersOf q)))
       ∙ sym (simp (sym now ∙ k))
 
@@ -101,23 +102,27 @@ module _ (e : Engine) (p : Peer) (code : ℕ) (f : ConnectionId) (q hs y : List 
       sent-written e p code (fieldsOf (e .settings .«max_packet_length»)) (acceptedHeaders e f q hs c) y n z x r
       (h ∙ ap₂ (λ (r : List Header) (b : Bool). made c n r b) (j ∙ last-headers q) k) i l t
 
-  pub not-challenged : (h : List ℕ) (w : Written) → challenge.Unreadable ≡ answeredIn (headersOf q) → w ≡ connectReplies e p code (acceptedHeaders e f q hs none) y
+  pub not-challenged : (h : List ℕ) (w : Written) → challenge.Unreadable ≡ answeredIn (headersOf q)
+      → w ≡ connectReplies e p code (acceptedHeaders e f q hs none) y
       → leaving h w ≡ challengedBy (answeredIn (headersOf q)) e p code f hs q h y
   not-challenged h w k i =
       ap (λ (w : Written). leaving h w) i ∙ ap (λ (d : DigestChallenge). challengedBy d e p code f hs q h y) k
 
-  pub challenged : (h z : List ℕ) (n : Octets16) (u r : Bool) (a m : Found) (x : Plan) (t : CallResult) → challenge.Challenge n u r a ≡ answeredIn (headersOf q)
+  pub challenged : (h z : List ℕ) (n : Octets16) (u r : Bool) (a m : Found) (x : Plan) (t : CallResult)
+      → challenge.Challenge n u r a ≡ answeredIn (headersOf q)
       → t ≡ tookBy x → x ≡ asksPlan e p (Connecting code f (length hs)) await.Credentials (request.Credentials n u r m)
       → m ≡ realmIn q (firstPlace 0x4D q 7) → z ≡ front hs h
       → answering t z y ≡ challengedBy (answeredIn (headersOf q)) e p code f hs q h y
   challenged h z n u r a m x t k i j l o =
       ap₂ (λ (t : CallResult) (z : List ℕ). answering t z y)
-      (i ∙ ap (λ (x : Plan). tookBy x) (j ∙ ap (λ (m : Found). asksPlan e p (Connecting code f (length hs)) await.Credentials (request.Credentials n u r m)) l)) o
+      (i ∙ ap (λ (x : Plan). tookBy x)
+      (j ∙ ap (λ (m : Found). asksPlan e p (Connecting code f (length hs)) await.Credentials (request.Credentials n u r m)) l)) o
       ∙ ap (λ (d : DigestChallenge). challengedBy d e p code f hs q h y) k
 
 -- the ways of the answer
 module _ (e : Engine) (t : List ℕ) (code : ℕ) (hs q h y : List ℕ) (b : Bool) (success : b ≡ isSuccess code) where
-  pub answer-declined : b ≡ false → (w : Written) → w ≡ connectReplies e (e .peer) code hs y → accepting (leaving h w) t ≡ acceptedBy e t code hs q h y
+  pub answer-declined : b ≡ false → (w : Written) → w ≡ connectReplies e (e .peer) code hs y
+      → accepting (leaving h w) t ≡ acceptedBy e t code hs q h y
   unfolding acceptedBy
   answer-declined k w i = ap (λ (w : Written). accepting (leaving h w) t) i ∙ sym (simp (sym success ∙ k))
 
@@ -129,7 +134,8 @@ module _ (e : Engine) (t : List ℕ) (code : ℕ) (hs q h y : List ℕ) (b : Boo
     pub answer-full : a .answer .opening .full ≡ true → (w : Written) → w ≡ connectReplies e (e .peer) 0x53 [] y
         → accepting (leaving h w) (a .tables) ≡ acceptedBy e t code hs q h y
     answer-full f w i =
-        answer-by (accepting (leaving h w) (a .tables)) (ap (λ (x : Answering). accepting x (a .tables)) (ap (λ (w : Written). leaving h w) i ∙ sym (simp f)))
+        answer-by (accepting (leaving h w) (a .tables))
+        (ap (λ (x : Answering). accepting x (a .tables)) (ap (λ (w : Written). leaving h w) i ∙ sym (simp f)))
 
     pub answer-accepted : a .answer .opening .full ≡ false → (x : Answering)
         → x ≡ challengedBy (answeredIn (headersOf q)) e (a .answer .opening .peer) code (a .answer .front) hs q h y
@@ -175,7 +181,8 @@ module _ (e : Engine) (s : Stores) where
           (challenged-is (l .peer) f (answeredChallenge (lastHeaders e s)) (realmOf (first 0x4D (lastHeaders e s))))
 
       answer-opened : (srm : Bool) (v target : Option (List ℕ))
-          → amongIn (openedIn (answerBy (e .peer) t srm (idIn v) (isGiven target) (targetGiven target)) e code hs (lastPacket e s) (s .headers) (s .reply)) s
+          → amongIn (openedIn (answerBy (e .peer) t srm (idIn v) (isGiven target) (targetGiven target)) e code hs (lastPacket e s) (s .headers)
+          (s .reply)) s
           ≡ afterTabled (connectOpened e t (openedFor (e .peer) t srm v target) code (frontFor (e .peer) t v target) hs s)
       answer-opened srm v target =
           opened-is (peerOpened (e .peer) t srm (idIn v) (isGiven target) (targetGiven target)) (frontBy (e .peer) t (idIn v) (isGiven target))
@@ -196,8 +203,10 @@ module _ (e : Engine) (s : Stores) where
           target = first 0x46 (lastHeaders e s)
 
           go : (b : Bool)
-              → amongIn (pick b (openedIn (answerFor e t hs (lastPacket e s)) e code hs (lastPacket e s) (s .headers) (s .reply)) (accepting (leaving (s .headers) (connectReplies e (e .peer) code hs (s .reply))) t)) s
-              ≡ afterTabled (pick b (connectOpened e t (openedFor (e .peer) t srm named target) code (frontFor (e .peer) t named target) hs s) (doneTabled (sendsConnect e (e .peer) code hs s) t))
+              → amongIn (pick b (openedIn (answerFor e t hs (lastPacket e s)) e code hs (lastPacket e s) (s .headers) (s .reply))
+              (accepting (leaving (s .headers) (connectReplies e (e .peer) code hs (s .reply))) t)) s
+              ≡ afterTabled (pick b (connectOpened e t (openedFor (e .peer) t srm named target) code (frontFor (e .peer) t named target) hs s)
+              (doneTabled (sendsConnect e (e .peer) code hs s) t))
           go true = answer-opened srm named target
           go false = ap (λ (m : Stepped). called m t) (replies-connect (e .peer) code hs)
 
@@ -207,7 +216,8 @@ module _ (e : Engine) (s : Stores) where
       unfolding replyAnswer
       to-connect k = sym (simp k)
 
-      to-another : sameAwait (e .awaits) await.Connect ≡ false → sendsLinked e (repliedLink e (lastPacket e s) t) code hs s ≡ replyAnswer e code hs s t
+      to-another : sameAwait (e .awaits) await.Connect ≡ false
+          → sendsLinked e (repliedLink e (lastPacket e s) t) code hs s ≡ replyAnswer e code hs s t
       unfolding replyAnswer repliedLink lastHeaders
       to-another k = sym (simp k (go (sameAwait (e .awaits) await.Disconnect)))
         where
@@ -253,7 +263,8 @@ good-reply code hs t h k = reply-headers-fit code hs (sym h ∙ k)
 -- ---- a call for credentials
 
 -- no Connect waits for them
-pub credentials-other : (o : Operation) (e : Engine) (c : Option Credentials) (q h y : List ℕ) → OneOf (0 ∷ 1 ∷ 2 ∷ 3 ∷ 4 ∷ 5 ∷ 7 ∷ []) (tagOf the-type o)
+pub credentials-other : (o : Operation) (e : Engine) (c : Option Credentials) (q h y : List ℕ)
+    → OneOf (0 ∷ 1 ∷ 2 ∷ 3 ∷ 4 ∷ 5 ∷ 7 ∷ []) (tagOf the-type o)
     → written (refusedWith refusal.WrongMoment e) y ≡ credentialsBy o e c q h y
 credentials-other Nothing e c q h y k = refl
 credentials-other Trailing e c q h y k = refl
@@ -280,12 +291,14 @@ module _ (e : Engine) (c : Option Credentials) (s : Stores) where
       hs = take n (s .headers)
 
       go : (t : Bool)
-          → within (pick t (written (refusedWith refusal.BadAnswer e) (s .reply)) (connectReplies e (e .peer) code (acceptedHeaders e f (lastPacket e s) hs c) (s .reply))) s
+          → within (pick t (written (refusedWith refusal.BadAnswer e) (s .reply))
+          (connectReplies e (e .peer) code (acceptedHeaders e f (lastPacket e s) hs c) (s .reply))) s
           ≡ checked t e s (connectSends e (e .peer) code f (listOf (readHeaders hs 0)) c s)
       go true = refl
       go false = accepted-replies e s (e .peer) code f hs c
 
-  pub credentials-call : Goes kind.CredentialsGiven e s → (w : Written) → w ≡ credentialsBy (e .operation) e c (take (e .length) (s .packet)) (s .headers) (s .reply)
+  pub credentials-call : Goes kind.CredentialsGiven e s → (w : Written)
+      → w ≡ credentialsBy (e .operation) e c (take (e .length) (s .packet)) (s .headers) (s .reply)
       → within w s ≡ credentialsGivenStep e c s
   unfolding credentialsGivenStep lastPacket
   credentials-call g w h = ap (λ (w : Written). within w s) h ∙ credentials-is (e .operation) ∙ sym (g .whole _)

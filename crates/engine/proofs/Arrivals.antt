@@ -51,6 +51,7 @@ use Rattle.server.specs.declared.End.the-variants as end
 use Rattle.server.specs.declared.Engine.{Engine}
 use Rattle.server.specs.declared.CallResult.{CallResult}
 use Rattle.engine.specs.declared.step.Plan.{Plan}
+use Rattle.engine.specs.declared.operation.GatherFlags.{GatherFlags}
 use Rattle.engine.specs.declared.operation.GatherKind.{GatherKind}
 use Rattle.engine.specs.declared.dispatch.Heading.{Heading}
 use Rattle.engine.specs.declared.dispatch.Route.{Route}
@@ -137,7 +138,15 @@ module _ (e : Engine) (q t : List ℕ) (o : Opcode) (final : Bool) (from : ℕ) 
   Heading-way =
       packetRouted e q t
       ≡ routed
-      (headingRoute e (record { survey = surveyOf (readHeaders q from); opcode = o; backup = backup q; «no_create» = noCreate q; «is_final» = final; known = knownIn e t (surveyOf (readHeaders q from)); trails = trailedBy (e .operation) o q }))
+      (headingRoute e (record {
+        survey = surveyOf (readHeaders q from);
+        opcode = o;
+        backup = backup q;
+        «no_create» = noCreate q;
+        «is_final» = final;
+        known = knownIn e t (surveyOf (readHeaders q from));
+        trails = trailedBy (e .operation) o q;
+      }))
       (targetUnder e t o (surveyOf (readHeaders q from)))
 
   pub unreadable-way : surveyOf (readHeaders q from) .readable ≡ false
@@ -161,15 +170,16 @@ module _ (e : Engine) (q t : List ℕ) (o : Opcode) (final : Bool) (from : ℕ) 
           ∙ rw (k, trailed-way (e .operation) hs k) refl
 
 -- what `gather` gives, in the words of the model
-pub gathered-way : (e : Engine) (k : GatherKind) (q : List ℕ) (hs : List Header) (g : Gathered) (s : Stores) (from limit : ℕ) (keep : Keep) (x : Gathering)
+pub gathered-way : (e : Engine) (k : GatherKind) (q : List ℕ) (hs : List Header) (g : Gathered) (s : Stores) (from limit : ℕ) (keep : Keep)
+    (x : Gathering)
     → x ≡ gatherAll keep limit (headersOf (readHeaders q from)) (gathering g (s .headers) (s .body)) → from ≡ fromOf k → keep ≡ keepOf k
     → limit ≡ limitOf e → readHeaders q (fromOf k) ≡ some hs → x ≡ gathers e (keepOf k) hs g s
 gathered-way e k q hs g s from limit keep x h a b c r = h ∙ rw (a, b, c, r)
 
-pub gathered-planned : (e : Engine) (k : GatherKind) (final asked srm confirm : Bool) (got : Gathered) (h b : List ℕ) (s : Stores) (x : Gathering) (p : Plan)
-    → gathering got h b ≡ x → p ≡ kindPlan e k got final asked srm confirm
-    → planned p (stores (s .packet) h b (s .reply)) ≡ actsGathered e k final asked srm confirm x s
-gathered-planned e k final asked srm confirm got h b s x p w z = rw (← w, z)
+pub gathered-planned : (e : Engine) (k : GatherKind) (f : GatherFlags) (got : Gathered) (h b : List ℕ) (s : Stores) (x : Gathering) (p : Plan)
+    → gathering got h b ≡ x → p ≡ kindPlan e k got f
+    → planned p (stores (s .packet) h b (s .reply)) ≡ actsGathered e k f x s
+gathered-planned e k f got h b s x p w z = rw (← w, z)
 
 -- by the way that the code was told, under the Target `g`
 pub by-route : (e : Engine) (g : Target) (q t : List ℕ) (s : Stores) (x : Route) (d : Done) → packetRoute e q t ≡ x → d ≡ acts x (targeted e g) q s
@@ -192,7 +202,8 @@ done-call e n s t at p h b y w l k c =
     ap (λ (x : Written). stepped (x .took) (stores (s .packet) h b (x .reply))) c
     ∙ ap (λ (d : Done). after 0 d)
     (k
-    ∙ ap (λ (x : Engine). acts (packetRoute x (take n (s .packet)) t) (targeted x (packetTarget (requestOf (take n (s .packet))) x t)) (take n (s .packet)) s) l
+    ∙ ap (λ (x : Engine). acts (packetRoute x (take n (s .packet)) t) (targeted x (packetTarget (requestOf (take n (s .packet))) x t))
+    (take n (s .packet)) s) l
     ∙ packet-acts e n s t)
 
 -- ---- bytes

@@ -43,7 +43,8 @@ unread : (x : Option Response) (u w : Found) → responseRead x u ≡ response.U
 unread none u w h = refl
 unread (some r) u w h = absurd (let z : _≡_ {A = ℕ} 0 1 = cc in omega arith)
 
-read : (x : Option Response) (u v : Found) (d : Octets16) (n : Named) (a : ℕ) → responseRead x u ≡ response.Response d v n → answeredRead x (placedAt a u) ≡ User (placedAt a v)
+read : (x : Option Response) (u v : Found) (d : Octets16) (n : Named) (a : ℕ) → responseRead x u ≡ response.Response d v n
+    → answeredRead x (placedAt a u) ≡ User (placedAt a v)
 read none u v d n a h = absurd (let z : _≡_ {A = ℕ} 0 1 = cc in omega arith)
 read (some r) u v d n a h = let k : u ≡ v = cc in ap (λ (f : Found). User (placedAt a f)) k
 
@@ -53,7 +54,8 @@ below s n place.Missing w h = tt
 below s n (place.At a b) w h = (w .0, omega (arith, w .1))
 
 -- the user id's place stays in the packet
-pub user-below : (s : List ℕ) (n : ℕ) (d : Octets16) (u : Found) (m : Named) → readResponse s ≡ response.Response d u m → n + length s < 2 ^ 64 → Below n u
+pub user-below : (s : List ℕ) (n : ℕ) (d : Octets16) (u : Found) (m : Named) → readResponse s ≡ response.Response d u m → n + length s < 2 ^ 64
+    → Below n u
 unfolding readResponse
 user-below s n d u m h = go (responseOf s) h
   where
@@ -97,7 +99,8 @@ not-stopped e p a = go (e .settings .authentication) (stopsBy (p .window) a)
   where
     go : (t u : Bool) → (t && u) ≡ false
         → questionPlan e p (questionOf t (p .challenge) a (e .length))
-        ≡ pick t (pick u (fieldsPlan e (checkedPeer p false) 0x53) (verifiesPlan e p (p .challenge) a)) (asksPlan e p Nothing await.Connect (request.Connect (e .length)))
+        ≡ pick t (pick u (fieldsPlan e (checkedPeer p false) 0x53) (verifiesPlan e p (p .challenge) a))
+        (asksPlan e p Nothing await.Connect (request.Connect (e .length)))
     go true true k = absurd (true≢false k)
     go true false k = refl
     go false u k = refl
@@ -110,7 +113,8 @@ is-stopped e p a = go (e .settings .authentication) (stopsBy (p .window) a)
   where
     go : (t u : Bool) → (t && u) ≡ true
         → fieldsPlan e (checkedPeer p false) 0x53
-        ≡ pick t (pick u (fieldsPlan e (checkedPeer p false) 0x53) (verifiesPlan e p (p .challenge) a)) (asksPlan e p Nothing await.Connect (request.Connect (e .length)))
+        ≡ pick t (pick u (fieldsPlan e (checkedPeer p false) 0x53) (verifiesPlan e p (p .challenge) a))
+        (asksPlan e p Nothing await.Connect (request.Connect (e .length)))
     go true true k = refl
     go true false k = absurd (true≢false (sym k))
     go false u k = absurd (true≢false (sym k))

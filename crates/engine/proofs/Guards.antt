@@ -149,7 +149,8 @@ module _ (k : CallKind) (e : Engine) (s : Stores) (t : List ℕ) where
   turned-lent {A = A} f go x r p w = by (lackIn (limitOf e) s t) fitting-lent refl refl (sym p ∙ w)
     where
       by : (u v : Bool) → lackIn (limitOf e) s t ≡ u → fitting-lent ≡ v → guardedLentIn k e s t ≡ Refuse r
-          → f r ≡ pick (shortTables t || short (limitOf e) s) (f refusal.StoreTooShort) (pick (sound e && fits k (e .awaits)) go (f refusal.WrongMoment))
+          → f r ≡ pick (shortTables t || short (limitOf e) s) (f refusal.StoreTooShort)
+          (pick (sound e && fits k (e .awaits)) go (f refusal.WrongMoment))
       by true v h i q =
           let z : Refuse refusal.StoreTooShort ≡ Refuse r = simp h at q in
           simp (same-lack (limitOf e) s t true h, sym (told-refusal _ _ z))

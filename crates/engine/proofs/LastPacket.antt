@@ -145,7 +145,8 @@ unfolding surveyOf
 enabling-at q a b e =
     let w = mode-inside q a b e in
     let z : a + 0 ≡ a = omega arith in
-    let v : getD (part q a b) 0 0 ≡ getD q a 0 = getD-take (b - a) (drop a q) 0 0 (omega (arith, w .0)) ∙ getD-drop a q 0 0 ∙ ap (λ (m : ℕ). getD q m 0) z in
+    let v : getD (part q a b) 0 0 ≡ getD q a 0 =
+    getD-take (b - a) (drop a q) 0 0 (omega (arith, w .0)) ∙ getD-drop a q 0 0 ∙ ap (λ (m : ℕ). getD q m 0) z in
     ap (λ (x : ℕ). eqb x 1) (sym v)
     ∙ ap (λ (v : Option (List ℕ)). isEnable v) (first-value 0x97 q (place.At a b) e)
 
@@ -186,15 +187,19 @@ right-at ch q d p a b o e =
     check-by ch (part q a b) d p (octets-take (drop a q) (b - a) (octets-drop a q o)) ∙ same-check ch (responseOf (part q a b)) d p
     ∙ ap (λ (v : Option (List ℕ)). checks ch (responseIn v) d p) (first-value 0x4E q (place.At a b) e)
 
-pub password-call : (e : Engine) (s : Stores) (r : CallResult) (x : Plan) (t d : Bool) (p : Option (List ℕ)) → Goes kind.PasswordGiven e s → r ≡ tookBy x → x ≡ passwordPlan e t
-    → d ≡ demandsUser (e .settings) → t ≡ checks (e .peer .challenge) (responseIn (first 0x4E (headersIn (requestOf (take (e .length) (s .packet)))))) d p
+pub password-call : (e : Engine) (s : Stores) (r : CallResult) (x : Plan) (t d : Bool) (p : Option (List ℕ)) → Goes kind.PasswordGiven e s
+    → r ≡ tookBy x → x ≡ passwordPlan e t
+    → d ≡ demandsUser (e .settings)
+    → t ≡ checks (e .peer .challenge) (responseIn (first 0x4E (headersIn (requestOf (take (e .length) (s .packet)))))) d p
     → stepped r s ≡ guarded kind.PasswordGiven e s (after 0 (passwordAnswer e p s))
 unfolding passwordPlan passwordAnswer passwordAnswered asksPlan clientResponse lastHeaders lastPacket
 password-call e s r x t d p g h k i c =
-    ap (λ (y : CallResult). stepped y s) (h ∙ ap (λ (y : Plan). tookBy y) k) ∙ by t (c ∙ ap (λ (y : Bool). checks (e .peer .challenge) (responseIn (first 0x4E (headersIn (requestOf (take (e .length) (s .packet)))))) y p) i)
+    ap (λ (y : CallResult). stepped y s) (h ∙ ap (λ (y : Plan). tookBy y) k)
+    ∙ by t (c ∙ ap (λ (y : Bool). checks (e .peer .challenge) (responseIn (first 0x4E (headersIn (requestOf (take (e .length) (s .packet)))))) y p) i)
     ∙ sym (g .whole (after 0 (passwordAnswer e p s)))
   where
-    by : (t : Bool) → t ≡ checks (e .peer .challenge) (responseIn (first 0x4E (headersIn (requestOf (take (e .length) (s .packet)))))) (demandsUser (e .settings)) p
+    by : (t : Bool) → t ≡ checks (e .peer .challenge) (responseIn (first 0x4E (headersIn (requestOf (take (e .length) (s .packet))))))
+        (demandsUser (e .settings)) p
         → stepped (tookBy (passwordPlan e t)) s ≡ after 0 (passwordAnswer e p s)
     by true c = simp (sym c)
     by false c = simp (sym c)

@@ -45,7 +45,8 @@ use Rattle.engine.proofs.Carried.{packet-carried}
 
 -- ---- a packet of an object
 
-pub packet-sent : (e : Engine) (srm wait : Bool) (w : Written) (p : Plan) (m n : Made) → w ≡ carried p (m .reply) → p ≡ packetPlan e srm wait (m .packet)
+pub packet-sent : (e : Engine) (srm wait : Bool) (w : Written) (p : Plan) (m n : Made) → w ≡ carried p (m .reply)
+    → p ≡ packetPlan e srm wait (m .packet)
     → m ≡ n → w ≡ packetSent e srm wait n
 packet-sent e srm wait w p m n h k is =
     h ∙ ap (λ (x : Plan). carried x (m .reply)) k ∙ ap (λ (x : Made). packetSent e srm wait x) is
@@ -58,7 +59,8 @@ packet-call e s srm wait w m h =
 -- ---- body bytes
 
 -- nothing is sent
-pub body-other : (o : Operation) (e : Engine) (d : List ℕ) (s : Stores) → OneOf (0 ∷ 1 ∷ 2 ∷ 3 ∷ 5 ∷ 6 ∷ 7 ∷ []) (tagOf the-type o) → refuse refusal.WrongMoment e s ≡ bodyFor o e d s
+pub body-other : (o : Operation) (e : Engine) (d : List ℕ) (s : Stores) → OneOf (0 ∷ 1 ∷ 2 ∷ 3 ∷ 5 ∷ 6 ∷ 7 ∷ []) (tagOf the-type o)
+    → refuse refusal.WrongMoment e s ≡ bodyFor o e d s
 body-other Nothing e d s k = refl
 body-other Trailing e d s k = refl
 body-other (Putting g srm) e d s k = refl
@@ -119,7 +121,8 @@ module _ (p : Operation) (g : Gathered) (srm confirm wait : Bool) (is : p ≡ Ge
 
 -- ---- the start
 
-module _ (st : Settings) (l : List ℕ) (s : Stores) (t : List ℕ) (m : Bool) (long : m ≡ (st .«has_realm» && ltb 254 (length l))) (x : Guarded) (e : Engine) where
+module _ (st : Settings) (l : List ℕ) (s : Stores) (t : List ℕ) (m : Bool) (long : m ≡ (st .«has_realm» && ltb 254 (length l))) (x : Guarded)
+    (e : Engine) where
   abbrev limit : ℕ
   limit = st .«max_object_size»
 

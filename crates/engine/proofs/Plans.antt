@@ -32,7 +32,8 @@ pub wants-planned : (e : Engine) (p : Peer) (o : Operation) (s : Stores) → Car
 unfolding wantsPlan
 wants-planned e p o s = record { is = refl }
 
-pub asks-planned : (e : Engine) (p : Peer) (o : Operation) (a : Await) (r : HostRequest) (s : Stores) → Carries (asksPlan e p o a r) s (asks e p o a r s)
+pub asks-planned : (e : Engine) (p : Peer) (o : Operation) (a : Await) (r : HostRequest) (s : Stores)
+    → Carries (asksPlan e p o a r) s (asks e p o a r s)
 unfolding asksPlan
 asks-planned e p o a r s = record { is = refl }
 
@@ -40,7 +41,8 @@ pub ends-planned : (e : Engine) (p : Peer) (x : End) (s : Stores) → Carries (e
 unfolding endsPlan
 ends-planned e p n s = record { is = refl }
 
-pub code-planned : (e : Engine) (p : Peer) (a : Await) (b : ℕ) (s : Stores) → Carries (codePlan e p a b) s (replies e p Nothing a (packetBytes b [] []) s)
+pub code-planned : (e : Engine) (p : Peer) (a : Await) (b : ℕ) (s : Stores)
+    → Carries (codePlan e p a b) s (replies e p Nothing a (packetBytes b [] []) s)
 unfolding codePlan packetBytes
 code-planned e p a b s = record { is = refl }
 
@@ -48,7 +50,8 @@ pub fields-planned : (e : Engine) (p : Peer) (code : ℕ) (s : Stores) → Carri
 unfolding fieldsPlan packetBytes
 fields-planned e p code s = record { is = refl }
 
-pub code-keeping-planned : (e : Engine) (o : Operation) (b : ℕ) (s : Stores) → Carries (codeKeepingPlan e o b) s (replies e (e .peer) o await.Taken (packetBytes b [] []) s)
+pub code-keeping-planned : (e : Engine) (o : Operation) (b : ℕ) (s : Stores)
+    → Carries (codeKeepingPlan e o b) s (replies e (e .peer) o await.Taken (packetBytes b [] []) s)
 unfolding codeKeepingPlan packetBytes
 code-keeping-planned e o b s = record { is = refl }
 
@@ -63,7 +66,8 @@ pick-planned true a b = a
 pick-planned false a b = b
 
 -- by a test that is said in two ways
-pub pick-planned-as : (t u : Bool) {p q : Plan} {s : Stores} {d f : Done} → t ≡ u → Carries p s d → Carries q s f → Carries (pick t p q) s (pick u d f)
+pub pick-planned-as : (t u : Bool) {p q : Plan} {s : Stores} {d f : Done} → t ≡ u → Carries p s d → Carries q s f
+    → Carries (pick t p q) s (pick u d f)
 pick-planned-as true true e a b = a
 pick-planned-as true false e a b = absurd (true≢false e)
 pick-planned-as false true e a b = absurd (false≢true e)
@@ -72,21 +76,26 @@ pick-planned-as false false e a b = b
 -- ---- a gathered packet
 
 pub put-planned : (e : Engine) (r : Packet) (v : Survey) (srm confirm : Bool) (g : Gathering) (s : Stores)
-    → Carries (putPlan e (g .got) (r .final) (v .additional) srm confirm) (withGathered s g) (putGathered e r v srm confirm g s)
+    → Carries (putPlan e (g .got) (record { «is_final» = r .final; asked = v .additional; srm = srm; «confirm_srm» = confirm })) (withGathered s g)
+    (putGathered e r v srm confirm g s)
 unfolding putPlan
 put-planned e r v srm confirm g s =
     pick-planned (g .got .full) (ends-planned e (e .peer) end.HeadersTooLarge t)
-    (pick-planned (r .final) (pick-planned (g .got .over) (code-planned e (e .peer) await.Taken 0xCD t) (asks-planned e (e .peer) Nothing await.Reply _ t)) (go srm))
+    (pick-planned (r .final) (pick-planned (g .got .over) (code-planned e (e .peer) await.Taken 0xCD t)
+    (asks-planned e (e .peer) Nothing await.Reply _ t)) (go srm))
   where
     t : Stores
     t = withGathered s g
 
-    go : (srm : Bool) → Carries (putContinuePlan e (g .got) srm confirm (v .additional)) t (putContinues e (g .got) srm confirm (v .additional) t)
+    go : (srm : Bool)
+        → Carries (putContinuePlan e (g .got) (record { «is_final» = r .final; asked = v .additional; srm = srm; «confirm_srm» = confirm })) t
+        (putContinues e (g .got) srm confirm (v .additional) t)
     go true = pick-planned (v .additional) (continue-planned e (Putting (g .got) true) false t) (wants-planned e (e .peer) (Putting (g .got) true) t)
     go false = pick-planned (g .got .over) (code-keeping-planned e _ 0xCD t) (continue-planned e (Putting (g .got) confirm) confirm t)
 
 pub get-planned : (e : Engine) (r : Packet) (v : Survey) (srm confirm : Bool) (g : Gathering) (s : Stores)
-    → Carries (getPlan e (g .got) (r .final) (v .wait) srm confirm) (withGathered s g) (getGathered e r v srm confirm g s)
+    → Carries (getPlan e (g .got) (record { «is_final» = r .final; asked = v .wait; srm = srm; «confirm_srm» = confirm })) (withGathered s g)
+    (getGathered e r v srm confirm g s)
 unfolding getPlan
 get-planned e r v srm confirm g s =
     pick-planned (g .got .full) (ends-planned e (e .peer) end.HeadersTooLarge t)
@@ -95,7 +104,9 @@ get-planned e r v srm confirm g s =
     t : Stores
     t = withGathered s g
 
-    go : (srm : Bool) → Carries (getContinuePlan e (g .got) srm confirm (v .wait)) t (getContinues e (g .got) srm confirm (v .wait) t)
+    go : (srm : Bool)
+        → Carries (getContinuePlan e (g .got) (record { «is_final» = r .final; asked = v .wait; srm = srm; «confirm_srm» = confirm })) t
+        (getContinues e (g .got) srm confirm (v .wait) t)
     go true = wants-planned e (e .peer) (Getting (g .got) true confirm (v .wait)) t
     go false = continue-planned e (Getting (g .got) confirm false (v .wait)) confirm t
 

@@ -65,7 +65,7 @@ parts q r e = go (firstByte (getD q 0 0)) e
 abbrev pub Ready : Route → Engine → List ℕ → List Header → Type 0
 Ready (Plain b) e q hs = Unit {0}
 Ready Connect e q hs = readHeaders q 7 ≡ some hs
-Ready (Gather k g final asked srm confirm) e q hs = (readHeaders q (fromOf k) ≡ some hs) × (soundGathered (limitOf e) g ≡ true)
+Ready (Gather f k g) e q hs = (readHeaders q (fromOf k) ≡ some hs) × (soundGathered (limitOf e) g ≡ true)
 Ready (Send o srm wait) e q hs = (c : Chunk) × (soundOutgoing o c ≡ true)
 
 module _ (e : Engine) (q : List ℕ) (hs : List Header) where
@@ -80,7 +80,8 @@ module _ (e : Engine) (q : List ℕ) (r : Packet) (known trails : Bool) where
   fresh : soundGathered (limitOf e) nothingGathered ≡ true
   fresh = le-leb 0 (limitOf e) (omega arith)
 
-  dispatch-ready : (o : Opcode) → readHeaders q (prefixOf o) ≡ some (r .headers) → Ready (dispatchRoute o e (headingOf r known trails)) e q (r .headers)
+  dispatch-ready : (o : Opcode) → readHeaders q (prefixOf o) ≡ some (r .headers)
+      → Ready (dispatchRoute o e (headingOf r known trails)) e q (r .headers)
   dispatch-ready op.Connect k = k
   dispatch-ready op.Abort k = tt
   dispatch-ready op.Disconnect k = tt

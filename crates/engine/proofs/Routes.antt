@@ -48,6 +48,7 @@ use Rattle.server.specs.declared.Engine.{Engine}
 use Rattle.server.specs.declared.HostRequest.{HostRequest}
 use Rattle.server.specs.declared.HostRequest.the-variants as request
 use Rattle.engine.specs.declared.dispatch.Simple.the-variants as brief
+use Rattle.engine.specs.declared.operation.GatherFlags.{GatherFlags}
 use Rattle.engine.specs.declared.operation.GatherKind.{GatherKind}
 use Rattle.engine.specs.declared.operation.GatherKind.the-variants as kind
 use Rattle.engine.specs.declared.dispatch.Route.{Route}
@@ -63,7 +64,8 @@ pick-acts : (t : Bool) {x y : Route} {e : Engine} {q : List ℕ} {s : Stores} {d
 pick-acts true a b = a
 pick-acts false a b = b
 
-skip-acts : (t : Bool) (x : Route) {y : Route} {e : Engine} {q : List ℕ} {s : Stores} {d : Done} → t ≡ false → Acts y e q s d → Acts (pick t x y) e q s d
+skip-acts : (t : Bool) (x : Route) {y : Route} {e : Engine} {q : List ℕ} {s : Stores} {d : Done} → t ≡ false → Acts y e q s d
+    → Acts (pick t x y) e q s d
 skip-acts true x h a = absurd (true≢false h)
 skip-acts false x h a = a
 
@@ -138,31 +140,37 @@ module _ (e : Engine) (s : Stores) where
 
 module _ (e : Engine) (r : Packet) (s : Stores) (open-id trailed : Bool) (known : requestOf (lastPacket e s) ≡ some r) where
   -- the packet's headers are the request's
-  known-acts : (k : GatherKind) (g : Gathered) (final asked srm confirm : Bool)
-      → acts (Gather k g final asked srm confirm) e (lastPacket e s) s ≡ actsGathered e k final asked srm confirm (gathers e (keepOf k) (r .headers) g s) s
-  known-acts k g final asked srm confirm =
-      ap (λ (x : Option Packet). actsGathered e k final asked srm confirm (gathers e (keepOf k) (headersIn x) g s) s) known
+  known-acts : (k : GatherKind) (g : Gathered) (f : GatherFlags)
+      → acts (Gather f k g) e (lastPacket e s) s ≡ actsGathered e k f (gathers e (keepOf k) (r .headers) g s) s
+  known-acts k g f = ap (λ (x : Option Packet). actsGathered e k f (gathers e (keepOf k) (headersIn x) g s) s) known
 
-  put-acts : (g : Gathered) (srm confirm : Bool) → Acts (putRoute (headingOf r open-id trailed) g srm confirm) e (lastPacket e s) s (putPacket e r (surveyOf (some (r .headers))) srm confirm g s)
+  put-acts : (g : Gathered) (srm confirm : Bool)
+      → Acts (putRoute (headingOf r open-id trailed) g srm confirm) e (lastPacket e s) s
+      (putPacket e r (surveyOf (some (r .headers))) srm confirm g s)
   unfolding putPacket kindPlan
   put-acts g srm confirm =
-      record { is = known-acts kind.Put g _ _ srm confirm ∙ put-planned e r (surveyOf (some (r .headers))) srm confirm (gathers e keep.Put (r .headers) g s) s .is }
+      record { is = known-acts kind.Put g _ ∙ put-planned e r (surveyOf (some (r .headers))) srm confirm (gathers e keep.Put (r .headers) g s) s .is }
 
-  get-acts : (g : Gathered) (srm confirm : Bool) → Acts (getRoute (headingOf r open-id trailed) g srm confirm) e (lastPacket e s) s (getPacket e r (surveyOf (some (r .headers))) srm confirm g s)
+  get-acts : (g : Gathered) (srm confirm : Bool)
+      → Acts (getRoute (headingOf r open-id trailed) g srm confirm) e (lastPacket e s) s
+      (getPacket e r (surveyOf (some (r .headers))) srm confirm g s)
   unfolding getPacket kindPlan
   get-acts g srm confirm =
-      record { is = known-acts kind.Get g _ _ srm confirm ∙ get-planned e r (surveyOf (some (r .headers))) srm confirm (gathers e keep.Get (r .headers) g s) s .is }
+      record { is = known-acts kind.Get g _ ∙ get-planned e r (surveyOf (some (r .headers))) srm confirm (gathers e keep.Get (r .headers) g s) s .is }
 
   headers-acts : (o : Opcode) (g : Gathered) → Acts (headersRoute (headingOf r open-id trailed) o g) e (lastPacket e s) s (headersPacket e r o g s)
   unfolding headersPacket kindPlan
   headers-acts o g =
-      record { is = known-acts (kind.Headers o) g (r .final) false false false ∙ headers-planned e r o (gathers e keep.All (r .headers) g s) s .is }
+      let f : GatherFlags = record { «is_final» = r .final; asked = false; srm = false; «confirm_srm» = false } in
+      record { is = known-acts (kind.Headers o) g f ∙ headers-planned e r o (gathers e keep.All (r .headers) g s) s .is }
 
   rejected-acts : (code : ℕ) → Acts (rejectedRoute e (headingOf r open-id trailed) code) e (lastPacket e s) s (rejected e r code s)
   rejected-acts code =
-      pick-acts (e .peer .«srm_enabled» && (drains (r .opcode) && not (r .final))) (drain-acts e (lastPacket e s) s code) (code-acts e (lastPacket e s) s code)
+      pick-acts (e .peer .«srm_enabled» && (drains (r .opcode) && not (r .final))) (drain-acts e (lastPacket e s) s code)
+      (code-acts e (lastPacket e s) s code)
 
-  dispatches-acts : (o : Opcode) → Acts (dispatchRoute o e (headingOf r open-id trailed)) e (lastPacket e s) s (dispatches o e r (surveyOf (some (r .headers))) s)
+  dispatches-acts : (o : Opcode)
+      → Acts (dispatchRoute o e (headingOf r open-id trailed)) e (lastPacket e s) s (dispatches o e r (surveyOf (some (r .headers))) s)
   dispatches-acts op.Connect = connect-acts e s
   dispatches-acts op.Abort = ask-acts e (lastPacket e s) s await.Acknowledgement _
   dispatches-acts op.Disconnect = ask-acts e (lastPacket e s) s await.Disconnect _
@@ -173,13 +181,16 @@ module _ (e : Engine) (r : Packet) (s : Stores) (open-id trailed : Bool) (known 
   dispatches-acts op.Session = headers-acts op.Session nothingGathered
   dispatches-acts (op.UserDefined x) = headers-acts (op.UserDefined x) nothingGathered
 
-  admitted-acts : (x : Rejection) → Acts (admittedRoute (admissionOf x) e (headingOf r open-id trailed)) e (lastPacket e s) s (admittedAs x e r (surveyOf (some (r .headers))) s)
+  admitted-acts : (x : Rejection)
+      → Acts (admittedRoute (admissionOf x) e (headingOf r open-id trailed)) e (lastPacket e s) s (admittedAs x e r (surveyOf (some (r .headers))) s)
   admitted-acts admits = dispatches-acts (r .opcode)
   admitted-acts (rejects code) = rejected-acts code
 
   open-acts : Acts (openRoute e (headingOf r open-id trailed)) e (lastPacket e s) s (dispatch e r (surveyOf (some (r .headers))) open-id s)
   unfolding openRoute dispatch
-  open-acts = pick-acts (sameOpcode (r .opcode) op.Connect) (connect-acts e s) (admitted-acts (rejection e (r .opcode) (surveyOf (some (r .headers))) open-id))
+  open-acts =
+      pick-acts (sameOpcode (r .opcode) op.Connect) (connect-acts e s)
+      (admitted-acts (rejection e (r .opcode) (surveyOf (some (r .headers))) open-id))
 
   -- what trails a Put, up to a final packet
   trailed-acts : e .operation ≡ Trailing → (t : Bool)
@@ -194,9 +205,11 @@ module _ (e : Engine) (r : Packet) (s : Stores) (open-id trailed : Bool) (known 
   inside-acts Nothing i j = skip-acts trailed (trailedRoute (r .final)) j open-acts
   inside-acts Trailing i j = rw (sym j) (pick-acts trailed (trailed-acts i (r .final)) open-acts)
   inside-acts (Putting g srm) i j =
-      skip-acts trailed (trailedRoute (r .final)) j (pick-acts (sameOpcode (r .opcode) op.Put) (put-acts g srm false) (interrupts-acts e (lastPacket e s) s))
+      skip-acts trailed (trailedRoute (r .final)) j
+      (pick-acts (sameOpcode (r .opcode) op.Put) (put-acts g srm false) (interrupts-acts e (lastPacket e s) s))
   inside-acts (Getting g srm confirm wait) i j =
-      skip-acts trailed (trailedRoute (r .final)) j (pick-acts (sameOpcode (r .opcode) op.Get) (get-acts g srm confirm) (interrupts-acts e (lastPacket e s) s))
+      skip-acts trailed (trailedRoute (r .final)) j
+      (pick-acts (sameOpcode (r .opcode) op.Get) (get-acts g srm confirm) (interrupts-acts e (lastPacket e s) s))
   inside-acts (Sending o c srm wait) i j =
       skip-acts trailed (trailedRoute (r .final)) j
       (pick-acts (sameOpcode (r .opcode) op.Get)
@@ -207,7 +220,8 @@ module _ (e : Engine) (r : Packet) (s : Stores) (open-id trailed : Bool) (known 
       skip-acts trailed (trailedRoute (r .final)) j (pick-acts (sameOpcode (r .opcode) o) (headers-acts o g) (interrupts-acts e (lastPacket e s) s))
   inside-acts (Connecting c f n) i j = skip-acts trailed (trailedRoute (r .final)) j (interrupts-acts e (lastPacket e s) s)
   inside-acts (Draining code) i j =
-      skip-acts trailed (trailedRoute (r .final)) j (pick-acts (r .final) (code-acts e (lastPacket e s) s code) (drain-acts e (lastPacket e s) s code))
+      skip-acts trailed (trailedRoute (r .final)) j
+      (pick-acts (r .final) (code-acts e (lastPacket e s) s code) (drain-acts e (lastPacket e s) s code))
 
 -- ---- any packet
 
@@ -221,7 +235,8 @@ module _ (e : Engine) (s : Stores) (t : List ℕ) where
 
   read-acts : (x : Option Packet) → requestOf (lastPacket e s) ≡ x
       → Acts (routeAs x e (lastPacket e s) t) e (lastPacket e s) s (readAs x e (lastPacket e s) s t)
-  read-acts none h = pick-acts (busy (e .operation)) (end-acts e (lastPacket e s) s end.Unreadable) (keep-acts e (lastPacket e s) s (e .operation) refl _)
+  read-acts none h =
+      pick-acts (busy (e .operation)) (end-acts e (lastPacket e s) s end.Unreadable) (keep-acts e (lastPacket e s) s (e .operation) refl _)
   read-acts (some r) h = heading-acts r h
 
 -- ---- the way does not depend on the Target
@@ -246,7 +261,8 @@ module _ (e : Engine) (g : Target) (h : Heading) where
 
   open-targeted : openRoute (targeted e g) h ≡ openRoute e h
   unfolding openRoute rejection engineWith
-  open-targeted = ap (pick (sameOpcode (h .opcode) op.Connect) Connect) (admitted-targeted (admissionOf (rejection e (h .opcode) (h .survey) (h .known))))
+  open-targeted =
+      ap (pick (sameOpcode (h .opcode) op.Connect) Connect) (admitted-targeted (admissionOf (rejection e (h .opcode) (h .survey) (h .known))))
 
   inside-targeted : (o : Operation) → insideRoute o (targeted e g) h ≡ insideRoute o e h
   inside-targeted Nothing = open-targeted
@@ -266,7 +282,8 @@ route-targeted e g q t = go (requestOf q)
     go none = refl
     go (some r) =
         let h = headingOf r (knownIn e t (surveyOf (some (r .headers)))) (isTrailing (e .operation) && trails r) in
-        ap (λ (y : Route). pick (sameOpcode (r .opcode) op.Abort) (askRoute await.Acknowledgement (request.Abort (e .length))) (pick (h .trails) (trailedRoute (r .final)) y))
+        ap (λ (y : Route). pick (sameOpcode (r .opcode) op.Abort) (askRoute await.Acknowledgement (request.Abort (e .length)))
+        (pick (h .trails) (trailedRoute (r .final)) y))
         (inside-targeted e g h (e .operation))
 
 -- ---- a whole packet

@@ -2,21 +2,27 @@
 -- is the reading of an `ensures` clause that the check makes: a contract that stops saying what the records theorem needs breaks its line here.
 -- A call that is not lent the table store says nothing of it: its line holds for every table store that the host keeps beside it, and so does
 -- that of a call without the realm. Assumes nothing.
-use mathlib.Core.Path.{_≡_, ap}
-use mathlib.Core.List.{List}
-use Prim.Native.Nat.{ℕ}
+use mathlib.Core.Path.{_≡_, refl, ap, subst, _∙_}
+use mathlib.Core.List.{List, [], append-nil}
+use Prim.Native.Nat.{ℕ, _+_, _≤_}
+use lib.ListN.{length}
+use lib.Seq.{sets}
 use denote.Ref.{now}
 use contract.Lifetimes.{Lfts}
 use denote.Triple.Clauses.{AtExit}
 use borrow.Fn.World.{ArgsD, ResD}
 use borrow.Fn.Kinds.{endedOf}
 use Rattle.packet.specs.AuthWrite.{given}
+use Rattle.incoming.specs.Frame.{placedIn, coming}
+use Rattle.incoming.proofs.BytesPlaced.{placed-there}
+use Rattle.model.proofs.BytesPlaced.{placed-as-offered}
 use Rattle.connection.specs.Pieces.{credentialsOf}
-use Rattle.journal.specs.Calls.{bytesOffered, streamEnded, replyTaken, replyGiven, objectGiven, bodyGiven, bodyFailed, abortAcknowledged, passwordGiven, nonceGiven, credentialsGiven, connectionsClosed}
+use Rattle.journal.specs.Calls.{Call, bytesOffered, streamEnded, replyTaken, replyGiven, objectGiven, bodyGiven, bodyFailed, abortAcknowledged, passwordGiven, nonceGiven, credentialsGiven, connectionsClosed}
 use Rattle.model.specs.Step.{Stores, stores, Stepped, stepped, called}
 use Rattle.model.specs.Calls.{startStep}
 use Rattle.model.specs.Runs.{State, beside, performed, Says}
 use Rattle.server.specs.declared.Engine.{Engine}
+use Rattle.server.specs.declared.CallResult.{CallResult}
 use Rattle.engine.proofs.calls.bytes_offered
 use Rattle.engine.proofs.calls.bytes_offered.Kinds as bytes-offered-kinds
 use Rattle.engine.proofs.calls.bytes_offered.Reads as bytes-offered-reads
@@ -72,13 +78,51 @@ start-says κs a r x h = h
 pub bytes-says : (l : List ℕ) (κs : Lfts 6) (a : ArgsD bytes_offered.signature κs) (r : ResD bytes_offered.signature κs)
     (x : AtExit (endedOf 6 bytes-offered-kinds.ps bytes-offered-kinds.r) κs)
     → bytes-offered-reads.Learnt κs a r x
-    → let t = now (a .1 .1 .0) in
-    let p = a .1 .1 .1 in
-    let q = x .1 .1 .1 in
+    → let t = now (a .1 .1 .1 .0) in
+    let p = a .1 .1 .1 .1 in
+    let q = x .1 .1 .1 .1 in
+    let i = coming (now (p .0)) (a .0 .begun) (a .1 .0) (now (a .1 .1 .0)) in
     Says (before t l (a .0) (stores (now (p .0)) (now (p .1 .0)) (now (p .1 .1 .0)) (now (p .1 .1 .1 .0))))
-    (performed (bytesOffered (now (a .1 .0))) r
+    (performed (bytesOffered i) r
     (stores (now (q .0)) (now (q .1 .0)) (now (q .1 .1 .0)) (now (q .1 .1 .1 .0))) t)
-bytes-says l κs a r x h = record { step = ap (λ (m : Stepped). called m (now (a .1 .1 .0))) (h .0); octets = h .1 }
+bytes-says l κs a r x h = record { step = ap (λ (m : Stepped). called m (now (a .1 .1 .1 .0))) (h .0); octets = h .1 }
+
+-- a call in an equal state and with equal arguments
+says-as : {s s′ : State} {c c′ : Call} {r : CallResult} {z : Stores} {t : List ℕ} → s ≡ s′ → c ≡ c′ → Says s (performed c r z t) → Says s′ (performed c′ r z t)
+says-as {s} {s′} {c} {c′} {r} {z} {t} e f h =
+    subst (λ (d : Call). Says s′ (performed d r z t)) f (subst (λ (u : State). Says u (performed c r z t)) e h)
+
+-- A host that has put the bytes `i` into the packet store `p`, behind those that stand there, and offers none beside it, has made a call that
+-- offers them in the stores before, if all of them were taken.
+pub placed-says : (l i p : List ℕ) (κs : Lfts 6) (a : ArgsD bytes_offered.signature κs) (r : ResD bytes_offered.signature κs)
+    (x : AtExit (endedOf 6 bytes-offered-kinds.ps bytes-offered-kinds.r) κs)
+    → bytes-offered-reads.Learnt κs a r x
+    → let t = now (a .1 .1 .1 .0) in
+    let y = a .1 .1 .1 .1 in
+    let q = x .1 .1 .1 .1 in
+    now (y .0) ≡ sets p (a .0 .begun) i → a .1 .0 ≡ length i → now (a .1 .1 .0) ≡ [] → a .0 .begun + length i ≤ length p → r .taken ≡ length i
+    → Says (before t l (a .0) (stores p (now (y .1 .0)) (now (y .1 .1 .0)) (now (y .1 .1 .1 .0))))
+    (performed (bytesOffered i) r
+    (stores (now (q .0)) (now (q .1 .0)) (now (q .1 .1 .0)) (now (q .1 .1 .1 .0))) t)
+placed-says l i p κs a r x h put count alone room taken =
+    let b = a .0 .begun in
+    let y = a .1 .1 .1 .1 in
+    let there : coming (now (y .0)) b (a .1 .0) (now (a .1 .1 .0)) ≡ i =
+    ap (λ (k : List ℕ). coming k b (a .1 .0) (now (a .1 .1 .0))) put
+    ∙ ap (λ (n : ℕ). coming (sets p b i) b n (now (a .1 .1 .0))) count
+    ∙ ap (coming (sets p b i) b (length i)) alone
+    ∙ append-nil (placedIn (sets p b i) b (length i))
+    ∙ placed-there i p b room in
+    placed-as-offered (before (now (a .1 .1 .1 .0)) l (a .0) (stores p (now (y .1 .0)) (now (y .1 .1 .0)) (now (y .1 .1 .1 .0)))) i _
+    (record {
+      call = refl;
+      room = room;
+      says =
+          says-as
+          (ap (λ (k : List ℕ). before (now (a .1 .1 .1 .0)) l (a .0) (stores k (now (y .1 .0)) (now (y .1 .1 .0)) (now (y .1 .1 .1 .0)))) put)
+          (ap bytesOffered there) (bytes-says l κs a r x h);
+      taken = taken;
+    })
 
 pub stream-ended-says : (t l : List ℕ) (κs : Lfts 4) (a : ArgsD stream_ended.signature κs) (r : ResD stream_ended.signature κs) (x : AtExit (endedOf 4 stream-ended-kinds.ps stream-ended-kinds.r) κs)
     → stream-ended-reads.Learnt κs a r x

@@ -68,7 +68,8 @@ module _ (e : Engine) (s : Stores) where
       acts-pick (sameAwait (e .awaits) await.Taken) (goesTurn (e .operation)) End
       ∙ ap (λ (d : Done). pick (sameAwait (e .awaits) await.Taken) d (ends e (e .peer) end.OtherOperation s)) (goes-acts (e .operation))
 
-  pub taken-call : (p : Plan) (y : List ℕ) (w : Written) → Goes kind.ReplyTaken e s → w ≡ carried p y → planned p (withReply s y) ≡ turnActs (turnOf e) e s
+  pub taken-call : (p : Plan) (y : List ℕ) (w : Written) → Goes kind.ReplyTaken e s → w ≡ carried p y
+      → planned p (withReply s y) ≡ turnActs (turnOf e) e s
       → within w s ≡ replyTakenStep e s
   unfolding replyTakenStep
   taken-call p y w g h k =
@@ -80,7 +81,8 @@ module _ (e : Engine) (s : Stores) where
   by-turn t d h k = k ∙ ap (λ (x : Turn). turnActs x e s) (sym h)
 
   pub sent-turn : (o : Outgoing) (srm wait : Bool) (p : Plan) (z : List ℕ)
-      → planMade p z ≡ objectPlan e srm wait (nextPacket (capacityOf e) o (s .headers) (s .reply)) → planned p (withReply s z) ≡ turnActs (Send o srm wait) e s
+      → planMade p z ≡ objectPlan e srm wait (nextPacket (capacityOf e) o (s .headers) (s .reply))
+      → planned p (withReply s z) ≡ turnActs (Send o srm wait) e s
   unfolding sendsNext
   sent-turn o srm wait p z h =
       ap (λ (x : PlanMade). planned (x .plan) (withReply s (x .reply))) h

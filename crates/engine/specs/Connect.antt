@@ -9,6 +9,7 @@ use lib.Dec.{leb}
 use Rattle.base.specs.Pick.{pick}
 use Rattle.packet.specs.Codes.{isSuccess}
 use Rattle.packet.specs.Header.{Header, first, firstPlace, allBytes}
+use Rattle.packet.specs.HeaderIds as header-id
 use Rattle.packet.specs.Packet.{requestOf, connectLimit}
 use Rattle.packet.specs.declared.auth.DigestChallenge.{DigestChallenge}
 use Rattle.packet.specs.declared.auth.DigestChallenge.the-variants as challenge
@@ -38,7 +39,6 @@ use Rattle.server.specs.declared.Engine.{Engine}
 use Rattle.server.specs.declared.HostRequest.{HostRequest}
 use Rattle.server.specs.declared.HostRequest.the-variants as request
 use Rattle.server.specs.declared.CallResult.{CallResult}
-use Rattle.connection.specs.declared.reply.Sent.the-variants as sent
 use Rattle.engine.specs.declared.step.Plan.{Plan}
 use Rattle.packet.specs.ResponseCodes as response
 use Rattle.packet.specs.Auth.{Response, responseOf}
@@ -49,7 +49,6 @@ use Rattle.connection.specs.declared.peer.Challenge.the-variants.{Stored, Absen
 use Rattle.engine.specs.declared.connect.Answered.{Answered}
 use Rattle.engine.specs.declared.connect.Question.{Question}
 use Rattle.engine.specs.declared.connect.Answered.the-variants.{Missing, Unreadable, User}
-use Rattle.engine.specs.declared.dispatch.Route.the-variants.{Connect}
 
 -- The client's response can be read or not; `u` is the place of its user id.
 abbrev pub answeredRead : Option Response → Found → Answered
@@ -63,7 +62,7 @@ answeredAs (some v) u = answeredRead (responseOf v) u
 
 -- The engine takes the first AuthenticateResponse of packet `q` as the client's response.
 abbrev pub answeredBy : List ℕ → Answered
-answeredBy q = answeredAs (first 0x4E (headersIn (requestOf q))) (userIn q (firstPlace 0x4E q 7))
+answeredBy q = answeredAs (first header-id.authenticateResponse (headersIn (requestOf q))) (userIn q (firstPlace header-id.authenticateResponse q 7))
 
 -- A place that is moved on by `n` stays below the largest number of 64 bits.
 abbrev pub Below : ℕ → Found → Type 0
@@ -170,22 +169,22 @@ acceptedHeaders e f q hs c =
 -- The host's answer `hs` to the Connect in `q` opens an id in the table store `t`.
 unfoldable pub answerFor : Engine → List ℕ → List ℕ → List ℕ → Answers
 answerFor e t hs q =
-    answerBy (e .peer) t (e .peer .«srm_enabled» || srmAskedBy e q) (idIn (first 0xCB (headersFrom hs 0)))
-    (isGiven (first 0x46 (headersOf q))) (targetGiven (first 0x46 (headersOf q)))
+    answerBy (e .peer) t (e .peer .«srm_enabled» || srmAskedBy e q) (idIn (first header-id.connectionId (headersFrom hs 0)))
+    (isGiven (first header-id.target (headersOf q))) (targetGiven (first header-id.target (headersOf q)))
 
 -- If the client sent challenges that can all be read, the engine asks for credentials, and the host's headers wait in the header store.
 abbrev pub challengedBy : DigestChallenge → Engine → Peer → ℕ → ConnectionId → List ℕ → List ℕ → List ℕ → List ℕ → Answering
 challengedBy challenge.Unreadable e p code f hs q h y = leaving h (connectReplies e p code (acceptedHeaders e f q hs none) y)
 challengedBy (challenge.Challenge n u r x) e p code f hs q h y =
     answering
-    (tookBy (asksPlan e p (Connecting code f (length hs)) await.Credentials (request.Credentials n u r (realmIn q (firstPlace 0x4D q 7)))))
+    (tookBy (asksPlan e p (Connecting code f (length hs)) await.Credentials (request.Credentials n u r (realmIn q (firstPlace header-id.authenticateChallenge q 7)))))
     (front hs h)
     y
 
 -- The engine answers a 65th id with 0x53.
 abbrev pub openedBy : Answer → Engine → ℕ → List ℕ → List ℕ → List ℕ → List ℕ → Answering
 openedBy a e code hs q h y =
-    pick (a .opening .full) (leaving h (connectReplies e (e .peer) 0x53 [] y))
+    pick (a .opening .full) (leaving h (connectReplies e (e .peer) response.serviceUnavailable [] y))
     (challengedBy (answeredIn (headersOf q)) e (a .opening .peer) code (a .front) hs q h y)
 
 abbrev pub openedIn : Answers → Engine → ℕ → List ℕ → List ℕ → List ℕ → List ℕ → Accepting
@@ -198,7 +197,7 @@ acceptedBy e t code hs q h y =
 
 -- A Disconnect closes its id before its reply is made; any other request leaves the ids as they were.
 unfoldable pub repliedLink : Engine → List ℕ → List ℕ → Linked
-repliedLink e q t = pick (sameAwait (e .awaits) await.Disconnect) (disconnectedPeer (e .peer) t (first 0xCB (headersOf q))) (linked (e .peer) t)
+repliedLink e q t = pick (sameAwait (e .awaits) await.Disconnect) (disconnectedPeer (e .peer) t (first header-id.connectionId (headersOf q))) (linked (e .peer) t)
 
 -- Credentials answer the Connect that waits, whose headers stand at the front of the header store. The engine refuses a user id over 255 bytes with
 -- `BadAnswer`, and the call with `WrongMoment` if no Connect waits.

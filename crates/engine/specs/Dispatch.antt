@@ -9,7 +9,7 @@ use Rattle.packet.specs.HeaderIds as header-id
 use Rattle.packet.specs.ResponseCodes as response
 use Rattle.packet.specs.FirstByte.{firstByte, sameOpcode}
 use Rattle.packet.specs.Codes.{sentCode}
-use Rattle.packet.specs.Header.{first, firstPlace}
+use Rattle.packet.specs.Header.{firstPlace}
 use Rattle.packet.specs.Packet.{Request as Packet, requestOf, backup, noCreate}
 use Rattle.packet.specs.declared.tlv.Found.{Found}
 use Rattle.packet.specs.declared.tlv.Found.the-variants as place
@@ -49,7 +49,6 @@ use Rattle.engine.specs.Operation.{keepOf, actsGathered}
 use Rattle.engine.specs.Connect.{connectPlan}
 use Rattle.server.specs.declared.Outcome.the-variants as outcome
 use Rattle.server.specs.declared.CallResult.{CallResult}
-use Rattle.engine.specs.declared.object.Turn.the-variants.{Send, End}
 
 -- The parts of a request that decide its way; `known` says that it names an open ConnectionID, `trails` that it is refused with the Put that
 -- it trails.
@@ -95,16 +94,19 @@ rejectedRoute e h code = pick (drainedBy e h) (Plain (brief.Drain code)) (codeRo
 
 -- The ways of a packet of a Put, of a Get's request, of a Get's object, and of an operation of headers alone.
 abbrev pub putRoute : Heading → Gathered → Bool → Bool → Route
-putRoute h g srm confirm = Gather kind.Put g (h .«is_final») (h .survey .additional) srm confirm
+putRoute h g srm confirm =
+    Gather (record { «is_final» = h .«is_final»; asked = h .survey .additional; srm = srm; «confirm_srm» = confirm }) kind.Put g
 
 abbrev pub getRoute : Heading → Gathered → Bool → Bool → Route
-getRoute h g srm confirm = Gather kind.Get g (h .«is_final») (h .survey .wait) srm confirm
+getRoute h g srm confirm =
+    Gather (record { «is_final» = h .«is_final»; asked = h .survey .wait; srm = srm; «confirm_srm» = confirm }) kind.Get g
 
 abbrev pub sendRoute : Heading → Outgoing → Bool → Route
 sendRoute h o srm = Send o srm (h .survey .wait)
 
 abbrev pub headersRoute : Heading → Opcode → Gathered → Route
-headersRoute h o g = Gather (kind.Headers o) g (h .«is_final») false false false
+headersRoute h o g =
+    Gather (record { «is_final» = h .«is_final»; asked = false; srm = false; «confirm_srm» = false }) (kind.Headers o) g
 
 -- The engine dispatches an admitted packet by its opcode.
 abbrev pub dispatchRoute : Opcode → Engine → Heading → Route
@@ -130,7 +132,7 @@ openRoute e h =
 
 -- Another opcode inside an operation gets 0x40, and the engine ends once the host has sent that reply.
 abbrev pub interruptsRoute : Route
-interruptsRoute = Plain (brief.Code await.Last (sentCode 0x40))
+interruptsRoute = Plain (brief.Code await.Last (sentCode response.badRequest))
 
 -- A packet of the open operation's opcode `o` goes on with it.
 abbrev pub continuedRoute : Heading → Opcode → Route → Route
@@ -185,7 +187,7 @@ headingRoute e h =
 -- An unreadable packet ends the engine inside an operation. Otherwise it gets 0x51 if its first byte is `unknown`, else 0x40, and what is
 -- open stays.
 abbrev pub unreadableRoute : Operation → Bool → Route
-unreadableRoute o unknown = pick (busy o) (Plain (brief.End end.Unreadable)) (keepRoute (pick unknown 0x51 0x40))
+unreadableRoute o unknown = pick (busy o) (Plain (brief.End end.Unreadable)) (keepRoute (pick unknown response.notImplemented response.badRequest))
 
 -- The engine decides by whether packet `q` reads as a request.
 abbrev pub routeAs : Option Packet → Engine → List ℕ → List ℕ → Route
@@ -219,8 +221,7 @@ simplePlan e (brief.End n) = endsPlan e (e .peer) n
 abbrev pub acts : Route → Engine → List ℕ → Stores → Done
 acts (Plain b) e q s = planned (simplePlan e b) s
 acts Connect e q s = planned (connectPlan e q) s
-acts (Gather k g final asked srm confirm) e q s =
-    actsGathered e k final asked srm confirm (gathers e (keepOf k) (headersIn (requestOf q)) g s) s
+acts (Gather f k g) e q s = actsGathered e k f (gathers e (keepOf k) (headersIn (requestOf q)) g s) s
 acts (Send o srm wait) e q s = sendsNext e o srm wait s
 
 -- The result says that `t` of the offered bytes were taken.

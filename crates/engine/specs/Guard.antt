@@ -3,6 +3,7 @@
 use Prim.Native.Nat.{ℕ}
 use mathlib.Core.Bool.{Bool, _&&_, _||_}
 use lib.Dec.{ltb}
+use Rattle.packet.specs.Limits.{maxPacket}
 use Rattle.base.specs.Pick.{pick}
 use Rattle.table.specs.Places.{tableLength}
 use Rattle.model.specs.Step.{limitOf}
@@ -18,7 +19,7 @@ use Rattle.server.specs.declared.CallResult.{CallResult}
 
 -- One of the four stores is too short, by the lengths `p`, `h`, `b` and `y` of packet, headers, body and reply.
 unfoldable pub shortBy : ℕ → ℕ → ℕ → ℕ → ℕ → Bool
-shortBy limit p h b y = ltb p 65535 || (ltb h 65535 || (ltb y 65535 || ltb b limit))
+shortBy limit p h b y = ltb p maxPacket || (ltb h maxPacket || (ltb y maxPacket || ltb b limit))
 
 -- The guard refuses a call of kind `k` for a short store before it looks at the moment.
 unfoldable pub guardedBy : CallKind → Engine → ℕ → ℕ → ℕ → ℕ → Guarded

@@ -57,7 +57,8 @@ codePlan e p a b = plan (engineWith (e .settings) p Nothing a 0 (e .length) (e .
 -- The engine replies with a code, Connect's fields and no headers.
 unfoldable pub fieldsPlan : Engine → Peer → ℕ → Plan
 fieldsPlan e p code =
-    plan (engineWith (e .settings) p Nothing await.Taken 0 (e .length) (e .target)) (outcome.Reply 7) (Fields (sentCode code) (e .settings .«max_packet_length»))
+    plan (engineWith (e .settings) p Nothing await.Taken 0 (e .length) (e .target)) (outcome.Reply 7)
+    (Fields (sentCode code) (e .settings .«max_packet_length»))
 
 -- The engine replies with a first byte and no headers, and `o` is open afterwards.
 unfoldable pub codeKeepingPlan : Engine → Operation → ℕ → Plan

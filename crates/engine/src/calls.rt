@@ -5,6 +5,7 @@ ghost use Rattle.model.specs.Calls.{streamEndedStep, startStep, bytesOfferedSte
 ghost use Rattle.model.specs.Close.{closed};
 ghost use Rattle.model.specs.Runs.{Octets};
 ghost use Rattle.packet.specs.AuthWrite.{given};
+ghost use Rattle.incoming.specs.Frame.{coming};
 ghost use Rattle.connection.specs.Pieces.{credentialsOf};
 use crate::close::close_all;
 use crate::close::closed_peer;
@@ -96,10 +97,12 @@ pub fn start(
     }
 }
 
-// Offers the engine bytes from the client. The engine takes them up to the end of a packet and never past it; the host offers the rest
-// again after the packet is answered (docs/PROTOCOL.md#frames). The open ids in `tables` decide whether a packet is admitted.
+// Offers the engine bytes from the client: first the `placed` ones that the host has put into the packet store itself, behind the `begun`
+// ones of an unfinished packet, then those of `input`. The engine takes them up to the end of a packet and never past it; the host offers the
+// rest again after the packet is answered (docs/PROTOCOL.md#frames). The open ids in `tables` decide whether a packet is admitted.
 pub fn bytes_offered(
     e: Engine,
+    placed: usize,
     input: &[u8],
     tables: &[u64],
     packet: &mut [u8],
@@ -108,9 +111,9 @@ pub fn bytes_offered(
     reply: &mut [u8],
 ) -> CallResult
     ensures step { λ r. ⌜ stepped r (stores (now (packet .exit)) (now (headers .exit)) (now (body .exit)) (now (reply .exit)))
-        ≡ bytesOfferedStep e (now (input .entry)) (stores (now (packet .entry)) (now (headers .entry)) (now (body .entry))
-        (now (reply .entry))) (now (tables .entry)) ⌝ }
-    ensures octets { λ r. ⌜ Octets (now (input .entry)) ⌝ }
+        ≡ bytesOfferedStep e (coming (now (packet .entry)) (e .begun) placed (now (input .entry)))
+        (stores (now (packet .entry)) (now (headers .entry)) (now (body .entry)) (now (reply .entry))) (now (tables .entry)) ⌝ }
+    ensures octets { λ r. ⌜ Octets (coming (now (packet .entry)) (e .begun) placed (now (input .entry))) ⌝ }
 {
     if let Guarded::Refuse(refusal) = guard_lent(
         e,
@@ -123,7 +126,7 @@ pub fn bytes_offered(
     ) {
         return refuse(e, refusal);
     }
-    let f = read_packet(e.begun, input, packet);
+    let f = read_packet(e.begun, placed, input, packet);
     let frame = f.frame;
     match frame {
         Frame::More => more(e, f.begun, f.taken),
@@ -280,14 +283,14 @@ pub fn object_given(
 // `WrongMoment`.
 pub fn body_given(
     e: Engine,
-    d: &[u8],
+    bytes: &[u8],
     packet: &mut [u8],
     headers: &mut [u8],
     body: &mut [u8],
     reply: &mut [u8],
 ) -> CallResult
     ensures { λ r. ⌜ stepped r (stores (now (packet .exit)) (now (headers .exit)) (now (body .exit)) (now (reply .exit)))
-        ≡ bodyGivenStep e (now (d .entry)) (stores (now (packet .entry)) (now (headers .entry)) (now (body .entry)) (now (reply .entry))) ⌝ }
+        ≡ bodyGivenStep e (now (bytes .entry)) (stores (now (packet .entry)) (now (headers .entry)) (now (body .entry)) (now (reply .entry))) ⌝ }
 {
     if let Guarded::Refuse(refusal) = guard(
         e,
@@ -309,10 +312,10 @@ pub fn body_given(
     else {
         return refuse(e, Refusal::WrongMoment);
     };
-    if chunk.room < d.len() {
+    if chunk.room < bytes.len() {
         return refuse(e, Refusal::WrongMoment);
     }
-    let k = outgoing::object::body_given(outgoing, chunk, d, reply);
+    let k = outgoing::object::body_given(outgoing, chunk, bytes, reply);
     carry_out(packet_plan(e, srm, wait, k), reply)
 }
 
@@ -405,7 +408,7 @@ pub fn password_given(
 // that is one of the last 32 taken, which stand in `tables`, is refused with `NonceUsed`.
 pub fn nonce_given(
     e: Engine,
-    n: Octets16,
+    nonce: Octets16,
     realm: &[u8],
     tables: &mut [u64],
     packet: &mut [u8],
@@ -415,7 +418,7 @@ pub fn nonce_given(
 ) -> CallResult
     ensures { λ r. ⌜ called (stepped r (stores (now (packet .exit)) (now (headers .exit)) (now (body .exit)) (now (reply .exit))))
         (now (tables .exit))
-        ≡ nonceGivenStep e n (now (realm .entry)) (stores (now (packet .entry)) (now (headers .entry)) (now (body .entry))
+        ≡ nonceGivenStep e nonce (now (realm .entry)) (stores (now (packet .entry)) (now (headers .entry)) (now (body .entry))
         (now (reply .entry))) (now (tables .entry)) ⌝ }
 {
     if let Guarded::Refuse(refusal) = guard_lent(
@@ -429,13 +432,19 @@ pub fn nonce_given(
     ) {
         return refuse(e, refusal);
     }
-    let used = is_used(&tables[..], e.peer.nonces, n);
+    let used = is_used(&tables[..], e.peer.nonces, nonce);
     if let Guarded::Refuse(refusal) = guard_nonce(e.settings, realm.len(), used) {
         return refuse(e, refusal);
     }
-    remember(tables, n);
-    let peer = challenged(e.peer, n);
-    let sent = send_challenge(e.settings, realm, peer.remote_max_packet_length, n, reply);
+    remember(tables, nonce);
+    let peer = challenged(e.peer, nonce);
+    let sent = send_challenge(
+        e.settings,
+        realm,
+        peer.remote_max_packet_length,
+        nonce,
+        reply,
+    );
     took(sent_plan(e, peer, sent))
 }
 

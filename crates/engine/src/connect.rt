@@ -5,6 +5,8 @@ ghost use mathlib.Core.Bool.{false, _||_, true, _&&_};
 ghost use mathlib.Core.Option.{none, some};
 ghost use Prim.Native.Nat.{_≤_};
 ghost use lib.ListN.{length};
+ghost use Rattle.packet.specs.Limits.{maxPacket};
+ghost use Rattle.packet.specs.ResponseCodes as response;
 ghost use Rattle.packet.specs.Header.{firstPlace, readHeaders, bytesOf};
 ghost use Rattle.packet.specs.AuthWrite.{given, overlong};
 ghost use Rattle.connection.specs.Pieces.{answeredIn, credentialsOf};
@@ -14,6 +16,7 @@ ghost use Rattle.engine.specs.Step.{written};
 ghost use Rattle.engine.specs.Connect.{answering, accepting, headersOf, srmAskedBy, connectReplies, acceptedHeaders, answerFor, challengedBy, acceptedBy, Below, answeredBy, verifiesBy, nonceAsked, questionOf, stopsBy, limitedPlan, connectPlan, passwordPlan, repliedLink, credentialsBy};
 ghost use Rattle.table.specs.Places.{tableLength};
 ghost use Rattle.connection.specs.Peer.{linked, answers};
+ghost use Rattle.packet.specs.HeaderIds as header-id;
 ghost use Rattle.packet.specs.Packet.{requestOf};
 ghost use Rattle.journal.specs.Journal.{headersOf as headersIn};
 ghost use Rattle.digest.specs.Md5.{octets16};
@@ -122,7 +125,7 @@ fn opens(
 
 // Finds the realm of the client's challenge in its Connect packet, so that the host can choose credentials by it.
 fn challenge_realm(packet: &[u8]) -> Found
-    ensures { λ r. ⌜ r ≡ realmIn (now (packet .entry)) (firstPlace 0x4D (now (packet .entry)) 7) ⌝ }
+    ensures { λ r. ⌜ r ≡ realmIn (now (packet .entry)) (firstPlace header-id.authenticateChallenge (now (packet .entry)) 7) ⌝ }
 {
     let Found::At { start, end } = first_header(packet, 7, AUTHENTICATE_CHALLENGE) else {
         return Found::Missing;
@@ -146,7 +149,7 @@ pub(crate) fn connect_sends(
     password: &[u8],
     reply: &mut [u8],
 ) -> CallResult
-    requires { ⌜ (65535 ≤ length (now reply)) × (length (now packet) ≤ 65535) × (length (now «header_bytes») ≤ 65535)
+    requires { ⌜ (maxPacket ≤ length (now reply)) × (length (now packet) ≤ maxPacket) × (length (now «header_bytes») ≤ maxPacket)
         × (overlong (given «has_user» (now user)) ≡ false) × (c ≡ lastConnect (now packet)) ⌝ }
     ensures { λ r. ⌜ written r (now (reply .exit))
         ≡ connectReplies e peer code (acceptedHeaders e front (now (packet .entry)) (now («header_bytes» .entry))
@@ -183,7 +186,7 @@ fn unchallenged(
     c: ConnectRequest,
     reply: &mut [u8],
 ) -> CallResult
-    requires { ⌜ (65535 ≤ length (now reply)) × (length (now packet) ≤ 65535) × (length (now «header_bytes») ≤ 65535)
+    requires { ⌜ (maxPacket ≤ length (now reply)) × (length (now packet) ≤ maxPacket) × (length (now «header_bytes») ≤ maxPacket)
         × (c ≡ lastConnect (now packet)) ⌝ }
     ensures { λ r. ⌜ written r (now (reply .exit))
         ≡ connectReplies e peer code (acceptedHeaders e front (now (packet .entry)) (now («header_bytes» .entry)) none)
@@ -230,8 +233,8 @@ fn accepted(
     headers: &mut [u8],
     reply: &mut [u8],
 ) -> CallResult
-    requires { ⌜ (65535 ≤ length (now reply)) × (65535 ≤ length (now headers)) × (length (now packet) ≤ 65535)
-        × (length (now «header_bytes») ≤ 65535) × (c ≡ lastConnect (now packet)) ⌝ }
+    requires { ⌜ (maxPacket ≤ length (now reply)) × (maxPacket ≤ length (now headers)) × (length (now packet) ≤ maxPacket)
+        × (length (now «header_bytes») ≤ maxPacket) × (c ≡ lastConnect (now packet)) ⌝ }
     ensures { λ r. ⌜ answering r (now (headers .exit)) (now (reply .exit))
         ≡ challengedBy (answeredIn (headersOf (now (packet .entry)))) e peer code front (now («header_bytes» .entry))
         (now (packet .entry)) (now (headers .entry)) (now (reply .entry)) ⌝ }
@@ -270,8 +273,8 @@ pub(crate) fn connect_answer(
     headers: &mut [u8],
     reply: &mut [u8],
 ) -> CallResult
-    requires { ⌜ (e .peer .count ≤ 64) × (tableLength ≤ length (now tables)) × (65535 ≤ length (now reply)) × (65535 ≤ length (now headers)) × (length (now packet) ≤ 65535)
-        × (length (now «header_bytes») ≤ 65535) ⌝ }
+    requires { ⌜ (e .peer .count ≤ 64) × (tableLength ≤ length (now tables)) × (maxPacket ≤ length (now reply)) × (maxPacket ≤ length (now headers)) × (length (now packet) ≤ maxPacket)
+        × (length (now «header_bytes») ≤ maxPacket) ⌝ }
     ensures { λ r. ⌜ accepting (answering r (now (headers .exit)) (now (reply .exit))) (now (tables .exit))
         ≡ acceptedBy e (now (tables .entry)) code (now («header_bytes» .entry)) (now (packet .entry)) (now (headers .entry))
         (now (reply .entry)) ⌝ }
@@ -478,9 +481,9 @@ pub(crate) fn send_challenge(
     nonce: Octets16,
     reply: &mut [u8],
 ) -> Sent
-    requires { ⌜ (longRealm settings (now realm) ≡ false) × (65535 ≤ length (now reply)) ⌝ }
+    requires { ⌜ (longRealm settings (now realm) ≡ false) × (maxPacket ≤ length (now reply)) ⌝ }
     ensures { λ r. ⌜ sending r (now (reply .exit))
-        ≡ sentInto (sendBytes remote 0x41 (fieldsOf (settings .«max_packet_length»))
+        ≡ sentInto (sendBytes remote response.unauthorized (fieldsOf (settings .«max_packet_length»))
         (bytesOf (challengeHeader (octets16 nonce) (optionsOf settings) (realmOf settings (now (realm .entry)))))) (now (reply .entry)) ⌝ }
 {
     challenge_reply(
@@ -518,8 +521,8 @@ pub(crate) fn connect_with_credentials(
     headers: &[u8],
     reply: &mut [u8],
 ) -> CallResult
-    requires { ⌜ (soundOperation (limitOf e) (e .operation) ≡ true) × (length (now packet) ≤ 65535) × (65535 ≤ length (now headers))
-        × (65535 ≤ length (now reply)) ⌝ }
+    requires { ⌜ (soundOperation (limitOf e) (e .operation) ≡ true) × (length (now packet) ≤ maxPacket) × (maxPacket ≤ length (now headers))
+        × (maxPacket ≤ length (now reply)) ⌝ }
     ensures { λ r. ⌜ written r (now (reply .exit))
         ≡ credentialsBy (e .operation) e (credentialsOf «has_credentials» (given «has_user» (now (user .entry)))
         (now (password .entry))) (now (packet .entry)) (now (headers .entry)) (now (reply .entry)) ⌝ }

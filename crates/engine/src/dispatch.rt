@@ -7,6 +7,7 @@ ghost use Rattle.engine.specs.Dispatch.{admissionOf, unauthorizedFor, co
 ghost use mathlib.Core.Bool.{true};
 ghost use mathlib.Core.List.{List};
 ghost use lib.ListN.{length};
+ghost use Rattle.packet.specs.Limits.{maxPacket};
 ghost use Rattle.packet.specs.FirstByte.{firstByte};
 ghost use Rattle.packet.specs.Packet.{requestOf};
 ghost use Rattle.table.specs.Places.{tableLength};
@@ -15,6 +16,7 @@ ghost use Rattle.model.specs.Guard.{soundOperation};
 ghost use Rattle.engine.specs.Step.{planned};
 use crate::connect::handle_connect;
 use crate::object::object_plan;
+use crate::operation::GatherFlags;
 use crate::operation::GatherKind;
 use crate::operation::gather_packet;
 use crate::operation::nothing_gathered;
@@ -85,14 +87,11 @@ pub(crate) enum Simple {
 pub(crate) enum Route {
     Plain(Simple),
     Connect,
-    // The packet's headers are gathered. `asked` is the client's wish: an additional Continue for a Put, a wait for a Get.
+    // The packet's headers are gathered. `flags` stands first, since a call takes fewer instructions so.
     Gather {
+        flags: GatherFlags,
         kind: GatherKind,
         begun: Gathered,
-        is_final: bool,
-        asked: bool,
-        srm: bool,
-        confirm: bool,
     },
     // The engine sends the next packet of an object.
     Send {
@@ -213,30 +212,34 @@ fn must_confirm_srm(e: Engine, v: Survey) -> bool
 }
 
 // The way of a packet of a Put.
-fn put_route(h: Heading, begun: Gathered, srm: bool, confirm: bool) -> Route
-    ensures { λ r. ⌜ r ≡ putRoute h begun srm confirm ⌝ }
+fn put_route(h: Heading, begun: Gathered, srm: bool, confirm_srm: bool) -> Route
+    ensures { λ r. ⌜ r ≡ putRoute h begun srm «confirm_srm» ⌝ }
 {
     Route::Gather {
+        flags: GatherFlags {
+            is_final: h.is_final,
+            asked: h.survey.additional,
+            srm,
+            confirm_srm,
+        },
         kind: GatherKind::Put,
         begun,
-        is_final: h.is_final,
-        asked: h.survey.additional,
-        srm,
-        confirm,
     }
 }
 
 // The way of a packet of a Get's request.
-fn get_route(h: Heading, begun: Gathered, srm: bool, confirm: bool) -> Route
-    ensures { λ r. ⌜ r ≡ getRoute h begun srm confirm ⌝ }
+fn get_route(h: Heading, begun: Gathered, srm: bool, confirm_srm: bool) -> Route
+    ensures { λ r. ⌜ r ≡ getRoute h begun srm «confirm_srm» ⌝ }
 {
     Route::Gather {
+        flags: GatherFlags {
+            is_final: h.is_final,
+            asked: h.survey.wait,
+            srm,
+            confirm_srm,
+        },
         kind: GatherKind::Get,
         begun,
-        is_final: h.is_final,
-        asked: h.survey.wait,
-        srm,
-        confirm,
     }
 }
 
@@ -256,12 +259,14 @@ fn headers_route(h: Heading, opcode: Opcode, begun: Gathered) -> Route
     ensures { λ r. ⌜ r ≡ headersRoute h opcode begun ⌝ }
 {
     Route::Gather {
+        flags: GatherFlags {
+            is_final: h.is_final,
+            asked: false,
+            srm: false,
+            confirm_srm: false,
+        },
         kind: GatherKind::Headers(opcode),
         begun,
-        is_final: h.is_final,
-        asked: false,
-        srm: false,
-        confirm: false,
     }
 }
 
@@ -630,8 +635,8 @@ fn act(
     reply: &mut [u8],
 ) -> Plan
     requires { ⌜ (1 ≤ length (now p)) × (e .peer .count ≤ 64) × (tableLength ≤ length (now tables)) × (255 ≤ e .peer .«remote_max_packet_length»)
-        × (soundOperation (limitOf e) (e .operation) ≡ true) × (65535 ≤ length (now headers)) × (limitOf e ≤ length (now body))
-        × (65535 ≤ length (now reply)) ⌝ }
+        × (soundOperation (limitOf e) (e .operation) ≡ true) × (maxPacket ≤ length (now headers)) × (limitOf e ≤ length (now body))
+        × (maxPacket ≤ length (now reply)) ⌝ }
     ensures { λ r. ⌜ ((q : List ℕ) → planned r (stores q (now (headers .exit)) (now (body .exit)) (now (reply .exit)))
         ≡ acts (packetRoute e (now (p .entry)) (now (tables .entry)))
         (targeted e (packetTargetOf (requestOf (now (p .entry))) e (now (tables .entry)))) (now (p .entry))
@@ -644,22 +649,12 @@ fn act(
     match route {
         Route::Plain(brief) => simple_plan(at, brief),
         Route::Connect => handle_connect(at, p),
-        Route::Gather {
-            kind,
-            begun,
-            is_final,
-            asked,
-            srm,
-            confirm,
-        } => gather_packet(
+        Route::Gather { flags, kind, begun } => gather_packet(
             at,
             p,
             kind,
             begun,
-            is_final,
-            asked,
-            srm,
-            confirm,
+            flags,
             headers,
             body,
         ),
@@ -691,8 +686,8 @@ pub(crate) fn packet_done(
     reply: &mut [u8],
 ) -> CallResult
     requires { ⌜ (1 ≤ n) × (n ≤ length (now packet)) × (e .peer .count ≤ 64) × (tableLength ≤ length (now tables)) × (255 ≤ e .peer .«remote_max_packet_length»)
-        × (soundOperation (limitOf e) (e .operation) ≡ true) × (65535 ≤ length (now headers)) × (limitOf e ≤ length (now body))
-        × (65535 ≤ length (now reply)) ⌝ }
+        × (soundOperation (limitOf e) (e .operation) ≡ true) × (maxPacket ≤ length (now headers)) × (limitOf e ≤ length (now body))
+        × (maxPacket ≤ length (now reply)) ⌝ }
     ensures { λ r. ⌜ stepped r (stores (now (packet .entry)) (now (headers .exit)) (now (body .exit)) (now (reply .exit)))
         ≡ after 0 (packetDone e n (stores (now (packet .entry)) (now (headers .entry)) (now (body .entry)) (now (reply .entry)))
         (now (tables .entry))) ⌝ }

@@ -1,6 +1,6 @@
 // Which calls are refused, decided by the state and the lengths of the lent stores (docs/PROTOCOL.md#refusals).
 ghost use mathlib.Core.Path.{_≡_};
-ghost use Rattle.model.specs.Guard.{awaitNumber, sameAwait, fits, sound, soundGathered, soundOutgoing, soundOperation, badHeaders, badReply};
+ghost use Rattle.model.specs.Guard.{sameAwait, fits, sound, soundGathered, soundOutgoing, soundOperation, badHeaders, badReply};
 ghost use Rattle.server.specs.declared.CallKind.the-variants as kind;
 ghost use mathlib.Core.Bool.{_&&_};
 ghost use lib.Dec.{ltb};
@@ -24,29 +24,9 @@ use server::Operation;
 use server::Outcome;
 use server::Refusal;
 use server::Settings;
+use server::await_number;
 use table::TABLE_LENGTH;
 use table::nonces::MAX_NONCES;
-
-// A number for each thing awaited, by which two of them are told apart.
-fn await_number(a: Await) -> u8
-    ensures { λ r. ⌜ r ≡ awaitNumber a ⌝ }
-{
-    match a {
-        Await::Bytes => 0,
-        Await::Taken => 1,
-        Await::Last => 2,
-        Await::Connect => 3,
-        Await::Disconnect => 4,
-        Await::Get => 5,
-        Await::Reply => 6,
-        Await::Acknowledgement => 7,
-        Await::Password => 8,
-        Await::Nonce => 9,
-        Await::Credentials => 10,
-        Await::Body => 11,
-        Await::Nothing => 12,
-    }
-}
 
 // Whether the engine waits for the same thing in `a` and `b`.
 pub(crate) fn same_await(a: Await, b: Await) -> bool

@@ -3,6 +3,7 @@ ghost use mathlib.Core.Path.{_≡_};
 ghost use mathlib.Core.List.{List};
 ghost use Prim.Native.Nat.{_≤_, ℕ};
 ghost use lib.ListN.{length};
+ghost use Rattle.packet.specs.Limits.{maxPacket};
 ghost use Rattle.outgoing.specs.Object.{nextPacket};
 ghost use Rattle.model.specs.Step.{capacityOf, stores, limitOf};
 ghost use Rattle.engine.specs.Step.{written, planned};
@@ -93,7 +94,7 @@ pub(crate) fn object_plan(
     headers: &[u8],
     reply: &mut [u8],
 ) -> Plan
-    requires { ⌜ (255 ≤ e .peer .«remote_max_packet_length») × (o .total ≤ length (now headers)) × (65535 ≤ length (now reply)) ⌝ }
+    requires { ⌜ (255 ≤ e .peer .«remote_max_packet_length») × (o .total ≤ length (now headers)) × (maxPacket ≤ length (now reply)) ⌝ }
     ensures { λ r. ⌜ planMade r (now (reply .exit))
         ≡ objectPlan e srm wait (nextPacket (capacityOf e) o (now (headers .entry)) (now (reply .entry))) ⌝ }
 {
@@ -110,7 +111,7 @@ pub(crate) fn sends_next(
     headers: &[u8],
     reply: &mut [u8],
 ) -> CallResult
-    requires { ⌜ (255 ≤ e .peer .«remote_max_packet_length») × (o .total ≤ length (now headers)) × (65535 ≤ length (now reply)) ⌝ }
+    requires { ⌜ (255 ≤ e .peer .«remote_max_packet_length») × (o .total ≤ length (now headers)) × (maxPacket ≤ length (now reply)) ⌝ }
     ensures { λ r. ⌜ written r (now (reply .exit))
         ≡ packetSent e srm wait (nextPacket (capacityOf e) o (now (headers .entry)) (now (reply .entry))) ⌝ }
 {
@@ -223,7 +224,7 @@ fn next_turn(e: Engine) -> Turn
 // Plans what follows a reply that was taken. After the reply to an interrupting packet the engine ends with `OtherOperation`.
 pub(crate) fn turn_plan(e: Engine, headers: &[u8], reply: &mut [u8]) -> Plan
     requires { ⌜ (255 ≤ e .peer .«remote_max_packet_length») × (soundOperation (limitOf e) (e .operation) ≡ true)
-        × (65535 ≤ length (now headers)) × (65535 ≤ length (now reply)) ⌝ }
+        × (maxPacket ≤ length (now headers)) × (maxPacket ≤ length (now reply)) ⌝ }
     ensures { λ r. ⌜ ((q b : List ℕ) → planned r (stores q (now (headers .entry)) b (now (reply .exit)))
         ≡ turnActs (turnOf e) e (stores q (now (headers .entry)) b (now (reply .entry)))) ⌝ }
 {

@@ -8,6 +8,7 @@ ghost use mathlib.Core.Bool.{true};
 ghost use mathlib.Core.Option.{some};
 ghost use mathlib.Core.List.{List};
 ghost use lib.ListN.{length};
+ghost use Rattle.packet.specs.Limits.{maxPacket};
 ghost use Rattle.packet.specs.Header.{readHeaders};
 ghost use Rattle.packet.specs.Packet.{requestOf};
 ghost use Rattle.journal.specs.Journal.{headersOf as headersIn};
@@ -41,6 +42,18 @@ pub(crate) enum GatherKind {
     Put,
     Get,
     Headers(Opcode),
+}
+
+// The flags of a packet that the engine gathers: what the packet says and what its operation has agreed on so far.
+pub(crate) struct GatherFlags {
+    // The packet is the last one of its request.
+    pub is_final: bool,
+    // The client asks for it with the packet: an additional Continue for a Put, a wait for a Get.
+    pub asked: bool,
+    // Single Response Mode (SRM) is on.
+    pub srm: bool,
+    // The engine has yet to confirm SRM to the client, with its next response.
+    pub confirm_srm: bool,
 }
 
 // What is gathered before the first packet of an operation: nothing.
@@ -99,17 +112,17 @@ fn overrun(settings: Settings) -> Operation
     Operation::Nothing
 }
 
-// Goes on after a Put packet that is not final. Under Single Response Mode (SRM) the engine says Continue only if the client asks for it.
-// Without SRM the client waits for this response, so a body past the limit is refused right away.
-fn put_continues(e: Engine, g: Gathered, srm: bool, confirm: bool, additional: bool) -> Plan
-    ensures { λ r. ⌜ r ≡ putContinuePlan e g srm confirm additional ⌝ }
+// Goes on after a Put packet that is not final. Under SRM the engine says Continue only if the client asks for it. Without SRM the client
+// waits for this response, so a body past the limit is refused right away.
+fn put_continues(e: Engine, g: Gathered, flags: GatherFlags) -> Plan
+    ensures { λ r. ⌜ r ≡ putContinuePlan e g flags ⌝ }
 {
-    if srm {
+    if flags.srm {
         let operation = Operation::Putting {
             gathered: g,
             srm: true,
         };
-        if additional {
+        if flags.asked {
             return continues(e, operation, false);
         }
         return wants(e, e.peer, operation);
@@ -121,9 +134,9 @@ fn put_continues(e: Engine, g: Gathered, srm: bool, confirm: bool, additional: b
         e,
         Operation::Putting {
             gathered: g,
-            srm: confirm,
+            srm: flags.confirm_srm,
         },
-        confirm,
+        flags.confirm_srm,
     )
 }
 
@@ -147,46 +160,32 @@ fn put_final(e: Engine, g: Gathered) -> Plan
 }
 
 // Handles a Put packet whose headers are gathered. Kept headers over 65,535 bytes end the engine, before a body past the limit counts.
-pub(crate) fn handle_put(
-    e: Engine,
-    g: Gathered,
-    is_final: bool,
-    additional: bool,
-    srm: bool,
-    confirm: bool,
-) -> Plan
-    ensures { λ r. ⌜ r ≡ putPlan e g «is_final» additional srm confirm ⌝ }
+pub(crate) fn handle_put(e: Engine, g: Gathered, flags: GatherFlags) -> Plan
+    ensures { λ r. ⌜ r ≡ putPlan e g flags ⌝ }
 {
     if g.full {
         return ends(e, e.peer, End::HeadersTooLarge);
     }
-    if is_final {
+    if flags.is_final {
         return put_final(e, g);
     }
-    put_continues(e, g, srm, confirm, additional)
+    put_continues(e, g, flags)
 }
 
 // Handles a packet of a Get's request whose headers are gathered: the host is asked after the final packet.
-pub(crate) fn handle_get(
-    e: Engine,
-    g: Gathered,
-    is_final: bool,
-    wait: bool,
-    srm: bool,
-    confirm: bool,
-) -> Plan
-    ensures { λ r. ⌜ r ≡ getPlan e g «is_final» wait srm confirm ⌝ }
+pub(crate) fn handle_get(e: Engine, g: Gathered, flags: GatherFlags) -> Plan
+    ensures { λ r. ⌜ r ≡ getPlan e g flags ⌝ }
 {
     if g.full {
         return ends(e, e.peer, End::HeadersTooLarge);
     }
     let going = Operation::Getting {
         gathered: g,
-        srm,
-        confirm_srm: confirm,
-        wait,
+        srm: flags.srm,
+        confirm_srm: flags.confirm_srm,
+        wait: flags.asked,
     };
-    if is_final {
+    if flags.is_final {
         return asks(
             e,
             e.peer,
@@ -195,18 +194,18 @@ pub(crate) fn handle_get(
             HostRequest::Get { kept: g.kept },
         );
     }
-    if srm {
+    if flags.srm {
         return wants(e, e.peer, going);
     }
     continues(
         e,
         Operation::Getting {
             gathered: g,
-            srm: confirm,
+            srm: flags.confirm_srm,
             confirm_srm: false,
-            wait,
+            wait: flags.asked,
         },
-        confirm,
+        flags.confirm_srm,
     )
 }
 
@@ -257,21 +256,13 @@ pub(crate) fn handle_headers_only(e: Engine, opcode: Opcode, g: Gathered, is_fin
 }
 
 // Handles a packet whose headers are gathered, by its kind.
-pub(crate) fn handle_gathered(
-    e: Engine,
-    kind: GatherKind,
-    g: Gathered,
-    is_final: bool,
-    asked: bool,
-    srm: bool,
-    confirm: bool,
-) -> Plan
-    ensures { λ r. ⌜ r ≡ kindPlan e kind g «is_final» asked srm confirm ⌝ }
+pub(crate) fn handle_gathered(e: Engine, kind: GatherKind, g: Gathered, flags: GatherFlags) -> Plan
+    ensures { λ r. ⌜ r ≡ kindPlan e kind g flags ⌝ }
 {
     match kind {
-        GatherKind::Put => handle_put(e, g, is_final, asked, srm, confirm),
-        GatherKind::Get => handle_get(e, g, is_final, asked, srm, confirm),
-        GatherKind::Headers(opcode) => handle_headers_only(e, opcode, g, is_final),
+        GatherKind::Put => handle_put(e, g, flags),
+        GatherKind::Get => handle_get(e, g, flags),
+        GatherKind::Headers(opcode) => handle_headers_only(e, opcode, g, flags.is_final),
     }
 }
 
@@ -281,17 +272,14 @@ pub(crate) fn gather_packet(
     p: &[u8],
     kind: GatherKind,
     begun: Gathered,
-    is_final: bool,
-    asked: bool,
-    srm: bool,
-    confirm: bool,
+    flags: GatherFlags,
     headers: &mut [u8],
     body: &mut [u8],
 ) -> Plan
     requires { ⌜ (readHeaders (now p) (fromOf kind) ≡ some (headersIn (requestOf (now p)))) × (soundGathered (limitOf e) begun ≡ true)
-        × (65535 ≤ length (now headers)) × (limitOf e ≤ length (now body)) ⌝ }
+        × (maxPacket ≤ length (now headers)) × (limitOf e ≤ length (now body)) ⌝ }
     ensures { λ r. ⌜ ((q y : List ℕ) → planned r (stores q (now (headers .exit)) (now (body .exit)) y)
-        ≡ actsGathered e kind «is_final» asked srm confirm (gathers e (keepOf kind) (headersIn (requestOf (now (p .entry)))) begun
+        ≡ actsGathered e kind flags (gathers e (keepOf kind) (headersIn (requestOf (now (p .entry)))) begun
         (stores q (now (headers .entry)) (now (body .entry)) y)) (stores q (now (headers .entry)) (now (body .entry)) y)) ⌝ }
 {
     let g = gather(
@@ -303,5 +291,5 @@ pub(crate) fn gather_packet(
         headers,
         body,
     );
-    handle_gathered(e, kind, g, is_final, asked, srm, confirm)
+    handle_gathered(e, kind, g, flags)
 }

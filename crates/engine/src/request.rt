@@ -2,6 +2,7 @@
 ghost use mathlib.Core.Path.{_≡_};
 ghost use mathlib.Core.Option.{some};
 ghost use Rattle.packet.specs.Header.{first};
+ghost use Rattle.packet.specs.HeaderIds as header-id;
 ghost use Rattle.packet.specs.Packet.{requestOf};
 ghost use Rattle.packet.specs.AuthWrite.{given};
 ghost use Rattle.incoming.specs.Survey.{surveyOf};
@@ -50,7 +51,7 @@ pub(crate) fn last_connect(q: &[u8]) -> ConnectRequest
 
 // The first ConnectionID among the headers of `s` from a place on.
 pub(crate) fn first_id(s: &[u8], from: usize) -> ConnectionId
-    ensures { λ r. ⌜ r ≡ idIn (first 0xCB (headersFrom (now (s .entry)) from)) ⌝ }
+    ensures { λ r. ⌜ r ≡ idIn (first header-id.connectionId (headersFrom (now (s .entry)) from)) ⌝ }
 {
     let v = survey_headers(s, from);
     if v.has_id {
@@ -73,7 +74,7 @@ pub(crate) fn has_target(c: ConnectRequest) -> bool
 // The Target that the Connect `c` in packet `q` gives an id: that of its first Target header, or the mark.
 pub(crate) fn first_target(q: &[u8], c: ConnectRequest) -> Target
     requires { ⌜ c ≡ lastConnect (now q) ⌝ }
-    ensures { λ r. ⌜ r ≡ targetGiven (first 0x46 (headersIn (requestOf (now (q .entry))))) ⌝ }
+    ensures { λ r. ⌜ r ≡ targetGiven (first header-id.target (headersIn (requestOf (now (q .entry))))) ⌝ }
 {
     let target = c.target;
     let Found::At { start, end } = target else {
@@ -103,7 +104,7 @@ pub(crate) fn is_right(
     has_password: bool,
     password: &[u8],
 ) -> bool
-    ensures { λ r. ⌜ r ≡ checks stored (responseIn (first 0x4E (headersIn (requestOf (now (q .entry)))))) demands
+    ensures { λ r. ⌜ r ≡ checks stored (responseIn (first header-id.authenticateResponse (headersIn (requestOf (now (q .entry)))))) demands
         (given «has_password» (now (password .entry))) ⌝ }
 {
     let c = last_connect(q);

@@ -1,6 +1,7 @@
 // What a call leads to: more bytes are wanted, the host is asked, a reply is made, or the engine ends.
 ghost use mathlib.Core.List.{[]};
 ghost use mathlib.Core.Path.{_≡_};
+ghost use Rattle.packet.specs.Limits.{maxPacket};
 ghost use Rattle.model.specs.Step.{engineWith};
 ghost use Rattle.engine.specs.Step.{wantsPlan, asksPlan, endsPlan, codePlan, codeKeepingPlan, continuePlan, smallBytes, tookBy, written, carried, sentPlan, repliesBy, fieldsPlan};
 ghost use lib.Dec.{eqb};
@@ -337,7 +338,7 @@ pub(crate) fn sends(
     header_bytes: &[u8],
     reply: &mut [u8],
 ) -> CallResult
-    requires { ⌜ 65535 ≤ length (now reply) ⌝ }
+    requires { ⌜ maxPacket ≤ length (now reply) ⌝ }
     ensures { λ r. ⌜ written r (now (reply .exit)) ≡ repliesBy e peer code [] (now («header_bytes» .entry)) (now (reply .entry)) ⌝ }
 {
     let remote = wide16(peer.remote_max_packet_length);
@@ -353,7 +354,7 @@ pub(crate) fn sends_connect(
     header_bytes: &[u8],
     reply: &mut [u8],
 ) -> CallResult
-    requires { ⌜ 65535 ≤ length (now reply) ⌝ }
+    requires { ⌜ maxPacket ≤ length (now reply) ⌝ }
     ensures { λ r. ⌜ written r (now (reply .exit))
         ≡ repliesBy e peer code (fieldsOf (e .settings .«max_packet_length»)) (now («header_bytes» .entry)) (now (reply .entry)) ⌝ }
 {

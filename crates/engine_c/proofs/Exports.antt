@@ -1,15 +1,13 @@
 -- The records theorem over the exported calls: what one call leaves in the numbers is the state that the next one reads, so a run of exported
 -- calls is a run of the engine's. Assumes nothing.
-use Prim.Native.Nat.{ℕ}
 use mathlib.Core.Path.{_≡_, refl, sym, subst}
 use mathlib.Core.List.{List, [], _∷_, map}
-use Rattle.model.specs.Step.{Stores}
 use Rattle.model.specs.Runs.{State, next, Ran}
 use Rattle.model.specs.Contracts.{state}
 use Rattle.model.specs.Theorem.{Upholds}
 use Rattle.model.proofs.Contracts.{contracts-uphold}
-use Rattle.engine_c.specs.Words.{settingsIn, engineOf, resultOf}
-use Rattle.engine_c.specs.Theorem.{Kept, stateIn, Made, performedBy, keptAfter, RanOn, AcceptedOn, ExportsUphold}
+use Rattle.engine_c.specs.Words.{settingsIn, resultOf}
+use Rattle.engine_c.specs.Theorem.{Kept, stateIn, Made, performedBy, keptAfter, RanOn, ExportsUphold}
 
 -- the state that a call leaves is the one that is read from the numbers
 handed-on : (k : Kept) (x : Made) → stateIn (keptAfter k x) ≡ next (stateIn k) (performedBy x)

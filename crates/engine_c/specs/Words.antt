@@ -19,11 +19,10 @@ use Rattle.connection.specs.declared.peer.Challenge.the-variants.{Stored, Absen
 use Rattle.connection.specs.declared.peer.ConnectionId.{ConnectionId}
 use Rattle.connection.specs.declared.peer.ConnectionId.the-variants as front-id
 use Rattle.connection.specs.declared.peer.Peer.{Peer}
+use Rattle.server.specs.Numbers.{awaitOf}
 use Rattle.server.specs.declared.Settings.{Settings}
 use Rattle.server.specs.declared.Operation.{Operation}
 use Rattle.server.specs.declared.Operation.the-variants as operation
-use Rattle.server.specs.declared.Await.{Await}
-use Rattle.server.specs.declared.Await.the-variants as await
 use Rattle.server.specs.declared.Engine.{Engine}
 use Rattle.server.specs.declared.Body.{Body}
 use Rattle.server.specs.declared.Body.the-variants as body
@@ -147,21 +146,6 @@ operationIn w =
 -- The Target is in numbers 36 to 38: its length, over 16 for the mark, and its sixteen bytes in two halves.
 abbrev pub targetOf : ℕ → ℕ → ℕ → Target
 targetOf n a b = record { length = n; bytes = record { first = a; second = b } }
-
-unfoldable pub awaitOf : ℕ → Await
-awaitOf n =
-    pick (eqb n 0) await.Bytes
-    (pick (eqb n 1) await.Taken
-    (pick (eqb n 2) await.Last
-    (pick (eqb n 3) await.Connect
-    (pick (eqb n 4) await.Disconnect
-    (pick (eqb n 5) await.Get
-    (pick (eqb n 6) await.Reply
-    (pick (eqb n 7) await.Acknowledgement
-    (pick (eqb n 8) await.Password
-    (pick (eqb n 9) await.Nonce
-    (pick (eqb n 10) await.Credentials
-    (pick (eqb n 11) await.Body await.Nothing)))))))))))
 
 unfoldable pub engineOf : List ℕ → Engine
 engineOf w =

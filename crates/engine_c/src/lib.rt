@@ -69,6 +69,7 @@ pub extern "C" fn obex_engine_bytes_offered(
 {
     let r = engine::calls::bytes_offered(
         engine_of(words),
+        0,
         input,
         tables,
         packet,

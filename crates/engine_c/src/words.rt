@@ -2,7 +2,8 @@
 // mean. Decoding what `store` wrote gives the result back, whatever it was; the other direction is not claimed and not needed.
 ghost use mathlib.Core.Path.{_≡_};
 ghost use Prim.Native.Nat.{_%_, _^_};
-ghost use Rattle.engine_c.specs.Words.{flag, opcodeOf, gatheredOf, idOf, challengeOf, outgoingOf, chunkOf, operationOf, operationIn, awaitOf};
+ghost use Rattle.engine_c.specs.Words.{flag, opcodeOf, gatheredOf, idOf, challengeOf, outgoingOf, chunkOf, operationOf, operationIn};
+ghost use Rattle.server.specs.Numbers.{awaitOf};
 ghost use Rattle.engine_c.specs.Words.{settingsBy, settingsIn, peerBy, peerIn, targetOf, engineOf, foundOf, outcomeOf, resultOf, twelve};
 use connection::peer::Challenge;
 use connection::peer::ConnectionId;
@@ -21,6 +22,7 @@ use server::HostRequest;
 use server::Operation;
 use server::Outcome;
 use server::Settings;
+use server::await_number;
 use server::end_number;
 use server::refusal_number;
 use table::targets::Target;
@@ -384,25 +386,11 @@ fn outcome_numbers(o: Outcome) -> Numbers
     }
 }
 
-// Returns the number of what the engine waits for.
-fn await_number(a: Await) -> u64
+// Returns the number of what the engine waits for, as a number of the host's.
+fn awaits_number(a: Await) -> u64
     ensures { λ r. ⌜ awaitOf r ≡ a ⌝ }
 {
-    match a {
-        Await::Bytes => 0,
-        Await::Taken => 1,
-        Await::Last => 2,
-        Await::Connect => 3,
-        Await::Disconnect => 4,
-        Await::Get => 5,
-        Await::Reply => 6,
-        Await::Acknowledgement => 7,
-        Await::Password => 8,
-        Await::Nonce => 9,
-        Await::Credentials => 10,
-        Await::Body => 11,
-        Await::Nothing => 12,
-    }
+    await_number(a) as u64
 }
 
 // Leaves the result `r` in the numbers that the host keeps.
@@ -417,7 +405,7 @@ pub fn store(r: CallResult, words: &mut [u64; 64])
     let p = peer_numbers(e.peer);
     let o = operation_numbers(operation);
     let t = outcome_numbers(outcome);
-    let a = await_number(awaits);
+    let a = awaits_number(awaits);
     let g = target_numbers(e.target);
     *words = [
         s.kind,

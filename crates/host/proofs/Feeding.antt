@@ -27,7 +27,7 @@ use Rattle.server.specs.declared.End.the-variants as end
 use Rattle.server.specs.declared.Refusal.{Refusal}
 use Rattle.server.specs.declared.Refusal.the-variants as refusal
 use Rattle.host.specs.Rest.{Within}
-use Rattle.host.specs.Feed.{left, hasLeft, frontOf, RefilledBy, Refilled, offer, movedOn, Feeds}
+use Rattle.host.specs.Feed.{left, hasLeft, inputLength, lead, frontOf, RefilledBy, Refilled, offer, movedOn, Feeds}
 use Rattle.host.specs.declared.feed.Rest.{Rest}
 
 -- ---- how many bytes a call takes
@@ -99,11 +99,11 @@ left-beyond r i h = go (ltb (r .at) (r .end))
 
 pub front-within : (n : ℕ) → frontOf n ≤ n
 unfolding frontOf
-front-within n = go (ltb n 67584) refl
+front-within n = go (ltb n inputLength) refl
   where
-    go : (a : Bool) → ltb n 67584 ≡ a → pick a 0 2048 ≤ n
+    go : (a : Bool) → ltb n inputLength ≡ a → pick a 0 lead ≤ n
     go true h = omega arith
-    go false h = omega (arith, ltb-false n 67584 h)
+    go false h = omega (arith, ltb-false n inputLength h)
 
 pub refilled-within : (r q : Rest) (i j : List ℕ) → Refilled r i q j → Within q (length j) × (length j ≡ length i)
 refilled-within r q i j = go (hasLeft r i) refl

@@ -24,9 +24,17 @@ left r i = take (r .end - r .at) (drop (r .at) i)
 abbrev pub hasLeft : Rest → List ℕ → Bool
 hasLeft r i = ltb (r .at) (r .end) && leb (r .end) (length i)
 
+-- How long an input store is of which a read fills 65,536 bytes, and how many bytes at its front stay unused: the constants `INPUT` and `LEAD`
+-- of the code, to which the contract of `front_of` ties them.
+abbrev pub inputLength : ℕ
+inputLength = 67584
+
+abbrev pub lead : ℕ
+lead = 2048
+
 -- Where a read begins in a store of `n` bytes: behind half a page, if the store is as long as `INPUT`.
 unfoldable pub frontOf : ℕ → ℕ
-frontOf n = pick (ltb n 67584) 0 2048
+frontOf n = pick (ltb n inputLength) 0 lead
 
 -- A read of standard input turns the store `i` into `j`, and leaves the part `r` to be offered. Which bytes come is the kernel's to say;
 -- what lies in front of them stays.

@@ -136,7 +136,7 @@ pub fn feed(
         let took = calls::stream_ended(e, packet, headers, body, reply);
         return Step { took, rest: r };
     }
-    let took = calls::bytes_offered(e, &input[at..end], tables, packet, headers, body, reply);
+    let took = calls::bytes_offered(e, 0, &input[at..end], tables, packet, headers, body, reply);
     Step {
         took,
         rest: Rest {

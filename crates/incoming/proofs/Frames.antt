@@ -71,7 +71,7 @@ goes-by q = go (ltb (length q) 3) (ltb (be16 q 1) 3) (leb (be16 q 1) (length q))
     go false false false = refl
 
 -- the frame's test reads the bytes before it alone
-frame-prefix : (q : List ℕ) (n : ℕ) → frameEnd q n ≡ frameEnd (take n q) n
+pub frame-prefix : (q : List ℕ) (n : ℕ) → frameEnd q n ≡ frameEnd (take n q) n
 unfolding frameEnd
 frame-prefix q n = go (ltb n 3) refl
   where

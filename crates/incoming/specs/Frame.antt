@@ -1,8 +1,8 @@
 -- Frames (docs/PROTOCOL.md#frames; the source's engine/io.rs): bytes go to the front of the packet store, up to the packet's end and never
 -- past it.
 use Prim.Native.Nat.{ℕ, _+_}
-use mathlib.Core.List.{List, [], _∷_}
-use lib.ListN.{set}
+use mathlib.Core.List.{List, [], _∷_, _++_}
+use lib.ListN.{set, take, drop}
 use lib.Dec.{ltb, leb}
 use Rattle.base.specs.Pick.{pick}
 use Rattle.base.specs.Bytes.{be16}
@@ -34,3 +34,12 @@ unfoldable pub framed : List ℕ → ℕ → ℕ → List ℕ → Frames
 framed p b t [] = frames (record { begun = b; taken = t; frame = More }) p
 framed p b t (x ∷ xs) =
     framesAt (frameEnd (set p b x) (b + 1)) (b + 1) (t + 1) (set p b x) (framed (set p b x) (b + 1) (t + 1) xs)
+
+-- The `n` bytes behind the first `b` of the packet store `p`, where a host may put bytes from the client itself; fewer if the store ends
+-- before them.
+abbrev pub placedIn : List ℕ → ℕ → ℕ → List ℕ
+placedIn p b n = take n (drop b p)
+
+-- The bytes that come with a call: those that the host has put into the packet store, then those that it offers beside it.
+abbrev pub coming : List ℕ → ℕ → ℕ → List ℕ → List ℕ
+coming p b n i = placedIn p b n ++ i

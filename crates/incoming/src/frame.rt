@@ -1,11 +1,11 @@
 // Frames (docs/PROTOCOL.md#frames; the source's engine/io.rs, Framed::read_packet): the bytes of a packet go to the front of the packet
 // store, in runs and not one by one.
 ghost use mathlib.Core.Path.{_≡_};
-ghost use Prim.Native.Nat.{_+_, _≤_, _<_};
+ghost use Prim.Native.Nat.{ℕ, _+_, _≤_, _<_};
 ghost use lib.ListN.{length, drop};
 ghost use Rattle.base.specs.Bytes.{be16};
 ghost use Rattle.packet.specs.Limits.{maxPacket};
-ghost use Rattle.incoming.specs.Frame.{frameEnd, framed, frames};
+ghost use Rattle.incoming.specs.Frame.{frameEnd, framed, frames, placedIn, coming};
 use base::be16_at;
 use base::copy_into;
 
@@ -136,7 +136,7 @@ fn whole_length(input: &[u8]) -> usize
 
 // Takes offered bytes into the packet store, up to the packet's end and never past it. A packet that is offered whole is copied at once,
 // since most reads bring whole packets.
-pub fn read_packet(begun: usize, input: &[u8], packet: &mut [u8]) -> Framed
+fn read_offered(begun: usize, input: &[u8], packet: &mut [u8]) -> Framed
     requires { ⌜ (begun < maxPacket) × (maxPacket ≤ length (now packet)) ⌝ }
     ensures whole { λ r. ⌜ (r .frame ≡ Frame.Whole → (3 ≤ r .begun) × (r .begun ≤ maxPacket)) ⌝ }
     ensures model { λ r. ⌜ frames r (now (packet .exit)) ≡ framed (now (packet .entry)) begun 0 (now (input .entry)) ⌝ }
@@ -153,4 +153,84 @@ pub fn read_packet(begun: usize, input: &[u8], packet: &mut [u8]) -> Framed
         }
     }
     read_on(begun, input, packet)
+}
+
+// Returns where a packet with the length field `n` ends at the earliest, once a byte more than `begun` of it is there: not before that byte,
+// the end of its prefix, and its length.
+fn earliest_end(begun: usize, n: usize) -> usize
+    requires { ⌜ (begun < maxPacket) × (n ≤ maxPacket) ⌝ }
+    ensures reached { λ r. ⌜ (3 ≤ r) × (begun < r) × (n ≤ r) × (r ≤ maxPacket) ⌝ }
+    ensures least { λ r. ⌜ ((m : ℕ) → 3 ≤ m → begun < m → n ≤ m → r ≤ m) ⌝ }
+{
+    let next = begun + 1;
+    if n < next {
+        return if next < 3 { 3 } else { next };
+    }
+    if n < 3 { 3 } else { n }
+}
+
+// Returns where `count` bytes behind the first `begun` of a store of `len` bytes end. The store may end before them.
+fn placed_end(begun: usize, count: usize, len: usize) -> usize
+    requires { ⌜ begun ≤ len ⌝ }
+    ensures { λ r. ⌜ (begun ≤ r) × (r ≤ len) × (r ≤ begun + count) × (r < len → r ≡ begun + count) ⌝ }
+{
+    if count < len - begun {
+        return begun + count;
+    }
+    len
+}
+
+// Takes `count` bytes that stand in the packet store already, behind the `begun` ones, up to the packet's end and never past it.
+fn read_placed(begun: usize, count: usize, packet: &[u8]) -> Framed
+    requires { ⌜ (begun < maxPacket) × (maxPacket ≤ length (now packet)) ⌝ }
+    ensures more { λ r. ⌜ (r .frame ≡ Frame.More → r .begun < maxPacket) ⌝ }
+    ensures whole { λ r. ⌜ (r .frame ≡ Frame.Whole → (3 ≤ r .begun) × (r .begun ≤ maxPacket)) ⌝ }
+    ensures model { λ r. ⌜ frames r (now (packet .entry))
+        ≡ framed (now (packet .entry)) begun 0 (placedIn (now (packet .entry)) begun count) ⌝ }
+{
+    let end = placed_end(begun, count, packet.len());
+    let n = be16_at(packet, 1);
+    let stop = earliest_end(begun, n);
+    if end < stop {
+        return Framed {
+            begun: end,
+            taken: end - begun,
+            frame: Frame::More,
+        };
+    }
+    let taken = stop - begun;
+    if n < 3 {
+        return Framed {
+            begun: stop,
+            taken,
+            frame: Frame::Short,
+        };
+    }
+    Framed {
+        begun: stop,
+        taken,
+        frame: Frame::Whole,
+    }
+}
+
+// Takes bytes into the packet store, up to the packet's end and never past it: first the `placed` ones that the host has put there already,
+// behind the `begun` ones, then those of `input`.
+pub fn read_packet(begun: usize, placed: usize, input: &[u8], packet: &mut [u8]) -> Framed
+    requires { ⌜ (begun < maxPacket) × (maxPacket ≤ length (now packet)) ⌝ }
+    ensures whole { λ r. ⌜ (r .frame ≡ Frame.Whole → (3 ≤ r .begun) × (r .begun ≤ maxPacket)) ⌝ }
+    ensures model { λ r. ⌜ frames r (now (packet .exit))
+        ≡ framed (now (packet .entry)) begun 0 (coming (now (packet .entry)) begun placed (now (input .entry))) ⌝ }
+{
+    let f = read_placed(begun, placed, &packet[..]);
+    let frame = f.frame;
+    let Frame::More = frame else {
+        return f;
+    };
+    let g = read_offered(f.begun, input, packet);
+    let end = g.frame;
+    Framed {
+        begun: g.begun,
+        taken: f.taken + g.taken,
+        frame: end,
+    }
 }

@@ -10,9 +10,9 @@ use borrow.Author.Tests.{lt-leb, leb-true, leb-false}
 use lib.Arith.{mod-mul}
 use lib.Count.{ones, ones-step}
 use lib.Dec.{leb}
-use lib.ListN.{length, take, replicate}
+use lib.ListN.{take, replicate}
 use lib.Pow.{pow-pos}
-use Rattle.journal.specs.Checks.{Check, right, wrong, stop, isWrong, bit, wrongs, tooMany, shifted, windowOf, Ruled}
+use Rattle.journal.specs.Checks.{Check, stop, isWrong, bit, wrongs, tooMany, windowOf, Ruled}
 
 -- the history as one number, the latest check its lowest digit
 whole : List Check → ℕ

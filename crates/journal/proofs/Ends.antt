@@ -1,21 +1,20 @@
 -- The journal has ended exactly after the calls in which an end is due, but for a packet of another operation; and it takes no more bytes than
 -- are offered. Assumes nothing.
-use mathlib.Core.Path.{_≡_, refl, sym, ap, _∙_}
+use mathlib.Core.Path.{_≡_, refl, sym, _∙_}
 use mathlib.Core.List.{List, [], _∷_, _++_}
-use mathlib.Core.Bool.{Bool, true, false, _&&_, _||_, not, false≢true}
+use mathlib.Core.Bool.{Bool, true, false, false≢true}
 use mathlib.Core.Option.{Option, none, some}
 use mathlib.Core.Logic.{_⊎_, inl, inr}
 use Prim.Native.Nat.{ℕ, _+_, _≤_}
 use native.Mathlib.Omega.{arith}
 use lib.ListN.{length}
-use lib.Dec.{leb, eqb}
+use lib.Dec.{eqb}
 use Rattle.base.specs.Pick.{pick}
 use Rattle.packet.specs.FirstByte.{sameOpcode}
-use Rattle.packet.specs.Header.{allBytes}
 use Rattle.packet.specs.Packet.{Request, requestOf}
 use Rattle.packet.specs.declared.opcode.Opcode.{Opcode}
 use Rattle.packet.specs.declared.opcode.Opcode.the-variants.{Connect, Disconnect, Put, Get, SetPath, Action, Session, Abort, UserDefined}
-use Rattle.journal.specs.Record.{Record, sizeOf}
+use Rattle.journal.specs.Record.{Record}
 use Rattle.journal.specs.Calls.{Call, bytesOffered, streamEnded, replyTaken, replyGiven, objectGiven, bodyGiven, bodyFailed, abortAcknowledged, passwordGiven, nonceGiven, credentialsGiven, connectionsClosed, Fed, noStep, stepBy, replySent}
 use Rattle.journal.specs.Journal.{Opened, nothing, trailing, putting, getting, sending, gathering, draining, busy, Journal, Entry, unchanged, after, opens, endsWith, stopped, trails, putRead, admitted, firstRead, requestRead, packetRead, journalPacket, Read, more, whole, short, readUp, bytesRead, goesOn, takenUp, streamNumber, replyTo, replyLast, replied, objectSent, takenAt, lastTaken, journalCall, journalFed, journalStep}
 use Rattle.journal.specs.Claim.{EndsThere, EndsNowhereElse, TakesNoMore}

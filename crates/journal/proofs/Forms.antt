@@ -16,7 +16,7 @@ use Rattle.packet.specs.declared.opcode.Opcode.{Opcode}
 use Rattle.packet.specs.declared.opcode.Opcode.the-variants.{Connect, Disconnect, Put, Get, SetPath, Action, Session, Abort, UserDefined}
 use Rattle.journal.specs.Record.{Record, bare, joined, sizeOf, carriedBy, keptByGet}
 use Rattle.journal.specs.Calls.{Call, bytesOffered, streamEnded, replyTaken, replyGiven, objectGiven, bodyGiven, bodyFailed, abortAcknowledged, passwordGiven, nonceGiven, credentialsGiven, connectionsClosed, Fed, noStep, stepBy, replySent}
-use Rattle.journal.specs.Journal.{Opened, nothing, putting, getting, sending, gathering, draining, busy, Journal, fresh, Entry, unchanged, begin, after, opens, stands, end, endsWith, admitted, asksSrm, putRead, gatherRead, turnedAway, dropped, firstRead, stopped, requestRead, packetRead, journalPacket, Read, more, whole, short, readUp, bytesRead, replyTo, replyLast, replied, objectSent, takenAt, passwordChecked, challenged, closes, passes, streamNumber, lastTaken, journalCall, journalFed, journalStep, journalRecords, Marked, readIn, callReads, fedReads, packets, trailing, overrun, trails, isStopped, withCheck, connectRead}
+use Rattle.journal.specs.Journal.{Opened, nothing, putting, getting, sending, gathering, draining, busy, Journal, fresh, Entry, unchanged, begin, after, opens, stands, end, endsWith, admitted, asksSrm, putRead, gatherRead, turnedAway, dropped, firstRead, stopped, requestRead, packetRead, journalPacket, Read, more, whole, short, readUp, bytesRead, replyTo, replyLast, replied, objectSent, takenAt, passwordChecked, challenged, closes, passes, streamNumber, journalCall, journalFed, journalStep, journalRecords, Marked, readIn, callReads, fedReads, packets, trailing, overrun, trails, isStopped, withCheck, connectRead}
 use Rattle.journal.specs.PutForm.{readablePut, isFinal, carriedIn, admits, Form, Apart, isTrailing, trailsRequest, isTrailed}
 use Rattle.journal.specs.Checks.{stop}
 use Rattle.journal.specs.Claim.{PutForms}
@@ -99,7 +99,8 @@ abbrev Claim : Journal → List Fed → Type 0
 Claim j fs = (at n i : ℕ) → at + n ≡ i → Told at (journalRecords j fs) (toldOf (j .settings .limit) (j .opened) at n i (packets j fs))
 
 -- after the end nothing follows
-stops : (fs : List Fed) (j : Journal) (limit : ℕ) (o : Opened) (at n i : ℕ) → j .ended ≡ true → Told at (journalRecords j fs) (toldOf limit o at n i (packets j fs))
+stops : (fs : List Fed) (j : Journal) (limit : ℕ) (o : Opened) (at n i : ℕ) → j .ended ≡ true
+    → Told at (journalRecords j fs) (toldOf limit o at n i (packets j fs))
 stops fs j limit o at n i e =
     simp (ended-packets fs j e, pending-none limit (carrying o) at n) (record { same = ended-records fs j e; apart = tt })
 
@@ -174,7 +175,8 @@ module _ (j : Journal) (fs : List Fed) (h : j .ended ≡ false) (ih : (d : Journ
     connects : (u : Opened) (r : Request) → Goal at (connectRead (opens j u) r) []
     connects u r =
         sooner (omega arith)
-        (ih (after (stands j (pick (isStopped (j .settings) (j .standing) r) (withCheck (j .standing) stop) (j .standing))) (some r) nothing) h (i + 1) 0 (i + 1) (omega arith))
+        (ih (after (stands j (pick (isStopped (j .settings) (j .standing) r) (withCheck (j .standing) stop) (j .standing))) (some r) nothing) h
+        (i + 1) 0 (i + 1) (omega arith))
 
     -- no Put, with no operation open
     first-other : (u : Opened) (o : Opcode) (r : Request) → sameOpcode o Put ≡ false → Goal at (firstRead o (opens j u) r) []
@@ -190,7 +192,8 @@ module _ (j : Journal) (fs : List Fed) (h : j .ended ≡ false) (ih : (d : Journ
     first-other u (UserDefined x) r e = opens-or r _ _ (gathers r (UserDefined x) (allBytes (r .headers))) (drops r)
 
     -- any packet, inside an operation whose requests come to no form
-    inside : (o : Opened) (q : Option Request) → busy o ≡ true → ((r : Request) → Goal at (requestRead o (opens j o) r) []) → Goal at (readAt o q j) []
+    inside : (o : Opened) (q : Option Request) → busy o ≡ true → ((r : Request) → Goal at (requestRead o (opens j o) r) [])
+        → Goal at (readAt o q j) []
     inside o none b w = simp b (ends o)
     inside o (some r) b w = go (sameOpcode (r .opcode) Abort) refl
       where
@@ -199,21 +202,26 @@ module _ (j : Journal) (fs : List Fed) (h : j .ended ≡ false) (ih : (d : Journ
         go false e = simp e (w r)
 
   -- a Put packet p of a Put that began at `at`; its n packets before this one carry c
-  module _ (at n : ℕ) (place : at + n ≡ i) (p : List ℕ) (r : Request) (k : requestOf p ≡ some r) (e : sameOpcode (r .opcode) Put ≡ true) (o : Opened) (c : Record) (srm next : Bool) where
+  module _ (at n : ℕ) (place : at + n ≡ i) (p : List ℕ) (r : Request) (k : requestOf p ≡ some r) (e : sameOpcode (r .opcode) Put ≡ true)
+      (o : Opened) (c : Record) (srm next : Bool) where
     abbrev total : Record
     total = joined c (carriedBy (r .headers))
 
     -- the last packet, within the limit; and one that goes on
-    found : Goal at (record { next = after j (some r) nothing; given = total ∷ []; number = none }) (record { first = at; count = n + 1; given = total } ∷ [])
+    found : Goal at (record { next = after j (some r) nothing; given = total ∷ []; number = none })
+        (record { first = at; count = n + 1; given = total } ∷ [])
     found =
         let w : Told (at + (n + 1)) _ _ = sooner (omega arith) (ih (after j (some r) nothing) h (i + 1) 0 (i + 1) (omega arith)) in
         record { same = ap (λ (l : List Record). total ∷ l) (w .same); apart = (omega arith, w .apart) }
 
-    goes-on : Goal at (unchanged (after j (some r) (putting total next))) (run limit at (n + 1) total (packets (after j (some r) (putting total next)) fs))
+    goes-on : Goal at (unchanged (after j (some r) (putting total next)))
+        (run limit at (n + 1) total (packets (after j (some r) (putting total next)) fs))
     goes-on = ih (after j (some r) (putting total next)) h at (n + 1) (i + 1) (omega arith)
 
     abbrev Followed : Type 0
-    Followed = Goal at (putRead (opens j o) r srm next total) (run limit at n c (record { before = j; bytes = p } ∷ packets (putRead (opens j o) r srm next total .next) fs))
+    Followed =
+        Goal at (putRead (opens j o) r srm next total)
+        (run limit at n c (record { before = j; bytes = p } ∷ packets (putRead (opens j o) r srm next total .next) fs))
 
     follows : Followed
     unfolding putRead readablePut isFinal carriedIn
@@ -233,7 +241,8 @@ module _ (j : Journal) (fs : List Fed) (h : j .ended ≡ false) (ih : (d : Journ
   Here p o at n ended x =
       Told at (x .given ++ journalRecords (x .next) fs)
       (pending limit (carrying o) at n (record { before = j; bytes = p } ∷ packets (x .next) fs)
-      ++ (pick (not (busy o) && (not ended && (admits j p && not (isTrailing o && trailsRequest (requestOf p))))) (run limit i 0 bare (record { before = j; bytes = p } ∷ packets (x .next) fs)) []
+      ++ (pick (not (busy o) && (not ended && (admits j p && not (isTrailing o && trailsRequest (requestOf p)))))
+      (run limit i 0 bare (record { before = j; bytes = p } ∷ packets (x .next) fs)) []
       ++ forms limit (i + 1) (packets (x .next) fs)))
 
   module _ (p : List ℕ) (at n : ℕ) (place : at + n ≡ i) where
@@ -252,7 +261,8 @@ module _ (j : Journal) (fs : List Fed) (h : j .ended ≡ false) (ih : (d : Journ
     unfolding readablePut admits firstRead
     judged u r k = go (sameOpcode (r .opcode) Put) (admitted (j .settings) (j .standing) r) refl refl
       where
-        other : sameOpcode (r .opcode) Put ≡ false → Goal at (pick (sameOpcode (r .opcode) Abort) (dropped j r) (firstRead (r .opcode) (opens j u) r)) []
+        other : sameOpcode (r .opcode) Put ≡ false
+            → Goal at (pick (sameOpcode (r .opcode) Abort) (dropped j r) (firstRead (r .opcode) (opens j u) r)) []
         other e = either-way at late (sameOpcode (r .opcode) Abort) _ _ (drops at late r) (first-other at late u (r .opcode) r e)
 
         go : (t a : Bool) → sameOpcode (r .opcode) Put ≡ t → admitted (j .settings) (j .standing) r ≡ a → Judged u r
@@ -285,7 +295,8 @@ module _ (j : Journal) (fs : List Fed) (h : j .ended ≡ false) (ih : (d : Journ
     in-a-put c s none k = simp k (ends at late (putting c s))
     in-a-put c s (some r) k = go (sameOpcode (r .opcode) Put) (sameOpcode (r .opcode) Abort) refl refl
       where
-        go : (t a : Bool) → sameOpcode (r .opcode) Put ≡ t → sameOpcode (r .opcode) Abort ≡ a → Here p (putting c s) at n false (readAt (putting c s) (some r) j)
+        go : (t a : Bool) → sameOpcode (r .opcode) Put ≡ t → sameOpcode (r .opcode) Abort ≡ a
+            → Here p (putting c s) at n false (readAt (putting c s) (some r) j)
         go false true e f = simp (k, e, f) (drops at late r)
         go false false e f = simp (k, e, f) (halts at late (putting c s))
         go true a e f = simp (is-put (r .opcode) e, put-put, put-abort) (follows at n place p r k e (putting c s) c s s)
@@ -296,7 +307,8 @@ module _ (j : Journal) (fs : List Fed) (h : j .ended ≡ false) (ih : (d : Journ
     packet-told (putting c s) = in-a-put c s (requestOf p) refl
     packet-told (getting k) =
         inside at late (getting k) (requestOf p) refl
-        (λ r. either-way at late (sameOpcode (r .opcode) Get) _ _ (calm at late (some r) (getting (k ++ keptByGet (r .headers))) refl) (halts at late (getting k)))
+        (λ r. either-way at late (sameOpcode (r .opcode) Get) _ _ (calm at late (some r) (getting (k ++ keptByGet (r .headers))) refl)
+        (halts at late (getting k)))
     packet-told sending =
         inside at late sending (requestOf p) refl
         (λ r. either-way at late (sameOpcode (r .opcode) Get) _ _ (calm at late (some r) sending refl) (halts at late sending))
@@ -309,7 +321,8 @@ module _ (j : Journal) (fs : List Fed) (h : j .ended ≡ false) (ih : (d : Journ
 
 -- ---- a call, given what follows
 
-module _ (j : Journal) (fs : List Fed) (h : j .ended ≡ false) (ih : (d : Journal) → d .ended ≡ false → Claim d fs) (at n i : ℕ) (place : at + n ≡ i) where
+module _ (j : Journal) (fs : List Fed) (h : j .ended ≡ false) (ih : (d : Journal) → d .ended ≡ false → Claim d fs) (at n i : ℕ)
+    (place : at + n ≡ i) where
   -- what a call gives and reads, and what follows
   abbrev After : Entry → List Marked → Type 0
   After x l = Told at (x .given ++ journalRecords (x .next) fs) (toldOf (j .settings .limit) (j .opened) at n i (l ++ packets (x .next) fs))
@@ -326,12 +339,14 @@ module _ (j : Journal) (fs : List Fed) (h : j .ended ≡ false) (ih : (d : Journ
   read-told short = ends-told 3
   read-told (whole p) =
       subst (λ (x : Entry). After x (record { before = j; bytes = p } ∷ [])) (sym (packet-at j p))
-      (subst (λ (t : Bool). Here j fs h ih i p (j .opened) at n t (readAt (j .opened) (requestOf p) j)) (sym h) (packet-told j fs h ih i p at n place (j .opened)))
+      (subst (λ (t : Bool). Here j fs h ih i p (j .opened) at n t (readAt (j .opened) (requestOf p) j)) (sym h)
+      (packet-told j fs h ih i p at n place (j .opened)))
 
   -- an operation that is no Put closes, or becomes another
   moved-told : (o u : Opened) → j .opened ≡ o → carrying o ≡ none → carrying u ≡ none → After (unchanged (opens j u)) []
   moved-told o u e q r =
-      subst (λ (c : Option Record). Told at (journalRecords (opens j u) fs) (pending (j .settings .limit) c at n (packets (opens j u) fs) ++ forms (j .settings .limit) i (packets (opens j u) fs)))
+      subst (λ (c : Option Record). Told at (journalRecords (opens j u) fs)
+      (pending (j .settings .limit) c at n (packets (opens j u) fs) ++ forms (j .settings .limit) i (packets (opens j u) fs)))
       (r ∙ sym (ap carrying e ∙ q)) (ih (opens j u) h at n i place)
 
   -- Connect and Disconnect change what the journal stands at, and nothing that is open

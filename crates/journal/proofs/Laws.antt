@@ -54,7 +54,8 @@ step-on : (p ys : List ℕ) (r : Read) → readStep p (readOn r ys) ≡ readOn (
 unfolding readStep
 step-on p ys r = go (ltb (length p) 3) (ltb (be16 p 1) 3) (leb (be16 p 1) (length p))
   where
-    go : (t u v : Bool) → pick t (readOn r ys) (pick u short (pick v (whole p) (readOn r ys))) ≡ readOn (pick t r (pick u short (pick v (whole p) r))) ys
+    go : (t u v : Bool)
+        → pick t (readOn r ys) (pick u short (pick v (whole p) (readOn r ys))) ≡ readOn (pick t r (pick u short (pick v (whole p) r))) ys
     go true u v = refl
     go false true v = refl
     go false false true = refl

@@ -18,8 +18,8 @@ use Rattle.packet.specs.declared.opcode.Opcode.the-variants.{Connect, Disconnec
 use Rattle.journal.specs.Record.{Record, joined, carriedBy}
 use Rattle.journal.specs.Ids.{member, without, withoutAll, newId}
 use Rattle.journal.specs.Calls.{Call, bytesOffered, streamEnded, replyTaken, replyGiven, objectGiven, bodyGiven, bodyFailed, abortAcknowledged, passwordGiven, nonceGiven, credentialsGiven, connectionsClosed, Fed, noStep, stepBy, replySent}
-use Rattle.journal.specs.Checks.{Check, right, wrong, stop, tooMany, Ruled}
-use Rattle.journal.specs.Journal.{Settings, Standing, Opened, nothing, trailing, putting, getting, sending, gathering, draining, busy, Journal, Entry, unchanged, after, opens, stands, end, admitted, asksSrm, isStopped, withCheck, trails, putRead, firstRead, requestRead, packetRead, journalPacket, Read, more, whole, short, readUp, bytesRead, openId, opensFor, connected, leaves, disconnected, closes, replyTo, replyLast, replied, objectSent, takenAt, passwordChecked, passes, journalCall, journalFed, journalStep, listOf}
+use Rattle.journal.specs.Checks.{Check, stop, tooMany, Ruled}
+use Rattle.journal.specs.Journal.{Settings, Standing, Opened, nothing, trailing, putting, getting, sending, gathering, draining, busy, Journal, Entry, after, opens, admitted, asksSrm, isStopped, withCheck, trails, putRead, firstRead, requestRead, packetRead, journalPacket, Read, more, whole, short, readUp, bytesRead, openId, opensFor, connected, leaves, disconnected, closes, replyTo, replyLast, replied, objectSent, takenAt, passwordChecked, passes, journalCall, journalFed, journalStep, listOf}
 
 -- the checks after an entry
 abbrev checksIn : Entry → List Check

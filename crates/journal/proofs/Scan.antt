@@ -108,7 +108,8 @@ module _ (limit at n : ℕ) (c : Record) (p : Marked) (ps : List Marked) (f : Fo
   total = adds c p
 
   module _ (e : readablePut (p .bytes) ≡ true) where
-    found-here : isFinal (p .bytes) ≡ true → leb (sizeOf total) limit ≡ true → (f ≡ record { first = at; count = n + 1; given = total }) ⊎ ⊥ → Found limit at n c (p ∷ ps) f
+    found-here : isFinal (p .bytes) ≡ true → leb (sizeOf total) limit ≡ true → (f ≡ record { first = at; count = n + 1; given = total }) ⊎ ⊥
+        → Found limit at n c (p ∷ ps) f
     found-here j g (inr w) = absurd w
     found-here j g (inl q) =
         let k : sizeOf total ≤ limit = leb-true _ _ g in
@@ -146,7 +147,8 @@ run-sound limit at n c (p ∷ ps) f w =
     go true true false e j g k ih = absurd (simp (e, j, g) at k)
     go true false v e j g k ih = found-later limit at n c p ps f e j (ih (simp (e, j) at k))
 
-run-complete : (limit at n : ℕ) (c : Record) (ps : List Marked) (f : Form) (k : ℕ) → f .first ≡ at → f .count ≡ n + k → length (take k ps) ≡ k → Puts (take k ps)
+run-complete : (limit at n : ℕ) (c : Record) (ps : List Marked) (f : Form) (k : ℕ) → f .first ≡ at → f .count ≡ n + k → length (take k ps) ≡ k
+    → Puts (take k ps)
     → sizeOf (f .given) ≤ limit → f .given ≡ joined c (carried (take k ps)) → In f (run limit at n c ps)
 run-complete limit at n c [] f zero a b s w l g = absurd w
 run-complete limit at n c [] f (suc k) a b s w l g = absurd w
@@ -160,7 +162,8 @@ run-complete limit at n c (p ∷ ps) f (suc k) a b s w l g = go (take k ps) refl
     go [] e ih =
         let v : Puts (p ∷ []) = rw e at w in
         let z : k ≡ 0 = omega (arith, s, ap length e) in
-        let y : f .given ≡ adds c p = g ∙ ap (λ (r : List Marked). joined c (joined (carriedIn (p .bytes)) (carried r))) e ∙ ap (joined c) (joined-bare (carriedIn (p .bytes))) in
+        let y : f .given ≡ adds c p =
+        g ∙ ap (λ (r : List Marked). joined c (joined (carriedIn (p .bytes)) (carried r))) e ∙ ap (joined c) (joined-bare (carriedIn (p .bytes))) in
         let x : sizeOf (adds c p) ≤ limit = rw y at l in
         simp (v .0, v .1, le-leb _ _ x) (inl (form-eq f at (n + 1) (adds c p) a (omega arith) y))
     go (q ∷ r) e ih =
@@ -204,19 +207,23 @@ forms-sound limit whole (p ∷ ps) i d f w =
     go (inr k) ih = ih k
     go (inl k) ih =
         let (b, m) = begins-in f (mayBegin p) (run limit i 0 bare (p ∷ ps)) k in
-        let s : Starts (p ∷ []) = may-starts (busy (p .before .opened)) (p .before .ended) (admits (p .before) (p .bytes)) (isTrailed (p .before) (p .bytes)) b in
+        let s : Starts (p ∷ []) =
+        may-starts (busy (p .before .opened)) (p .before .ended) (admits (p .before) (p .bytes)) (isTrailed (p .before) (p .bytes)) b in
         let r = run-sound limit i 0 bare (p ∷ ps) f m in
         let n : f .count ≡ r .more = omega (arith, r .count) in
         let runs : runOf whole f ≡ take (r .more) (p ∷ ps) = ap₂ (λ (x y : ℕ). take x (drop y whole)) n (r .first) ∙ ap (take (r .more)) d in
         record {
           there = ap length runs ∙ r .size ∙ sym n;
-          one = subst (λ (l : List Marked). OnePut limit l (f .given)) (sym runs) (record { starts = starts-take (r .more) p ps (r .puts) s; puts = r .puts; within = r .within; is = r .given });
+          one = subst (λ (l : List Marked). OnePut limit l (f .given)) (sym runs)
+              (record { starts = starts-take (r .more) p ps (r .puts) s; puts = r .puts; within = r .within; is = r .given });
         }
 
-pub forms-complete : (limit : ℕ) (whole : List Marked) (f : Form) → IsForm limit whole f → (ps : List Marked) (i : ℕ) → drop i whole ≡ ps → i ≤ f .first → In f (forms limit i ps)
+pub forms-complete : (limit : ℕ) (whole : List Marked) (f : Form) → IsForm limit whole f → (ps : List Marked) (i : ℕ) → drop i whole ≡ ps
+    → i ≤ f .first → In f (forms limit i ps)
 forms-complete limit whole f w [] i d h =
     let n : f .first ≡ i + (f .first - i) = omega arith in
-    let e : drop (f .first) whole ≡ [] = ap (λ (x : ℕ). drop x whole) n ∙ sym (drop-drop (f .first - i) i whole) ∙ ap (drop (f .first - i)) d ∙ drop-nil (f .first - i) in
+    let e : drop (f .first) whole ≡ [] =
+    ap (λ (x : ℕ). drop x whole) n ∙ sym (drop-drop (f .first - i) i whole) ∙ ap (drop (f .first - i)) d ∙ drop-nil (f .first - i) in
     let r : runOf whole f ≡ [] = ap (take (f .count)) e ∙ take-nil (f .count) in
     absurd (subst Puts r (w .one .puts))
 forms-complete limit whole f w (p ∷ ps) i d h = go (eqb i (f .first)) refl (forms-complete limit whole f w ps (i + 1) (drop-next whole i p ps d))
@@ -230,7 +237,8 @@ forms-complete limit whole f w (p ∷ ps) i d h = go (eqb i (f .first)) refl (fo
         let m : In f (run limit i 0 bare (p ∷ ps)) =
         run-complete limit i 0 bare (p ∷ ps) f (f .count) q (omega arith) (ap length (sym runs) ∙ w .there) (one .puts) (one .within) (one .is) in
         in-left f (begins limit i p ps) (forms limit (i + 1) ps)
-        (subst (λ (t : Bool). In f (pick t (run limit i 0 bare (p ∷ ps)) [])) (sym (starts-may p (take-starts (f .count) p ps (one .puts) (one .starts)))) m)
+        (subst (λ (t : Bool). In f (pick t (run limit i 0 bare (p ∷ ps)) []))
+        (sym (starts-may p (take-starts (f .count) p ps (one .puts) (one .starts)))) m)
 
 -- ---- a list of packets has one list of forms: `Exactly` leaves no choice
 
@@ -249,7 +257,8 @@ begins-late n (g ∷ l) f w (inl e) = omega (arith, w .0, ap (λ (x : Form). x .
 begins-late n (g ∷ l) f w (inr k) = omega (arith, w .0, begins-late (g .first + g .count) l f (w .1) k)
 
 -- where the first of two lists are in each other, they are the same
-same-first : (f g : Form) (k l : List Form) → 0 < f .count → 0 < g .count → Apart (f .first + f .count) k → Apart (g .first + g .count) l → In f (g ∷ l) → In g (f ∷ k) → f ≡ g
+same-first : (f g : Form) (k l : List Form) → 0 < f .count → 0 < g .count → Apart (f .first + f .count) k → Apart (g .first + g .count) l
+    → In f (g ∷ l) → In g (f ∷ k) → f ≡ g
 same-first f g k l p q a b (inl e) j = e
 same-first f g k l p q a b (inr i) (inl e) = sym e
 same-first f g k l p q a b (inr i) (inr j) =
@@ -279,5 +288,6 @@ exactly-one limit ps rs qs a b =
     let m : (f : Form) → In f (a .forms) → 0 < f .count = λ f w. takes-one (a .each f w) in
     let n : (f : Form) → In f (b .forms) → 0 < f .count = λ f w. takes-one (b .each f w) in
     a .records
-    ∙ ap (map (λ (f : Form). f .given)) (only (a .forms) (b .forms) 0 0 (a .apart) (b .apart) m n (λ f w. b .all f (a .each f w)) (λ f w. a .all f (b .each f w)))
+    ∙ ap (map (λ (f : Form). f .given)) (only (a .forms) (b .forms) 0 0 (a .apart) (b .apart) m n (λ f w. b .all f (a .each f w))
+    (λ f w. a .all f (b .each f w)))
     ∙ sym (b .records)

@@ -23,3 +23,17 @@ pub fn keep(s: &mut [u8], from: usize, to: usize) -> usize
     }
     i
 }
+
+// Returns where the whole lines of `s` end: behind the end of the last of them, or 0 if there is none.
+pub fn whole(s: &[u8]) -> usize
+    ensures { λ r. ⌜ r ≤ length (now (s .entry)) ⌝ }
+{
+    let mut n = s.len();
+    while n > 0 {
+        if s[n - 1] == b'\n' {
+            return n;
+        }
+        n -= 1;
+    }
+    n
+}

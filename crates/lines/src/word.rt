@@ -3,6 +3,7 @@ ghost use mathlib.Core.Path.{_≡_};
 ghost use Prim.Native.Nat.{_≤_, _<_};
 ghost use lib.ListN.{length, getD};
 use base::wide;
+use check::same;
 
 // How far hexadecimal digits are read: their place, how many bytes they gave, and where the last group starts.
 struct Scan {
@@ -40,20 +41,56 @@ pub fn after(s: &[u8], end: usize) -> usize
     if end < s.len() { end + 1 } else { end }
 }
 
-// Returns where the line with the number `k` stands in `text`. The lines are counted from 0; if there are fewer, the place is empty.
-pub fn line_at(text: &[u8], k: usize) -> Place
+// Returns where the piece with the number `k` stands in `text`, if `byte` stands between two pieces. They are counted from 0; if there are
+// fewer, the place is empty.
+pub fn piece_at(text: &[u8], k: usize, byte: u8) -> Place
     ensures { λ r. ⌜ (r .start ≤ r .end) × (r .end ≤ length (now (text .entry))) ⌝ }
 {
     let mut start = 0;
     let mut i = 0;
     while i < k {
-        start = after(text, find(text, start, b'\n'));
+        start = after(text, find(text, start, byte));
         i += 1;
     }
     Place {
         start,
-        end: find(text, start, b'\n'),
+        end: find(text, start, byte),
     }
+}
+
+// Returns where the line with the number `k` stands in `text`. The lines are counted from 0; if there are fewer, the place is empty.
+pub fn line_at(text: &[u8], k: usize) -> Place
+    ensures { λ r. ⌜ (r .start ≤ r .end) × (r .end ≤ length (now (text .entry))) ⌝ }
+{
+    piece_at(text, k, b'\n')
+}
+
+// Returns the word with the number `k` of a line. The words are counted from 0; if there are fewer, there are no bytes.
+pub fn word_of(line: &[u8], k: usize) -> &[u8]
+    ensures { λ r. ⌜ length (now r) ≤ length (now (line .entry)) ⌝ }
+{
+    let place = piece_at(line, k, b' ');
+    let start = place.start;
+    let end = place.end;
+    &line[start..end]
+}
+
+// Returns the number of the line of `text` that is `w`, counted from 0, or the number of all the lines if none is. A word that names a case
+// is looked up in one text, so that a function that tells the cases apart has a number to tell them by.
+pub fn line_number(text: &[u8], w: &[u8]) -> usize
+    ensures { λ r. ⌜ r ≤ length (now (text .entry)) ⌝ }
+{
+    let mut at = 0;
+    let mut k = 0;
+    while at < text.len() {
+        let end = find(text, at, b'\n');
+        if same(&text[at..end], w) {
+            return k;
+        }
+        at = end + 1;
+        k += 1;
+    }
+    k
 }
 
 // The byte at a place, 0 past the end.

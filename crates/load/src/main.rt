@@ -1,4 +1,6 @@
-// Plays a session on standard input to the engine many times and counts what comes back, for its throughput: load COUNT READ.
+// Plays a session on standard input to the engine many times and counts what comes back, for its throughput: load COUNT READ [1]. With a READ
+// of 0 a read ends where a packet does, and goes straight into the packet store unless a 1 follows. Every other read goes into the input store.
+ghost use Prim.Native.Nat.{_≤_};
 use base::be16_at;
 use base::copy_into;
 use engine::calls;
@@ -38,6 +40,8 @@ const CALLS: usize = 1000000000000;
 
 // What the peer and the host have done, and what came back.
 struct Progress {
+    // Whether a read goes straight into the packet store.
+    placing: bool,
     // How much of the stream is read, and what of the last read is not taken.
     at: usize,
     from: usize,
@@ -72,20 +76,34 @@ fn longest_read(longest: usize, rest: &[u8]) -> usize {
     be16_at(rest, 1)
 }
 
-// The next read, where nothing is left of the last one.
-fn next_read(p: Progress, stream: &[u8], longest: usize, input: &mut [u8]) -> Progress {
-    if p.from < p.to {
-        return p;
-    }
+// The next read, into `store`.
+fn read_into(p: Progress, stream: &[u8], longest: usize, store: &mut [u8]) -> Progress {
     let at = least(p.at, stream.len());
     let n = least(longest_read(longest, &stream[at..]), stream.len() - at);
-    let m = least(n, input.len());
-    copy_into(input, 0, &stream[at..at + m]);
+    let m = least(n, store.len());
+    copy_into(store, 0, &stream[at..at + m]);
     let mut q = p;
     q.at = at + m;
     q.from = 0;
     q.to = m;
     q
+}
+
+// The next read, where nothing is left of the last one.
+fn next_read(
+    p: Progress,
+    stream: &[u8],
+    longest: usize,
+    input: &mut [u8; READ],
+    packet: &mut [u8; PACKET],
+) -> Progress {
+    if p.from < p.to {
+        return p;
+    }
+    if p.placing {
+        return read_into(p, stream, longest, packet);
+    }
+    read_into(p, stream, longest, input)
 }
 
 // Of the last read so much was taken.
@@ -150,11 +168,12 @@ fn noted(
     stream: &[u8],
     longest: usize,
     input: &mut [u8; READ],
+    packet: &mut [u8; PACKET],
     body: &[u8],
     reply: &[u8],
 ) -> Progress {
     match outcome {
-        Outcome::WantsBytes => next_read(p, stream, longest, input),
+        Outcome::WantsBytes => next_read(p, stream, longest, input, packet),
         Outcome::Reply { length } => count_reply(p, length, reply),
         Outcome::Request(request) => asked(p, request, body),
         Outcome::End(_) => p,
@@ -195,41 +214,48 @@ fn answer(
     }
 }
 
-// The call that follows an outcome.
-fn call(
+// Up to where the bytes from `from` to `to` stand in the packet store already: all of them or none.
+fn placed_to(placing: bool, from: usize, to: usize) -> usize
+    requires { ⌜ from ≤ to ⌝ }
+    ensures { λ r. ⌜ (from ≤ r) × (r ≤ to) ⌝ }
+{
+    if placing {
+        return to;
+    }
+    from
+}
+
+// Offers what is left of the last read: of a read into the packet store, how much of it; of one into the input store, the bytes.
+fn offer(
     e: Engine,
-    outcome: Outcome,
-    piece: &[u8],
-    chunk: &[u8],
-    tables: &mut [u64; TABLES],
+    p: Progress,
+    input: &[u8],
+    tables: &[u64; TABLES],
     packet: &mut [u8; PACKET],
     headers: &mut [u8; PACKET],
     body: &mut [u8; BODY],
     reply: &mut [u8; PACKET],
 ) -> CallResult {
-    match outcome {
-        Outcome::Request(request) => answer(
-            e,
-            request,
-            chunk,
-            tables,
-            packet,
-            headers,
-            body,
-            reply,
-        ),
-        Outcome::Reply { length: _ } => calls::reply_taken(e, packet, headers, body, reply),
-        _ => {
-            if piece.len() == 0 {
-                return calls::stream_ended(e, packet, headers, body, reply);
-            }
-            calls::bytes_offered(e, piece, &tables[..], packet, headers, body, reply)
-        }
+    let to = least(p.to, input.len());
+    let from = least(p.from, to);
+    if from == to {
+        return calls::stream_ended(e, packet, headers, body, reply);
     }
+    let at = placed_to(p.placing, from, to);
+    calls::bytes_offered(
+        e,
+        at - from,
+        &input[at..to],
+        tables,
+        packet,
+        headers,
+        body,
+        reply,
+    )
 }
 
-// The same with what was read and what is given of the object.
-fn next(
+// The call that follows an outcome.
+fn call(
     e: Engine,
     outcome: Outcome,
     p: Progress,
@@ -241,20 +267,23 @@ fn next(
     body: &mut [u8; BODY],
     reply: &mut [u8; PACKET],
 ) -> CallResult {
-    let to = least(p.to, input.len());
-    let from = least(p.from, to);
-    let given = least(p.given, zeros.len());
-    call(
-        e,
-        outcome,
-        &input[from..to],
-        &zeros[0..given],
-        tables,
-        packet,
-        headers,
-        body,
-        reply,
-    )
+    match outcome {
+        Outcome::Request(request) => {
+            let given = least(p.given, zeros.len());
+            answer(
+                e,
+                request,
+                &zeros[0..given],
+                tables,
+                packet,
+                headers,
+                body,
+                reply,
+            )
+        }
+        Outcome::Reply { length: _ } => calls::reply_taken(e, packet, headers, body, reply),
+        _ => offer(e, p, input, tables, packet, headers, body, reply),
+    }
 }
 
 fn is_over(outcome: Outcome) -> bool {
@@ -303,8 +332,8 @@ fn play(
         if is_over(outcome) {
             return q;
         }
-        q = noted(q, outcome, stream, longest, input, body, reply);
-        took = next(
+        q = noted(q, outcome, stream, longest, input, packet, body, reply);
+        took = call(
             took.engine,
             outcome,
             q,
@@ -344,20 +373,10 @@ fn print(p: Progress) {
     write(&out, n);
 }
 
-// Plays the stream so often.
-fn repeat(
-    stream: &[u8],
-    count: usize,
-    longest: usize,
-    zeros: &[u8],
-    input: &mut [u8; READ],
-    tables: &mut [u64; TABLES],
-    packet: &mut [u8; PACKET],
-    headers: &mut [u8; PACKET],
-    body: &mut [u8; BODY],
-    reply: &mut [u8; PACKET],
-) -> Progress {
-    let mut p = Progress {
+// Before the first session nothing is read and nothing has come back.
+fn nothing_yet(placing: bool) -> Progress {
+    Progress {
+        placing,
         at: 0,
         from: 0,
         to: 0,
@@ -367,12 +386,37 @@ fn repeat(
         bytes: 0,
         records: 0,
         sum: 0,
-    };
+    }
+}
+
+// Whether reads go into the packet store, by the last two arguments.
+fn places(longest: usize, offered: usize) -> bool {
+    if longest != 0 {
+        return false;
+    }
+    offered == 0
+}
+
+// Plays the session on standard input so often.
+fn run(
+    stream: &mut [u8],
+    zeros: &[u8],
+    input: &mut [u8; READ],
+    tables: &mut [u64; TABLES],
+    packet: &mut [u8; PACKET],
+    headers: &mut [u8; PACKET],
+    body: &mut [u8; BODY],
+    reply: &mut [u8; PACKET],
+) -> Progress {
+    let n = io::read_full(STDIN_FILENO, stream);
+    let count = argument(1);
+    let longest = argument(2);
+    let mut p = nothing_yet(places(longest, argument(3)));
     let mut i = 0;
     while i < count {
         p = play(
             p,
-            stream,
+            &stream[..n],
             longest,
             zeros,
             input,
@@ -387,31 +431,6 @@ fn repeat(
     p
 }
 
-fn run(
-    stream: &mut [u8],
-    zeros: &[u8],
-    input: &mut [u8; READ],
-    tables: &mut [u64; TABLES],
-    packet: &mut [u8; PACKET],
-    headers: &mut [u8; PACKET],
-    body: &mut [u8; BODY],
-    reply: &mut [u8; PACKET],
-) {
-    let n = io::read_full(STDIN_FILENO, stream);
-    print(repeat(
-        &stream[..n],
-        argument(1),
-        argument(2),
-        zeros,
-        input,
-        tables,
-        packet,
-        headers,
-        body,
-        reply,
-    ));
-}
-
 fn main() {
     let mut stream = [0u8; 1048576];
     let zeros = [0u8; 65536];
@@ -421,7 +440,7 @@ fn main() {
     let mut headers = [0u8; PACKET];
     let mut body = [0u8; BODY];
     let mut reply = [0u8; PACKET];
-    run(
+    print(run(
         &mut stream,
         &zeros,
         &mut input,
@@ -430,5 +449,5 @@ fn main() {
         &mut headers,
         &mut body,
         &mut reply,
-    );
+    ));
 }

@@ -133,20 +133,24 @@ module _ (ts : List ℕ) (e : Engine) (s : Stores) (j : Journal) (o : Opcode) (w
     opened-told : (a : Option (List ℕ)) (g : ConnectionId) (p : Option Linked) → openedFor (e .peer) ts srm a target ≡ p
         → ToldTabled (connectOpened e ts p code g hs s) (unchanged (stands j (opensFor stood srm a target)))
     opened-told a g none i =
-        sends-connect-told ts e s (e .peer) (stands j _) (held-stands ts s (e .peer) _ past (full-standing (e .peer) ts past srm f room a target i) (w .held .fixed .window)) 0x53 []
+        sends-connect-told ts e s (e .peer) (stands j _)
+        (held-stands ts s (e .peer) _ past (full-standing (e .peer) ts past srm f room a target i) (w .held .fixed .window)) 0x53 []
     opened-told a g (some q) i =
-        challenged-told (q .tables) (q .peer) _ g (answeredChallenge (lastHeaders e s)) (sym (opened-standing (e .peer) ts past srm f room q a target i))
+        challenged-told (q .tables) (q .peer) _ g (answeredChallenge (lastHeaders e s))
+        (sym (opened-standing (e .peer) ts past srm f room q a target i))
         (opened-window (e .peer) ts past srm f room q a target i ∙ w .held .fixed .window)
 
     pub connect-told : o ≡ op.Connect → ToldTabled (connectAnswer e code hs s ts) (unchanged (replied (j .opened) j code hs))
     unfolding connectAnswer
     connect-told c =
         subst (λ (x : Journal). ToldTabled (connectAnswer e code hs s ts) (unchanged x))
-        (sym (replied-to code hs ∙ ap (λ (x : Opcode). replyTo x j (w .request) code hs) c ∙ ap (stands j) (connected-is code (listOf (readHeaders hs 0)))))
+        (sym (replied-to code hs ∙ ap (λ (x : Opcode). replyTo x j (w .request) code hs) c
+        ∙ ap (stands j) (connected-is code (listOf (readHeaders hs 0)))))
         (go (isSuccess code))
       where
         go : (t : Bool)
-            → ToldTabled (pick t (connectOpened e ts (openedFor (e .peer) ts srm named target) code (frontFor (e .peer) ts named target) hs s) (doneTabled (sendsConnect e (e .peer) code hs s) ts))
+            → ToldTabled (pick t (connectOpened e ts (openedFor (e .peer) ts srm named target) code (frontFor (e .peer) ts named target) hs s)
+            (doneTabled (sendsConnect e (e .peer) code hs s) ts))
             (unchanged (stands j (pick t (opensFor stood srm named target) stood)))
         go true = opened-told named (frontFor (e .peer) ts named target) (openedFor (e .peer) ts srm named target) refl
         go false =
@@ -193,10 +197,12 @@ module _ (ts : List ℕ) (e : Engine) (s : Stores) (j : Journal) (o : Opcode) (w
 
       go : (t : Bool)
           → Told ts
-          (pick t (asks e (verifiedPeer (checkedPeer (e .peer) false)) Nothing await.Connect (request.Connect (e .length)) s) (asks e (checkedPeer (e .peer) true) Nothing await.Nonce request.Nonce s))
+          (pick t (asks e (verifiedPeer (checkedPeer (e .peer) false)) Nothing await.Connect (request.Connect (e .length)) s)
+          (asks e (checkedPeer (e .peer) true) Nothing await.Nonce request.Nonce s))
           (unchanged (stands j (passwordChecked stood t)))
       go true =
-          told-done ts e (verifiedPeer (checkedPeer (e .peer) false)) Nothing await.Connect (outcome.Request (request.Connect (e .length))) s (stands j _) []
+          told-done ts e (verifiedPeer (checkedPeer (e .peer) false)) Nothing await.Connect (outcome.Request (request.Connect (e .length))) s
+          (stands j _) []
           (still-asked (verifiedPeer (checkedPeer (e .peer) false)) _ (right ∷ past) (sym (verified-standing (e .peer) ts past))
           (verified-window (e .peer) past (w .held .fixed .window)))
           refl

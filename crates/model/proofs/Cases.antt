@@ -41,7 +41,8 @@ unfolding upToZero codes allKept sizes whole units isPair first16 paired pieces1
     firstFree frameEnd framed surveyOf keepBytes storeBytes gatherOne gatherAll fill fillPacket fullChunk nextPacket bodyGiven
     sendBytes peerWith opened disconnectedPeer challenges answeredChallenge connectHeaders challengeHeader engineWith sends
     sendsConnect lastPacket lastHeaders putPacket getPacket headersPacket sendsNext clientResponse userPlace connectPacket
-    connectSends connectAnswer passwordAnswer nonceAnswer rejection dispatch trails packetDone short shortTables longRealm sound bytesOfferedStep streamEndedStep replyTakenStep
+    connectSends connectAnswer passwordAnswer nonceAnswer rejection dispatch trails packetDone short shortTables longRealm sound
+    bytesOfferedStep streamEndedStep replyTakenStep
     badHeaders badReply replyAnswer replyGivenStep objectGivenStep bodyGivenStep bodyFailedStep abortAcknowledgedStep passwordGivenStep nonceGivenStep
     credentialsGivenStep started startStep comesOf evaluated
 cases = refl

@@ -20,7 +20,7 @@ use Rattle.connection.specs.declared.peer.Peer.{Peer}
 use Rattle.connection.proofs.Closing.{without-shorter, closed-front, closed-length, closed-nonces}
 use Rattle.connection.proofs.Standings.{PeerFits, own-fits, standingOf, left-standing, left-window, left-fits}
 use Rattle.table.proofs.Remembering.{SameNonces}
-use Rattle.model.specs.Step.{Stores, Done, done, engineWith}
+use Rattle.model.specs.Step.{Done, done, engineWith}
 use Rattle.model.specs.Dispatch.{busy}
 use Rattle.model.specs.Close.{Remaining, closedAll, closedPeer, closes, closeChecked}
 use Rattle.model.specs.Guard.{refuse}
@@ -29,7 +29,6 @@ use Rattle.model.specs.Refusals.{Known, bad, used, judgedIds}
 use Rattle.server.specs.declared.Await.{Await}
 use Rattle.server.specs.declared.Await.the-variants as await
 use Rattle.server.specs.declared.Refusal.the-variants as refusal
-use Rattle.server.specs.declared.Engine.{Engine}
 use Rattle.server.specs.declared.Outcome.the-variants as outcome
 use Rattle.model.proofs.Fit.{waitsOf, Seated, Fine}
 use Rattle.model.proofs.Coupling.{Held, CoupledAt, Told, told-follows}
@@ -102,14 +101,7 @@ closed-fits p (x ∷ l) n f h = left-fits p n f h
 -- ---- the call
 
 module _ (w : Known) (s : State) (h : Seated s) (k : Knows w s) (l : List ℕ) where
-  abbrev e : Engine
-  e = s .engine
-
-  abbrev st : Stores
-  st = s .stores
-
-  abbrev ts : List ℕ
-  ts = s .tables
+  open State s using (engine as e, stores as st, tables as ts)
 
   abbrev x : Remaining
   x = closedAll l (e .peer .count) ts
@@ -152,7 +144,9 @@ module _ (w : Known) (s : State) (h : Seated s) (k : Knows w s) (l : List ℕ) w
       record {
         given = refl;
         ends = λ u. refl;
-        after = subst (λ (a : Await). CoupledAt (x .tables) a (e .operation) (e .settings) p (e .begun) (e .length) st (stands j (closesIds (j .standing) l))) (sym at)
+        after =
+            subst (λ (a : Await). CoupledAt (x .tables) a (e .operation) (e .settings) p (e .begun) (e .length) st
+            (stands j (closesIds (j .standing) l))) (sym at)
             (record {
               fixed = record {
                 settings = y .fixed .settings;
@@ -195,7 +189,8 @@ module _ (w : Known) (s : State) (h : Seated s) (k : Knows w s) (l : List ℕ) w
       (λ r j y. let at = same-await (e .awaits) await.Bytes r in
       let z = coupled-at w s h k await.Bytes j at y in
       subst (λ (v : Standing). Due (busyOpened (j .opened)) (v .ids)) (sym (z .fixed .standing))
-      (subst (λ (t : Bool). Due t (idsOf (e .peer) ts)) (sym (busy-same _ (e .operation) (st .headers) (st .body) (j .opened) (z .opened))) (go at (busy (e .operation)))))
+      (subst (λ (t : Bool). Due t (idsOf (e .peer) ts)) (sym (busy-same _ (e .operation) (st .headers) (st .body) (j .opened) (z .opened)))
+      (go at (busy (e .operation)))))
     where
       -- the call agrees, by whether the journal has an operation open and by its ids
       Due : Bool → List ℕ → Type 0

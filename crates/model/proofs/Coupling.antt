@@ -80,6 +80,11 @@ pub record Fixed (ts : List ℕ) (st : Settings) (p : Peer) (j : Journal) : Type
   pub window : Windowed p past
   pub ended : j .ended ≡ false
 
+-- which says nothing of what is open, of the packet read last and of the bytes of a packet begun
+pub fixed-kept : {ts : List ℕ} {st : Settings} {p : Peer} {j : Journal} {b : List ℕ} {l : Option Packet} {o : Opened} → Fixed ts st p j
+    → Fixed ts st p (record { settings = j .settings; begun = b; last = l; opened = o; standing = j .standing; ended = j .ended })
+fixed-kept f = record { settings = f .settings; past = f .past; standing = f .standing; window = f .window; ended = f .ended }
+
 -- and so are what is open and the bytes of a packet begun
 pub record Held (ts : List ℕ) (st : Settings) (p : Peer) (o : Operation) (s : Stores) (q : List ℕ) (j : Journal) : Type 0 where
   pub fixed : Fixed ts st p j
@@ -163,14 +168,16 @@ follows-kept k ts d x w n = record { told = w; after = go (leb (length k) 65535)
     go : (t : Bool) → leb (length k) 65535 ≡ t → Coupled ts (d .engine) (d .stores) (x .next)
     go true i = w (leb-true _ _ i) .after
     go false i =
-        subst (λ (a : Await). CoupledAt ts a (d .engine .operation) (d .engine .settings) (d .engine .peer) (d .engine .begun) (d .engine .length) (d .stores) (x .next))
+        subst (λ (a : Await). CoupledAt ts a (d .engine .operation) (d .engine .settings) (d .engine .peer) (d .engine .begun) (d .engine .length)
+        (d .stores) (x .next))
         (sym (n (leb-false _ _ i))) tt
 
 -- the same of a step that may write the table store
 abbrev pub ToldTabled : DoneTabled → Entry → Type 0
 ToldTabled x y = Told (x .tables) (x .done) y
 
-pub tabled-told-pick : (t : Bool) (a b : DoneTabled) (x : Entry) → (t ≡ true → ToldTabled a x) → (t ≡ false → ToldTabled b x) → ToldTabled (pick t a b) x
+pub tabled-told-pick : (t : Bool) (a b : DoneTabled) (x : Entry) → (t ≡ true → ToldTabled a x) → (t ≡ false → ToldTabled b x)
+    → ToldTabled (pick t a b) x
 tabled-told-pick true a b x f g = f refl
 tabled-told-pick false a b x f g = g refl
 
@@ -231,7 +238,8 @@ module _ (ts : List ℕ) (e : Engine) (p : Peer) (z : Stores) (j : Journal) wher
   told-code code w = told-replies Nothing (packetBytes (sentCode code) [] []) refl w
 
   -- a Get whose object was sent closes on a reply that is not 0x90
-  pub told-closes : (c : Outcome) (y : List ℕ) → handed c (withReply z y) ≡ [] → endOf c ≡ none → eqb (getD y 0 0) 0x90 ≡ false → Fixed ts (e .settings) p j
+  pub told-closes : (c : Outcome) (y : List ℕ) → handed c (withReply z y) ≡ [] → endOf c ≡ none → eqb (getD y 0 0) 0x90 ≡ false
+      → Fixed ts (e .settings) p j
       → j .begun ≡ [] → j .opened ≡ sending
       → Told ts (done (engineWith (e .settings) p Nothing await.Taken 0 (e .length) (e .target)) c (withReply z y)) (unchanged j)
   told-closes c y g n b f k w =
@@ -239,7 +247,7 @@ module _ (ts : List ℕ) (e : Engine) (p : Peer) (z : Stores) (j : Journal) wher
         f .ended,
         subst (λ (x : Journal). Held ts (e .settings) p Nothing (withReply z y) [] x)
             (sym (ap (λ (u : Opened). takenAt u j (getD y 0 0)) w ∙ ap (λ (t : Bool). pick t j (opens j nothing)) b))
-            (record { fixed = record { settings = f .settings; past = f .past; standing = f .standing; window = f .window; ended = f .ended }; begun = k; opened = refl }),
+            (record { fixed = fixed-kept f; begun = k; opened = refl }),
       )
       g
       n

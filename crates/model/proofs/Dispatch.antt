@@ -18,7 +18,7 @@ use Rattle.packet.specs.declared.opcode.Opcode.{Opcode}
 use Rattle.packet.specs.declared.opcode.Opcode.the-variants as op
 use Rattle.journal.specs.Record.{bare, carriedBy}
 use Rattle.journal.specs.Ids.{member}
-use Rattle.journal.specs.Checks.{Check, stop, mostWrong, tooMany}
+use Rattle.journal.specs.Checks.{stop, mostWrong, tooMany}
 use Rattle.journal.specs.Journal.{Settings as JournalSettings, Standing, nothing, draining, Journal, Entry, unchanged, after, stands, unauthorized, notOpen, admitted, asksSrm, isStopped, withCheck, connectRead, putRead, gatherRead, turnedAway, dropped, firstRead, responseIn, headersOf as headersIn}
 use Rattle.incoming.specs.Survey.{idOf, present, surveyOf}
 use Rattle.incoming.specs.Gather.{gathering as gatheringOf}
@@ -34,7 +34,6 @@ use Rattle.model.specs.Request.{lastPacket, lastHeaders, clientResponse,
 use Rattle.model.specs.Connect.{verifies, stops, repliesFields, connectPacket}
 use Rattle.model.specs.Dispatch.{Rejection, admits, rejects, rejection, knownIn, drains, rejected, confirms, dispatches, admittedAs, dispatch}
 use Rattle.model.specs.Runs.{handedBy}
-use Rattle.model.specs.Theorem.{settingsOf}
 use Rattle.server.specs.declared.Operation.the-variants.{Nothing, Draining}
 use Rattle.server.specs.declared.Await.{Await}
 use Rattle.server.specs.declared.Await.the-variants as await
@@ -45,7 +44,7 @@ use Rattle.server.specs.declared.Outcome.the-variants as outcome
 use Rattle.connection.proofs.Standings.{standingOf, limited-standing, stopped-standing, Windowed, limited-window, checked-window, too-many}
 use Rattle.incoming.proofs.Gathers.{KeptAgrees, put-begins, carried-headers, kept-headers, kept-begins}
 use Rattle.model.proofs.Fit.{Base}
-use Rattle.model.proofs.Coupling.{Plain, Fixed, AskedBy, CoupledAt, Told, told-pick, told-done, told-wants, told-replies, told-code}
+use Rattle.model.proofs.Coupling.{Plain, Fixed, AskedBy, CoupledAt, Told, told-done, told-wants, told-replies, told-code}
 use Rattle.model.proofs.Gathers.{held-after, still-after, put-packet, get-packet, headers-packet}
 
 -- ---- admission
@@ -76,7 +75,8 @@ module _ (ts : List ℕ) (e : Engine) (s : Stores) (j : Journal) (f : Fixed ts (
   pub rejection-is : rejection e (r .opcode) v known ≡ pick noPassword (rejects 0x41) (pick closedId (rejects 0x53) admits)
   unfolding rejection unauthorized surveyOf
   rejection-is =
-      ap (λ (t : Bool). pick (e .settings .authentication && (not (e .peer .authenticated) && not (sameOpcode (r .opcode) op.Disconnect))) (rejects 0x41)
+      ap (λ (t : Bool). pick (e .settings .authentication && (not (e .peer .authenticated) && not (sameOpcode (r .opcode) op.Disconnect)))
+      (rejects 0x41)
       (pick t (rejects 0x53) admits)) (known-open (v .«has_id») (member (v .id) (idsOf (e .peer) ts)))
       ∙ rw (f .settings, f .standing) (rw (survey-open (idsOf (e .peer) ts) (first 0xCB (r .headers))) refl)
 
@@ -107,7 +107,8 @@ module _ (ts : List ℕ) (e : Engine) (s : Stores) (j : Journal) (f : Fixed ts (
       (ap₂ (λ (m t : Bool). m && (t && not (r .final))) srm-is (sym d)) (go (j .standing .srm && not (r .final)))
     where
       go : (t : Bool)
-          → Told ts (pick t (wants e (e .peer) (Draining code) s) (repliesCode e (e .peer) Nothing code s)) (unchanged (after j (some r) (pick t draining nothing)))
+          → Told ts (pick t (wants e (e .peer) (Draining code) s) (repliesCode e (e .peer) Nothing code s))
+          (unchanged (after j (some r) (pick t draining nothing)))
       go true = told-wants ts e (e .peer) s (after j (some r) draining) (Draining code) (held-after ts e s j f r (Draining code) draining s refl)
       go false = drops code
 
@@ -129,12 +130,23 @@ module _ (ts : List ℕ) (e : Engine) (s : Stores) (j : Journal) (f : Fixed ts (
 
     -- the host is asked about this packet
     asks-told : (o : Opcode) (p : Peer) (a : Await) (q : HostRequest) → r .opcode ≡ o → SameStanding p
-        → (AskedBy ts (e .settings) p o (e .length) s (after j (some r) nothing) → CoupledAt ts a Nothing (e .settings) p 0 (e .length) s (after j (some r) nothing))
+        → (AskedBy ts (e .settings) p o (e .length) s (after j (some r) nothing)
+        → CoupledAt ts a Nothing (e .settings) p 0 (e .length) s (after j (some r) nothing))
         → handedBy q s ≡ [] → Told ts (asks e p Nothing a q s) (dropped j r)
     asks-told o p a q i k w g =
         told-done ts e p Nothing a (outcome.Request q) s (after j (some r) nothing) []
         (w (record {
-          held = record { fixed = record { settings = f .settings; past = f .past; standing = f .standing ∙ sym (k .0); window = k .1 ∙ f .window; ended = f .ended }; begun = refl; opened = refl };
+          held = record {
+            fixed = record {
+              settings = f .settings;
+              past = f .past;
+              standing = f .standing ∙ sym (k .0);
+              window = k .1 ∙ f .window;
+              ended = f .ended;
+            };
+            begun = refl;
+            opened = refl;
+          };
           request = r;
           last = refl;
           opcode = i;
@@ -162,7 +174,8 @@ module _ (ts : List ℕ) (e : Engine) (s : Stores) (j : Journal) (f : Fixed ts (
     unfolding isStopped
     stopped-is =
         ap₂ (λ (x : JournalSettings) (y : Standing). isStopped x y r) (f .settings) (f .standing)
-        ∙ ap₂ (λ (t : Bool) (y : List Header). e .settings .authentication && (t && present (first 0x4E y))) (sym (too-many named (f .past) named-window)) headers-are
+        ∙ ap₂ (λ (t : Bool) (y : List Header). e .settings .authentication && (t && present (first 0x4E y)))
+        (sym (too-many named (f .past) named-window)) headers-are
 
     checks-are : j .standing .checks ≡ f .past
     checks-are = ap (λ (x : Standing). x .checks) (f .standing)
@@ -203,12 +216,14 @@ module _ (ts : List ℕ) (e : Engine) (s : Stores) (j : Journal) (f : Fixed ts (
     connect-told : r .opcode ≡ op.Connect → Told ts (connectPacket e s) (connectRead j r)
     unfolding connectPacket
     connect-told i =
-        subst (λ (t : Bool). Told ts (connectPacket e s) (dropped (stands j (pick t (withCheck (j .standing) stop) (j .standing))) r)) (sym stopped-is)
+        subst (λ (t : Bool). Told ts (connectPacket e s) (dropped (stands j (pick t (withCheck (j .standing) stop) (j .standing))) r))
+        (sym stopped-is)
         (go (e .settings .authentication) (stops named (lastHeaders e s)) refl)
       where
         go : (t u : Bool) → stops named (lastHeaders e s) ≡ u
             → Told ts
-            (pick t (pick u (repliesFields e (checkedPeer named false) 0x53 s) (verifies e named (named .challenge) (clientResponse e s) s)) (asks e named Nothing await.Connect (request.Connect (e .length)) s))
+            (pick t (pick u (repliesFields e (checkedPeer named false) 0x53 s) (verifies e named (named .challenge) (clientResponse e s) s))
+            (asks e named Nothing await.Connect (request.Connect (e .length)) s))
             (dropped (stands j (pick (t && u) (withCheck (j .standing) stop) (j .standing))) r)
         go true true n = stop-told
         go true false n = verifies-told i n (named .challenge) (clientResponse e s) refl

@@ -7,11 +7,10 @@ use mathlib.Core.Option.{Option}
 use Prim.Native.Nat.{ℕ}
 use native.Mathlib.Omega.{arith}
 use lib.Count.{ones}
-use lib.Dec.{leb}
 use lib.ListN.{getD}
 use Rattle.base.specs.Pick.{pick}
 use Rattle.journal.specs.Calls.{Call, bytesOffered, streamEnded, replyTaken, replyGiven, objectGiven, bodyGiven, bodyFailed, abortAcknowledged, passwordGiven, nonceGiven, credentialsGiven, connectionsClosed, Verdict, goes, refused, stepBy}
-use Rattle.journal.specs.Checks.{Check, mostWrong, tooMany, windowOf, Ruled}
+use Rattle.journal.specs.Checks.{tooMany, windowOf, Ruled}
 use Rattle.journal.specs.Journal.{Standing, Journal, journalStep, journalAfter}
 use Rattle.journal.proofs.Checked.{counts, passes-after, few-stops}
 use Rattle.journal.proofs.Rules.{taken-standing, step-ruled}
@@ -20,7 +19,6 @@ use Rattle.connection.proofs.Standings.{Windowed, too-many}
 use Rattle.server.specs.declared.Await.{Await}
 use Rattle.server.specs.declared.Await.the-variants as await
 use Rattle.server.specs.declared.Operation.{Operation}
-use Rattle.server.specs.declared.Engine.{Engine}
 use Rattle.server.specs.declared.Settings.{Settings}
 use Rattle.model.specs.Step.{Stores}
 use Rattle.model.specs.Guard.{sameAwait}
@@ -91,7 +89,8 @@ goes-awaited : (short : Bool) (w : Known) (j : Journal) (a : Await) (o : Operati
     → verdict short w j (passwordGiven p) ≡ goes → a ≡ await.Password
 unfolding verdict expected
 goes-awaited short w j a o k p e =
-    password-await a o (ap (λ (x : Waits). sameWait x password) (sym k) ∙ goes-expected short (sameWait (w .waits) password) (judged (passwordGiven p) w j) e)
+    password-await a o (ap (λ (x : Waits). sameWait x password) (sym k)
+    ∙ goes-expected short (sameWait (w .waits) password) (judged (passwordGiven p) w j) e)
 
 -- what the journal is fed as a password is one that goes
 fed-password : (c : Call) (v : Verdict) (b : ℕ) (p : Option (List ℕ)) → fedBy v c b ≡ stepBy (passwordGiven p) → (c ≡ passwordGiven p) × (v ≡ goes)
@@ -115,7 +114,8 @@ checks-few : (short : Bool) (w : Known) (s : State) (j : Journal) → w .waits �
 checks-few short w s j k x c b p i =
     let f = fed-password c (verdict short w j c) b p i in
     let a = goes-awaited short w j (s .engine .awaits) (s .engine .operation) k p (ap (verdict short w j) (sym (f .0)) ∙ f .1) in
-    subst (λ (y : Await). CoupledAt (s .tables) y (s .engine .operation) (s .engine .settings) (s .engine .peer) (s .engine .begun) (s .engine .length) (s .stores) j) a x .1
+    subst (λ (y : Await). CoupledAt (s .tables) y (s .engine .operation) (s .engine .settings) (s .engine .peer) (s .engine .begun)
+    (s .engine .length) (s .stores) j) a x .1
 
 -- ---- a run
 
@@ -140,7 +140,8 @@ run-counted st [] w s j b r k = counted s j (b .coupled) k
 run-counted st (y ∷ xs) w s j b r k =
     let f = fedTo st w s j b y (r .0) in
     run-counted st xs (learns w (y .call) (y .result .outcome)) (next s y) (journalStep j f .next) (between-next st w s j b y (r .0)) (r .1)
-    (step-ruled j k f (checks-few (lacks st (y .call) (s .stores) (s .tables)) w s j (b .knows .waits) (b .coupled) (y .call) (getD (s .stores .reply) 0 0)))
+    (step-ruled j k f (checks-few (lacks st (y .call) (s .stores) (s .tables)) w s j (b .knows .waits) (b .coupled) (y .call)
+    (getD (s .stores .reply) 0 0)))
 
 -- the count is that of the history from the start, which keeps the rule
 pub eight-wrong : EightWrong

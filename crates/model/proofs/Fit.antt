@@ -19,7 +19,7 @@ use Rattle.outgoing.specs.declared.object.Outgoing.{Outgoing}
 use Rattle.outgoing.specs.declared.object.Chunk.{Chunk}
 use Rattle.connection.specs.Reply.{front}
 use Rattle.connection.specs.declared.peer.Peer.{Peer}
-use Rattle.model.specs.Step.{Stores, withHeaders, stores, withReply, engineWith, Done, done, DoneTabled, wants, asks, ends, replies, repliesCode, continueBytes, continues, limitOf}
+use Rattle.model.specs.Step.{Stores, withHeaders, withReply, engineWith, Done, done, DoneTabled, wants, asks, ends, replies, repliesCode, continueBytes, continues, limitOf}
 use Rattle.model.specs.Guard.{short, shortTables, longRealm, soundOperation, sound}
 use Rattle.model.specs.Runs.{State}
 use Rattle.model.specs.Refusals.{Waits, bytes, taking, reply, object, acknowledgement, password, nonce, credentials, nothing, reading, asked, told, verdictOf}
@@ -256,7 +256,8 @@ tabled-pick e t false x y f g = g
 module _ (e : Engine) (s : Stores) (h : Base e s) where
   pub fine-done : {n : ℕ} (p : Peer) (o : Operation) (a : Await) (c : Outcome) (z : Stores) → PeerFits n p → Room (limitOf e) z
       → soundOperation (limitOf e) o ≡ true → Shape a o
-      → ((w : Waits) → told w c ≡ waitsOf a o) → verdictOf c ≡ goes → FineWith n e (done (engineWith (e .settings) p o a 0 (e .length) (e .target)) c z)
+      → ((w : Waits) → told w c ≡ waitsOf a o) → verdictOf c ≡ goes
+      → FineWith n e (done (engineWith (e .settings) p o a 0 (e .length) (e .target)) c z)
   unfolding engineWith
   fine-done p o a c z f r k x w g =
       record {
@@ -272,7 +273,8 @@ module _ (e : Engine) (s : Stores) (h : Base e s) where
       → Fine e (wants e p o z)
   fine-wants p o z f r k x = fine-done p o await.Bytes outcome.WantsBytes z f r k x (λ w. refl) refl
 
-  pub fine-asks : (p : Peer) (a : Await) (q : HostRequest) (z : Stores) → PeerFits (e .peer .nonces) p → Room (limitOf e) z → Shape a Nothing → asked q ≡ waitsOf a Nothing
+  pub fine-asks : (p : Peer) (a : Await) (q : HostRequest) (z : Stores) → PeerFits (e .peer .nonces) p → Room (limitOf e) z → Shape a Nothing
+      → asked q ≡ waitsOf a Nothing
       → Fine e (asks e p Nothing a q z)
   fine-asks p a q z f r x w = fine-done p Nothing a (outcome.Request q) z f r refl x (λ v. w) refl
 
@@ -287,7 +289,8 @@ module _ (e : Engine) (s : Stores) (h : Base e s) where
       (room-reply (limitOf e) z (front q (z .reply)) (front-length q (z .reply) (omega (arith, r .reply))) r) k x (λ v. w) refl
 
   -- a reply of a code, with the operation `o` open afterwards
-  pub fine-code-in : (p : Peer) (o : Operation) (code : ℕ) (z : Stores) → PeerFits (e .peer .nonces) p → Room (limitOf e) z → soundOperation (limitOf e) o ≡ true
+  pub fine-code-in : (p : Peer) (o : Operation) (code : ℕ) (z : Stores) → PeerFits (e .peer .nonces) p → Room (limitOf e) z
+      → soundOperation (limitOf e) o ≡ true
       → Shape await.Taken o → Fine e (repliesCode e p o code z)
   unfolding packetBytes
   fine-code-in p o code z f r k x = fine-replies p o await.Taken (packetBytes (sentCode code) [] []) z f r k x refl (omega arith)

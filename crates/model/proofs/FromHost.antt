@@ -5,10 +5,10 @@ use mathlib.Core.Bool.{Bool, true, false, _||_, not}
 use mathlib.Core.Option.{Option, none, some}
 use Prim.Native.Nat.{ℕ, suc, _+_, _≤_, _<_}
 use native.Mathlib.Omega.{arith}
-use lib.ListN.{length, getD, take}
+use lib.ListN.{length, take}
 use lib.Seq.{take-take}
-use lib.Dec.{ltb, leb, eqb}
-use borrow.Author.Tests.{ltb-true, ltb-false, leb-true, eqb-true, eqb-false, lt-leb, le-leb}
+use lib.Dec.{ltb, leb}
+use borrow.Author.Tests.{ltb-true, ltb-false, lt-leb, le-leb}
 use Rattle.base.specs.Pick.{pick}
 use Rattle.digest.specs.declared.md5.Octets16.{Octets16}
 use Rattle.packet.specs.FirstByte.{sameOpcode}
@@ -39,14 +39,13 @@ use Rattle.server.specs.declared.CallKind.the-variants as kind
 use Rattle.server.specs.declared.Refusal.the-variants as refusal
 use Rattle.server.specs.declared.Await.{Await}
 use Rattle.server.specs.declared.Await.the-variants as await
-use Rattle.server.specs.declared.Engine.{Engine}
 use Rattle.outgoing.proofs.Sent.{body-sends}
 use Rattle.table.proofs.Remembering.{remembered-length, remembered-front, remembered-more}
-use Rattle.model.proofs.Fit.{and-left, and-right, or-left, or-right, room-headers, IsGetting, IsSending, IsConnecting, Shape, roomOf, waitsOf, Base, Seated, ids-room, nonces-room, Fine, fine-code}
+use Rattle.model.proofs.Fit.{or-left, or-right, room-headers, IsGetting, IsSending, IsConnecting, Shape, roomOf, waitsOf, Base, Seated, ids-room, nonces-room, Fine, fine-code}
 use Rattle.model.proofs.Steps.{OutgoingFits, outgoing-within, sends-next-fine, sends-packet-fine, reply-fine, password-fine, nonce-fine, connect-sends-fine}
-use Rattle.model.proofs.Coupling.{KeptOpen, OpenedAt, Held, AskedBy, connects, Coupled, Told, told-follows, ToldTabled, tabled-told-pick, told-code}
+use Rattle.model.proofs.Coupling.{KeptOpen, OpenedAt, Held, AskedBy, connects, Coupled, fixed-kept, Told, told-follows, ToldTabled, tabled-told-pick, told-code}
 use Rattle.model.proofs.Sizes.{early, Brief, brief-done, packet-brief, next-brief, password-brief, sends-brief, sends-connect-brief, nonce-brief, LateIn, LateAt, Sized, brief-sized, sized-pick, connect-sized}
-use Rattle.model.proofs.Speaks.{ModeAt, Spoken, spoken-done, next-spoken, packet-spoken, speaks-spoken, reply-speaks, password-speaks, nonce-speaks, connect-sends-speaks}
+use Rattle.model.proofs.Speaks.{ModeAt, spoken-done, next-spoken, packet-spoken, speaks-spoken, reply-speaks, password-speaks, nonce-speaks, connect-sends-speaks}
 use Rattle.model.proofs.Gathers.{next-told, fails-told, sends-told as made-told}
 use Rattle.model.proofs.Answers.{sends-told, connect-sends-told, connect-told, disconnect-told, password-told, nonce-told}
 use Rattle.model.proofs.Moments.{same-await, or-second, fedGoing, SizedBy, SpokenBy, Knows, Agree, AgreeKept, Agrees, fed-goes, none-taken, agree-tabled, agree-goes, agree-refused, agrees}
@@ -66,14 +65,7 @@ unfolding badReply
 reply-headers-fit code hs b = headers-fit hs (or-right (not (isCode code)) _ b)
 
 module _ (w : Known) (s : State) (h : Seated s) (k : Knows w s) where
-  abbrev e : Engine
-  e = s .engine
-
-  abbrev st : Stores
-  st = s .stores
-
-  abbrev ts : List ℕ
-  ts = s .tables
+  open State s using (engine as e, stores as st, tables as ts)
 
   shape-at : (a : Await) → e .awaits ≡ a → Shape a (e .operation)
   shape-at a i = subst (λ (x : Await). Shape x (e .operation)) i (h .sits .shape)
@@ -92,7 +84,8 @@ module _ (w : Known) (s : State) (h : Seated s) (k : Knows w s) where
   entered c j d i x = entered-over ts c j d i x
 
   -- an answer that may be refused with 8
-  checked-agrees : (c : Call) → noted c goes (w .nonces) ≡ w .nonces → (b : Bool) (d : Done) → (b ≡ false → Fine e d) → ((j : Journal) → 0 ≡ fedTakes j (fedGoing s c))
+  checked-agrees : (c : Call) → noted c goes (w .nonces) ≡ w .nonces → (b : Bool) (d : Done) → (b ≡ false → Fine e d)
+      → ((j : Journal) → 0 ≡ fedTakes j (fedGoing s c))
       → (b ≡ false → (j : Journal) → Coupled ts e st j → Told ts d (journalFed j (fedGoing s c)))
       → SizedBy w s h k c (λ j late. Brief d) → SpokenBy w s h k c d
       → AgreeKept w s c (pick b (refused 8) goes) (checked b e st d)
@@ -103,7 +96,8 @@ module _ (w : Known) (s : State) (h : Seated s) (k : Knows w s) where
 
   module _ (code : ℕ) (hs : List ℕ) where
     -- to a Get it is sent as it is, and closes it; to any other request it is sent as it is
-    plain-reply : (t : Bool) → sameAwait (e .awaits) await.Get ≡ t → (sameAwait (e .awaits) await.Get ≡ false → e .awaits ≡ await.Reply) → (j : Journal)
+    plain-reply : (t : Bool) → sameAwait (e .awaits) await.Get ≡ t → (sameAwait (e .awaits) await.Get ≡ false → e .awaits ≡ await.Reply)
+        → (j : Journal)
         → Coupled ts e st j
         → Told ts (sends e (e .peer) code hs st) (journalFed j (stepBy (replyGiven code hs)))
     plain-reply true i o j x =
@@ -113,11 +107,12 @@ module _ (w : Known) (s : State) (h : Seated s) (k : Knows w s) where
         entered (replyGiven code hs) j _ (y .fixed .ended)
         (subst (λ (u : Opened). Told ts (sends e (e .peer) code hs st) (unchanged (replied u j code hs))) (sym (g .is))
         (sends-told ts e st (e .peer) (opens j nothing)
-        (record { fixed = record { settings = y .fixed .settings; past = y .fixed .past; standing = y .fixed .standing; window = y .fixed .window; ended = y .fixed .ended }; begun = y .begun; opened = refl }) code hs))
+        (record { fixed = fixed-kept (y .fixed); begun = y .begun; opened = refl }) code hs))
     plain-reply false i o j x =
         let y = coupled-at w s h k await.Reply j (o i) x in
         entered (replyGiven code hs) j _ (y .0 .fixed .ended)
-        (subst (λ (u : Journal). Told ts (sends e (e .peer) code hs st) (unchanged u)) (sym (ap (λ (v : Opened). replied v j code hs) (y .0 .opened) ∙ y .1 .0 code hs))
+        (subst (λ (u : Journal). Told ts (sends e (e .peer) code hs st) (unchanged u))
+        (sym (ap (λ (v : Opened). replied v j code hs) (y .0 .opened) ∙ y .1 .0 code hs))
         (sends-told ts e st (e .peer) j (y .0) code hs))
 
     entered-tabled : (j : Journal) (d : DoneTabled) → j .ended ≡ false → ToldTabled d (journalCall j (replyGiven code hs))
@@ -148,7 +143,8 @@ module _ (w : Known) (s : State) (h : Seated s) (k : Knows w s) where
         go none i = refl
         go (some r) i = ap (λ (t : Bool). pick t (connectSize j r code hs) (3 + length hs)) i
 
-    plain-sized : (t : Bool) → sameAwait (e .awaits) await.Get ≡ t → (sameAwait (e .awaits) await.Get ≡ false → e .awaits ≡ await.Reply) → (j : Journal)
+    plain-sized : (t : Bool) → sameAwait (e .awaits) await.Get ≡ t → (sameAwait (e .awaits) await.Get ≡ false → e .awaits ≡ await.Reply)
+        → (j : Journal)
         → Coupled ts e st j → answerSize (j .opened) j code hs ≤ 65535 → Brief (sends e (e .peer) code hs st)
     plain-sized true i o j x l =
         let at = same-await (e .awaits) await.Get i in
@@ -167,12 +163,15 @@ module _ (w : Known) (s : State) (h : Seated s) (k : Knows w s) where
     unfolding replyAnswer
     reply-sized r j x l =
         sized-pick (sameAwait (e .awaits) await.Connect) _ _ (lateBy (j .last) j hs)
-        (λ m. connect-sized ts e st j (coupled-at w s h k await.Connect j (same-await (e .awaits) await.Connect m) x) code hs (h .sits .base .peer) (ids-room s h) l)
+        (λ m. connect-sized ts e st j (coupled-at w s h k await.Connect j (same-await (e .awaits) await.Connect m) x) code hs (h .sits .base .peer)
+        (ids-room s h) l)
         (λ m. sized-pick (sameAwait (e .awaits) await.Disconnect) _ _ (lateBy (j .last) j hs)
         (λ n. let y = coupled-at w s h k await.Disconnect j (same-await (e .awaits) await.Disconnect n) x in
-        brief-sized _ (lateBy (j .last) j hs) (sends-brief e st _ code hs (subst (λ (n : ℕ). n ≤ 65535) (plain-size j (y .held .opened) (disconnects j y)) l)))
+        brief-sized _ (lateBy (j .last) j hs)
+        (sends-brief e st _ code hs (subst (λ (n : ℕ). n ≤ 65535) (plain-size j (y .held .opened) (disconnects j y)) l)))
         (λ n. brief-sized _ (lateBy (j .last) j hs)
-        (plain-sized (sameAwait (e .awaits) await.Get) refl (λ o. same-await (e .awaits) await.Reply (or-second _ _ (or-second _ _ (or-second _ _ r m) n) o)) j x l)))
+        (plain-sized (sameAwait (e .awaits) await.Get) refl
+        (λ o. same-await (e .awaits) await.Reply (or-second _ _ (or-second _ _ (or-second _ _ r m) n) o)) j x l)))
 
     pub reply-agrees : Agrees w s (replyGiven code hs)
     unfolding bad used
@@ -181,11 +180,13 @@ module _ (w : Known) (s : State) (h : Seated s) (k : Knows w s) where
       where
         go : fits kind.ReplyGiven (e .awaits) ≡ true → (b : Bool) → badReply code hs ≡ b
             → Agree w s (replyGiven code hs) (pick b (refused 8) goes)
-            (pick b (keeps s (refuse refusal.BadAnswer e st)) (called (after 0 (replyAnswer e code hs st ts .done)) (replyAnswer e code hs st ts .tables)))
+            (pick b (keeps s (refuse refusal.BadAnswer e st))
+            (called (after 0 (replyAnswer e code hs st ts .done)) (replyAnswer e code hs st ts .tables)))
         go r true i = agree-refused w s h k (replyGiven code hs) refusal.BadAnswer
         go r false i =
             let f = reply-fine e st (h .sits .base) ts (ids-room s h) code hs (reply-headers-fit code hs i) in
-            agree-tabled w s h k (replyGiven code hs) (replyAnswer e code hs st ts .done) 0 (replyAnswer e code hs st ts .tables) (f .done) (f .tables)
+            agree-tabled w s h k (replyGiven code hs) (replyAnswer e code hs st ts .done) 0 (replyAnswer e code hs st ts .tables) (f .done)
+            (f .tables)
             (f .nonces (e .peer .nonces) (h .sits .base .peer .few) ∙ k .nonces)
             (λ j x. none-taken (j .ended)) (λ j x. told-follows (reply-told r j x)) (λ j late x y l. reply-sized r j x l)
             (λ j o x y l. speaks-spoken _ o (reply-speaks e st code hs ts))
@@ -207,15 +208,17 @@ module _ (w : Known) (s : State) (h : Seated s) (k : Knows w s) where
         let g = get-open at j (y .opened) in
         entered (objectGiven hs has) j _ (y .fixed .ended)
         (subst (λ (u : Opened). Told ts (sendsNext e (objectOf (length hs) confirm has) srm wait z) (unchanged (objectSent u j))) (sym (g .is))
-        (next-told ts e z (opens j sending) (record { settings = y .fixed .settings; past = y .fixed .past; standing = y .fixed .standing; window = y .fixed .window; ended = y .fixed .ended }) (y .begun) refl
+        (next-told ts e z (opens j sending) (fixed-kept (y .fixed)) (y .begun) refl
         (object-base l) (objectOf (length hs) confirm has) srm wait (omega arith) l))
 
     object-at : (at : e .awaits ≡ await.Get) → IsGetting (e .operation)
         → AgreeKept w s (objectGiven hs has) (pick (badHeaders hs) (refused 8) goes) (objectFor (e .operation) e hs has st)
     object-at at v =
         subst (λ (o : Operation). AgreeKept w s (objectGiven hs has) (pick (badHeaders hs) (refused 8) goes) (objectFor o e hs has st)) (sym (v .is))
-        (checked-agrees (objectGiven hs has) refl (badHeaders hs) (sendsNext e (objectOf (length hs) (v .confirm) has) (v .srm || v .confirm) (v .wait) z)
-        (λ b. sends-next-fine e z (object-base (headers-fit hs b)) (objectOf (length hs) (v .confirm) has) (v .srm || v .confirm) (v .wait) (omega arith)
+        (checked-agrees (objectGiven hs has) refl (badHeaders hs)
+        (sendsNext e (objectOf (length hs) (v .confirm) has) (v .srm || v .confirm) (v .wait) z)
+        (λ b. sends-next-fine e z (object-base (headers-fit hs b)) (objectOf (length hs) (v .confirm) has) (v .srm || v .confirm) (v .wait)
+        (omega arith)
         (headers-fit hs b))
         (λ j. none-taken (j .ended))
         (λ b j y. object-told (headers-fit hs b) (v .srm || v .confirm) (v .confirm) (v .wait) at j y)
@@ -243,15 +246,19 @@ module _ (w : Known) (s : State) (h : Seated s) (k : Knows w s) where
 
   module _ (d : List ℕ) where
     -- more than were asked for is refused with 9
-    body-at : e .awaits ≡ await.Body → (o : Outgoing) (c : Chunk) (srm wait : Bool) → e .operation ≡ Sending o c srm wait → OutgoingFits o c → (t : Bool) → ltb (c .room) (length d) ≡ t
-        → AgreeKept w s (bodyGiven d) (pick (leb (length d) (c .room)) goes (refused 9)) (pick t (refuse refusal.WrongMoment e st) (after 0 (sendsPacket e srm wait (givenBody o c d (st .reply)) st)))
+    body-at : e .awaits ≡ await.Body → (o : Outgoing) (c : Chunk) (srm wait : Bool) → e .operation ≡ Sending o c srm wait → OutgoingFits o c
+        → (t : Bool) → ltb (c .room) (length d) ≡ t
+        → AgreeKept w s (bodyGiven d) (pick (leb (length d) (c .room)) goes (refused 9))
+        (pick t (refuse refusal.WrongMoment e st) (after 0 (sendsPacket e srm wait (givenBody o c d (st .reply)) st)))
     body-at at o c srm wait is y true i =
         let more : c .room < length d = ltb-true _ _ i in
-        subst (λ (t : Bool). AgreeKept w s (bodyGiven d) (pick t goes (refused 9)) (refuse refusal.WrongMoment e st)) (sym (lt-leb (length d) (c .room) more)) (agree-refused w s h k (bodyGiven d) refusal.WrongMoment)
+        subst (λ (t : Bool). AgreeKept w s (bodyGiven d) (pick t goes (refused 9)) (refuse refusal.WrongMoment e st))
+        (sym (lt-leb (length d) (c .room) more)) (agree-refused w s h k (bodyGiven d) refusal.WrongMoment)
     body-at at o c srm wait is y false i =
         let within : length d ≤ c .room = ltb-false _ _ i in
         let m = body-sends o c d (st .reply) (h .sits .base .room .reply) within (y .begun) (y .chunk) (y .sent) in
-        subst (λ (t : Bool). AgreeKept w s (bodyGiven d) (pick t goes (refused 9)) (after 0 (sendsPacket e srm wait (givenBody o c d (st .reply)) st))) (sym (le-leb (length d) (c .room) within))
+        subst (λ (t : Bool). AgreeKept w s (bodyGiven d) (pick t goes (refused 9))
+        (after 0 (sendsPacket e srm wait (givenBody o c d (st .reply)) st))) (sym (le-leb (length d) (c .room) within))
         (agree-goes w s h k (bodyGiven d) refl 0 _ (sends-packet-fine e st (h .sits .base) o srm wait (givenBody o c d (st .reply)) (y .total) m)
         (λ j x. none-taken (j .ended))
         (λ j x. let l = body-held at j x in
@@ -262,9 +269,11 @@ module _ (w : Known) (s : State) (h : Seated s) (k : Knows w s) where
         packet-spoken e st srm wait (givenBody o c d (st .reply)) q (i .0) (i .1)))
 
     body-for : e .awaits ≡ await.Body → (v : IsSending (e .operation))
-        → AgreeKept w s (bodyGiven d) (pick (leb (length d) (roomIn (waitsOf (e .awaits) (e .operation)))) goes (refused 9)) (bodyFor (e .operation) e d st)
+        → AgreeKept w s (bodyGiven d) (pick (leb (length d) (roomIn (waitsOf (e .awaits) (e .operation)))) goes (refused 9))
+        (bodyFor (e .operation) e d st)
     body-for at v =
-        subst (λ (a : Await). AgreeKept w s (bodyGiven d) (pick (leb (length d) (roomIn (waitsOf a (e .operation)))) goes (refused 9)) (bodyFor (e .operation) e d st)) (sym at)
+        subst (λ (a : Await). AgreeKept w s (bodyGiven d) (pick (leb (length d) (roomIn (waitsOf a (e .operation)))) goes (refused 9))
+        (bodyFor (e .operation) e d st)) (sym at)
         (subst (λ (o : Operation). AgreeKept w s (bodyGiven d) (pick (leb (length d) (roomOf o)) goes (refused 9)) (bodyFor o e d st)) (sym (v .is))
         (body-at at (v .outgoing) (v .chunk) (v .srm) (v .wait) (v .is)
         (outgoing-within (v .outgoing) (v .chunk) (ap (soundOperation (limitOf e)) (sym (v .is)) ∙ h .sits .counts)) _ refl))
@@ -293,7 +302,8 @@ module _ (w : Known) (s : State) (h : Seated s) (k : Knows w s) where
   unfolding bad used
   acknowledge-agrees =
       agrees w s h k abortAcknowledged
-      (λ r j x. agree-goes w s h k abortAcknowledged refl 0 _ (fine-code e st (h .sits .base) (e .peer) 0x20 st (h .sits .base .peer) (h .sits .base .room))
+      (λ r j x. agree-goes w s h k abortAcknowledged refl 0 _
+      (fine-code e st (h .sits .base) (e .peer) 0x20 st (h .sits .base .peer) (h .sits .base .room))
       (λ j x. none-taken (j .ended))
       (λ j x. let y = coupled-at w s h k await.Acknowledgement j (same-await (e .awaits) await.Acknowledgement r) x in
       told-follows (entered abortAcknowledged j _ (y .fixed .ended) (told-code ts e (e .peer) st j 0x20 y)))
@@ -323,7 +333,8 @@ module _ (w : Known) (s : State) (h : Seated s) (k : Knows w s) where
         (λ j x. none-taken (j .ended))
         (λ j x. let y = coupled-at w s h k await.Nonce j at x in
         told-follows (entered-over (rememberedWith n ts) (nonceGiven n) j _ (y .held .fixed .ended)
-        (nonce-told ts e st j op.Connect y (rememberedWith n ts) (remembered-front n ts (nonces-room s h) (e .peer .count) (h .sits .base .peer .count)) n (s .realm))))
+        (nonce-told ts e st j op.Connect y (rememberedWith n ts)
+        (remembered-front n ts (nonces-room s h) (e .peer .count) (h .sits .base .peer .count)) n (s .realm))))
         (λ j late x y l. brief-sized _ _ (nonce-brief e st n (s .realm) (h .realm)))
         (λ j o x y l. speaks-spoken _ o (nonce-speaks e st n (s .realm)))
 

@@ -5,12 +5,12 @@ use mathlib.Core.Bool.{Bool, true, false, _&&_, not}
 use Prim.Native.Nat.{ℕ, zero, suc, _≤_}
 use native.Mathlib.Omega.{arith}
 use lib.ListN.{length, getD, take}
-use lib.Dec.{leb, eqb}
-use borrow.Author.Tests.{leb-true, eqb-true, eqb-false, ne-eqb}
+use lib.Dec.{eqb}
+use borrow.Author.Tests.{ne-eqb}
 use Rattle.base.specs.Pick.{pick}
 use Rattle.packet.specs.Packet.{requestOf}
-use Rattle.journal.specs.Calls.{bytesOffered, streamEnded, replyTaken, goes, stepBy, replySent}
-use Rattle.journal.specs.Journal.{Journal, unchanged, begin, end, endsWith, Read, more, whole, short, readUp, bytesRead, packetRead, journalPacket, takenUp, streamNumber, takenAt, lastTaken, journalCall, journalFed, readIn, fedTakes, fedReads, keptRead, keptAfter}
+use Rattle.journal.specs.Calls.{bytesOffered, streamEnded, replyTaken, goes, stepBy}
+use Rattle.journal.specs.Journal.{Journal, unchanged, begin, end, endsWith, Read, more, whole, short, readUp, bytesRead, packetRead, journalPacket, takenUp, streamNumber, takenAt, lastTaken, journalFed, readIn, fedTakes, fedReads, keptRead, keptAfter}
 use Rattle.incoming.specs.Frame.{Frames, framed}
 use Rattle.incoming.specs.declared.frame.Frame.{Frame}
 use Rattle.incoming.specs.declared.frame.Frame.the-variants.{More, Whole, Short}
@@ -34,9 +34,9 @@ use Rattle.server.specs.declared.Await.the-variants as await
 use Rattle.server.specs.declared.Engine.{Engine}
 use Rattle.server.specs.declared.Outcome.the-variants as outcome
 use Rattle.incoming.proofs.Frames.{Octets, Agrees as Frames-agree, frames-agree, frames-count}
-use Rattle.model.proofs.Fit.{and-left, and-right, Room, Shape, waitsOf, Base, Seated, Fine, fine-pick, fine-wants, fine-ends}
+use Rattle.model.proofs.Fit.{Room, Shape, waitsOf, Base, Seated, Fine, fine-pick, fine-wants, fine-ends}
 use Rattle.model.proofs.Steps.{outgoing-within, sends-next-fine, read-fine}
-use Rattle.model.proofs.Coupling.{OpenedAt, Held, CoupledAt, Coupled, Told, Follows, told-follows, told-pick, told-ends, told-wants}
+use Rattle.model.proofs.Coupling.{OpenedAt, Held, CoupledAt, Coupled, fixed-kept, Told, Follows, told-follows, told-pick, told-ends, told-wants}
 use Rattle.model.proofs.Sizes.{early, Brief, brief-done, done-brief, goes-on-brief}
 use Rattle.model.proofs.Speaks.{ModeAt, Spoken, spoken-done, goes-on-spoken, read-spoken}
 use Rattle.model.proofs.Gathers.{next-told}
@@ -50,14 +50,7 @@ stream-number [] (suc b) l = absurd (omega (arith, l))
 stream-number (x ∷ p) (suc b) l = rw (ne-eqb (suc b) 0 (λ i. omega (arith, i))) refl
 
 module _ (w : Known) (s : State) (h : Seated s) (k : Knows w s) where
-  abbrev e : Engine
-  e = s .engine
-
-  abbrev st : Stores
-  st = s .stores
-
-  abbrev ts : List ℕ
-  ts = s .tables
+  open State s using (engine as e, stores as st, tables as ts)
 
   -- the coupling, where it is known what is awaited
   pub coupled-at : (a : Await) (j : Journal) → e .awaits ≡ a → Coupled ts e st j
@@ -92,7 +85,8 @@ module _ (w : Known) (s : State) (h : Seated s) (k : Knows w s) where
     kept-reads : (j : Journal) (r : Read) → Begins j → readUp (take (e .begun) (st .packet)) i ≡ r → Kept (fedReads j (stepBy (bytesOffered i)))
         → Kept (readIn j r)
     kept-reads j r x q y =
-        subst Kept (ap (λ (t : Bool). pick t [] (readIn j (readUp (j .begun) i))) (x .fixed .ended) ∙ ap (readIn j) (ap (λ (l : List ℕ). readUp l i) (x .begun) ∙ q)) y
+        subst Kept (ap (λ (t : Bool). pick t [] (readIn j (readUp (j .begun) i))) (x .fixed .ended)
+        ∙ ap (readIn j) (ap (λ (l : List ℕ). readUp l i) (x .begun) ∙ q)) y
 
     -- as many bytes are taken as the journal says
     count-at : (j : Journal) → Begins j → reported ≡ fedTakes j (stepBy (bytesOffered i))
@@ -103,7 +97,8 @@ module _ (w : Known) (s : State) (h : Seated s) (k : Knows w s) where
 
     room-at : length (f .packet) ≡ length (st .packet) → Room (limitOf e) z
     room-at l =
-        record { packet = rw l (h .sits .base .room .packet); headers = h .sits .base .room .headers; reply = h .sits .base .room .reply; body = h .sits .base .room .body }
+        let r = h .sits .base .room in
+        record { packet = rw l (r .packet); headers = r .headers; reply = r .reply; body = r .body }
 
     -- a packet goes on
     more-fine : (q : List ℕ) → Frames-agree (st .packet) f (more q)
@@ -124,14 +119,15 @@ module _ (w : Known) (s : State) (h : Seated s) (k : Knows w s) where
         }
 
     more-told : (q : List ℕ) → Frames-agree (st .packet) f (more q) → (j : Journal) → Begins j
-        → Told ts (done (engineWith (e .settings) (e .peer) (e .operation) (e .awaits) n (e .length) (e .target)) outcome.WantsBytes z) (bytesRead j (more q))
+        → Told ts (done (engineWith (e .settings) (e .peer) (e .operation) (e .awaits) n (e .length) (e .target)) outcome.WantsBytes z)
+        (bytesRead j (more q))
     unfolding engineWith
     more-told q (a, g, l, m) j x =
         record {
           ends = λ u. refl;
           given = refl;
           after = subst (λ (y : Await). CoupledAt ts y (e .operation) (e .settings) (e .peer) n (e .length) z (begin j q)) (sym at)
-              (record { fixed = record { settings = x .fixed .settings; past = x .fixed .past; standing = x .fixed .standing; window = x .fixed .window; ended = x .fixed .ended }; begun = g .bytes; opened = x .opened });
+              (record { fixed = fixed-kept (x .fixed); begun = g .bytes; opened = x .opened });
         }
 
     -- a packet is whole
@@ -153,8 +149,10 @@ module _ (w : Known) (s : State) (h : Seated s) (k : Knows w s) where
         → Follows (Kept (readIn j (whole q))) ts (packetDone e n z ts) (bytesRead j (whole q))
     unfolding engineWith packetDone journalPacket keptAfter
     whole-told q (a, g, l) j x =
-        let w = subst (λ (p : List ℕ). Follows (length (keptRead (j .opened) (requestOf p)) ≤ 65535) ts (packetDone e n z ts) (packetRead (requestOf p) j)) (sym (g .bytes))
-        (read-told ts whole-engine z j (record { settings = x .fixed .settings; past = x .fixed .past; standing = x .fixed .standing; window = x .fixed .window; ended = x .fixed .ended })
+        let w =
+        subst (λ (p : List ℕ). Follows (length (keptRead (j .opened) (requestOf p)) ≤ 65535) ts (packetDone e n z ts) (packetRead (requestOf p) j))
+        (sym (g .bytes))
+        (read-told ts whole-engine z j (fixed-kept (x .fixed))
         (whole-base q (a, g, l)) (subst Octets (g .bytes) (g .octets)) (x .opened) (h .sits .counts)
         (take n (f .packet)) (requestOf (take n (f .packet))) refl) in
         record { told = λ y. w .told (y .0); after = w .after }
@@ -165,7 +163,7 @@ module _ (w : Known) (s : State) (h : Seated s) (k : Knows w s) where
     whole-spoken q (a, g, l) j o x v y =
         subst (λ (p : List ℕ). Spoken (packetDone e n z ts) (packetDue (requestOf p) o j) (packetMode (requestOf p) o j)) (sym (g .bytes))
         (read-spoken ts whole-engine z j
-        (record { settings = x .fixed .settings; past = x .fixed .past; standing = x .fixed .standing; window = x .fixed .window; ended = x .fixed .ended }) o
+        (fixed-kept (x .fixed)) o
         (whole-base q (a, g, l)) (subst Octets (g .bytes) (g .octets)) (x .opened) v
         (take n (f .packet)) (requestOf (take n (f .packet))) refl
         (subst (λ (p : List ℕ). length (keptRead (j .opened) (requestOf p)) ≤ 65535) (g .bytes) (y .0)))
@@ -188,7 +186,8 @@ module _ (w : Known) (s : State) (h : Seated s) (k : Knows w s) where
         frame-at More (g .0)
         (agree-goes w s h k (bytesOffered i) refl reported _ (more-fine q g)
         (λ j x. count-at j (coupled-at await.Bytes j at x))
-        (λ j x. told-follows (subst (Told ts _) (sym (journal-reads j (more q) (coupled-at await.Bytes j at x) y)) (more-told q g j (coupled-at await.Bytes j at x))))
+        (λ j x. told-follows (subst (Told ts _) (sym (journal-reads j (more q) (coupled-at await.Bytes j at x) y))
+        (more-told q g j (coupled-at await.Bytes j at x))))
         (λ j late x v l. brief-done e (e .peer) (e .operation) (e .awaits) n (e .length) outcome.WantsBytes z refl (ap early at))
         (λ j o x v l. read-spoken-at j o (more q) (coupled-at await.Bytes j at x) y
         (spoken-done e (e .peer) (e .operation) (e .awaits) n (e .length) outcome.WantsBytes z silent o refl v)))
@@ -204,9 +203,11 @@ module _ (w : Known) (s : State) (h : Seated s) (k : Knows w s) where
         (whole-spoken q g j o (coupled-at await.Bytes j at x) v (kept-reads j (whole q) (coupled-at await.Bytes j at x) y l))))
     read-agrees short y g =
         frame-at Short (g .0)
-        (agree-goes w s h k (bytesOffered i) refl reported _ (fine-ends e st (h .sits .base) (e .peer) why.LengthTooSmall z (h .sits .base .peer) (room-at (g .1)))
+        (agree-goes w s h k (bytesOffered i) refl reported _
+        (fine-ends e st (h .sits .base) (e .peer) why.LengthTooSmall z (h .sits .base .peer) (room-at (g .1)))
         (λ j x. count-at j (coupled-at await.Bytes j at x))
-        (λ j x. told-follows (subst (Told ts _) (sym (journal-reads j short (coupled-at await.Bytes j at x) y)) (told-ends ts e (e .peer) z (end j) why.LengthTooSmall)))
+        (λ j x. told-follows (subst (Told ts _) (sym (journal-reads j short (coupled-at await.Bytes j at x) y))
+        (told-ends ts e (e .peer) z (end j) why.LengthTooSmall)))
         (λ j late x v l. brief-done e (e .peer) Nothing await.Nothing 0 (e .length) (outcome.End why.LengthTooSmall) z refl refl)
         (λ j o x v l. read-spoken-at j o short (coupled-at await.Bytes j at x) y
         (spoken-done e (e .peer) Nothing await.Nothing 0 (e .length) (outcome.End why.LengthTooSmall) z speaks o refl tt)))
@@ -216,7 +217,8 @@ module _ (w : Known) (s : State) (h : Seated s) (k : Knows w s) where
   bytes-agree i o =
       agrees w s h k (bytesOffered i)
       (λ r j x. read-agrees i o (same-await (e .awaits) await.Bytes r) _ refl
-      (frames-agree (st .packet) i (e .begun) 0 (h .sits .begun .small) (h .sits .base .room .packet) (h .sits .begun .octets) o (h .sits .begun .goes-on)))
+      (frames-agree (st .packet) i (e .begun) 0 (h .sits .begun .small) (h .sits .base .room .packet) (h .sits .begun .octets) o
+      (h .sits .begun .goes-on)))
 
   -- ---- the end of the stream
 
@@ -224,14 +226,18 @@ module _ (w : Known) (s : State) (h : Seated s) (k : Knows w s) where
   unfolding bad used
   end-agrees =
       agrees w s h k streamEnded
-      (λ r j x. agree-goes w s h k streamEnded refl 0 _ (fine-ends e st (h .sits .base) (e .peer) (pick (eqb (e .begun) 0) why.Disconnected why.Truncated) st (h .sits .base .peer) (h .sits .base .room))
+      (λ r j x. agree-goes w s h k streamEnded refl 0 _
+      (fine-ends e st (h .sits .base) (e .peer) (pick (eqb (e .begun) 0) why.Disconnected why.Truncated) st (h .sits .base .peer)
+      (h .sits .base .room))
       (λ j x. none-taken (j .ended))
       (λ j x. let y = coupled-at await.Bytes j (same-await (e .awaits) await.Bytes r) x in
       told-follows (subst (Told ts _) (sym (fed-goes j streamEnded (y .fixed .ended)
-      ∙ ap (λ (n : ℕ). endsWith n j) (ap streamNumber (y .begun) ∙ stream-number (st .packet) (e .begun) (omega (arith, h .sits .begun .small, h .sits .base .room .packet)))))
+      ∙ ap (λ (n : ℕ). endsWith n j) (ap streamNumber (y .begun)
+      ∙ stream-number (st .packet) (e .begun) (omega (arith, h .sits .begun .small, h .sits .base .room .packet)))))
       (told-ends ts e (e .peer) st (end j) (pick (eqb (e .begun) 0) why.Disconnected why.Truncated))))
       (λ j late x v l. stream-brief (eqb (e .begun) 0))
-      (λ j o x v l. spoken-done e (e .peer) Nothing await.Nothing 0 (e .length) (outcome.End (pick (eqb (e .begun) 0) why.Disconnected why.Truncated)) st speaks o refl tt))
+      (λ j o x v l. spoken-done e (e .peer) Nothing await.Nothing 0 (e .length)
+      (outcome.End (pick (eqb (e .begun) 0) why.Disconnected why.Truncated)) st speaks o refl tt))
     where
       stream-brief : (t : Bool) → Brief (ends e (e .peer) (pick t why.Disconnected why.Truncated) st)
       stream-brief true = brief-done e (e .peer) Nothing await.Nothing 0 (e .length) (outcome.End why.Disconnected) st refl refl
@@ -270,27 +276,36 @@ module _ (w : Known) (s : State) (h : Seated s) (k : Knows w s) where
   taken-goes true i r =
       agree-goes w s h k replyTaken refl 0 _
       (goes-on-fine (e .operation) (h .sits .counts)
-      (fine-wants e st (h .sits .base) (e .peer) (e .operation) st (h .sits .base .peer) (h .sits .base .room) (h .sits .counts) (subst (λ (x : Await). Shape x (e .operation)) at (h .sits .shape))))
+      (fine-wants e st (h .sits .base) (e .peer) (e .operation) st (h .sits .base .peer) (h .sits .base .room) (h .sits .counts)
+      (subst (λ (x : Await). Shape x (e .operation)) at (h .sits .shape))))
       (λ j x. refl)
       (λ j x. let y = coupled-at await.Taken j at x in
-      told-follows (subst (Told ts _) (sym (ap (λ (t : Bool). pick t (lastTaken j) (unchanged (takenAt (j .opened) j (getD (st .reply) 0 0)))) (y .0)))
+      told-follows (subst (Told ts _)
+      (sym (ap (λ (t : Bool). pick t (lastTaken j) (unchanged (takenAt (j .opened) j (getD (st .reply) 0 0)))) (y .0)))
       (goes-on-told (takenAt (j .opened) j (getD (st .reply) 0 0)) (y .1) (e .operation) (y .1 .opened) (h .sits .counts)
       (told-wants ts e (e .peer) st _ (e .operation) (y .1)))))
       (λ j late x v l. goes-on-brief e st (e .operation))
       (λ j o x v l. let y = coupled-at await.Taken j at x in
-      subst (λ (t : Bool). Spoken (goesOn (e .operation) e st) (pick t speaks (takenDue (takenAt (j .opened) j (getD (st .reply) 0 0) .opened) o)) o) (sym (y .0))
-      (goes-on-spoken e st (limitOf e) (e .operation) (st .headers) (st .body) (takenAt (j .opened) j (getD (st .reply) 0 0) .opened) o refl (y .1 .opened) v))
+      subst (λ (t : Bool). Spoken (goesOn (e .operation) e st)
+      (pick t speaks (takenDue (takenAt (j .opened) j (getD (st .reply) 0 0) .opened) o)) o) (sym (y .0))
+      (goes-on-spoken e st (limitOf e) (e .operation) (st .headers) (st .body) (takenAt (j .opened) j (getD (st .reply) 0 0) .opened) o refl
+      (y .1 .opened) v))
     where
       at : e .awaits ≡ await.Taken
       at = same-await (e .awaits) await.Taken i
   taken-goes false i r =
-      agree-goes w s h k replyTaken refl 0 _ (fine-ends e st (h .sits .base) (e .peer) why.OtherOperation st (h .sits .base .peer) (h .sits .base .room))
+      agree-goes w s h k replyTaken refl 0 _
+      (fine-ends e st (h .sits .base) (e .peer) why.OtherOperation st (h .sits .base .peer) (h .sits .base .room))
       (λ j x. refl)
-      (λ j x. told-follows (subst (Told ts _) (sym (ap (λ (t : Bool). pick t (lastTaken j) (unchanged (takenAt (j .opened) j (getD (st .reply) 0 0)))) (coupled-at await.Last j at x))) (told-ends ts e (e .peer) st j why.OtherOperation)))
+      (λ j x. told-follows (subst (Told ts _)
+      (sym (ap (λ (t : Bool). pick t (lastTaken j) (unchanged (takenAt (j .opened) j (getD (st .reply) 0 0)))) (coupled-at await.Last j at x)))
+      (told-ends ts e (e .peer) st j why.OtherOperation)))
       (λ j late x v l. brief-done e (e .peer) Nothing await.Nothing 0 (e .length) (outcome.End why.OtherOperation) st refl refl)
       (λ j o x v l.
-      subst (λ (t : Bool). Spoken (ends e (e .peer) why.OtherOperation st) (pick t speaks (takenDue (takenAt (j .opened) j (getD (st .reply) 0 0) .opened) o)) o)
-      (sym (coupled-at await.Last j at x)) (spoken-done e (e .peer) Nothing await.Nothing 0 (e .length) (outcome.End why.OtherOperation) st speaks o refl tt))
+      subst (λ (t : Bool). Spoken (ends e (e .peer) why.OtherOperation st)
+      (pick t speaks (takenDue (takenAt (j .opened) j (getD (st .reply) 0 0) .opened) o)) o)
+      (sym (coupled-at await.Last j at x))
+      (spoken-done e (e .peer) Nothing await.Nothing 0 (e .length) (outcome.End why.OtherOperation) st speaks o refl tt))
     where
       at : e .awaits ≡ await.Last
       at = same-await (e .awaits) await.Last (or-second _ _ r i)

@@ -42,7 +42,7 @@ use Rattle.incoming.proofs.Gathers.{PutAgrees, KeptAgrees, put-agrees, get-agre
 use Rattle.outgoing.proofs.Sent.{SendsFrom}
 use Rattle.model.proofs.Fit.{Base}
 use Rattle.model.proofs.Steps.{headers-request, next-made}
-use Rattle.model.proofs.Coupling.{PutOpen, Plain, OpenedAt, Fixed, Held, Still, Told, Follows, follows-kept, told-pick, told-done, told-wants, told-replies, told-code, told-closes}
+use Rattle.model.proofs.Coupling.{PutOpen, Plain, OpenedAt, Fixed, Held, Still, fixed-kept, Told, Follows, follows-kept, told-pick, told-done, told-wants, told-replies, told-code, told-closes}
 
 -- the body that a Put request hands over
 body-handed : (g : Gathered) (b : List ℕ) → bodyIn (putBody g) b ≡ pick (g .came) (some (take (g .body) b)) none
@@ -56,11 +56,13 @@ module _ (ts : List ℕ) (e : Engine) (s : Stores) (j : Journal) (f : Fixed ts (
   -- the journal after the packet, with something open
   pub held-after : (o : Operation) (x : Opened) (z : Stores) → OpenedAt (limitOf e) o (z .headers) (z .body) x
       → Held ts (e .settings) (e .peer) o z [] (after j (some r) x)
-  held-after o x z w = record { fixed = record { settings = f .settings; past = f .past; standing = f .standing; window = f .window; ended = f .ended }; begun = refl; opened = w }
+  held-after o x z w = record { fixed = fixed-kept f; begun = refl; opened = w }
 
   pub still-after : (o : Opcode) (x : Opened) → r .opcode ≡ o → Plain o → Still (after j (some r) x)
-  still-after o x i p =
-      (λ code hs. ap (λ (u : Opcode). replyTo u (after j (some r) x) r code hs) i ∙ p .0 (after j (some r) x) r code hs, ap (λ (u : Opcode). sameOpcode u op.Connect) i ∙ p .1)
+  still-after o x i p = (
+    λ code hs. ap (λ (u : Opcode). replyTo u (after j (some r) x) r code hs) i ∙ p .0 (after j (some r) x) r code hs,
+    ap (λ (u : Opcode). sameOpcode u op.Connect) i ∙ p .1,
+  )
 
   -- ---- Put
 
@@ -112,7 +114,8 @@ module _ (ts : List ℕ) (e : Engine) (s : Stores) (j : Journal) (f : Fixed ts (
         (held-after (Putting (x .got) true) (putting c true) (withGathered s x) (put-open true))))
     put-told v false confirm true false o i k =
         simp (w .full, i, k, within-test true i)
-        (subst (λ (t : Bool). Told ts (repliesCode e (e .peer) (pick (e .settings .«refuse_trailing») Trailing Nothing) 0x4D (withGathered s x)) (unchanged (after j (some r) (pick t trailing nothing))))
+        (subst (λ (t : Bool). Told ts (repliesCode e (e .peer) (pick (e .settings .«refuse_trailing») Trailing Nothing) 0x4D (withGathered s x))
+        (unchanged (after j (some r) (pick t trailing nothing))))
         (sym (ap (λ (u : JournalSettings). u .refuses) (f .settings))) (overrun-told (e .settings .«refuse_trailing»)))
     put-told v false confirm false false o i k =
         simp (w .full, i, k, within-test false i)
@@ -158,7 +161,8 @@ module _ (ts : List ℕ) (e : Engine) (s : Stores) (j : Journal) (f : Fixed ts (
       (held-after (Getting (x .got) true confirm (v .wait)) (getting k) (withGathered s x) (record { keeps = k; is = refl; agrees = w })))
   get-told v false confirm false x k w i =
       simp (w .full, i)
-      (told-replies ts e (e .peer) (withGathered s x) (after j (some r) (getting k)) (Getting (x .got) confirm false (v .wait)) (continueBytes confirm) refl
+      (told-replies ts e (e .peer) (withGathered s x) (after j (some r) (getting k)) (Getting (x .got) confirm false (v .wait))
+      (continueBytes confirm) refl
       (held-after (Getting (x .got) confirm false (v .wait)) (getting k) (withGathered s x) (record { keeps = k; is = refl; agrees = w })))
 
   pub get-packet : (v : Survey) (srm confirm : Bool) (g : Gathered) (k : List ℕ) → KeptAgrees (limitOf e) (gatheringOf g (s .headers) (s .body)) k
@@ -186,7 +190,8 @@ module _ (ts : List ℕ) (e : Engine) (s : Stores) (j : Journal) (f : Fixed ts (
       → Told ts (headersGathered e r o x s) (gatherRead j r o k)
   headers-told o true x k w p q i =
       simp (w .full, i)
-      (told-done ts e (e .peer) Nothing await.Reply (outcome.Request (headersRequest o (x .got .kept))) (withGathered s x) (after j (some r) nothing) []
+      (told-done ts e (e .peer) Nothing await.Reply (outcome.Request (headersRequest o (x .got .kept))) (withGathered s x)
+      (after j (some r) nothing) []
       (held-after Nothing nothing (withGathered s x) refl, still-after o nothing q p)
       (headers-request o (x .got .kept) (withGathered s x) .1) refl)
   headers-told o false x k w p q i =
@@ -215,7 +220,8 @@ module _ (ts : List ℕ) (e : Engine) (s : Stores) (j : Journal) (f : Fixed ts (
 
 -- ---- an object is sent
 
-module _ (ts : List ℕ) (e : Engine) (s : Stores) (j : Journal) (f : Fixed ts (e .settings) (e .peer) j) (k : j .begun ≡ []) (z : j .opened ≡ sending) where
+module _ (ts : List ℕ) (e : Engine) (s : Stores) (j : Journal) (f : Fixed ts (e .settings) (e .peer) j) (k : j .begun ≡ [])
+    (z : j .opened ≡ sending) where
   -- 0x50 ends it
   pub fails-told : (y : List ℕ) → Told ts (repliesCode e (e .peer) Nothing 0x50 (withReply s y)) (unchanged j)
   unfolding packetBytes
@@ -228,9 +234,11 @@ module _ (ts : List ℕ) (e : Engine) (s : Stores) (j : Journal) (f : Fixed ts (
   made-told o srm wait m w (next.Send n true) i =
       told-closes ts e (e .peer) s j (outcome.Reply n) (m .reply) refl refl (ap (λ (b : ℕ). eqb b 0x90) (w .last n i)) f k z
   made-told o srm wait m w (next.Send n false) i =
-      told-done ts e (e .peer) (Sending (m .packet .outgoing) (m .packet .chunk) srm wait) await.Taken (outcome.Reply n) (withReply s (m .reply)) j [] (
+      told-done ts e (e .peer) (Sending (m .packet .outgoing) (m .packet .chunk) srm wait) await.Taken (outcome.Reply n)
+      (withReply s (m .reply)) j [] (
         f .ended,
-        subst (λ (x : Journal). Held ts (e .settings) (e .peer) (Sending (m .packet .outgoing) (m .packet .chunk) srm wait) (withReply s (m .reply)) [] x)
+        subst (λ (x : Journal). Held ts (e .settings) (e .peer) (Sending (m .packet .outgoing) (m .packet .chunk) srm wait)
+            (withReply s (m .reply)) [] x)
             (sym (ap (λ (u : Opened). takenAt u j (getD (m .reply) 0 0)) z ∙ ap (λ (b : ℕ). takenAt sending j b) (w .going n i)))
             (record { fixed = f; begun = k; opened = z }),
       )
@@ -245,6 +253,7 @@ module _ (ts : List ℕ) (e : Engine) (s : Stores) (j : Journal) (f : Fixed ts (
   pub sends-told : (o : Outgoing) (srm wait : Bool) (m : Made) → SendsFrom o (s .reply) m → Told ts (sendsPacket e srm wait m s) (unchanged j)
   sends-told o srm wait m w = made-told o srm wait m w (m .packet .next) refl
 
-  pub next-told : Base e s → (o : Outgoing) (srm wait : Bool) → o .sent ≤ o .total → o .total ≤ 65535 → Told ts (sendsNext e o srm wait s) (unchanged j)
+  pub next-told : Base e s → (o : Outgoing) (srm wait : Bool) → o .sent ≤ o .total → o .total ≤ 65535
+      → Told ts (sendsNext e o srm wait s) (unchanged j)
   unfolding sendsNext
   next-told h o srm wait k t = sends-told o srm wait (nextPacket (capacityOf e) o (s .headers) (s .reply)) (next-made e s h o k t)

@@ -3,7 +3,8 @@
 -- `Packets`), Single Response Mode (`Speaks`), the host's answers (`Answers`), and the calls (`Moments`, `FromPeer`, `FromHost`).
 -- `Contracts`: the same from the contract of a start. `EightWrong`: the count of wrong passwords. `ObjectSent`: the replies to a Get.
 -- `Secrecy`: passwords leave no trace. `Closing`: the call that closes connections; `ClosedTogether`: which ids are left. `Carries`,
--- `Targets`: the Targets that requests name. `OpenOperation`: when an operation is open.
+-- `Targets`: the Targets that requests name. `OpenOperation`: when an operation is open. `BytesPlaced`: bytes that the host has put into the
+-- packet store itself.
 pub mod Cases
 pub mod Fit
 pub mod Steps
@@ -27,3 +28,4 @@ pub mod ClosedTogether
 pub mod Carries
 pub mod Targets
 pub mod OpenOperation
+pub mod BytesPlaced

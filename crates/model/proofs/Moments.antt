@@ -14,8 +14,8 @@ use Rattle.journal.specs.Calls.{Call, bytesOffered, streamEnded, replyTaken, re
 use Rattle.journal.specs.Journal.{Journal, unchanged, journalCall, journalFed, fedTakes, fedReads}
 use Rattle.table.specs.Nonces.{remembered}
 use Rattle.incoming.specs.Frame.{framed}
-use Rattle.model.specs.Step.{Stores, Stepped, Called, called, Done, done, after, ends, repliesCode, limitOf}
-use Rattle.model.specs.Guard.{refuse, short, sound, shortTables, awaitNumber, sameAwait, fits}
+use Rattle.model.specs.Step.{Stepped, Called, called, Done, done, after, ends, repliesCode, limitOf}
+use Rattle.model.specs.Guard.{refuse, short, sound, shortTables, sameAwait, fits}
 use Rattle.model.specs.Calls.{offers, bytesOfferedStep, streamEndedStep, replyTakenStep, replyChecked, replyGivenStep, objectFor, objectGivenStep, bodyFor, bodyGivenStep, bodyFailedStep, abortAcknowledgedStep, passwordGivenStep, nonceChecked, nonceGivenStep, credentialsWith, credentialsGivenStep, connectionsClosedStep}
 use Rattle.model.specs.Dispatch.{busy}
 use Rattle.model.specs.Close.{refuseClosing, closeChecked}
@@ -26,7 +26,7 @@ use Rattle.model.specs.Refusals.{Waits, roomIn, Known, noted, learns, al
 use Rattle.model.specs.Replies.{Late, lateAfter, replySize}
 use Rattle.journal.specs.Srm.{Mode, dueIn, modeAfter}
 use Rattle.model.specs.Theorem.{Kept}
-use Rattle.server.specs.Numbers.{refusalNumber}
+use Rattle.server.specs.Numbers.{refusalNumber, awaitNumber, awaitOf}
 use Rattle.server.specs.declared.CallKind.{CallKind}
 use Rattle.server.specs.declared.CallKind.the-variants as kind
 use Rattle.server.specs.declared.End.the-variants as end
@@ -36,7 +36,6 @@ use Rattle.server.specs.declared.Operation.{Operation}
 use Rattle.server.specs.declared.Operation.the-variants.{Nothing}
 use Rattle.server.specs.declared.Await.{Await}
 use Rattle.server.specs.declared.Await.the-variants as await
-use Rattle.server.specs.declared.Engine.{Engine}
 use Rattle.model.proofs.Fit.{not-short, waitsOf, Seated, tables-long, is-sound, FineWith, Fine}
 use Rattle.model.proofs.Coupling.{Coupled, Follows, told-follows}
 use Rattle.model.proofs.Sizes.{Brief, LateAt, Sized, brief-sized}
@@ -110,17 +109,12 @@ moment (connectionsClosed l) o a = each (Moment (connectionsClosed l) o) refl re
 moment (credentialsGiven c) o a = each (Moment (credentialsGiven c) o) refl refl refl refl refl refl refl refl refl refl refl refl refl a
 
 -- what is awaited is told by its number
-abbrev awaitOf : ℕ → Await
-awaitOf n =
-    pick (eqb n 0) await.Bytes (pick (eqb n 1) await.Taken (pick (eqb n 2) await.Last (pick (eqb n 3) await.Connect (pick (eqb n 4) await.Disconnect
-    (pick (eqb n 5) await.Get (pick (eqb n 6) await.Reply (pick (eqb n 7) await.Acknowledgement (pick (eqb n 8) await.Password (pick (eqb n 9) await.Nonce
-    (pick (eqb n 10) await.Credentials (pick (eqb n 11) await.Body await.Nothing)))))))))))
+pub await-back : (x : Await) → awaitOf (awaitNumber x) ≡ x
+unfolding awaitOf
+await-back x = each (λ (y : Await). awaitOf (awaitNumber y) ≡ y) refl refl refl refl refl refl refl refl refl refl refl refl refl x
 
 pub same-await : (a b : Await) → sameAwait a b ≡ true → a ≡ b
-same-await a b h = let n : awaitNumber a ≡ awaitNumber b = eqb-true _ _ h in sym (back a) ∙ ap awaitOf n ∙ back b
-  where
-    back : (x : Await) → awaitOf (awaitNumber x) ≡ x
-    back x = each (λ (y : Await). awaitOf (awaitNumber y) ≡ y) refl refl refl refl refl refl refl refl refl refl refl refl refl x
+same-await a b h = let n : awaitNumber a ≡ awaitNumber b = eqb-true _ _ h in sym (await-back a) ∙ ap awaitOf n ∙ await-back b
 
 -- where one of two tests holds and the first fails, the second holds
 pub or-second : (a b : Bool) → (a || b) ≡ true → a ≡ false → b ≡ true
@@ -159,14 +153,16 @@ goFor s abortAcknowledged = keeps s (goStep s abortAcknowledged)
 goFor s (passwordGiven p) = keeps s (goStep s (passwordGiven p))
 goFor s (credentialsGiven c) = keeps s (goStep s (credentialsGiven c))
 goFor s (connectionsClosed l) =
-    pick (not (busy (s .engine .operation))) (beside s (closeChecked (s .engine) l (s .tables))) (keeps s (refuse refusal.WrongMoment (s .engine) (s .stores)))
+    pick (not (busy (s .engine .operation))) (beside s (closeChecked (s .engine) l (s .tables)))
+    (keeps s (refuse refusal.WrongMoment (s .engine) (s .stores)))
 
 abbrev pub refuses : Refusal → State → Called
 refuses r s = keeps s (refuse r (s .engine) (s .stores))
 
 -- the guard, with the table store beside what it lets through
 kept : (s : State) (c : Call) (x y : Bool)
-    → keeps s (pick x (refuse refusal.StoreTooShort (s .engine) (s .stores)) (pick y (goStep s c) (refuse refusal.WrongMoment (s .engine) (s .stores))))
+    → keeps s (pick x (refuse refusal.StoreTooShort (s .engine) (s .stores))
+    (pick y (goStep s c) (refuse refusal.WrongMoment (s .engine) (s .stores))))
     ≡ pick x (refuses refusal.StoreTooShort s) (pick y (keeps s (goStep s c)) (refuses refusal.WrongMoment s))
 kept s c true y = refl
 kept s c false true = refl
@@ -184,8 +180,10 @@ atMoment s c = sound (s .engine) && fits (kindOf c) (s .engine .awaits)
 
 -- the guard of the call that closes connections, which asks for the operation too
 closing-is : (s : State) (l : List ℕ) (x y z t : Bool)
-    → beside s (pick x (refuseClosing refusal.StoreTooShort (s .engine) (s .tables)) (pick (y && (z && t)) (closeChecked (s .engine) l (s .tables)) (refuseClosing refusal.WrongMoment (s .engine) (s .tables))))
-    ≡ pick x (refuses refusal.StoreTooShort s) (pick (y && z) (pick t (beside s (closeChecked (s .engine) l (s .tables))) (refuses refusal.WrongMoment s)) (refuses refusal.WrongMoment s))
+    → beside s (pick x (refuseClosing refusal.StoreTooShort (s .engine) (s .tables))
+    (pick (y && (z && t)) (closeChecked (s .engine) l (s .tables)) (refuseClosing refusal.WrongMoment (s .engine) (s .tables))))
+    ≡ pick x (refuses refusal.StoreTooShort s)
+    (pick (y && z) (pick t (beside s (closeChecked (s .engine) l (s .tables))) (refuses refusal.WrongMoment s)) (refuses refusal.WrongMoment s))
 closing-is s l true y z t = refl
 closing-is s l false true true true = refl
 closing-is s l false true true false = refl
@@ -194,7 +192,8 @@ closing-is s l false false z t = refl
 
 pub step-is : (s : State) (c : Call)
     → stepOf s c ≡ pick (lacksIn s c) (refuses refusal.StoreTooShort s) (pick (atMoment s c) (goFor s c) (refuses refusal.WrongMoment s))
-unfolding bytesOfferedStep streamEndedStep replyTakenStep replyGivenStep objectGivenStep bodyGivenStep bodyFailedStep abortAcknowledgedStep passwordGivenStep nonceGivenStep credentialsGivenStep connectionsClosedStep
+unfolding bytesOfferedStep streamEndedStep replyTakenStep replyGivenStep objectGivenStep bodyGivenStep bodyFailedStep
+    abortAcknowledgedStep passwordGivenStep nonceGivenStep credentialsGivenStep connectionsClosedStep
 step-is s (bytesOffered i) = kept s (bytesOffered i) (lacksIn s (bytesOffered i)) (atMoment s (bytesOffered i))
 step-is s streamEnded = kept s streamEnded (lacksIn s streamEnded) (atMoment s streamEnded)
 step-is s replyTaken = kept s replyTaken (lacksIn s replyTaken) (atMoment s replyTaken)
@@ -237,7 +236,8 @@ pub record Agree (w : Known) (s : State) (c : Call) (v : Verdict) (m : Called) :
       → Follows (Kept (fedReads j (fedAt s v c))) (m .tables) (doneOf m) (journalFed j (fedAt s v c))
   pub sized : (j : Journal) (late : Late) → Coupled (s .tables) (s .engine) (s .stores) j → LateAt (s .engine) (s .stores) late
       → replySize late j (fedAt s v c) ≤ 65535 → Sized (doneOf m) (lateAfter late j (fedAt s v c))
-  pub spoken : (j : Journal) (o : Mode) → Coupled (s .tables) (s .engine) (s .stores) j → ModeAt (s .engine .operation) o → Kept (fedReads j (fedAt s v c))
+  pub spoken : (j : Journal) (o : Mode) → Coupled (s .tables) (s .engine) (s .stores) j → ModeAt (s .engine .operation) o
+      → Kept (fedReads j (fedAt s v c))
       → Spoken (doneOf m) (dueIn o j (fedAt s v c)) (modeAfter o j (fedAt s v c))
 
 -- the same of a call that leaves the table store
@@ -258,11 +258,7 @@ none-taken true = refl
 none-taken false = refl
 
 module _ (w : Known) (s : State) (h : Seated s) (k : Knows w s) (c : Call) where
-  abbrev e : Engine
-  e = s .engine
-
-  abbrev st : Stores
-  st = s .stores
+  open State s using (engine as e, stores as st)
 
   abbrev ranged : Bool
   ranged = fits (kindOf c) (e .awaits)
@@ -310,7 +306,9 @@ module _ (w : Known) (s : State) (h : Seated s) (k : Knows w s) (c : Call) where
       → ((j : Journal) → Coupled (s .tables) e st j → Follows (Kept (fedReads j (fedGoing s c))) (s .tables) d (journalFed j (fedGoing s c)))
       → SizedBy (λ j late. Brief d) → SpokenBy d
       → AgreeKept w s c goes (after t d)
-  agree-goes q t d f n g z a = agree-tabled d t (s .tables) f refl (k .nonces ∙ ap (take 32) (sym q)) n g (λ j late x y l. brief-sized d (lateAfter late j (fedGoing s c)) (z j late x y l)) a
+  agree-goes q t d f n g z a =
+      agree-tabled d t (s .tables) f refl (k .nonces ∙ ap (take 32) (sym q)) n g
+      (λ j late x y l. brief-sized d (lateAfter late j (fedGoing s c)) (z j late x y l)) a
 
   -- a call that is refused
   noted-refused : (x : Call) (n : ℕ) → noted x (refused n) (w .nonces) ≡ w .nonces

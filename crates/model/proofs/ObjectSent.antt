@@ -1,15 +1,15 @@
 -- The replies to a Get are the packets of the object that the host gives: the calls go as the run of the object does, with a request of the
 -- peer between two replies unless Single Response Mode spares it. Assumes nothing.
-use mathlib.Core.Path.{_≡_, refl, sym, ap, subst, _∙_}
-use mathlib.Core.List.{List, [], _∷_, _++_}
+use mathlib.Core.Path.{_≡_, refl, sym, ap, _∙_}
+use mathlib.Core.List.{List, [], _∷_}
 use mathlib.Core.Bool.{Bool, true, false, _&&_, _||_, not}
 use mathlib.Core.Option.{Option, none, some}
-use Prim.Native.Nat.{ℕ, zero, suc, _+_, _-_, _≤_, min}
+use Prim.Native.Nat.{ℕ, zero, suc, _≤_}
 use native.Mathlib.Omega.{arith}
 use lib.ListN.{length, take, drop, length-take}
 use lib.Seq.{take-append-seam}
 use lib.Dec.{ltb, leb}
-use borrow.Author.Tests.{ltb-false, leb-true, le-ltb, le-leb}
+use borrow.Author.Tests.{ltb-false, leb-true, le-ltb}
 use Rattle.base.specs.Pick.{pick}
 use Rattle.packet.specs.FirstByte.{named, firstByte, sameOpcode}
 use Rattle.packet.specs.Header.{headerAt, walk, readHeaders, first}
@@ -28,16 +28,14 @@ use Rattle.outgoing.specs.Claims.{Reads, gives, beforeRun, runBy, run, fresh, h
 use Rattle.outgoing.proofs.Sent.{SendsFrom, next-sends, body-sends}
 use Rattle.outgoing.proofs.ObjectRuns.{sent-as-packets}
 use Rattle.connection.specs.Reply.{front}
-use Rattle.server.specs.declared.Operation.{Operation}
-use Rattle.server.specs.declared.Operation.the-variants.{Nothing, Sending, Getting}
+use Rattle.server.specs.declared.Operation.the-variants.{Sending, Getting}
 use Rattle.server.specs.declared.Await.{Await}
 use Rattle.server.specs.declared.Await.the-variants as await
 use Rattle.server.specs.declared.CallKind.{CallKind}
 use Rattle.server.specs.declared.CallKind.the-variants as kind
 use Rattle.server.specs.declared.Engine.{Engine}
-use Rattle.server.specs.declared.Outcome.the-variants as outcome
-use Rattle.model.specs.Step.{Stores, withReply, withHeaders, engineWith, Done, wants, repliesCode, capacityOf, limitOf, Stepped, after}
-use Rattle.model.specs.Object.{sendsMade, sendsPacket, sendsNext, goesOn, objectOf}
+use Rattle.model.specs.Step.{Stores, withReply, withHeaders, engineWith, wants, capacityOf, limitOf, Stepped, after}
+use Rattle.model.specs.Object.{sendsMade, sendsPacket, sendsNext}
 use Rattle.model.specs.Guard.{short, shortTables, sound, badHeaders, fits, guarded}
 use Rattle.model.specs.Calls.{withPacket, offers, bytesOfferedStep, replyTakenStep, objectGivenStep, bodyGivenStep}
 use Rattle.model.specs.ObjectSent.{goOn, repliesFrom, asReplies, GetSends}
@@ -156,7 +154,8 @@ module _ (reads : Reads) (t : List ℕ) (tables : shortTables t ≡ false) where
         → Gives left (after i (sendsNext e′ q srm wait′ s′)) qs
     unfolding sendsNext
     next-follows i wait′ e′ s′ qs b′ p h y r =
-        let v = next-sends (capacityOf e′) q (s′ .headers) (s′ .reply) (omega (arith, b′ .peer .least)) (omega (arith, b′ .peer .most)) (b′ .room .reply)
+        let v =
+        next-sends (capacityOf e′) q (s′ .headers) (s′ .reply) (omega (arith, b′ .peer .least)) (omega (arith, b′ .peer .most)) (b′ .room .reply)
         (omega (arith, w .total, w .sent)) (omega (arith, w .total)) (omega (arith, w .total, b′ .room .headers)) in
         ih i left srm wait′ e′ s′ q (nextPacket (capacityOf e′) q (s′ .headers) (s′ .reply)) qs b′ (omega (arith, w .total)) v (rw (p, h, y) r)
 
@@ -176,12 +175,22 @@ module _ (reads : Reads) (t : List ℕ) (tables : shortTables t ≡ false) where
         let a : length (s′ .packet) ≡ length (z .packet) = ap length (sym (v .is)) in
         let b′ : Base e′ s′ =
         record {
-          room = record { packet = omega (arith, h .base .room .packet); headers = h .base .room .headers; reply = h .base .room .reply; body = h .base .room .body };
+          room = record {
+            packet = omega (arith, h .base .room .packet);
+            headers = h .base .room .headers;
+            reply = h .base .room .reply;
+            body = h .base .room .body;
+          };
           peer = h .base .peer;
           last = omega arith;
         } in
         let f : Sits (sendingTo e q c srm wait await.Bytes (e .length)) z =
-        record { base = record { room = h .base .room; peer = h .base .peer; last = h .base .last }; begun = none-begun (z .packet); counts = h .counts; shape = refl } in
+        record {
+          base = record { room = h .base .room; peer = h .base .peer; last = h .base .last };
+          begun = none-begun (z .packet);
+          counts = h .counts;
+          shape = refl;
+        } in
         let y = offered-more e z q c srm wait (e .length) v f in
         next-call left left (after 0 (wants (sendingTo e q c srm wait await.Taken (e .length)) (e .peer) (Sending q c srm wait) z))
         (after (y .0) (sendsNext e′ q srm false s′)) qs qs
@@ -197,7 +206,8 @@ module _ (reads : Reads) (t : List ℕ) (tables : shortTables t ≡ false) where
         last-call left (after x (sendsMade e srm wait (next.Send n true) m s)) ps (λ j. rw (p, w .last n i))
     follows-by (next.Send n false) i f r =
         let e′ = sendingTo e q c srm wait await.Taken (e .length) in
-        let y = run-before (take n (m .reply)) (run (capacityOf e) (s .headers) reads k left (nextPacket (capacityOf e) q (s .headers) (m .reply))) ps r in
+        let y =
+        run-before (take n (m .reply)) (run (capacityOf e) (s .headers) reads k left (nextPacket (capacityOf e) q (s .headers) (m .reply))) ps r in
         next-call left left (after x (sendsMade e srm wait (next.Send n false) m s))
         (after 0 (pick (srm && not wait) (sendsNext e′ q srm wait z) (wants e′ (e .peer) (Sending q c srm wait) z))) ps (y .rest)
         (goes-follows n (y .rest) (f .sits) (y .of) (srm && not wait))
@@ -209,7 +219,8 @@ module _ (reads : Reads) (t : List ℕ) (tables : shortTables t ≡ false) where
         let a : length d ≤ c .room = omega (arith, length-take g left) in
         let h = f .sits .base in
         let v = body-sends q c d (m .reply) (h .room .reply) a (w .begun) (w .chunk) (omega (arith, w .total, w .sent)) in
-        next-call left (drop g left) (after x (sendsMade e srm wait next.Read m s)) (after 0 (sendsPacket e′ srm wait (bodyGiven q c d (m .reply)) z)) ps ps
+        next-call left (drop g left) (after x (sendsMade e srm wait next.Read m s))
+        (after 0 (sendsPacket e′ srm wait (bodyGiven q c d (m .reply)) z)) ps ps
         (ih 0 (drop g left) srm wait e′ z q (bodyGiven q c d (m .reply)) ps h (omega (arith, w .total)) v r)
         (λ j u. ap (repliesFrom reads t j (drop g left)) (given-more e′ z q c srm wait d refl refl a (f .sits)) ∙ u)
     follows-by next.TooLarge i f r =
@@ -268,8 +279,10 @@ get-sends e s tables g srm confirm wait hs headers body reads a ta h most w o y 
     let t : take (length hs) store ≡ hs = take-append-seam hs (drop (length hs) (s .headers)) in
     let object = fresh (length hs) confirm (hasBody body) in
     let m = nextPacket (capacityOf e) object store (s .reply) in
-    let v = next-sends (capacityOf e) object store (s .reply) (omega (arith, b .peer .least)) (omega (arith, most)) (b .room .reply) (omega arith) l n in
-    let ran = sent-as-packets (capacityOf e) (length hs) confirm store (s .reply) headers body reads (omega (arith, b .peer .least)) (omega (arith, most))
+    let v =
+    next-sends (capacityOf e) object store (s .reply) (omega (arith, b .peer .least)) (omega (arith, most)) (b .room .reply) (omega arith) l n in
+    let ran =
+    sent-as-packets (capacityOf e) (length hs) confirm store (s .reply) headers body reads (omega (arith, b .peer .least)) (omega (arith, most))
     (b .room .reply) n (rw t octets) (rw t e′) in
     rw (object-given e s g srm confirm wait hs (hasBody body) a h w o y)
     (follows reads tables ta (ran .0) 0 (bodyBytes body) (srm || confirm) wait e z object m (packetsOf (capacityOf e) confirm headers body) b′ l v

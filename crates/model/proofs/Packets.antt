@@ -28,14 +28,13 @@ use Rattle.server.specs.declared.Operation.the-variants.{Nothing, Trailing, Put
 use Rattle.server.specs.declared.Await.the-variants as await
 use Rattle.server.specs.declared.End.the-variants as why
 use Rattle.server.specs.declared.Engine.{Engine}
-use Rattle.server.specs.declared.HostRequest.{HostRequest}
 use Rattle.server.specs.declared.HostRequest.the-variants as request
 use Rattle.server.specs.declared.Outcome.the-variants as outcome
 use Rattle.incoming.proofs.Frames.{Octets}
 use Rattle.packet.proofs.HeaderBytes.{request-headers}
 use Rattle.model.proofs.Fit.{Base}
 use Rattle.model.proofs.Steps.{outgoing-within}
-use Rattle.model.proofs.Coupling.{OpenedAt, Fixed, Told, Follows, told-follows, quiet, told-done, told-ends, told-wants, told-replies, told-code}
+use Rattle.model.proofs.Coupling.{OpenedAt, Fixed, fixed-kept, Told, Follows, told-follows, quiet, told-done, told-ends, told-wants, told-replies, told-code}
 use Rattle.model.proofs.Gathers.{held-after, put-follows, get-follows, headers-follows, next-told}
 use Rattle.model.proofs.Dispatch.{dispatch-told}
 
@@ -95,9 +94,11 @@ module _ (ts : List ℕ) (e : Engine) (s : Stores) (j : Journal) (f : Fixed ts (
     srm-stays false = refl
 
     drain-told : (code : ℕ) (t : Bool)
-        → Told ts (pick t (repliesCode e (e .peer) Nothing code s) (wants e (e .peer) (Draining code) s)) (unchanged (after j (some r) (pick t nothing draining)))
+        → Told ts (pick t (repliesCode e (e .peer) Nothing code s) (wants e (e .peer) (Draining code) s))
+        (unchanged (after j (some r) (pick t nothing draining)))
     drain-told code true = told-code ts e (e .peer) s (after j (some r) nothing) code (held-after ts e s j f r Nothing nothing s refl)
-    drain-told code false = told-wants ts e (e .peer) s (after j (some r) draining) (Draining code) (held-after ts e s j f r (Draining code) draining s refl)
+    drain-told code false =
+        told-wants ts e (e .peer) s (after j (some r) draining) (Draining code) (held-after ts e s j f r (Draining code) draining s refl)
 
     refused-told : (t : Bool)
         → Told ts (repliesCode e (e .peer) (pick t Nothing Trailing) 0x4D s) (unchanged (after j (some r) (pick t nothing trailing)))
@@ -125,19 +126,24 @@ module _ (ts : List ℕ) (e : Engine) (s : Stores) (j : Journal) (f : Fixed ts (
         (told-follows (rw (trails-same r) (trails-told (trailsRead r) n)))
     inside-told (Putting g srm) x w c n =
         let a = w .carries in
-        subst (λ (y : Opened). Follows (length (keptWith y r) ≤ 65535) ts (inside (Putting g srm) e r v (knownIn e ts v) s) (requestRead y j r)) (sym (w .is))
+        subst (λ (y : Opened). Follows (length (keptWith y r) ≤ 65535) ts (inside (Putting g srm) e r v (knownIn e ts v) s) (requestRead y j r))
+        (sym (w .is))
         (goes-on op.Put _ _ (a .headers ++ carriedBy (r .headers) .headers)
-        (λ i. subst (λ (t : Bool). Follows (length (a .headers ++ carriedBy (r .headers) .headers) ≤ 65535) ts (putPacket e r v srm false g s) (putRead j r srm t (joined a (carriedBy (r .headers))))) (srm-stays srm)
+        (λ i. subst (λ (t : Bool). Follows (length (a .headers ++ carriedBy (r .headers) .headers) ≤ 65535) ts (putPacket e r v srm false g s)
+        (putRead j r srm t (joined a (carriedBy (r .headers))))) (srm-stays srm)
         (put-follows ts e s j f r v srm false g a (w .agrees) i)))
     inside-told (Getting g srm confirm wait) x w c n =
         let a = w .keeps in
-        subst (λ (y : Opened). Follows (length (keptWith y r) ≤ 65535) ts (inside (Getting g srm confirm wait) e r v (knownIn e ts v) s) (requestRead y j r)) (sym (w .is))
+        subst (λ (y : Opened). Follows (length (keptWith y r) ≤ 65535) ts (inside (Getting g srm confirm wait) e r v (knownIn e ts v) s)
+        (requestRead y j r)) (sym (w .is))
         (goes-on op.Get _ _ (a ++ keptByGet (r .headers)) (λ i. get-follows ts e s j f r v srm confirm g a (w .agrees)))
     inside-told (Sending o q srm wait) x w c n =
         let z = outgoing-within o q c in
-        subst (λ (y : Opened). Follows (length (keptWith y r) ≤ 65535) ts (inside (Sending o q srm wait) e r v (knownIn e ts v) s) (requestRead y j r)) (sym w)
+        subst (λ (y : Opened). Follows (length (keptWith y r) ≤ 65535) ts (inside (Sending o q srm wait) e r v (knownIn e ts v) s)
+        (requestRead y j r)) (sym w)
         (sent-on (goes-on op.Get _ _ []
-        (λ i. told-follows (next-told ts e s (after j (some r) sending) (record { settings = f .settings; past = f .past; standing = f .standing; window = f .window; ended = f .ended }) refl refl h o srm
+        (λ i. told-follows (next-told ts e s (after j (some r) sending)
+        (fixed-kept f) refl refl h o srm
         (v .wait) (z .sent) (z .total)))))
       where
         nil-short : (t : Bool) → length (pick {A = List ℕ} t [] []) ≤ 65535
@@ -150,11 +156,13 @@ module _ (ts : List ℕ) (e : Engine) (s : Stores) (j : Journal) (f : Fixed ts (
         sent-on w = told-follows (w .told (nil-short (sameOpcode (r .opcode) op.Get)))
     inside-told (GatheringOp o g) x w c n =
         let a = w .0 .keeps in
-        subst (λ (y : Opened). Follows (length (keptWith y r) ≤ 65535) ts (inside (GatheringOp o g) e r v (knownIn e ts v) s) (requestRead y j r)) (sym (w .0 .is))
+        subst (λ (y : Opened). Follows (length (keptWith y r) ≤ 65535) ts (inside (GatheringOp o g) e r v (knownIn e ts v) s) (requestRead y j r))
+        (sym (w .0 .is))
         (goes-on o _ _ (a ++ allBytes (r .headers)) (λ i. headers-follows ts e s j f r o g a (w .0 .agrees) (w .1) i))
     inside-told (Connecting q g m) x w c n = absurd w
     inside-told (Draining code) x w c n =
-        subst (λ (y : Opened). Follows (length (keptWith y r) ≤ 65535) ts (inside (Draining code) e r v (knownIn e ts v) s) (requestRead y j r)) (sym w)
+        subst (λ (y : Opened). Follows (length (keptWith y r) ≤ 65535) ts (inside (Draining code) e r v (knownIn e ts v) s) (requestRead y j r))
+        (sym w)
         (told-follows (drain-told code (r .final)))
 
   -- ---- any packet
@@ -165,16 +173,19 @@ module _ (ts : List ℕ) (e : Engine) (s : Stores) (j : Journal) (f : Fixed ts (
       → Follows (length (keptRead (j .opened) x) ≤ 65535) ts (readAs x e q s ts) (packetRead x j)
   read-told o w c q none i =
       told-follows
-      (subst (λ (t : Bool). Told ts (unreadable e q s) (pick t (endsWith 4 j) (unchanged (after j none (j .opened))))) (sym (busy-same (limitOf e) (e .operation) (s .headers) (s .body) (j .opened) w))
+      (subst (λ (t : Bool). Told ts (unreadable e q s) (pick t (endsWith 4 j) (unchanged (after j none (j .opened)))))
+      (sym (busy-same (limitOf e) (e .operation) (s .headers) (s .body) (j .opened) w))
       (go (busy (e .operation)) refl))
     where
       go : (t : Bool) → busy (e .operation) ≡ t
-          → Told ts (pick t (ends e (e .peer) why.Unreadable s) (repliesCode e (e .peer) (e .operation) (pick (unknownByte (firstByte (getD q 0 0))) 0x51 0x40) s)) (pick t (endsWith 4 j) (unchanged (after j none (j .opened))))
+          → Told ts (pick t (ends e (e .peer) why.Unreadable s)
+          (repliesCode e (e .peer) (e .operation) (pick (unknownByte (firstByte (getD q 0 0))) 0x51 0x40) s))
+          (pick t (endsWith 4 j) (unchanged (after j none (j .opened))))
       go true m = told-ends ts e (e .peer) s (end j) why.Unreadable
       go false m =
           told-replies ts e (e .peer) s (after j none (j .opened)) (e .operation)
           (packetBytes (sentCode (pick (unknownByte (firstByte (getD q 0 0))) 0x51 0x40)) [] []) (idle-quiet (e .operation) m)
-          (record { fixed = record { settings = f .settings; past = f .past; standing = f .standing; window = f .window; ended = f .ended }; begun = refl; opened = w })
+          (record { fixed = fixed-kept f; begun = refl; opened = w })
   read-told o w c q (some r) i = go (sameOpcode (r .opcode) op.Abort) refl
     where
       short : length (allBytes (r .headers)) ≤ 65535
@@ -182,7 +193,8 @@ module _ (ts : List ℕ) (e : Engine) (s : Stores) (j : Journal) (f : Fixed ts (
 
       go : (t : Bool) → sameOpcode (r .opcode) op.Abort ≡ t
           → Follows (length (keptWith (j .opened) r) ≤ 65535) ts
-          (pick t (asks e (e .peer) Nothing await.Acknowledgement (request.Abort (e .length)) s) (inside (e .operation) e r (surveyOf (some (r .headers))) (knownIn e ts (surveyOf (some (r .headers)))) s))
+          (pick t (asks e (e .peer) Nothing await.Acknowledgement (request.Abort (e .length)) s)
+          (inside (e .operation) e r (surveyOf (some (r .headers))) (knownIn e ts (surveyOf (some (r .headers)))) s))
           (pick t (dropped j r) (requestRead (j .opened) j r))
       go true m =
           told-follows

@@ -81,9 +81,11 @@ told-apart w (outcome.Refused n) a e = a
 module _ (w : Waits) (s : State) (k : w ≡ waitsOf (s .engine .awaits) (s .engine .operation)) (a : apart w ≡ true) where
   -- the check that is made if a password is awaited
   check-of : (p : Option (List ℕ)) → fits kind.PasswordGiven (s .engine .awaits) ≡ true
-      → checkMade (passwordGiven p) s ≡ checks (s .engine .peer .challenge) (clientResponse (s .engine) (s .stores)) (demandsUser (s .engine .settings)) p
+      → checkMade (passwordGiven p) s ≡ checks (s .engine .peer .challenge) (clientResponse (s .engine) (s .stores))
+      (demandsUser (s .engine .settings)) p
   check-of p i =
-      ap (λ (t : Bool). pick t (checks (s .engine .peer .challenge) (clientResponse (s .engine) (s .stores)) (demandsUser (s .engine .settings)) p) false) i
+      ap (λ (t : Bool). pick t (checks (s .engine .peer .challenge) (clientResponse (s .engine) (s .stores))
+      (demandsUser (s .engine .settings)) p) false) i
 
   same-password : (p q : Option (List ℕ)) → checkMade (passwordGiven p) s ≡ checkMade (passwordGiven q) s
       → stepOf s (passwordGiven p) ≡ stepOf s (passwordGiven q)
@@ -94,7 +96,8 @@ module _ (w : Waits) (s : State) (k : w ≡ waitsOf (s .engine .awaits) (s .engi
       (λ i. ap (λ (t : Bool). after 0 (passwordAnswered (s .engine) t (s .stores))) (sym (check-of p i) ∙ c ∙ check-of q i)))
 
   same-credentials : (u : Option (List ℕ)) (p q : List ℕ)
-      → stepOf s (credentialsGiven (some (record { user = u; password = p }))) ≡ stepOf s (credentialsGiven (some (record { user = u; password = q })))
+      → stepOf s (credentialsGiven (some (record { user = u; password = p })))
+      ≡ stepOf s (credentialsGiven (some (record { user = u; password = q })))
   unfolding credentialsGivenStep
   same-credentials u p q =
       ap (keeps s)
@@ -109,7 +112,8 @@ module _ (w : Waits) (s : State) (k : w ≡ waitsOf (s .engine .awaits) (s .engi
 
 -- ---- two runs
 
-run-alike : (st : Settings) (xs ys : List Performed) (w : Known) (s : State) (j : Journal) → Between st w s j → apart (w .waits) ≡ true → Ran s xs → Ran s ys
+run-alike : (st : Settings) (xs ys : List Performed) (w : Known) (s : State) (j : Journal) → Between st w s j → apart (w .waits) ≡ true → Ran s xs
+    → Ran s ys
     → AllAlike xs ys → ChecksAlike s s xs ys → NoneAsked xs → NoTrace xs ys
 run-alike st [] [] w s j b a r q l c n = record { shown = refl; left = refl }
 run-alike st [] (y ∷ ys) w s j b a r q l c n = absurd l

@@ -1,8 +1,8 @@
 -- No reply is too long by itself: only a host's answer can lead to a reply of over 65,535 bytes, and then the answer's own size says so. And
 -- only a host's reply leads to where credentials are awaited. Assumes nothing.
 use mathlib.Core.Path.{_≡_, refl, sym, ap, ap₂, _∙_, subst}
-use mathlib.Core.List.{List, [], _∷_}
-use mathlib.Core.Bool.{Bool, true, false, _&&_, _||_, not, true≢false, false≢true}
+use mathlib.Core.List.{List, []}
+use mathlib.Core.Bool.{Bool, true, false, _&&_, _||_, not, true≢false}
 use mathlib.Core.Option.{Option, none, some}
 use Prim.Native.Nat.{ℕ, _+_, _%_, _^_, _≤_}
 use native.Mathlib.Omega.{arith}
@@ -15,7 +15,6 @@ use Rattle.base.specs.Bytes.{be32}
 use Rattle.digest.specs.Md5.{octets16}
 use Rattle.digest.specs.declared.md5.Octets16.{Octets16}
 use Rattle.packet.specs.FirstByte.{sameOpcode}
-use Rattle.packet.specs.AuthWrite.{given}
 use Rattle.packet.specs.Codes.{isSuccess, sentCode}
 use Rattle.packet.specs.Header.{Header, readHeaders, first, bytesOf, allBytes}
 use Rattle.packet.specs.Packet.{Request as Packet, requestOf, connectLimit, packetBytes}
@@ -27,7 +26,6 @@ use Rattle.journal.specs.Calls.{Credentials}
 use Rattle.journal.specs.Checks.{Check}
 use Rattle.journal.specs.Journal.{Settings as JournalSettings, Standing, Opened, Journal, asksSrm, listOf}
 use Rattle.incoming.specs.Survey.{surveyOf}
-use Rattle.incoming.specs.Gather.{Gathering}
 use Rattle.incoming.specs.declared.survey.Survey.{Survey}
 use Rattle.incoming.specs.declared.gather.Keep.the-variants as keep
 use Rattle.incoming.specs.declared.gather.Gathered.{Gathered}
@@ -45,12 +43,12 @@ use Rattle.connection.specs.declared.peer.Challenge.{Challenge}
 use Rattle.connection.specs.declared.peer.Challenge.the-variants.{Stored, Absent}
 use Rattle.connection.specs.declared.peer.Peer.{Peer}
 use Rattle.connection.specs.declared.peer.ConnectionId.{ConnectionId}
-use Rattle.model.specs.Step.{Stores, withReply, withGathered, engineWith, Done, done, DoneTabled, doneTabled, wants, ends, sent, sends, sendsConnect, capacityOf}
+use Rattle.model.specs.Step.{Stores, withReply, withGathered, engineWith, Done, done, DoneTabled, doneTabled, sent, sends, sendsConnect, capacityOf}
 use Rattle.model.specs.Request.{lastPacket, lastHeaders, clientResponse}
 use Rattle.model.specs.Guard.{longRealm}
-use Rattle.model.specs.Operation.{gathers, putContinues, putGathered, putPacket, getContinues, getGathered, getPacket, headersPacket}
+use Rattle.model.specs.Operation.{gathers, putContinues, putPacket, getContinues, getPacket, headersPacket}
 use Rattle.model.specs.Object.{sendsMade, sendsPacket, sendsNext, goesOn}
-use Rattle.model.specs.Connect.{srmAsked, connectSends, frontFor, connectChallenged, connectOpened, connectAnswer, verifies, connectPacket, checks, passwordAnswer, optionsOf, realmOf, nonceAnswer, stops, repliesFields, passwordAnswered, demandsUser}
+use Rattle.model.specs.Connect.{srmAsked, connectSends, frontFor, connectChallenged, connectOpened, connectAnswer, verifies, connectPacket, checks, passwordAnswer, optionsOf, realmOf, nonceAnswer, stops, passwordAnswered, demandsUser}
 use Rattle.model.specs.Dispatch.{Rejection, admits, rejects, rejection, drains, dispatches, admittedAs, dispatch, inside, busy, readAs, knownIn, packetTarget, arrived, packetDone, trails}
 use Rattle.model.specs.Replies.{frontIn, isFull, fullFor, acceptedSize, acceptedAt, connectSize, lastSize, answerSize, Late, lateBy}
 use Rattle.model.specs.Theorem.{settingsOf}
@@ -105,8 +103,10 @@ module _ (e : Engine) (s : Stores) where
   -- ---- operations
 
   put-continues : (g : Gathered) (srm confirm additional : Bool) (z : Stores) → Brief (putContinues e g srm confirm additional z)
-  put-continues g true confirm additional z = brief-pick additional _ _ (leaf (e .peer) _ await.Taken _ _ refl refl) (leaf (e .peer) _ await.Bytes _ _ refl refl)
-  put-continues g false confirm additional z = brief-pick (g .over) _ _ (leaf (e .peer) _ await.Taken _ _ refl refl) (leaf (e .peer) _ await.Taken _ _ refl refl)
+  put-continues g true confirm additional z =
+      brief-pick additional _ _ (leaf (e .peer) _ await.Taken _ _ refl refl) (leaf (e .peer) _ await.Bytes _ _ refl refl)
+  put-continues g false confirm additional z =
+      brief-pick (g .over) _ _ (leaf (e .peer) _ await.Taken _ _ refl refl) (leaf (e .peer) _ await.Taken _ _ refl refl)
 
   put-brief : (r : Packet) (v : Survey) (srm confirm : Bool) (g : Gathered) → Brief (putPacket e r v srm confirm g s)
   unfolding putPacket
@@ -191,7 +191,9 @@ module _ (e : Engine) (s : Stores) where
 
     admitted-brief : (x : Rejection) → Brief (admittedAs x e r v s)
     admitted-brief admits = dispatches-brief (r .opcode)
-    admitted-brief (rejects code) = brief-pick (e .peer .«srm_enabled» && (drains (r .opcode) && not (r .final))) _ _ (leaf (e .peer) _ await.Bytes _ _ refl refl) (leaf (e .peer) _ await.Taken _ _ refl refl)
+    admitted-brief (rejects code) =
+        brief-pick (e .peer .«srm_enabled» && (drains (r .opcode) && not (r .final))) _ _ (leaf (e .peer) _ await.Bytes _ _ refl refl)
+        (leaf (e .peer) _ await.Taken _ _ refl refl)
 
     dispatch-brief : (known : Bool) → Brief (dispatch e r v known s)
     unfolding dispatch
@@ -200,15 +202,20 @@ module _ (e : Engine) (s : Stores) where
     inside-brief : (o : Operation) (known : Bool) → Brief (inside o e r v known s)
     inside-brief Nothing known = dispatch-brief known
     inside-brief Trailing known = brief-pick (trails r) _ _ (leaf (e .peer) _ await.Taken _ _ refl refl) (dispatch-brief known)
-    inside-brief (Putting g srm) known = brief-pick (sameOpcode (r .opcode) op.Put) _ _ (put-brief r v srm false g) (leaf (e .peer) _ await.Last _ _ refl refl)
-    inside-brief (Getting g srm confirm wait) known = brief-pick (sameOpcode (r .opcode) op.Get) _ _ (get-brief r v srm confirm g) (leaf (e .peer) _ await.Last _ _ refl refl)
-    inside-brief (Sending o c srm wait) known = brief-pick (sameOpcode (r .opcode) op.Get) _ _ (next-brief o srm (v .wait)) (leaf (e .peer) _ await.Last _ _ refl refl)
+    inside-brief (Putting g srm) known =
+        brief-pick (sameOpcode (r .opcode) op.Put) _ _ (put-brief r v srm false g) (leaf (e .peer) _ await.Last _ _ refl refl)
+    inside-brief (Getting g srm confirm wait) known =
+        brief-pick (sameOpcode (r .opcode) op.Get) _ _ (get-brief r v srm confirm g) (leaf (e .peer) _ await.Last _ _ refl refl)
+    inside-brief (Sending o c srm wait) known =
+        brief-pick (sameOpcode (r .opcode) op.Get) _ _ (next-brief o srm (v .wait)) (leaf (e .peer) _ await.Last _ _ refl refl)
     inside-brief (GatheringOp o g) known = brief-pick (sameOpcode (r .opcode) o) _ _ (headers-brief r o g) (leaf (e .peer) _ await.Last _ _ refl refl)
     inside-brief (Connecting c f n) known = leaf (e .peer) _ await.Last _ _ refl refl
-    inside-brief (Draining code) known = brief-pick (r .final) _ _ (leaf (e .peer) _ await.Taken _ _ refl refl) (leaf (e .peer) _ await.Bytes _ _ refl refl)
+    inside-brief (Draining code) known =
+        brief-pick (r .final) _ _ (leaf (e .peer) _ await.Taken _ _ refl refl) (leaf (e .peer) _ await.Bytes _ _ refl refl)
 
   read-brief : (q t : List ℕ) (x : Option Packet) → Brief (readAs x e q s t)
-  read-brief q t none = brief-pick (busy (e .operation)) _ _ (leaf (e .peer) _ await.Nothing _ _ refl refl) (leaf (e .peer) _ await.Taken _ _ refl refl)
+  read-brief q t none =
+      brief-pick (busy (e .operation)) _ _ (leaf (e .peer) _ await.Nothing _ _ refl refl) (leaf (e .peer) _ await.Taken _ _ refl refl)
   read-brief q t (some r) =
       brief-pick (sameOpcode (r .opcode) op.Abort) _ _ (leaf (e .peer) _ await.Acknowledgement _ _ refl refl)
       (inside-brief r (surveyOf (some (r .headers))) (e .operation) (knownIn e t (surveyOf (some (r .headers)))))
@@ -217,7 +224,8 @@ module _ (e : Engine) (s : Stores) where
   unfolding passwordAnswer passwordAnswered
   password-brief p =
       brief-pick (checks (e .peer .challenge) (clientResponse e s) (demandsUser (e .settings)) p) _ _
-      (leaf (verifiedPeer (checkedPeer (e .peer) false)) _ await.Connect _ _ refl refl) (leaf (checkedPeer (e .peer) true) _ await.Nonce _ _ refl refl)
+      (leaf (verifiedPeer (checkedPeer (e .peer) false)) _ await.Connect _ _ refl refl)
+      (leaf (checkedPeer (e .peer) true) _ await.Nonce _ _ refl refl)
 
   -- ---- replies to a host's answer, by their sizes
 
@@ -270,7 +278,8 @@ done-brief e n s t =
 -- the size of the reply to a Connect that waits for credentials
 abbrev pub waitingSize : Engine → Stores → ConnectionId → ℕ → Late
 waitingSize e s f n c =
-    7 + length (allBytes (connectHeaders (idGiven f) (lastHeaders e s) (listOf (readHeaders (take n (s .headers)) 0)) c (srmAsked e (surveyOf (some (lastHeaders e s))))))
+    7 + length (allBytes (connectHeaders (idGiven f) (lastHeaders e s) (listOf (readHeaders (take n (s .headers)) 0)) c
+    (srmAsked e (surveyOf (some (lastHeaders e s))))))
 
 abbrev pub LateIn : Operation → Engine → Stores → Late → Type 0
 LateIn (Connecting code f n) e s late = (c : Option Credentials) → waitingSize e s f n c ≡ late c
@@ -310,7 +319,8 @@ front-is p ts h none none = refl
 front-is p ts h none (some v) = refl
 
 -- an id that is opened is no 65th
-not-full : (p : Peer) (ts : List ℕ) (h : List Check) (srm : Bool) → PeerFits (p .nonces) p → 64 ≤ length ts → (q : Linked) (a t : Option (List ℕ)) → openedFor p ts srm a t ≡ some q
+not-full : (p : Peer) (ts : List ℕ) (h : List Check) (srm : Bool) → PeerFits (p .nonces) p → 64 ≤ length ts → (q : Linked) (a t : Option (List ℕ))
+    → openedFor p ts srm a t ≡ some q
     → fullFor (standingOf p ts h) a t ≡ false
 unfolding opened isFull
 not-full p ts h srm f room q a t = by a t
@@ -321,7 +331,8 @@ not-full p ts h srm f room q a t = by a t
     one : (id next : ℕ) (g : Target) → opened p ts srm id next g ≡ some q → isFull (standingOf p ts h) id ≡ false
     one id next g i = go (member id (idsOf p ts)) (leb 64 (p .count)) refl refl i
       where
-        go : (x u : Bool) → member id (idsOf p ts) ≡ x → leb 64 (p .count) ≡ u → opened p ts srm id next g ≡ some q → isFull (standingOf p ts h) id ≡ false
+        go : (x u : Bool) → member id (idsOf p ts) ≡ x → leb 64 (p .count) ≡ u → opened p ts srm id next g ≡ some q
+            → isFull (standingOf p ts h) id ≡ false
         go true u m k i = simp m
         go false true m k i = absurd (let z : _≡_ {A = ℕ} 0 1 = (let y = simp (m, k) at i in cc) in omega arith)
         go false false m k i = simp (m, size, k)
@@ -331,7 +342,8 @@ not-full p ts h srm f room q a t = by a t
     by none (some v) i = one (searched p ts) ((searched p ts + 1) % 2 ^ 32) (targetBy v) i
     by none none i = refl
 
-module _ (ts : List ℕ) (e : Engine) (s : Stores) (j : Journal) (w : AskedBy ts (e .settings) (e .peer) op.Connect (e .length) s j) (code : ℕ) (hs : List ℕ) where
+module _ (ts : List ℕ) (e : Engine) (s : Stores) (j : Journal) (w : AskedBy ts (e .settings) (e .peer) op.Connect (e .length) s j) (code : ℕ)
+    (hs : List ℕ) where
   abbrev named : Option (List ℕ)
   named = first 0xCB (listOf (readHeaders hs 0))
 
@@ -347,12 +359,14 @@ module _ (ts : List ℕ) (e : Engine) (s : Stores) (j : Journal) (w : AskedBy ts
       7 + length (allBytes (connectHeaders (frontIn y named (first 0x46 l)) l (listOf (readHeaders hs 0)) c (asksSrm x l)))
 
   accepted-is : (c : Option Credentials) → acceptedSize j (w .request) hs c
-      ≡ 7 + length (allBytes (connectHeaders (idGiven (frontFor (e .peer) ts named target)) (lastHeaders e s) (listOf (readHeaders hs 0)) c (srmAsked e (surveyOf (some (lastHeaders e s))))))
+      ≡ 7 + length (allBytes (connectHeaders (idGiven (frontFor (e .peer) ts named target)) (lastHeaders e s) (listOf (readHeaders hs 0)) c
+      (srmAsked e (surveyOf (some (lastHeaders e s))))))
   unfolding acceptedSize asksSrm surveyOf
   accepted-is c =
       ap (λ (l : List Header). acceptedBy l (j .settings) (j .standing) c) headers-are
       ∙ ap₂ (λ (x : JournalSettings) (y : Standing). acceptedBy (lastHeaders e s) x y c) (w .held .fixed .settings) (w .held .fixed .standing)
-      ∙ ap (λ (i : Option ℕ). 7 + length (allBytes (connectHeaders i (lastHeaders e s) (listOf (readHeaders hs 0)) c (asksSrm (settingsOf (e .settings)) (lastHeaders e s)))))
+      ∙ ap (λ (i : Option ℕ).
+      7 + length (allBytes (connectHeaders i (lastHeaders e s) (listOf (readHeaders hs 0)) c (asksSrm (settingsOf (e .settings)) (lastHeaders e s)))))
       (front-is (e .peer) ts (w .held .fixed .past) named target)
 
   size-is : answerSize (j .opened) j code hs ≡ connectSize j (w .request) code hs
@@ -375,7 +389,10 @@ module _ (ts : List ℕ) (e : Engine) (s : Stores) (j : Journal) (w : AskedBy ts
   challenged-sized p (some x) l =
       record {
         small = refl;
-        waiting = λ i c. ap (λ (q : List ℕ). 7 + length (allBytes (connectHeaders (idGiven (frontFor (e .peer) ts named target)) (lastHeaders e s) (listOf (readHeaders q 0)) c (srmAsked e (surveyOf (some (lastHeaders e s)))))))
+        waiting =
+            λ i c. ap (λ (q : List ℕ).
+            7 + length (allBytes (connectHeaders (idGiven (frontFor (e .peer) ts named target)) (lastHeaders e s) (listOf (readHeaders q 0)) c
+            (srmAsked e (surveyOf (some (lastHeaders e s)))))))
             (take-append-seam hs (drop (length hs) (s .headers))) ∙ sym (late-is c ∙ accepted-is c);
       }
 
@@ -386,7 +403,8 @@ module _ (ts : List ℕ) (e : Engine) (s : Stores) (j : Journal) (w : AskedBy ts
   acceptedOr full = pick full 7 (acceptedAt (answeredChallenge (lastHeaders e s)) j (w .request) hs)
 
   module _ (fits : PeerFits (e .peer .nonces) (e .peer)) (room : 64 ≤ length ts) where
-    opened-sized : (q : Option Linked) → openedFor (e .peer) ts srm named target ≡ q → acceptedOr (fullFor (standingOf (e .peer) ts (w .held .fixed .past)) named target) ≤ 65535
+    opened-sized : (q : Option Linked) → openedFor (e .peer) ts srm named target ≡ q
+        → acceptedOr (fullFor (standingOf (e .peer) ts (w .held .fixed .past)) named target) ≤ 65535
         → Sized (connectOpened e ts q code (frontFor (e .peer) ts named target) hs s .done) late
     opened-sized none i l = brief-sized _ late (sends-connect-brief e s (e .peer) 0x53 [] (omega arith))
     opened-sized (some q) i l =

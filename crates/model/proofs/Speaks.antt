@@ -1,12 +1,12 @@
 -- The engine makes a reply, and grants Single Response Mode (SRM), where the definition of SRM says so. By packets and by what is open, beside
 -- what `Packets` says of records. Assumes nothing.
 use mathlib.Core.Path.{_≡_, refl, sym, ap, ap₂, _∙_, subst}
-use mathlib.Core.List.{List, [], _∷_, _++_}
+use mathlib.Core.List.{List, [], _++_}
 use mathlib.Core.Bool.{Bool, true, false, _&&_, _||_, not, and-false, true≢false}
 use mathlib.Core.Option.{Option, none, some}
 use Prim.Native.Nat.{ℕ, _≤_}
 use native.Mathlib.Omega.{arith}
-use lib.ListN.{length, getD, take, drop, length-take}
+use lib.ListN.{length, take, drop, length-take}
 use lib.Seq.{take-append-seam}
 use lib.Dec.{leb}
 use Rattle.base.specs.Pick.{pick}
@@ -17,11 +17,10 @@ use Rattle.packet.specs.Packet.{Request as Packet, requestOf, packetBytes, conn
 use Rattle.packet.specs.Auth.{Challenge as PeerChallenge, Response}
 use Rattle.packet.specs.declared.opcode.Opcode.{Opcode}
 use Rattle.packet.specs.declared.opcode.Opcode.the-variants as op
-use Rattle.packet.proofs.OpcodeLaws.{same-equal}
 use Rattle.digest.specs.declared.md5.Octets16.{Octets16}
 use Rattle.journal.specs.Calls.{Credentials}
 use Rattle.journal.specs.Record.{Record, bare, joined, sizeOf, carriedBy, keptByGet}
-use Rattle.journal.specs.Journal.{Settings as JournalSettings, Standing, Opened, nothing, putting, getting, sending, gathering, draining, Journal, asksSrm, admitted, unauthorized, notOpen, listOf, keptWith, keptRead}
+use Rattle.journal.specs.Journal.{Opened, getting, sending, Journal, admitted, unauthorized, notOpen, listOf, keptWith, keptRead}
 use Rattle.incoming.specs.Survey.{surveyOf}
 use Rattle.incoming.specs.Gather.{Gathering, gathering as gatheringOf}
 use Rattle.incoming.specs.declared.survey.Survey.{Survey}
@@ -31,14 +30,14 @@ use Rattle.outgoing.specs.Object.{Made, nextPacket}
 use Rattle.outgoing.specs.declared.object.Outgoing.{Outgoing}
 use Rattle.outgoing.specs.declared.object.Next.{Next}
 use Rattle.outgoing.specs.declared.object.Next.the-variants as next
-use Rattle.connection.specs.Reply.{fieldsOf, sendBytes, front}
+use Rattle.connection.specs.Reply.{fieldsOf, sendBytes}
 use Rattle.connection.specs.ConnectReply.{answeredChallenge}
 use Rattle.connection.specs.Peer.{Linked, openedFor, limited, verifiedPeer, challengedPeer, checkedPeer}
 use Rattle.connection.specs.declared.peer.Challenge.{Challenge}
 use Rattle.connection.specs.declared.peer.Challenge.the-variants.{Stored, Absent}
 use Rattle.connection.specs.declared.peer.Peer.{Peer}
 use Rattle.connection.specs.declared.peer.ConnectionId.{ConnectionId}
-use Rattle.model.specs.Step.{Stores, withReply, withGathered, engineWith, Done, done, DoneTabled, sent, sends, sendsConnect, wants, asks, replies, repliesCode, continueBytes, limitOf, capacityOf}
+use Rattle.model.specs.Step.{Stores, withGathered, engineWith, Done, done, DoneTabled, sent, sends, sendsConnect, wants, asks, replies, repliesCode, continueBytes, limitOf, capacityOf}
 use Rattle.model.specs.Request.{lastPacket, lastHeaders, clientResponse}
 use Rattle.model.specs.Operation.{nothingGathered, gathers, putGathered, putPacket, getGathered, getPacket, headersGathered, headersPacket, overrun}
 use Rattle.model.specs.Object.{sendsMade, sendsPacket, sendsNext, goesOn}
@@ -46,7 +45,7 @@ use Rattle.model.specs.Connect.{srmAsked, frontFor, verifies, connectPac
 use Rattle.model.specs.Dispatch.{Rejection, admits, rejects, rejection, drains, rejected, confirms, dispatches, admittedAs, dispatch, interrupts, inside, busy, readAs, knownIn, trails}
 use Rattle.model.specs.Guard.{sameAwait}
 use Rattle.model.specs.Calls.{replyAnswer}
-use Rattle.journal.specs.Srm.{Due, silent, continues, speaks, continueReply, asksMore, asksWait, newly, Mode, requested, modeRead, packetMode, putDue, getDue, gatherDue, drainDue, turnedDue, firstDue, requestDue, packetDue, takenDue}
+use Rattle.journal.specs.Srm.{Due, silent, continues, speaks, continueReply, asksMore, asksWait, newly, Mode, requested, modeRead, packetMode, putDue, getDue, gatherDue, turnedDue, firstDue, requestDue, packetDue, takenDue}
 use Rattle.model.specs.Theorem.{wantsBytes, Obeys}
 use Rattle.server.specs.declared.Operation.{Operation}
 use Rattle.server.specs.declared.Operation.the-variants.{Nothing, Putting, Getting, Sending, Gathering as GatheringOp, Connecting, Draining, Trailing}
@@ -140,16 +139,20 @@ module _ (e : Engine) (s : Stores) where
       → Spoken (goesOn o e s) (takenDue x m) m
   goes-on-spoken limit (Sending o c srm wait) h b x m q w y =
       subst (λ (z : Opened). Spoken (goesOn (Sending o c srm wait) e s) (takenDue z m) m) (sym w)
-      (subst (λ (t : Bool). Spoken (pick t (sendsNext e o srm wait s) (wants e (e .peer) (e .operation) s)) (pick (m .on && not (m .wait)) speaks silent) m)
+      (subst (λ (t : Bool). Spoken (pick t (sendsNext e o srm wait s) (wants e (e .peer) (e .operation) s))
+      (pick (m .on && not (m .wait)) speaks silent) m)
       (ap₂ (λ (a b : Bool). a && not b) (y .0) (y .1))
       (spoken-both (m .on && not (m .wait)) _ _ speaks silent m (next-spoken o srm wait m (y .0) (y .1))
       (unsaid (e .operation) s m (subst (λ (z : Operation). ModeAt z m) (sym q) y))))
   goes-on-spoken limit Nothing h b x m q w y =
-      subst (λ (z : Opened). Spoken (goesOn Nothing e s) (takenDue z m) m) (sym w) (unsaid (e .operation) s m (subst (λ (z : Operation). ModeAt z m) (sym q) y))
+      subst (λ (z : Opened). Spoken (goesOn Nothing e s) (takenDue z m) m) (sym w)
+      (unsaid (e .operation) s m (subst (λ (z : Operation). ModeAt z m) (sym q) y))
   goes-on-spoken limit Trailing h b x m q w y =
-      subst (λ (z : Opened). Spoken (goesOn Trailing e s) (takenDue z m) m) (sym w) (unsaid (e .operation) s m (subst (λ (z : Operation). ModeAt z m) (sym q) y))
+      subst (λ (z : Opened). Spoken (goesOn Trailing e s) (takenDue z m) m) (sym w)
+      (unsaid (e .operation) s m (subst (λ (z : Operation). ModeAt z m) (sym q) y))
   goes-on-spoken limit (Putting g srm) h b x m q w y =
-      subst (λ (z : Opened). Spoken (goesOn (Putting g srm) e s) (takenDue z m) m) (sym (w .is)) (unsaid (e .operation) s m (subst (λ (z : Operation). ModeAt z m) (sym q) y))
+      subst (λ (z : Opened). Spoken (goesOn (Putting g srm) e s) (takenDue z m) m) (sym (w .is))
+      (unsaid (e .operation) s m (subst (λ (z : Operation). ModeAt z m) (sym q) y))
   goes-on-spoken limit (Getting g srm confirm wait) h b x m q w y =
       subst (λ (z : Opened). Spoken (goesOn (Getting g srm confirm wait) e s) (takenDue z m) m) (sym (w .is))
       (unsaid (e .operation) s m (subst (λ (z : Operation). ModeAt z m) (sym q) y))
@@ -158,7 +161,8 @@ module _ (e : Engine) (s : Stores) where
       (unsaid (e .operation) s m (subst (λ (z : Operation). ModeAt z m) (sym q) y))
   goes-on-spoken limit (Connecting c f n) h b x m q w y = absurd w
   goes-on-spoken limit (Draining c) h b x m q w y =
-      subst (λ (z : Opened). Spoken (goesOn (Draining c) e s) (takenDue z m) m) (sym w) (unsaid (e .operation) s m (subst (λ (z : Operation). ModeAt z m) (sym q) y))
+      subst (λ (z : Opened). Spoken (goesOn (Draining c) e s) (takenDue z m) m) (sym w)
+      (unsaid (e .operation) s m (subst (λ (z : Operation). ModeAt z m) (sym q) y))
 
 module _ (ts : List ℕ) (e : Engine) (s : Stores) (j : Journal) (f : Fixed ts (e .settings) (e .peer) j) (r : Packet) (m : Mode) where
   abbrev v : Survey
@@ -181,7 +185,8 @@ module _ (ts : List ℕ) (e : Engine) (s : Stores) (j : Journal) (f : Fixed ts (
     put-due srm confirm false true i k = simp (w .full, i, k) (said e s (e .peer) Nothing await.Reply _ _ m refl tt)
     put-due true confirm t false i k =
         simp (w .full, k)
-        (spoken-both (v .additional) _ _ (continues false) silent m (continued e s (Putting (x .got) true) false (withGathered s x) m tt) (unsaid e s (Putting (x .got) true) (withGathered s x) m tt))
+        (spoken-both (v .additional) _ _ (continues false) silent m (continued e s (Putting (x .got) true) false (withGathered s x) m tt)
+        (unsaid e s (Putting (x .got) true) (withGathered s x) m tt))
     put-due false confirm true false i k =
         simp (w .full, i, k, within-test ts e s j f r x c w true i)
         (said e s (e .peer) (overrun (e .settings)) await.Taken _ _ m refl (trailing-mode (e .settings .«refuse_trailing») m))
@@ -194,7 +199,8 @@ module _ (ts : List ℕ) (e : Engine) (s : Stores) (j : Journal) (f : Fixed ts (
       (putDue (r .final) srm confirm (asksMore (r .headers)) (leb (sizeOf (joined c (carriedBy (r .headers)))) (j .settings .limit))) m
   unfolding putPacket
   put-spoken srm confirm g c w l =
-      subst (λ (t : Bool). Spoken (putPacket e r v srm confirm g s) (putDue (r .final) srm confirm t (leb (sizeOf (joined c (carriedBy (r .headers)))) (j .settings .limit))) m) more-is
+      subst (λ (t : Bool). Spoken (putPacket e r v srm confirm g s)
+      (putDue (r .final) srm confirm t (leb (sizeOf (joined c (carriedBy (r .headers)))) (j .settings .limit))) m) more-is
       (put-due (gathers e keep.Put (r .headers) g s) (joined c (carriedBy (r .headers)))
       (put-agrees (limitOf e) (r .headers) (gatheringOf g (s .headers) (s .body)) c w l) srm confirm _ _ refl refl)
 
@@ -325,20 +331,25 @@ module _ (ts : List ℕ) (e : Engine) (s : Stores) (j : Journal) (f : Fixed ts (
   first-put : Spoken (putPacket e r q session (confirms e q) nothingGathered s)
       (putDue (r .final) (j .standing .srm) (newly j r) (asksMore (r .headers)) within) n
   first-put =
-      subst (λ (t : Bool). Spoken (putPacket e r q session (confirms e q) nothingGathered s) (putDue (r .final) t (newly j r) (asksMore (r .headers)) within) n)
+      subst (λ (t : Bool). Spoken (putPacket e r q session (confirms e q) nothingGathered s)
+      (putDue (r .final) t (newly j r) (asksMore (r .headers)) within) n)
       (sym (srm-is ts e s j f r))
-      (subst (λ (t : Bool). Spoken (putPacket e r q session (confirms e q) nothingGathered s) (putDue (r .final) session t (asksMore (r .headers)) within) n)
+      (subst (λ (t : Bool). Spoken (putPacket e r q session (confirms e q) nothingGathered s)
+      (putDue (r .final) session t (asksMore (r .headers)) within) n)
       confirm-is
       (put-spoken ts e s j f r n session (confirms e q) nothingGathered bare
       (put-begins (limitOf e) (s .headers) (s .body) (h .room .headers) (h .room .body)) (omega (arith, carried-headers (r .headers)))))
 
   first-get : Spoken (getPacket e r q session (confirms e q) nothingGathered s) (getDue (r .final) (j .standing .srm) (newly j r)) n
   first-get =
-      subst (λ (t : Bool). Spoken (getPacket e r q session (confirms e q) nothingGathered s) (getDue (r .final) t (newly j r)) (requested (r .final) t (newly j r) (asksWait (r .headers))))
+      subst (λ (t : Bool). Spoken (getPacket e r q session (confirms e q) nothingGathered s) (getDue (r .final) t (newly j r))
+      (requested (r .final) t (newly j r) (asksWait (r .headers))))
       (sym (srm-is ts e s j f r))
-      (subst (λ (t : Bool). Spoken (getPacket e r q session (confirms e q) nothingGathered s) (getDue (r .final) session t) (requested (r .final) session t (asksWait (r .headers))))
+      (subst (λ (t : Bool). Spoken (getPacket e r q session (confirms e q) nothingGathered s) (getDue (r .final) session t)
+      (requested (r .final) session t (asksWait (r .headers))))
       confirm-is
-      (get-spoken ts e s j f r m session (confirms e q) nothingGathered [] (none-kept ts e s j f r last h small) (omega (arith, kept-headers (r .headers)))))
+      (get-spoken ts e s j f r m session (confirms e q) nothingGathered [] (none-kept ts e s j f r last h small)
+      (omega (arith, kept-headers (r .headers)))))
 
   first-headers : (o : Opcode) → Spoken (headersPacket e r o nothingGathered s) (gatherDue (r .final)) n
   first-headers o = headers-spoken ts e s j f r n o nothingGathered [] (none-kept ts e s j f r last h small) small
@@ -374,20 +385,25 @@ module _ (ts : List ℕ) (e : Engine) (s : Stores) (j : Journal) (f : Fixed ts (
   inside-spoken : (o : Operation) (x : Opened) → OpenedAt (limitOf e) o (s .headers) (s .body) x → ModeAt o m → length (keptWith x r) ≤ 65535
       → sameOpcode (r .opcode) op.Abort ≡ false → Spoken (inside o e r q (knownIn e ts q) s) (requestDue x m j r) (modeRead x m j r)
   inside-spoken Nothing x c y k i =
-      subst (λ (z : Opened). Spoken (dispatch e r q (knownIn e ts q) s) (requestDue z m j r) (modeRead z m j r)) (sym c) (dispatch-spoken (r .opcode) refl i)
+      subst (λ (z : Opened). Spoken (dispatch e r q (knownIn e ts q) s) (requestDue z m j r) (modeRead z m j r)) (sym c)
+      (dispatch-spoken (r .opcode) refl i)
   inside-spoken Trailing x c y k i =
       subst (λ (z : Opened). Spoken (inside Trailing e r q (knownIn e ts q) s) (requestDue z m j r) (modeRead z m j r)) (sym c)
       (subst (λ (t : Bool). Spoken (inside Trailing e r q (knownIn e ts q) s) (pick t speaks (firstDue (r .opcode) j r)) n) (trails-same r)
       (spoken-both (trails r) _ _ speaks (firstDue (r .opcode) j r) n
-      (said e s (e .peer) (pick (r .final) Nothing Trailing) await.Taken _ _ n refl (trailed-mode (r .final) n)) (dispatch-spoken (r .opcode) refl i)))
+      (said e s (e .peer) (pick (r .final) Nothing Trailing) await.Taken _ _ n refl (trailed-mode (r .final) n))
+      (dispatch-spoken (r .opcode) refl i)))
   inside-spoken (Putting g srm) x c y k i =
       let a = c .carries in
-      subst (λ (z : Opened). length (keptWith z r) ≤ 65535 → Spoken (inside (Putting g srm) e r q (knownIn e ts q) s) (requestDue z m j r) (modeRead z m j r)) (sym (c .is))
+      subst (λ (z : Opened). length (keptWith z r) ≤ 65535
+      → Spoken (inside (Putting g srm) e r q (knownIn e ts q) s) (requestDue z m j r) (modeRead z m j r)) (sym (c .is))
       (λ l. goes-on op.Put _ _ m (a .headers ++ carriedBy (r .headers) .headers) l (λ l′. put-spoken ts e s j f r m srm false g a (c .agrees) l′)) k
   inside-spoken (Getting g srm confirm wait) x c y k i =
       let a = c .keeps in
-      subst (λ (z : Opened). length (keptWith z r) ≤ 65535 → Spoken (inside (Getting g srm confirm wait) e r q (knownIn e ts q) s) (requestDue z m j r) (modeRead z m j r)) (sym (c .is))
-      (λ l. subst (λ (z : Mode). Spoken (inside (Getting g srm confirm wait) e r q (knownIn e ts q) s) (requestDue (getting a) z j r) (modeRead (getting a) z j r)) (sym y)
+      subst (λ (z : Opened). length (keptWith z r) ≤ 65535
+      → Spoken (inside (Getting g srm confirm wait) e r q (knownIn e ts q) s) (requestDue z m j r) (modeRead z m j r)) (sym (c .is))
+      (λ l. subst (λ (z : Mode). Spoken (inside (Getting g srm confirm wait) e r q (knownIn e ts q) s) (requestDue (getting a) z j r)
+      (modeRead (getting a) z j r)) (sym y)
       (goes-on op.Get _ _ _ (a ++ keptByGet (r .headers)) l (λ l′. get-spoken ts e s j f r m srm confirm g a (c .agrees) l′))) k
   inside-spoken (Sending o d srm wait) x c y k i =
       subst (λ (z : Opened). Spoken (inside (Sending o d srm wait) e r q (knownIn e ts q) s) (requestDue z m j r) (modeRead z m j r)) (sym c)
@@ -396,7 +412,8 @@ module _ (ts : List ℕ) (e : Engine) (s : Stores) (j : Journal) (f : Fixed ts (
       (λ t. interrupted _))
   inside-spoken (GatheringOp o g) x c y k i =
       let a = c .0 .keeps in
-      subst (λ (z : Opened). length (keptWith z r) ≤ 65535 → Spoken (inside (GatheringOp o g) e r q (knownIn e ts q) s) (requestDue z m j r) (modeRead z m j r)) (sym (c .0 .is))
+      subst (λ (z : Opened). length (keptWith z r) ≤ 65535
+      → Spoken (inside (GatheringOp o g) e r q (knownIn e ts q) s) (requestDue z m j r) (modeRead z m j r)) (sym (c .0 .is))
       (λ l. goes-on o _ _ m (a ++ allBytes (r .headers)) l (λ l′. headers-spoken ts e s j f r m o g a (c .0 .agrees) l′)) k
   inside-spoken (Connecting a g p) x c y k i = absurd c
   inside-spoken (Draining code) x c y k i =
@@ -419,7 +436,8 @@ read-spoken ts e s j f m h o c y q (some r) i k = go (sameOpcode (r .opcode) op.
 
     go : (t : Bool) → sameOpcode (r .opcode) op.Abort ≡ t
         → Spoken
-        (pick t (asks e (e .peer) Nothing await.Acknowledgement (request.Abort (e .length)) s) (inside (e .operation) e r (surveyOf (some (r .headers))) (knownIn e ts (surveyOf (some (r .headers)))) s))
+        (pick t (asks e (e .peer) Nothing await.Acknowledgement (request.Abort (e .length)) s)
+        (inside (e .operation) e r (surveyOf (some (r .headers))) (knownIn e ts (surveyOf (some (r .headers)))) s))
         (pick t speaks (requestDue (j .opened) m j r)) (modeRead (j .opened) m j r)
     go true t = said e s (e .peer) Nothing await.Acknowledgement _ _ _ refl tt
     go false t = inside-spoken ts e s j f r m i h short (e .operation) (j .opened) c y k t
@@ -459,7 +477,8 @@ module _ (e : Engine) (s : Stores) where
   unfolding sendsConnect
   sends-connect-speaks p code hs = sent-speaks p (sendBytes (p .«remote_max_packet_length») code (fieldsOf (e .settings .«max_packet_length»)) hs)
 
-  pub connect-sends-speaks : (p : Peer) (code : ℕ) (g : ConnectionId) (answer : List Header) (c : Option Credentials) → Speaks (connectSends e p code g answer c s)
+  pub connect-sends-speaks : (p : Peer) (code : ℕ) (g : ConnectionId) (answer : List Header) (c : Option Credentials)
+      → Speaks (connectSends e p code g answer c s)
   unfolding connectSends
   connect-sends-speaks p code g answer c = sends-connect-speaks p code _
 

@@ -6,7 +6,7 @@ use mathlib.Core.Option.{Option, none, some}
 use Prim.Native.Nat.{ℕ, _+_, _≤_}
 use native.Mathlib.Omega.{arith}
 use lib.ListN.{length, getD, length-append}
-use lib.Dec.{ltb, leb, eqb}
+use lib.Dec.{ltb, leb}
 use borrow.Author.Tests.{ltb-false, leb-true, le-leb}
 use Rattle.base.specs.Pick.{pick}
 use Rattle.digest.specs.declared.md5.Octets16.{Octets16}
@@ -52,7 +52,6 @@ use Rattle.connection.specs.declared.peer.ConnectionId.{ConnectionId}
 use Rattle.server.specs.declared.Await.the-variants as await
 use Rattle.server.specs.declared.End.the-variants as end
 use Rattle.server.specs.declared.Engine.{Engine}
-use Rattle.server.specs.declared.HostRequest.{HostRequest}
 use Rattle.server.specs.declared.HostRequest.the-variants as request
 use Rattle.server.specs.declared.Outcome.the-variants as outcome
 use Rattle.connection.proofs.Standings.{PeerFits, limited-fits, checked-fits, verified-fits, challenged-fits, disconnected-fits, disconnected-length, disconnected-nonces, opened-fits, opened-length, opened-nonces}
@@ -161,7 +160,8 @@ module _ (e : Engine) (s : Stores) (h : Base e s) where
   put-continues : (g : Gathered) (srm confirm additional : Bool) (z : Stores) → Room (limitOf e) z → soundGathered (limitOf e) g ≡ true
       → Fine e (putContinues e g srm confirm additional z)
   put-continues g true confirm additional z r c =
-      fine-pick e additional _ _ (fine-continues e s h (Putting g true) false z r c refl) (fine-wants e s h (e .peer) (Putting g true) z (h .peer) r c refl)
+      fine-pick e additional _ _ (fine-continues e s h (Putting g true) false z r c refl)
+      (fine-wants e s h (e .peer) (Putting g true) z (h .peer) r c refl)
   put-continues g false confirm additional z r c =
       fine-pick e (g .over) _ _ (overrun-fine (e .settings .«refuse_trailing») z r) (fine-continues e s h (Putting g confirm) confirm z r c refl)
 
@@ -192,7 +192,8 @@ module _ (e : Engine) (s : Stores) (h : Base e s) where
       let z = withGathered s x in
       fine-pick e (x .got .full) _ _ (fine-ends e s h (e .peer) end.HeadersTooLarge z (h .peer) (w .room))
       (fine-pick e (r .final) _ _
-      (fine-done e s h (e .peer) (Getting (x .got) srm confirm (v .wait)) await.Get (outcome.Request (request.Get (x .got .kept))) z (h .peer) (w .room)
+      (fine-done e s h (e .peer) (Getting (x .got) srm confirm (v .wait)) await.Get (outcome.Request (request.Get (x .got .kept))) z (h .peer)
+      (w .room)
       (w .counts) (record { gathered = x .got; srm = srm; confirm = confirm; wait = v .wait; is = refl }) (λ u. refl) refl)
       (get-continues (x .got) srm confirm (v .wait) z (w .room) (w .counts)))
 
@@ -225,7 +226,8 @@ module _ (e : Engine) (s : Stores) (h : Base e s) where
 
   -- ---- an object
 
-  made-fine : (o : Outgoing) (srm wait : Bool) (n : Next) (m : Made) → o .total ≤ 65535 → SendsFrom o (s .reply) m → Fine e (sendsMade e srm wait n m s)
+  made-fine : (o : Outgoing) (srm wait : Bool) (n : Next) (m : Made) → o .total ≤ 65535 → SendsFrom o (s .reply) m
+      → Fine e (sendsMade e srm wait n m s)
   made-fine o srm wait n m t w = go n
     where
       filled : Room (limitOf e) (withReply s (m .reply))
@@ -271,7 +273,8 @@ module _ (e : Engine) (s : Stores) (h : Base e s) where
   fields-fine : (p : Peer) (code : ℕ) → PeerFits (e .peer .nonces) p → Fine e (repliesFields e p code s)
   unfolding packetBytes
   fields-fine p code f =
-      fine-replies e s h p Nothing await.Taken (packetBytes (sentCode code) (fieldsOf (e .settings .«max_packet_length»)) []) s f (h .room) refl refl refl
+      fine-replies e s h p Nothing await.Taken (packetBytes (sentCode code) (fieldsOf (e .settings .«max_packet_length»)) []) s f
+      (h .room) refl refl refl
       (omega arith)
 
   connect-fine : Octets (lastPacket e s) → Fine e (connectPacket e s)
@@ -305,7 +308,11 @@ module _ (e : Engine) (s : Stores) (h : Base e s) where
         → FineTabled e t (connectOpened e t p code f hs s)
     connect-opened-fine none code f hs k l = record { done = sends-connect-fine (e .peer) 0x53 [] (h .peer); tables = refl; nonces = λ n l. refl }
     connect-opened-fine (some q) code f hs k l =
-        record { done = connect-challenged-fine (q .peer) code f hs (answeredChallenge (lastHeaders e s)) (k q refl .0) l; tables = k q refl .1; nonces = k q refl .2 }
+        record {
+          done = connect-challenged-fine (q .peer) code f hs (answeredChallenge (lastHeaders e s)) (k q refl .0) l;
+          tables = k q refl .1;
+          nonces = k q refl .2;
+        }
 
     connect-answer-fine : (code : ℕ) (hs : List ℕ) → length hs ≤ 65535 → FineTabled e t (connectAnswer e code hs s t)
     unfolding connectAnswer
@@ -403,7 +410,8 @@ module _ (e : Engine) (s : Stores) (h : Base e s) where
   read-fine o c q t none = go (busy (e .operation)) refl
     where
       go : (b : Bool) → busy (e .operation) ≡ b
-          → Fine e (pick b (ends e (e .peer) end.Unreadable s) (repliesCode e (e .peer) (e .operation) (pick (unknownByte (firstByte (getD q 0 0))) 0x51 0x40) s))
+          → Fine e (pick b (ends e (e .peer) end.Unreadable s)
+          (repliesCode e (e .peer) (e .operation) (pick (unknownByte (firstByte (getD q 0 0))) 0x51 0x40) s))
       go true m = fine-ends e s h (e .peer) end.Unreadable s (h .peer) (h .room)
       go false m = fine-code-in e s h (e .peer) (e .operation) _ s (h .peer) (h .room) c (idle-shape (e .operation) m)
   read-fine o c q t (some r) =

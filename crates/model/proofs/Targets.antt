@@ -26,7 +26,6 @@ use Rattle.packet.specs.declared.opcode.Opcode.{Opcode}
 use Rattle.packet.specs.declared.opcode.Opcode.the-variants as op
 use Rattle.table.specs.Targets.{unnamed, targetBytes, placeOf, targetAt}
 use Rattle.table.specs.Nonces.{rememberedWith, remembered, among}
-use Rattle.table.specs.declared.targets.Target.{Target}
 use Rattle.journal.specs.Ids.{member, without, withoutAll, allOpen, repeats}
 use Rattle.journal.specs.Checks.{Check}
 use Rattle.journal.specs.Calls.{Call, bytesOffered, streamEnded, replyTaken, replyGiven, objectGiven, bodyGiven, bodyFailed, abortAcknowledged, passwordGiven, nonceGiven, credentialsGiven, connectionsClosed, Credentials, Verdict, goes, refused, Fed, stepBy}
@@ -192,14 +191,7 @@ module _ (l : List ℕ) (mk : Bool) (e : Engine) (st : Stores) (d : Done) (c : C
 -- ---- a call, in a state that is coupled to the journal
 
 module _ (s : State) (h : Seated s) (j : Journal) (x : Coupled (s .tables) (s .engine) (s .stores) j) (n : Naming) (t : Targeted s j n) where
-  abbrev e : Engine
-  e = s .engine
-
-  abbrev st : Stores
-  st = s .stores
-
-  abbrev ts : List ℕ
-  ts = s .tables
+  open State s using (engine as e, stores as st, tables as ts)
 
   coupled-at : (a : Await) → e .awaits ≡ a → CoupledAt ts a (e .operation) (e .settings) (e .peer) (e .begun) (e .length) st j
   coupled-at a i = subst (λ (y : Await). CoupledAt ts y (e .operation) (e .settings) (e .peer) (e .begun) (e .length) st j) i x

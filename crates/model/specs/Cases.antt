@@ -15,7 +15,7 @@ use Rattle.journal.specs.Calls.{Call, bytesOffered, replyTaken, objectGiven, bo
 use Rattle.table.specs.Places.{tableLength}
 use Rattle.model.specs.Step.{Stores}
 use Rattle.model.specs.Calls.{started}
-use Rattle.server.specs.Settings.{defaultSettings}
+use Rattle.server.specs.Settings.{settingsWith, defaultSettings}
 use Rattle.server.specs.declared.Settings.{Settings}
 use Rattle.model.specs.Runs.{State, stepOf, stateOf, handed}
 use Rattle.server.specs.declared.Outcome.{Outcome}
@@ -23,19 +23,7 @@ use Rattle.server.specs.declared.Outcome.the-variants as outcome
 
 -- the source's settings with a Put limit, and what trails a Put that was too long refused with it
 abbrev pub refusingSettings : ℕ → Settings
-refusingSettings limit =
-    record {
-      «max_object_size» = limit;
-      «max_packet_length» = 65535;
-      charset = 0;
-      «has_realm» = false;
-      «srm_supported» = false;
-      authentication = false;
-      «user_id_required» = false;
-      «read_only» = false;
-      «user_id_enforced» = false;
-      «refuse_trailing» = true;
-    }
+refusingSettings limit = settingsWith limit true
 
 -- a fresh engine with some settings, and stores of zeros
 abbrev pub freshWith : Settings → State

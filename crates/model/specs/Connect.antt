@@ -35,7 +35,7 @@ use Rattle.server.specs.declared.Await.the-variants as await
 use Rattle.server.specs.declared.Engine.{Engine}
 use Rattle.server.specs.declared.HostRequest.{HostRequest}
 use Rattle.server.specs.declared.HostRequest.the-variants as request
-use Rattle.model.specs.Step.{Stores, withHeaders, Done, DoneTabled, doneTabled, asks, replies, sent, sendsConnect, after}
+use Rattle.model.specs.Step.{Stores, withHeaders, Done, DoneTabled, doneTabled, asks, replies, sendsConnect}
 use Rattle.model.specs.Request.{lastPacket, lastHeaders, clientResponse, userPlace, realmIn}
 
 -- If a challenge is stored and the client's response can be read, the host is asked for the password; otherwise for a nonce, to challenge

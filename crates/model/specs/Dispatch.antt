@@ -3,7 +3,7 @@ use Prim.Native.Nat.{ℕ}
 use mathlib.Core.List.{List, []}
 use mathlib.Core.Bool.{Bool, true, false, _&&_, _||_, not}
 use mathlib.Core.Option.{Option, none, some}
-use lib.ListN.{length, getD, take}
+use lib.ListN.{getD, take}
 use Rattle.base.specs.Pick.{pick}
 use Rattle.packet.specs.HeaderIds as header-id
 use Rattle.packet.specs.ResponseCodes as response
@@ -18,7 +18,6 @@ use Rattle.packet.specs.declared.opcode.FirstByte.the-variants.{Known, Unknown}
 use Rattle.journal.specs.Ids.{member}
 use Rattle.incoming.specs.Survey.{present, surveyOf}
 use Rattle.incoming.specs.declared.survey.Survey.{Survey}
-use Rattle.outgoing.specs.declared.object.Next.the-variants as next
 use Rattle.table.specs.Targets.{unnamed, placeOf, targetAt}
 use Rattle.table.specs.declared.targets.Target.{Target}
 use Rattle.connection.specs.Peer.{idsOf}

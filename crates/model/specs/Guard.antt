@@ -6,7 +6,7 @@ use mathlib.Core.Option.{Option, none, some}
 use lib.ListN.{length}
 use lib.Dec.{ltb, leb, eqb}
 use Rattle.base.specs.Pick.{pick}
-use Rattle.packet.specs.Limits.{maxConnections, maxRealm}
+use Rattle.packet.specs.Limits.{maxPacket, minPacket, maxCapacity, maxConnections, maxRealm}
 use Rattle.table.specs.Places.{maxNonces, tableLength}
 use Rattle.packet.specs.Codes.{isCode}
 use Rattle.packet.specs.Canonical.{canonical}
@@ -14,6 +14,7 @@ use Rattle.journal.specs.Calls.{Credentials}
 use Rattle.incoming.specs.declared.gather.Gathered.{Gathered}
 use Rattle.outgoing.specs.declared.object.Outgoing.{Outgoing}
 use Rattle.outgoing.specs.declared.object.Chunk.{Chunk}
+use Rattle.server.specs.Numbers.{awaitNumber}
 use Rattle.server.specs.declared.Settings.{Settings}
 use Rattle.server.specs.declared.Operation.{Operation}
 use Rattle.server.specs.declared.Operation.the-variants.{Nothing, Trailing, Putting, Getting, Sending, Gathering as GatheringOp, Connecting, Draining}
@@ -21,28 +22,27 @@ use Rattle.server.specs.declared.Await.{Await}
 use Rattle.server.specs.declared.Await.the-variants as await
 use Rattle.server.specs.declared.CallKind.{CallKind}
 use Rattle.server.specs.declared.CallKind.the-variants as kind
-use Rattle.server.specs.declared.End.the-variants as end
 use Rattle.server.specs.declared.Refusal.{Refusal}
 use Rattle.server.specs.declared.Refusal.the-variants as refusal
 use Rattle.server.specs.declared.Engine.{Engine}
-use Rattle.server.specs.declared.Body.{Body}
-use Rattle.server.specs.declared.Body.the-variants as body
 use Rattle.server.specs.declared.Outcome.the-variants as outcome
-use Rattle.model.specs.Step.{Stores, Done, sent, limitOf, Stepped, stepped, Called, called, after}
+use Rattle.model.specs.Step.{Stores, Done, limitOf, Stepped, stepped, Called, called, after}
 
 -- Whether one of the four stores is too short.
 unfoldable pub short : ℕ → Stores → Bool
 short limit s =
-    ltb (length (s .packet)) 65535 || (ltb (length (s .headers)) 65535 || (ltb (length (s .reply)) 65535 || ltb (length (s .body)) limit))
+    ltb (length (s .packet)) maxPacket
+    || (ltb (length (s .headers)) maxPacket || (ltb (length (s .reply)) maxPacket || ltb (length (s .body)) limit))
 
 -- The kept headers and the body bytes lie in their stores.
 abbrev pub soundGathered : ℕ → Gathered → Bool
-soundGathered limit g = leb (g .kept) 65535 && leb (g .body) limit
+soundGathered limit g = leb (g .kept) maxPacket && leb (g .body) limit
 
 -- The headers that are still to be sent lie in the header store, and the packet that is being made in the reply store.
 abbrev pub soundOutgoing : Outgoing → Chunk → Bool
 soundOutgoing o c =
-    leb (o .total) 65535 && (leb (o .sent) (o .total) && (leb (c .at + c .got) 65532 && leb (c .at + c .got + c .room) 65533))
+    leb (o .total) maxPacket
+    && (leb (o .sent) (o .total) && (leb (c .at + c .got) maxCapacity && leb (c .at + c .got + c .room) (maxCapacity + 1)))
 
 -- The counts of an operation lie in their stores.
 abbrev pub soundOperation : ℕ → Operation → Bool
@@ -52,14 +52,15 @@ soundOperation limit (Putting g srm) = soundGathered limit g
 soundOperation limit (Getting g srm confirm wait) = soundGathered limit g
 soundOperation limit (Sending o c srm wait) = soundOutgoing o c
 soundOperation limit (GatheringOp o g) = soundGathered limit g
-soundOperation limit (Connecting code f n) = leb n 65535
+soundOperation limit (Connecting code f n) = leb n maxPacket
 soundOperation limit (Draining code) = true
 
 -- Whether the counts of a state are ones that a call can leave. Any other state is refused as after the end, so that a call is defined for
 -- every state.
 unfoldable pub sound : Engine → Bool
 sound e =
-    ltb (e .begun) 65535 && (leb (e .length) 65535 && (leb (e .peer .count) maxConnections && (leb 255 (e .peer .«remote_max_packet_length»)
+    ltb (e .begun) maxPacket && (leb (e .length) maxPacket && (leb (e .peer .count) maxConnections
+    && (leb minPacket (e .peer .«remote_max_packet_length»)
     && (leb (e .peer .nonces) maxNonces && soundOperation (limitOf e) (e .operation)))))
 
 -- Whether the table store, which holds the open ids and the nonces taken last, is too short. Only the calls that look at it are lent it.
@@ -70,22 +71,6 @@ shortTables t = ltb (length t) tableLength
 -- Without a realm in the settings the bytes that are lent do not count.
 unfoldable pub longRealm : Settings → List ℕ → Bool
 longRealm st l = st .«has_realm» && ltb maxRealm (length l)
-
--- A number for each thing awaited, by which two of them are told apart.
-abbrev pub awaitNumber : Await → ℕ
-awaitNumber await.Bytes = 0
-awaitNumber await.Taken = 1
-awaitNumber await.Last = 2
-awaitNumber await.Connect = 3
-awaitNumber await.Disconnect = 4
-awaitNumber await.Get = 5
-awaitNumber await.Reply = 6
-awaitNumber await.Acknowledgement = 7
-awaitNumber await.Password = 8
-awaitNumber await.Nonce = 9
-awaitNumber await.Credentials = 10
-awaitNumber await.Body = 11
-awaitNumber await.Nothing = 12
 
 -- Two things awaited are the same.
 abbrev pub sameAwait : Await → Await → Bool
@@ -128,7 +113,7 @@ guardedCalled k e s t go =
 
 -- Whether header bytes are none that a host may give: over 65,535, or not what the writer gives for what the reader reads.
 unfoldable pub badHeaders : List ℕ → Bool
-badHeaders hs = ltb 65535 (length hs) || not (canonical hs)
+badHeaders hs = ltb maxPacket (length hs) || not (canonical hs)
 
 -- Whether a reply is none that a host may give, by its code or its headers.
 unfoldable pub badReply : ℕ → List ℕ → Bool

@@ -4,8 +4,8 @@
 -- Then what a host sees of a call, and which calls are due to be refused (`Refusals`), lists of calls (`Runs`), the sizes of replies
 -- (`Replies`), the records theorem (`Theorem`), the same from the contract of a start (`Contracts`), the count of wrong passwords
 -- (`EightWrong`), the replies to a Get (`ObjectSent`), the proved cases (`Cases`), that passwords leave no trace (`Secrecy`), which ids are
--- left when connections are closed together (`ClosedTogether`), the Targets that requests name (`Targets`), and when an operation is open
--- (`OpenOperation`).
+-- left when connections are closed together (`ClosedTogether`), the Targets that requests name (`Targets`), when an operation is open
+-- (`OpenOperation`), and bytes that the host has put into the packet store itself (`BytesPlaced`).
 pub mod Step
 pub mod Request
 pub mod Operation
@@ -27,3 +27,4 @@ pub mod Secrecy
 pub mod ClosedTogether
 pub mod Targets
 pub mod OpenOperation
+pub mod BytesPlaced

@@ -1,23 +1,19 @@
 -- The object of a Get, sent packet by packet (the source's response phase of handle_get).
 use Prim.Native.Nat.{ℕ}
 use mathlib.Core.Bool.{Bool, true, false, _&&_, not}
-use lib.ListN.{length}
 use Rattle.packet.specs.ResponseCodes as response
 use Rattle.base.specs.Pick.{pick}
 use Rattle.outgoing.specs.Object.{Made, nextPacket}
 use Rattle.outgoing.specs.declared.object.Outgoing.{Outgoing}
 use Rattle.outgoing.specs.declared.object.Next.{Next}
 use Rattle.outgoing.specs.declared.object.Next.the-variants as next
-use Rattle.connection.specs.Reply.{front}
 use Rattle.server.specs.declared.Operation.{Operation}
 use Rattle.server.specs.declared.Operation.the-variants.{Nothing, Trailing, Putting, Getting, Sending, Gathering as GatheringOp, Connecting, Draining}
 use Rattle.server.specs.declared.Await.the-variants as await
 use Rattle.server.specs.declared.Engine.{Engine}
-use Rattle.server.specs.declared.Body.{Body}
-use Rattle.server.specs.declared.Body.the-variants as body
 use Rattle.server.specs.declared.HostRequest.the-variants as request
 use Rattle.server.specs.declared.Outcome.the-variants as outcome
-use Rattle.model.specs.Step.{Stores, withReply, engineWith, Done, done, wants, asks, repliesCode, sent, capacityOf, after}
+use Rattle.model.specs.Step.{Stores, withReply, engineWith, Done, done, wants, asks, repliesCode, capacityOf}
 
 -- A packet of the object, or the body read that it needs first. A header that is longer than any packet makes the reply 0x50 and ends the
 -- Get (docs/PROTOCOL.md#objects).

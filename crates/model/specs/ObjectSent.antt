@@ -19,8 +19,6 @@ use Rattle.outgoing.specs.Claims.{Reads, gives, hasBody, bodyBytes}
 use Rattle.server.specs.declared.Operation.the-variants.{Getting}
 use Rattle.server.specs.declared.Await.the-variants as await
 use Rattle.server.specs.declared.Engine.{Engine}
-use Rattle.server.specs.declared.HostRequest.{HostRequest}
-use Rattle.server.specs.declared.HostRequest.the-variants as request
 use Rattle.server.specs.declared.Outcome.{Outcome}
 use Rattle.server.specs.declared.Outcome.the-variants as outcome
 use Rattle.model.specs.Step.{Stores, Stepped, limitOf}

@@ -1,11 +1,10 @@
 -- A Put, a Get's request and the operations of headers alone, packet by packet (the source's handle_put, handle_get, handle_headers_only).
 use Prim.Native.Nat.{ℕ}
 use mathlib.Core.List.{List}
-use mathlib.Core.Bool.{Bool, true, false, not}
-use mathlib.Core.Option.{none}
+use mathlib.Core.Bool.{Bool, true, false}
 use Rattle.base.specs.Pick.{pick}
 use Rattle.packet.specs.ResponseCodes as response
-use Rattle.packet.specs.Header.{Header, first}
+use Rattle.packet.specs.Header.{Header}
 use Rattle.packet.specs.Packet.{Request as Packet}
 use Rattle.packet.specs.declared.opcode.Opcode.{Opcode}
 use Rattle.packet.specs.declared.opcode.Opcode.the-variants as op

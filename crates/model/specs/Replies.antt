@@ -18,7 +18,7 @@ use Rattle.packet.specs.Packet.{Request}
 use Rattle.packet.specs.Auth.{Challenge}
 use Rattle.packet.specs.declared.opcode.Opcode.the-variants.{Connect}
 use Rattle.journal.specs.Ids.{member, newId}
-use Rattle.journal.specs.Calls.{Credentials, Call, bytesOffered, streamEnded, replyTaken, replyGiven, objectGiven, bodyGiven, bodyFailed, abortAcknowledged, passwordGiven, nonceGiven, credentialsGiven, connectionsClosed, Fed, noStep, stepBy, replySent}
+use Rattle.journal.specs.Calls.{Credentials, bytesOffered, streamEnded, replyTaken, replyGiven, objectGiven, bodyGiven, bodyFailed, abortAcknowledged, passwordGiven, nonceGiven, credentialsGiven, connectionsClosed, Fed, noStep, stepBy, replySent}
 use Rattle.journal.specs.Journal.{Standing, Opened, nothing, trailing, putting, getting, sending, gathering, draining, Journal, asksSrm, listOf, journalStep}
 use Rattle.connection.specs.ConnectReply.{answeredChallenge, connectHeaders}
 

@@ -2,7 +2,7 @@
 use Prim.Native.Nat.{ℕ, _+_}
 use mathlib.Core.List.{List}
 use mathlib.Core.Option.{Option}
-use lib.ListN.{length, take}
+use lib.ListN.{take}
 use Rattle.packet.specs.HeaderIds as header-id
 use Rattle.packet.specs.Tags.{lastValue}
 use Rattle.packet.specs.Header.{Header, first, firstPlace, part}
@@ -36,7 +36,7 @@ userIn q place.Missing = place.Missing
 userIn q (place.At a b) = placedAt a (lastValue (part q a b) 1)
 
 unfoldable pub userPlace : Engine → Stores → Found
-userPlace e s = userIn (lastPacket e s) (firstPlace 0x4E (lastPacket e s) 7)
+userPlace e s = userIn (lastPacket e s) (firstPlace header-id.authenticateResponse (lastPacket e s) 7)
 
 -- Where the realm of the client's challenge stands in the packet.
 abbrev pub realmIn : List ℕ → Found → Found

@@ -1,13 +1,11 @@
 -- What a step of the engine leads to, as values: the stores that the host lends, the state with changed fields, and the outcome.
 use Prim.Native.Nat.{ℕ, _-_}
 use mathlib.Core.List.{List, [], _∷_}
-use mathlib.Core.Bool.{Bool, true, false, not}
+use mathlib.Core.Bool.{Bool, true, false}
 use mathlib.Core.Option.{Option, none, some}
 use lib.ListN.{length}
 use Rattle.packet.specs.Codes.{sentCode}
-use Rattle.packet.specs.Header.{first}
 use Rattle.packet.specs.Packet.{packetBytes}
-use Rattle.packet.specs.declared.tlv.Found.the-variants as place
 use Rattle.incoming.specs.Gather.{Gathering}
 use Rattle.table.specs.declared.targets.Target.{Target}
 use Rattle.connection.specs.Reply.{fieldsOf, sendBytes, front}

@@ -1,29 +1,28 @@
 -- A body that is read in pieces goes out in its chunks: by induction over what the host has left. Assumes nothing.
 use mathlib.Core.Path.{_≡_, refl, sym, ap, subst, _∙_}
 use mathlib.Core.Bool.{Bool, true, false}
-use mathlib.Core.Option.{Option, some}
+use mathlib.Core.Option.{some}
 use mathlib.Core.List.{List, [], _∷_, _++_, append-assoc, append-nil}
 use Prim.Native.Nat.{ℕ, zero, suc, _+_, _-_, _≤_, _<_, min}
 use native.Mathlib.Omega.{arith}
 use lib.ListN.{length, getD, take, drop, set, length-append, length-take, length-drop, take-append-drop}
-use lib.Seq.{paste, take-nil, drop-nil, length-take-le}
+use lib.Seq.{paste, take-nil, length-take-le}
 use lib.Dec.{ltb, eqb}
-use borrow.Author.Tests.{lt-ltb, le-ltb, eq-eqb, ne-eqb, ltb-true, ltb-false, eqb-true, eqb-false}
-use Rattle.base.specs.Pick.{pick}
+use borrow.Author.Tests.{lt-ltb, le-ltb, ne-eqb, ltb-true, ltb-false}
 use Rattle.base.specs.Bytes.{bytes16}
 use Rattle.packet.specs.HeaderIds as header-id
 use Rattle.packet.specs.Header.{headerAt, encodingOf, bytesOf}
 use Rattle.packet.specs.declared.header.HeaderAt.{HeaderAt}
-use Rattle.packet.specs.declared.header.HeaderAt.the-variants.{At, Unreadable, End}
+use Rattle.packet.specs.declared.header.HeaderAt.the-variants.{End}
 use Rattle.packet.specs.Placed.{laid}
 use Rattle.packet.proofs.Laid.{set-laid}
 use Rattle.packet.proofs.TextForms.{last-one}
 use Rattle.outgoing.specs.declared.object.Outgoing.{Outgoing}
 use Rattle.outgoing.specs.declared.object.Chunk.{Chunk}
-use Rattle.outgoing.specs.Object.{fillAt, fill, fillPacket, Made, made, prefixed, reading, refusing, sending, aheadWith, aheadNone, bodyHeader, lastChunk, fullChunk, beginChunk, bodyAfter, nextOf, nextPacket, chunkGiven, bodyGiven}
-use Rattle.outgoing.specs.Packets.{packet, header, inFront, chunks, moreBody, chunkPackets, bodyPackets, Packets, allSent, cannotGo, before}
-use Rattle.outgoing.specs.Claims.{Reads, gives, beforeRun, runBy, run, Runs}
-use Rattle.outgoing.proofs.Holding.{Holds, holds-none, holds-laid, holds-over, holds-less, Gap, holds-gap, holds-packet, prefixed-long}
+use Rattle.outgoing.specs.Object.{fillAt, fill, fillPacket, made, prefixed, reading, refusing, sending, bodyHeader, fullChunk, beginChunk, bodyAfter, nextOf, nextPacket, bodyGiven}
+use Rattle.outgoing.specs.Packets.{packet, header, inFront, chunks, moreBody, chunkPackets, Packets, allSent, cannotGo, before}
+use Rattle.outgoing.specs.Claims.{Reads, gives, beforeRun, run, Runs}
+use Rattle.outgoing.proofs.Holding.{Holds, holds-none, holds-laid, holds-over, holds-less, holds-gap, holds-packet, prefixed-long}
 
 -- ---- chunks
 

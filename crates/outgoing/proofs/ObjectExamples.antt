@@ -7,7 +7,7 @@ use Prim.Native.Nat.{ℕ}
 use lib.ListN.{replicate}
 use Rattle.packet.specs.HeaderIds as header-id
 use Rattle.packet.specs.Header.{Header, encodingOf, bytesOf}
-use Rattle.outgoing.specs.Packets.{chunks, chunkPackets, bodyPackets, Packets, allSent, packetsFrom, packetsOf}
+use Rattle.outgoing.specs.Packets.{chunks, chunkPackets, bodyPackets, allSent, packetsFrom, packetsOf}
 
 abbrev letters : ℕ → List ℕ
 letters n = replicate n 0x61

@@ -1,12 +1,12 @@
 -- The packets of an object that is sent are those of the list, in whatever pieces its body is read: the claim, by induction over its headers.
 -- Assumes nothing.
-use mathlib.Core.Path.{_≡_, refl, sym, ap, subst, _∙_}
+use mathlib.Core.Path.{_≡_, refl, ap, subst, _∙_}
 use mathlib.Core.Bool.{Bool, true, false}
 use mathlib.Core.Option.{Option, none, some}
-use mathlib.Core.List.{List, [], _∷_, _++_, append-assoc, append-nil}
+use mathlib.Core.List.{List, [], _∷_, _++_}
 use Prim.Native.Nat.{ℕ, zero, suc, _+_, _-_, _≤_, _<_}
 use native.Mathlib.Omega.{arith}
-use lib.ListN.{length, take, drop, set, length-append}
+use lib.ListN.{length, take, set, length-append}
 use lib.Seq.{paste, length-take-le}
 use lib.Dec.{ltb}
 use borrow.Author.Tests.{lt-ltb, le-ltb, ltb-true, ltb-false}
@@ -22,11 +22,11 @@ use Rattle.packet.specs.Placed.{laid}
 use Rattle.packet.proofs.Laid.{set-laid}
 use Rattle.packet.proofs.HeaderBytes.{part-length, header-at-bytes, header-at-within}
 use Rattle.outgoing.specs.declared.object.Outgoing.{Outgoing}
-use Rattle.outgoing.specs.Object.{Filled, empty, full, tooLarge, Filling, filling, fillAt, fill, leadAt, leadStore, fillPacket, made, prefixed, reading, refusing, sending, beginChunk, bodyAfter, nextOf, nextPacket}
-use Rattle.outgoing.specs.Packets.{packet, header, chunks, chunkPackets, bodyPackets, Packets, allSent, cannotGo, before, packetsFrom, grant, packetsOf}
-use Rattle.outgoing.specs.Claims.{Reads, Runs, fresh, hasBody, bodyBytes, SentAsPackets}
-use Rattle.outgoing.proofs.Holding.{Holds, holds-none, holds-laid, Gap, holds-gap, holds-packet, prefixed-long}
-use Rattle.outgoing.proofs.BodyRuns.{run-last, run-send, run-refuse, out, next-new, Begun, reads-on}
+use Rattle.outgoing.specs.Object.{empty, full, tooLarge, filling, fillAt, fill, leadAt, leadStore, fillPacket, made, prefixed, reading, bodyAfter, nextOf, nextPacket}
+use Rattle.outgoing.specs.Packets.{packet, header, chunks, chunkPackets, bodyPackets, allSent, cannotGo, before, packetsFrom, grant}
+use Rattle.outgoing.specs.Claims.{Reads, Runs, hasBody, bodyBytes, SentAsPackets}
+use Rattle.outgoing.proofs.Holding.{Holds, holds-none, holds-laid, holds-gap, holds-packet, prefixed-long}
+use Rattle.outgoing.proofs.BodyRuns.{run-last, run-send, run-refuse, next-new, reads-on}
 
 -- ---- behind the headers
 

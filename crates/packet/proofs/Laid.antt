@@ -15,7 +15,7 @@ use borrow.Author.Tests.{le-ltb, ltb-false}
 use Rattle.base.specs.Pick.{pick}
 use Rattle.packet.proofs.tlv.Wrote.{the-type}
 use Rattle.packet.specs.declared.tlv.Wrote.{Wrote}
-use Rattle.packet.specs.declared.tlv.Wrote.the-variants.{Written, TooLong, BadValue, Short}
+use Rattle.packet.specs.declared.tlv.Wrote.the-variants.{Written, Short}
 use Rattle.packet.specs.declared.store.LengthField.{LengthField}
 use Rattle.packet.specs.declared.store.LengthField.the-variants.{OneByte, TwoBytes}
 use Rattle.packet.specs.Tags.{writeTag, putTag}

@@ -1,6 +1,6 @@
 -- Digest authentication (IrOBEX 1.5, section 3.6): the tag lists of a challenge and of a response, and the check of a response. Of a
 -- repeated tag the last holds; unknown tags are ignored.
-use Prim.Native.Nat.{ℕ, _+_, _/_, _%_}
+use Prim.Native.Nat.{ℕ, _/_, _%_}
 use mathlib.Core.List.{List, [], _∷_, _++_}
 use mathlib.Core.Bool.{Bool, true, false, not, _&&_, _||_}
 use mathlib.Core.Option.{Option, none, some}

@@ -13,6 +13,7 @@ use crate::question::Question;
 use crate::question::question_of;
 use lines::input::keep;
 use lines::input::read;
+use lines::input::whole;
 use lines::word::after;
 use lines::word::find;
 
@@ -44,20 +45,14 @@ fn line(s: &[u8], is_cut: bool) {
     }
 }
 
-// Answers the whole lines, and gives where the rest starts. If `is_cut`, the first of them is the end of a line whose start was dropped.
-fn lines_of(s: &[u8], is_cut: bool) -> usize
-    ensures { λ r. ⌜ r ≤ length (now (s .entry)) ⌝ }
-{
+// Answers the lines of `s`, all of which are whole. If `is_cut`, the first of them is the end of a line whose start was dropped.
+fn lines_of(s: &[u8], is_cut: bool) {
     let mut at = 0;
     while at < s.len() {
         let end = find(s, at, b'\n');
-        if s.len() <= end {
-            return at;
-        }
         line(&s[at..end], is_cut && at == 0);
         at = end + 1;
     }
-    at
 }
 
 // Answers the line that the input ends with, if it has no end of its own.
@@ -105,7 +100,8 @@ fn turn(s: &mut [u8], before: Rest) -> Rest
         };
     }
     let end = have + n;
-    let from = lines_of(&s[0..end], before.is_cut);
+    let from = whole(&s[0..end]);
+    lines_of(&s[0..from], before.is_cut);
     let left = keep(s, from, end);
     rest_of(left, s.len(), from, before.is_cut)
 }

@@ -1,5 +1,6 @@
 // The words of a question: which one is asked, and whether a word has the form of a number or of bytes.
 use check::same;
+use lines::word::line_number;
 use lines::word::number;
 ghost use Prim.Native.Nat.{_<_};
 
@@ -22,28 +23,16 @@ pub enum Number {
 
 // The question that a word names.
 pub(crate) fn question_of(word: &[u8]) -> Question {
-    if same(word, b"write") {
-        return Question::Write;
+    match line_number(b"write\nread\nstore\nrestore\ntime\nlegacy\nroll\n", word) {
+        0 => Question::Write,
+        1 => Question::Read,
+        2 => Question::Store,
+        3 => Question::Restore,
+        4 => Question::Time,
+        5 => Question::Legacy,
+        6 => Question::Roll,
+        _ => Question::Unknown,
     }
-    if same(word, b"read") {
-        return Question::Read;
-    }
-    if same(word, b"store") {
-        return Question::Store;
-    }
-    if same(word, b"restore") {
-        return Question::Restore;
-    }
-    if same(word, b"time") {
-        return Question::Time;
-    }
-    if same(word, b"legacy") {
-        return Question::Legacy;
-    }
-    if same(word, b"roll") {
-        return Question::Roll;
-    }
-    Question::Unknown
 }
 
 // The value of a digit, in lower case as in the answers; 16 for any other sign.

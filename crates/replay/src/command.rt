@@ -3,12 +3,17 @@ use crate::state::bare;
 use check::same;
 use digest::md5::Octets16;
 use digest::md5::octets16_at;
+use lines::output::least;
 use lines::word::after;
 use lines::word::byte_at;
 use lines::word::find;
+use lines::word::line_number;
 use lines::word::number;
 use lines::word::unhex;
 use lines::word::value;
+use lines::word::word_of;
+use server::Settings;
+use server::default_settings;
 
 pub enum Command {
     Longest,
@@ -28,19 +33,10 @@ pub enum Command {
     Other,
 }
 
-// The settings of a start. The realm's bytes stand in the realm store.
+// What a start names: the engine's settings, and what the program does. The realm's bytes stand in the realm store.
 pub struct Options {
-    pub max_object_size: usize,
-    pub max_packet_length: usize,
+    pub settings: Settings,
     pub realm_length: usize,
-    pub charset: u8,
-    pub has_realm: bool,
-    pub srm_supported: bool,
-    pub authentication: bool,
-    pub user_id_required: bool,
-    pub read_only: bool,
-    pub user_id_enforced: bool,
-    pub refuse_trailing: bool,
     // Whether the Target of each request is printed.
     pub targets: bool,
     // Whether the stores are filled with zeros.
@@ -92,110 +88,65 @@ enum Key {
     Other,
 }
 
+// Returns the command that a word names. The first six are those of the original's transcripts.
 pub(crate) fn command_of(w: &[u8]) -> Command {
-    if same(w, b"read") {
-        return Command::Read;
+    let names =
+        b"read\nsent\nanswer\nstart\nnonce\nlongest\nstores\nhold\ntaken\nacknowledge\nshow\ninspect\nclose\n";
+    match line_number(names, w) {
+        0 => Command::Read,
+        1 => Command::Sent,
+        2 => Command::Answer,
+        3 => Command::Start,
+        4 => Command::Nonce,
+        5 => Command::Longest,
+        6 => Command::Stores,
+        7 => Command::Hold,
+        8 => Command::Taken,
+        9 => Command::Acknowledge,
+        10 => Command::Show,
+        11 => Command::Inspect,
+        12 => Command::Close,
+        _ => Command::Other,
     }
-    if same(w, b"sent") {
-        return Command::Sent;
-    }
-    if same(w, b"answer") {
-        return Command::Answer;
-    }
-    if same(w, b"start") {
-        return Command::Start;
-    }
-    if same(w, b"nonce") {
-        return Command::Nonce;
-    }
-    if same(w, b"longest") {
-        return Command::Longest;
-    }
-    own_command_of(w)
-}
-
-// The commands that no transcript of the original has.
-fn own_command_of(w: &[u8]) -> Command {
-    if same(w, b"stores") {
-        return Command::Stores;
-    }
-    if same(w, b"hold") {
-        return Command::Hold;
-    }
-    if same(w, b"taken") {
-        return Command::Taken;
-    }
-    if same(w, b"acknowledge") {
-        return Command::Acknowledge;
-    }
-    if same(w, b"show") {
-        return Command::Show;
-    }
-    if same(w, b"inspect") {
-        return Command::Inspect;
-    }
-    if same(w, b"close") {
-        return Command::Close;
-    }
-    Command::Other
 }
 
 // ---- the settings of a start
 
 fn key_of(w: &[u8]) -> Key {
-    if same(w, b"max_packet_length") {
-        return Key::MaxPacketLength;
+    let names = b"max_packet_length\n\
+        max_object_size\n\
+        srm\n\
+        auth\n\
+        realm\n\
+        charset\n\
+        user_id_required\n\
+        read_only\n\
+        user_id_enforced\n\
+        refuse_trailing\n\
+        targets\n\
+        clear\n";
+    match line_number(names, w) {
+        0 => Key::MaxPacketLength,
+        1 => Key::MaxObjectSize,
+        2 => Key::Srm,
+        3 => Key::Auth,
+        4 => Key::Realm,
+        5 => Key::Charset,
+        6 => Key::UserIdRequired,
+        7 => Key::ReadOnly,
+        8 => Key::UserIdEnforced,
+        9 => Key::RefuseTrailing,
+        10 => Key::Targets,
+        11 => Key::Clear,
+        _ => Key::Other,
     }
-    if same(w, b"max_object_size") {
-        return Key::MaxObjectSize;
-    }
-    if same(w, b"srm") {
-        return Key::Srm;
-    }
-    if same(w, b"auth") {
-        return Key::Auth;
-    }
-    if same(w, b"realm") {
-        return Key::Realm;
-    }
-    if same(w, b"charset") {
-        return Key::Charset;
-    }
-    if same(w, b"user_id_required") {
-        return Key::UserIdRequired;
-    }
-    if same(w, b"read_only") {
-        return Key::ReadOnly;
-    }
-    if same(w, b"user_id_enforced") {
-        return Key::UserIdEnforced;
-    }
-    if same(w, b"refuse_trailing") {
-        return Key::RefuseTrailing;
-    }
-    if same(w, b"targets") {
-        return Key::Targets;
-    }
-    if same(w, b"clear") {
-        return Key::Clear;
-    }
-    Key::Other
 }
 
-// The settings with which the original starts.
-pub(crate) fn default_options() -> Options {
+// The settings with which the original starts. The body store holds 1 MiB, so its limit is cut down to that.
+fn default_options() -> Options {
     Options {
-        max_object_size: 67108864,
-        max_packet_length: 65535,
+        settings: default_settings(1048576),
         realm_length: 0,
-        charset: 0,
-        has_realm: false,
-        srm_supported: false,
-        authentication: false,
-        user_id_required: false,
-        read_only: false,
-        user_id_enforced: false,
-        refuse_trailing: false,
         targets: false,
         clear: false,
     }
@@ -210,30 +161,35 @@ fn is_set(w: &[u8]) -> bool {
     byte_at(w, 0) == b'1'
 }
 
-fn with_realm(o: Options, length: usize) -> Options {
-    let mut r = o;
-    r.has_realm = true;
-    r.realm_length = length;
-    r
-}
-
-// Returns the options with one setting changed. A realm's bytes stand in their store already.
-fn with_option(o: Options, key: Key, w: &[u8], realm: usize) -> Options {
-    let mut r = o;
+// Returns the settings with one of them changed. A limit above the body store's 1 MiB is cut down to that.
+fn with_setting(s: Settings, key: Key, w: &[u8]) -> Settings {
+    let mut r = s;
     match key {
-        Key::MaxPacketLength => r.max_packet_length = number(w),
-        Key::MaxObjectSize => r.max_object_size = number(w),
+        Key::MaxPacketLength => r.max_packet_length = (number(w) % 65536) as u16,
+        Key::MaxObjectSize => r.max_object_size = least(number(w), 1048576) as u32,
         Key::Srm => r.srm_supported = is_set(w),
         Key::Auth => r.authentication = is_set(w),
-        Key::Realm => r = with_realm(o, realm),
+        Key::Realm => r.has_realm = true,
         Key::Charset => r.charset = byte_of(w),
         Key::UserIdRequired => r.user_id_required = is_set(w),
         Key::ReadOnly => r.read_only = is_set(w),
         Key::UserIdEnforced => r.user_id_enforced = is_set(w),
         Key::RefuseTrailing => r.refuse_trailing = is_set(w),
+        _ => {}
+    }
+    r
+}
+
+// Returns the options with one of them changed. A realm's bytes, as many as `realm` says, stand in their store already.
+fn with_option(o: Options, key: Key, w: &[u8], realm: usize) -> Options {
+    let mut r = o;
+    let settings = with_setting(o.settings, key, w);
+    r.settings = settings;
+    match key {
+        Key::Realm => r.realm_length = realm,
         Key::Targets => r.targets = is_set(w),
         Key::Clear => r.clear = is_set(w),
-        Key::Other => {}
+        _ => {}
     }
     r
 }
@@ -275,41 +231,29 @@ fn options_of(s: &[u8], store: &mut [u8]) -> Options {
 
 // Returns the call of an answer, by its name and the two words behind the name.
 fn answer_of(name: &[u8], first: &[u8], second: &[u8]) -> Call {
-    if same(name, b"reply") {
-        return Call::Reply(byte_of(first));
-    }
-    if same(name, b"object") {
-        return Call::Object(same(second, b"body"));
-    }
-    if same(name, b"read") {
-        return Call::Body;
-    }
-    if same(name, b"readfail") {
-        return Call::BodyFailed;
-    }
-    if same(name, b"password") {
-        return Call::Password(!same(first, b"none"));
-    }
-    if same(name, b"credentials") {
-        return Call::Credentials {
+    match line_number(
+        b"reply\nobject\nread\nreadfail\npassword\ncredentials\n",
+        name,
+    ) {
+        0 => Call::Reply(byte_of(first)),
+        1 => Call::Object(same(second, b"body")),
+        2 => Call::Body,
+        3 => Call::BodyFailed,
+        4 => Call::Password(!same(first, b"none")),
+        5 => Call::Credentials {
             has_credentials: !same(first, b"none"),
             has_user: !same(first, b"nouser"),
-        };
+        },
+        _ => Call::Nothing,
     }
-    Call::Nothing
 }
 
 // Decodes an answer: its name and two words, of which one or both are bytes.
 fn answer(s: &[u8], store: &mut [u8]) -> Decoded {
-    let e0 = find(s, 0, b' ');
-    let s1 = after(s, e0);
-    let e1 = find(s, s1, b' ');
-    let s2 = after(s, e1);
-    let e2 = find(s, s2, b' ');
-    let first = unhex(&s[s1..e1], store);
-    let second = unhex(&s[s2..e2], &mut store[first..]);
+    let first = unhex(word_of(s, 1), store);
+    let second = unhex(word_of(s, 2), &mut store[first..]);
     Decoded {
-        call: answer_of(&s[0..e0], &s[s1..e1], &s[s2..e2]),
+        call: answer_of(word_of(s, 0), word_of(s, 1), word_of(s, 2)),
         first,
         second,
     }

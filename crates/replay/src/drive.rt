@@ -1,31 +1,17 @@
 // The calls on the engine.
 use crate::command::Call;
-use crate::command::Options;
 use crate::state::Replay;
+use crate::state::minus;
+use base::copy_into;
 use engine::calls;
 use lines::output::least;
 use packet::header::be32_at;
+use server::Await;
 use server::CallResult;
 use server::Engine;
-use server::Settings;
+use server::default_settings;
 
 // ---- the start
-
-// Returns the engine's settings. The body store holds 1 MiB, so a limit above that is cut down to it.
-pub(crate) fn settings_of(o: Options) -> Settings {
-    Settings {
-        max_object_size: least(o.max_object_size, 1048576) as u32,
-        max_packet_length: (o.max_packet_length % 65536) as u16,
-        charset: o.charset,
-        has_realm: o.has_realm,
-        srm_supported: o.srm_supported,
-        authentication: o.authentication,
-        user_id_required: o.user_id_required,
-        read_only: o.read_only,
-        user_id_enforced: o.user_id_enforced,
-        refuse_trailing: o.refuse_trailing,
-    }
-}
 
 // Fills the first `n` bytes with zeros.
 fn clear(s: &mut [u8], n: usize) {
@@ -51,19 +37,28 @@ fn clear_tables(s: &mut [u64], n: usize) {
     }
 }
 
-// Returns how many bytes of a store are cleared at a start.
-fn cleared(o: Options) -> usize {
-    if o.clear { 1048576 } else { 0 }
+// Returns how many elements of a store are filled with zeros before the call: all if it is a start that says so, and none otherwise.
+fn cleared(call: Call) -> usize {
+    if let Call::Start(o) = call {
+        if o.clear {
+            return 1048576;
+        }
+    }
+    0
 }
 
-fn clear_stores(
-    n: usize,
-    tables: &mut [u64],
-    packet: &mut [u8],
-    headers: &mut [u8],
-    body: &mut [u8],
-    reply: &mut [u8],
+// Fills the stores with zeros if the call is a start that says so.
+pub(crate) fn clear_stores(
+    s: Replay,
+    tables: &mut [u64; 320],
+    packet: &mut [u8; 65536],
+    headers: &mut [u8; 65536],
+    body: &mut [u8; 1048576],
+    reply: &mut [u8; 65536],
 ) {
+    let due = s.due;
+    let call = due.call;
+    let n = cleared(call);
     clear_tables(tables, n);
     clear(packet, n);
     clear(headers, n);
@@ -71,17 +66,23 @@ fn clear_stores(
     clear(reply, n);
 }
 
-fn start(
-    o: Options,
-    realm: &[u8],
-    tables: &mut [u64],
-    packet: &mut [u8],
-    headers: &mut [u8],
-    body: &mut [u8],
-    reply: &mut [u8],
+// Starts an engine as the original does, for a transcript that begins with no start.
+pub(crate) fn first_start(
+    tables: &mut [u64; 320],
+    packet: &mut [u8; 65536],
+    headers: &mut [u8; 65536],
+    body: &mut [u8; 1048576],
+    reply: &mut [u8; 65536],
 ) -> CallResult {
-    clear_stores(cleared(o), tables, packet, headers, body, reply);
-    calls::start(settings_of(o), realm, tables, packet, headers, body, reply)
+    calls::start(
+        default_settings(1048576),
+        b"",
+        tables,
+        packet,
+        headers,
+        body,
+        reply,
+    )
 }
 
 // ---- connections that are closed together
@@ -108,48 +109,104 @@ fn close(e: Engine, a: &[u8], tables: &mut [u64]) -> CallResult {
 
 // ---- one call
 
-// Makes a call that comes from the peer, or one that answers no question. A reply is taken if `call` is no other call.
-fn peer_call(
+// Whether a lent store is too short by its length, so that the engine refuses bytes and leaves all stores as they are.
+fn is_short(
+    e: Engine,
+    tables: usize,
+    packet: usize,
+    headers: usize,
+    body: usize,
+    reply: usize,
+) -> bool {
+    if tables < 320 {
+        return true;
+    }
+    if least(packet, least(headers, reply)) < 65535 {
+        return true;
+    }
+    body < e.settings.max_object_size as usize
+}
+
+// Returns how many bytes of a piece of `length` bytes are put into the packet store: half of them, if their number is odd and `awaits` says
+// that bytes are awaited. At any other moment the packet store holds the last packet, which an answer may read again.
+fn half(awaits: Await, length: usize) -> usize {
+    let Await::Bytes = awaits else {
+        return 0;
+    };
+    if length % 2 == 0 {
+        return 0;
+    }
+    length / 2
+}
+
+// Puts bytes of `input` into the packet store behind those of an unfinished packet, at most `count`, and returns how many.
+fn place(begun: usize, count: usize, input: &[u8], packet: &mut [u8]) -> usize {
+    let at = least(begun, packet.len());
+    let n = least(least(count, input.len()), packet.len() - at);
+    copy_into(packet, at, &input[0..n]);
+    n
+}
+
+// Offers a piece of the client's bytes. Some bytes are put into the packet store first, as by a host that reads straight into it, so that
+// sessions try both ways.
+fn offer(
+    e: Engine,
+    input: &[u8],
+    tables: &[u64],
+    packet: &mut [u8],
+    headers: &mut [u8],
+    body: &mut [u8],
+    reply: &mut [u8],
+) -> CallResult {
+    if is_short(
+        e,
+        tables.len(),
+        packet.len(),
+        headers.len(),
+        body.len(),
+        reply.len(),
+    ) {
+        return calls::bytes_offered(e, 0, input, tables, packet, headers, body, reply);
+    }
+    let awaits = e.awaits;
+    let n = least(
+        place(e.begun, half(awaits, input.len()), input, packet),
+        input.len(),
+    );
+    calls::bytes_offered(e, n, &input[n..], tables, packet, headers, body, reply)
+}
+
+// Makes a call that hands over nothing but the stores. A reply is taken if `call` is no other call.
+fn bare_call(
     e: Engine,
     call: Call,
-    input: &[u8],
-    realm: &[u8],
-    tables: &mut [u64],
     packet: &mut [u8],
     headers: &mut [u8],
     body: &mut [u8],
     reply: &mut [u8],
 ) -> CallResult {
     match call {
-        Call::Bytes => calls::bytes_offered(e, input, tables, packet, headers, body, reply),
         Call::EndOfStream => calls::stream_ended(e, packet, headers, body, reply),
         Call::Acknowledge => calls::abort_acknowledged(e, packet, headers, body, reply),
-        Call::Start(o) => start(o, realm, tables, packet, headers, body, reply),
+        Call::BodyFailed => calls::body_failed(e, packet, headers, body, reply),
         _ => calls::reply_taken(e, packet, headers, body, reply),
     }
 }
 
-// Makes a call. The bytes `a` and `b` are those that an answer hands over.
-fn host_call(
+// Makes a call that is not lent the tables. The bytes `a` and `b` are those that an answer hands over.
+fn plain_call(
     e: Engine,
     call: Call,
-    input: &[u8],
     a: &[u8],
     b: &[u8],
-    realm: &[u8],
-    tables: &mut [u64],
     packet: &mut [u8],
     headers: &mut [u8],
     body: &mut [u8],
     reply: &mut [u8],
 ) -> CallResult {
     match call {
-        Call::Nonce(n) => calls::nonce_given(e, n, realm, tables, packet, headers, body, reply),
-        Call::Reply(code) => calls::reply_given(e, code, b, tables, packet, headers, body, reply),
         Call::Object(has_body) => calls::object_given(e, a, has_body, packet, headers, body, reply),
         Call::Body => calls::body_given(e, a, packet, headers, body, reply),
-        Call::BodyFailed => calls::body_failed(e, packet, headers, body, reply),
-        Call::Close => close(e, a, tables),
         Call::Password(has_password) => calls::password_given(
             e,
             has_password,
@@ -173,8 +230,57 @@ fn host_call(
             body,
             reply,
         ),
-        _ => peer_call(e, call, input, realm, tables, packet, headers, body, reply),
+        _ => bare_call(e, call, packet, headers, body, reply),
     }
+}
+
+// Makes a call that answers a question, or closes connections.
+fn host_call(
+    e: Engine,
+    call: Call,
+    a: &[u8],
+    b: &[u8],
+    realm: &[u8],
+    tables: &mut [u64],
+    packet: &mut [u8],
+    headers: &mut [u8],
+    body: &mut [u8],
+    reply: &mut [u8],
+) -> CallResult {
+    match call {
+        Call::Nonce(n) => calls::nonce_given(e, n, realm, tables, packet, headers, body, reply),
+        Call::Reply(code) => calls::reply_given(e, code, b, tables, packet, headers, body, reply),
+        Call::Close => close(e, a, tables),
+        _ => plain_call(e, call, a, b, packet, headers, body, reply),
+    }
+}
+
+// Makes any call: one that comes from the peer, a start, or one of the host's.
+fn any_call(
+    e: Engine,
+    call: Call,
+    input: &[u8],
+    a: &[u8],
+    b: &[u8],
+    realm: &[u8],
+    tables: &mut [u64],
+    packet: &mut [u8],
+    headers: &mut [u8],
+    body: &mut [u8],
+    reply: &mut [u8],
+) -> CallResult {
+    match call {
+        Call::Bytes => offer(e, input, tables, packet, headers, body, reply),
+        Call::Start(o) => calls::start(o.settings, realm, tables, packet, headers, body, reply),
+        _ => host_call(e, call, a, b, realm, tables, packet, headers, body, reply),
+    }
+}
+
+// Returns `n` bytes of `s` from a place on, as far as there are so many.
+fn part(s: &[u8], from: usize, n: usize) -> &[u8] {
+    let start = least(from, s.len());
+    let end = start + least(n, s.len() - start);
+    &s[start..end]
 }
 
 // Makes the call that is due, with the stores as far as they are lent.
@@ -190,25 +296,20 @@ pub(crate) fn call_engine(
     body: &mut [u8],
     reply: &mut [u8],
 ) -> CallResult {
-    let to = least(s.stream.read, stream.len());
-    let from = least(s.stream.taken, to);
     let due = s.due;
     let call = due.call;
-    let k = least(due.first, words.len());
-    let end = k + least(due.second, words.len() - k);
     let n0 = least(s.lent.tables, tables.len());
     let n1 = least(s.lent.packet, packet.len());
     let n2 = least(s.lent.headers, headers.len());
     let n3 = least(s.lent.body, body.len());
     let n4 = least(s.lent.reply, reply.len());
-    let m = least(s.realm, realm.len());
-    host_call(
+    any_call(
         e,
         call,
-        &stream[from..to],
-        &words[0..k],
-        &words[k..end],
-        &realm[0..m],
+        part(stream, s.stream.taken, minus(s.stream.read, s.stream.taken)),
+        part(words, 0, due.first),
+        part(words, due.first, due.second),
+        part(realm, 0, s.realm),
         &mut tables[0..n0],
         &mut packet[0..n1],
         &mut headers[0..n2],

@@ -11,11 +11,10 @@ use command::Call;
 use command::Command;
 use command::command_of;
 use command::decode;
-use command::default_options;
 use connection::peer::Peer;
 use drive::call_engine;
-use drive::settings_of;
-use engine::calls;
+use drive::clear_stores;
+use drive::first_start;
 use lines::input::keep;
 use lines::input::read;
 use lines::output::flush;
@@ -24,7 +23,6 @@ use lines::output::put;
 use lines::output::write;
 use lines::word::Place;
 use lines::word::after;
-use lines::word::byte_at;
 use lines::word::find;
 use server::CallResult;
 use server::Operation;
@@ -170,39 +168,17 @@ fn shows_state(call: Call, took: CallResult) -> bool {
 fn print_shown<'a>(
     s: Replay,
     peer: Peer,
-    tables: &[u64],
-    packet: &'a [u8],
-    headers: &'a [u8],
-    body: &'a [u8],
-    reply: &'a [u8],
-    out: &mut [u8],
+    tables: &[u64; 320],
+    packet: &'a [u8; 65536],
+    headers: &'a [u8; 65536],
+    body: &'a [u8; 1048576],
+    reply: &'a [u8; 65536],
+    out: &mut [u8; 1048576],
 ) -> Replay {
     let shown = s.shown;
     let line = shown_line(s.lent, shown, peer);
     let n = put_line(out, s.n, line, tables, packet, headers, body, reply);
     with_shown(with_output(s, n), false, false)
-}
-
-// The lines after a call: what it returned, the Target that a request names, and the state if one stands after it.
-struct Lines {
-    outcome: show::Line,
-    target: show::Line,
-    state: show::Line,
-}
-
-fn lines_after(s: Replay, took: CallResult, opcode: u8) -> Lines {
-    let due = s.due;
-    let outcome = took.outcome;
-    let call = due.call;
-    let e = took.engine;
-    let peer = e.peer;
-    let target = e.target;
-    let shows = shows_state(call, took);
-    Lines {
-        outcome: outcome_line(outcome, opcode, s.longest),
-        target: target_line(outcome, target, s.targets),
-        state: state_line(peer, shows),
-    }
 }
 
 // The state after a call that returned `took`: how far the stream is taken, and which call follows.
@@ -211,38 +187,30 @@ fn after_result(s: Replay, took: CallResult) -> Replay {
     after_call(with_taken(s, took.taken), outcome)
 }
 
-// Puts the line of what a call returned, and behind it the line of the Target.
-fn put_result<'a>(
-    out: &mut [u8],
-    n: usize,
-    l: Lines,
-    tables: &[u64],
-    packet: &'a [u8],
-    headers: &'a [u8],
-    body: &'a [u8],
-    reply: &'a [u8],
-) -> usize {
-    let outcome = l.outcome;
-    let target = l.target;
-    let k = put_line(out, n, outcome, tables, packet, headers, body, reply);
-    put_line(out, k, target, tables, packet, headers, body, reply)
-}
-
-// Prints the lines after a call.
-fn print_lines<'a>(
+// Prints the lines after a call: what it returned, the Target that a request names, and the state if one stands after it.
+fn print_result<'a>(
     s: Replay,
-    l: Lines,
-    tables: &[u64],
-    packet: &'a [u8],
-    headers: &'a [u8],
-    body: &'a [u8],
-    reply: &'a [u8],
-    out: &mut [u8],
+    took: CallResult,
+    tables: &[u64; 320],
+    packet: &'a [u8; 65536],
+    headers: &'a [u8; 65536],
+    body: &'a [u8; 1048576],
+    reply: &'a [u8; 65536],
+    out: &mut [u8; 1048576],
 ) -> Replay {
-    let state = l.state;
-    let n = put_result(out, s.n, l, tables, packet, headers, body, reply);
-    let m = put_line(out, n, state, tables, packet, headers, body, reply);
-    with_output(s, flush(out, m))
+    let due = s.due;
+    let call = due.call;
+    let outcome = took.outcome;
+    let e = took.engine;
+    let peer = e.peer;
+    let target = e.target;
+    let result = outcome_line(outcome, packet[0], s.longest);
+    let a = put_line(out, s.n, result, tables, packet, headers, body, reply);
+    let named = target_line(outcome, target, s.targets);
+    let b = put_line(out, a, named, tables, packet, headers, body, reply);
+    let state = state_line(peer, shows_state(call, took));
+    let c = put_line(out, b, state, tables, packet, headers, body, reply);
+    with_output(after_result(s, took), flush(out, c))
 }
 
 // ---- the sessions
@@ -255,6 +223,139 @@ fn is_due(s: Replay) -> bool {
     } else {
         true
     }
+}
+
+// What the last call returned, and the state after it.
+struct Played {
+    took: CallResult,
+    state: Replay,
+}
+
+// The state before the first line, with an engine as the original starts it.
+fn begin(
+    tables: &mut [u64; 320],
+    packet: &mut [u8; 65536],
+    headers: &mut [u8; 65536],
+    body: &mut [u8; 1048576],
+    reply: &mut [u8; 65536],
+) -> Played {
+    Played {
+        took: first_start(tables, packet, headers, body, reply),
+        state: begun(),
+    }
+}
+
+// Returns whether standard input has ended.
+fn is_over(t: Played) -> bool {
+    let s = t.state;
+    s.over
+}
+
+// Returns how many bytes of output are collected.
+fn output_of(t: Played) -> usize {
+    let s = t.state;
+    s.n
+}
+
+// Makes the call that is due, and prints what it led to.
+fn make_call(
+    last: CallResult,
+    s: Replay,
+    stream: &[u8; 131072],
+    words: &[u8; 262144],
+    realm: &[u8; 1024],
+    tables: &mut [u64; 320],
+    packet: &mut [u8; 65536],
+    headers: &mut [u8; 65536],
+    body: &mut [u8; 1048576],
+    reply: &mut [u8; 65536],
+    out: &mut [u8; 1048576],
+) -> Played {
+    clear_stores(s, tables, packet, headers, body, reply);
+    let e = last.engine;
+    let took = call_engine(
+        e,
+        s,
+        stream,
+        words,
+        realm,
+        tables,
+        packet,
+        headers,
+        body,
+        reply,
+    );
+    let state = print_result(s, took, tables, packet, headers, body, reply, out);
+    Played { took, state }
+}
+
+// Carries out the next line, and prints what it shows.
+fn follow_line<'a>(
+    took: CallResult,
+    s: Replay,
+    input: &mut [u8; 1048576],
+    stream: &mut [u8; 131072],
+    words: &mut [u8; 262144],
+    realm: &mut [u8; 1024],
+    tables: &[u64; 320],
+    packet: &'a [u8; 65536],
+    headers: &'a [u8; 65536],
+    body: &'a [u8; 1048576],
+    reply: &'a [u8; 65536],
+    out: &mut [u8; 1048576],
+) -> Played {
+    let after = take_line(s, input, stream, words, realm, out);
+    let e = took.engine;
+    let peer = e.peer;
+    let state = print_shown(after, peer, tables, packet, headers, body, reply, out);
+    Played { took, state }
+}
+
+// Makes the call that is due, or carries out the next line if none is.
+fn turn(
+    before: Played,
+    input: &mut [u8; 1048576],
+    stream: &mut [u8; 131072],
+    words: &mut [u8; 262144],
+    realm: &mut [u8; 1024],
+    tables: &mut [u64; 320],
+    packet: &mut [u8; 65536],
+    headers: &mut [u8; 65536],
+    body: &mut [u8; 1048576],
+    reply: &mut [u8; 65536],
+    out: &mut [u8; 1048576],
+) -> Played {
+    let s = before.state;
+    let took = before.took;
+    if is_due(s) {
+        return make_call(
+            took,
+            s,
+            stream,
+            words,
+            realm,
+            tables,
+            packet,
+            headers,
+            body,
+            reply,
+            out,
+        );
+    }
+    follow_line(
+        took,
+        s,
+        input,
+        stream,
+        words,
+        realm,
+        tables,
+        packet,
+        headers,
+        body,
+        reply,
+        out,
+    )
 }
 
 // Plays the sessions, from an engine as the original starts it. A proved loop has to end, and nothing says that the input does, so the turns
@@ -271,44 +372,25 @@ fn play(
     reply: &mut [u8; 65536],
     out: &mut [u8; 1048576],
 ) {
-    let settings = settings_of(default_options());
-    let mut took = calls::start(settings, b"", tables, packet, headers, body, reply);
-    let mut s = begun();
+    let mut last = begin(tables, packet, headers, body, reply);
     let mut left = u64::MAX;
     while left > 0 {
-        if is_due(s) {
-            took = call_engine(
-                took.engine,
-                s,
-                stream,
-                words,
-                realm,
-                tables,
-                packet,
-                headers,
-                body,
-                reply,
-            );
-            let after = lines_after(s, took, byte_at(packet, 0));
-            s = print_lines(
-                after_result(s, took),
-                after,
-                tables,
-                packet,
-                headers,
-                body,
-                reply,
-                out,
-            );
-        } else {
-            s = take_line(s, input, stream, words, realm, out);
-            if s.over {
-                write(out, s.n);
-                return;
-            }
-            let e = took.engine;
-            let peer = e.peer;
-            s = print_shown(s, peer, tables, packet, headers, body, reply, out);
+        last = turn(
+            last,
+            input,
+            stream,
+            words,
+            realm,
+            tables,
+            packet,
+            headers,
+            body,
+            reply,
+            out,
+        );
+        if is_over(last) {
+            write(out, output_of(last));
+            return;
         }
         left -= 1;
     }

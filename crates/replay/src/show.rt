@@ -247,11 +247,11 @@ fn put_value<'a>(
     n: usize,
     letter: u8,
     v: Values,
-    tables: &[u64],
-    packet: &'a [u8],
-    headers: &'a [u8],
-    body: &'a [u8],
-    reply: &'a [u8],
+    tables: &[u64; 320],
+    packet: &'a [u8; 65536],
+    headers: &'a [u8; 65536],
+    body: &'a [u8; 1048576],
+    reply: &'a [u8; 65536],
 ) -> usize {
     let w = word_of(letter, v, byte_at(packet, v.start));
     put_word(
@@ -270,11 +270,11 @@ fn put_form<'a>(
     n: usize,
     form: &[u8],
     v: Values,
-    tables: &[u64],
-    packet: &'a [u8],
-    headers: &'a [u8],
-    body: &'a [u8],
-    reply: &'a [u8],
+    tables: &[u64; 320],
+    packet: &'a [u8; 65536],
+    headers: &'a [u8; 65536],
+    body: &'a [u8; 1048576],
+    reply: &'a [u8; 65536],
 ) -> usize {
     let mut a = n;
     let mut at = 0;
@@ -294,11 +294,11 @@ fn put_form_of<'a>(
     n: usize,
     forms: &[u8],
     line: Line,
-    tables: &[u64],
-    packet: &'a [u8],
-    headers: &'a [u8],
-    body: &'a [u8],
-    reply: &'a [u8],
+    tables: &[u64; 320],
+    packet: &'a [u8; 65536],
+    headers: &'a [u8; 65536],
+    body: &'a [u8; 1048576],
+    reply: &'a [u8; 65536],
 ) -> usize {
     if line.form == 0 {
         return n;
@@ -325,11 +325,11 @@ pub(crate) fn put_line<'a>(
     out: &mut [u8],
     n: usize,
     line: Line,
-    tables: &[u64],
-    packet: &'a [u8],
-    headers: &'a [u8],
-    body: &'a [u8],
-    reply: &'a [u8],
+    tables: &[u64; 320],
+    packet: &'a [u8; 65536],
+    headers: &'a [u8; 65536],
+    body: &'a [u8; 1048576],
+    reply: &'a [u8; 65536],
 ) -> usize {
     let forms = b"\n\
         out %r\n\

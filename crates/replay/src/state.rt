@@ -4,11 +4,11 @@ use crate::command::Command;
 use crate::command::Decoded;
 use lines::input::keep;
 use lines::output::least;
-use lines::word::after;
 use lines::word::byte_at;
-use lines::word::find;
 use lines::word::number;
+use lines::word::piece_at;
 use lines::word::unhex;
+use lines::word::word_of;
 use server::Outcome;
 
 // How much of each store is lent to the engine.
@@ -219,21 +219,16 @@ fn tables_of(w: &[u8]) -> usize {
     number(w)
 }
 
+// Returns how much of each store is lent by five numbers.
 fn lent_of(w: &[u8]) -> Lent {
-    let e0 = find(w, 0, b' ');
-    let s1 = after(w, e0);
-    let e1 = find(w, s1, b' ');
-    let s2 = after(w, e1);
-    let e2 = find(w, s2, b' ');
-    let s3 = after(w, e2);
-    let e3 = find(w, s3, b' ');
-    let s4 = after(w, e3);
+    let tables = piece_at(w, 4, b' ');
+    let start = tables.start;
     Lent {
-        packet: number(&w[0..e0]),
-        headers: number(&w[s1..e1]),
-        body: number(&w[s2..e2]),
-        reply: number(&w[s3..e3]),
-        tables: tables_of(&w[s4..]),
+        packet: number(word_of(w, 0)),
+        headers: number(word_of(w, 1)),
+        body: number(word_of(w, 2)),
+        reply: number(word_of(w, 3)),
+        tables: tables_of(&w[start..]),
     }
 }
 
@@ -260,7 +255,8 @@ fn with_read(s: Replay, n: usize) -> Replay {
     )
 }
 
-fn minus(a: usize, b: usize) -> usize {
+// Returns how much larger `a` is than `b`, or 0.
+pub(crate) fn minus(a: usize, b: usize) -> usize {
     if a < b { 0 } else { a - b }
 }
 

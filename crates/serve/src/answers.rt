@@ -141,28 +141,8 @@ fn read(
     }
 }
 
-// Answers a request that needs no file. SetPath is granted and does nothing: clients send it first, and there is one folder for a service.
-fn plain(
-    e: Engine,
-    request: HostRequest,
-    tables: &mut [u64; 320],
-    packet: &mut [u8; 65535],
-    headers: &mut [u8; 65535],
-    body: &mut [u8; 1048576],
-    reply: &mut [u8; 65535],
-) -> CallResult {
-    log::request(request);
-    match request {
-        HostRequest::SetPath {
-            length: _,
-            backup: _,
-            no_create: _,
-        } => calls::reply_given(e, SUCCESS, b"", tables, packet, headers, body, reply),
-        _ => host::answers::answer(e, request, tables, packet, headers, body, reply),
-    }
-}
-
-// Answers a request. `file` is the file that is being sent, which any request but a Put and a Read ends.
+// Answers a request. `file` is the file that is being sent, which any request but a Put and a Read ends. SetPath is granted and does
+// nothing: clients send it first, and there is one folder for a service.
 pub(crate) fn answer(
     e: Engine,
     request: HostRequest,
@@ -184,9 +164,23 @@ pub(crate) fn answer(
         },
         HostRequest::Get { kept } => get(e, kept, tables, packet, headers, body, reply),
         HostRequest::Read { room } => read(e, file, room, chunk, packet, headers, body, reply),
-        _ => Answered {
-            took: plain(e, request, tables, packet, headers, body, reply),
-            file: file::closed(file),
-        },
+        HostRequest::SetPath {
+            length: _,
+            backup: _,
+            no_create: _,
+        } => {
+            log::request(request);
+            Answered {
+                took: calls::reply_given(e, SUCCESS, b"", tables, packet, headers, body, reply),
+                file: file::closed(file),
+            }
+        }
+        _ => {
+            log::request(request);
+            Answered {
+                took: host::answers::answer(e, request, tables, packet, headers, body, reply),
+                file: file::closed(file),
+            }
+        }
     }
 }

@@ -2,7 +2,7 @@
 // `engine::calls`.
 ghost use mathlib.Core.Path.{_≡_};
 ghost use Rattle.server.specs.Settings.{defaultSettings};
-ghost use Rattle.server.specs.Numbers.{endNumber, refusalNumber};
+ghost use Rattle.server.specs.Numbers.{endNumber, refusalNumber, awaitNumber};
 
 // The settings at the start (docs/PROTOCOL.md#settings).
 pub struct Settings {
@@ -296,5 +296,26 @@ pub fn refusal_number(refusal: Refusal) -> u8
         Refusal::TooManyIds => 19,
         Refusal::IdNotOpen => 20,
         Refusal::IdRepeated => 21,
+    }
+}
+
+// The number of what the engine waits for in `a`. Two such things are told apart by it.
+pub fn await_number(a: Await) -> u8
+    ensures { λ r. ⌜ r ≡ awaitNumber a ⌝ }
+{
+    match a {
+        Await::Bytes => 0,
+        Await::Taken => 1,
+        Await::Last => 2,
+        Await::Connect => 3,
+        Await::Disconnect => 4,
+        Await::Get => 5,
+        Await::Reply => 6,
+        Await::Acknowledgement => 7,
+        Await::Password => 8,
+        Await::Nonce => 9,
+        Await::Credentials => 10,
+        Await::Body => 11,
+        Await::Nothing => 12,
     }
 }

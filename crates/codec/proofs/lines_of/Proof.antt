@@ -1,12 +1,12 @@
--- codec::lines_of meets its contract. Each turn passes a line.
+-- `codec::lines_of` meets its contract: each turn passes a line. Assumes nothing.
 use borrow.Author.Needs.{needs}
-use Prim.Native.Nat.{_-_, _≤_}
+use Prim.Native.Nat.{_-_}
 use lib.ListN.{length}
 use Rattle.codec.proofs.lines_of.Statement.{statement}
 use Rattle.codec.proofs.lines_of.Tie as tie
 
 abbrev Inv-loop : tie.InvT-loop
-Inv-loop s at₀ at = at ≤ length s
+Inv-loop s at₀ at = Unit {0}
 
 abbrev μ-loop : tie.MeasureT-loop
 μ-loop s at₀ at = length s - at
@@ -16,9 +16,6 @@ loop-holds c = search needs
 
 find-requires : tie.Need-find-requires Inv-loop μ-loop
 find-requires c κs = search needs
-
-returns : tie.Need-returns Inv-loop μ-loop
-returns c = search needs
 
 sub-line : tie.Need-sub-line Inv-loop μ-loop
 sub-line c = search needs
@@ -41,8 +38,8 @@ loop-less c = search needs
 loop-again : tie.Need-loop-again Inv-loop μ-loop
 loop-again c = search needs
 
-returns-2 : tie.Need-returns-2 Inv-loop μ-loop
-returns-2 c = search needs
+returns : tie.Need-returns Inv-loop μ-loop
+returns c = search needs
 
 pub lines-of-spec : {M : Type 1} → statement M
 lines-of-spec =
@@ -52,7 +49,6 @@ lines-of-spec =
     μ-loop
     loop-holds
     find-requires
-    returns
     sub-line
     part-line-start
     part-line-end
@@ -60,4 +56,4 @@ lines-of-spec =
     add-at
     loop-less
     loop-again
-    returns-2)
+    returns)

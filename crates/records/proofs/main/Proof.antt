@@ -1,6 +1,6 @@
 -- `records::main` meets its contract: the store has the length that it is made with. Assumes nothing.
 use borrow.Author.Needs.{needs}
-use Rattle.records.proofs.Filled.{filled}
+use Rattle.lines.proofs.Filled.{filled}
 use Rattle.records.proofs.main.Statement.{statement}
 use Rattle.records.proofs.main.Tie as tie
 

@@ -4,58 +4,33 @@ use Rattle.replay.proofs.play.Statement.{statement}
 use Rattle.replay.proofs.play.Tie as tie
 
 abbrev Inv-loop : tie.InvT-loop
-Inv-loop input₀ stream₀ words₀ realm₀ tables₀ packet₀ headers₀ body₀ reply₀ out₀ took₀ s₀ left₀ input stream words realm tables packet headers body reply out took s left = Unit {0}
+Inv-loop input₀ stream₀ words₀ realm₀ tables₀ packet₀ headers₀ body₀ reply₀ out₀ last₀ left₀ input stream words realm tables packet headers body reply out last left =
+    Unit {0}
 
 abbrev μ-loop : tie.MeasureT-loop
-μ-loop input₀ stream₀ words₀ realm₀ tables₀ packet₀ headers₀ body₀ reply₀ out₀ took₀ s₀ left₀ input stream words realm tables packet headers body reply out took s left = left
+μ-loop input₀ stream₀ words₀ realm₀ tables₀ packet₀ headers₀ body₀ reply₀ out₀ last₀ left₀ input stream words realm tables packet headers body reply out last left =
+    left
 
-default-options-requires : tie.Need-default-options-requires Inv-loop μ-loop
-default-options-requires c κs = search needs
-
-settings-of-requires : tie.Need-settings-of-requires Inv-loop μ-loop
-settings-of-requires c κs = search needs
-
-slice-aggregate-start : tie.Need-slice-aggregate-start Inv-loop μ-loop
-slice-aggregate-start c = search needs
-
-start-requires : tie.Need-start-requires Inv-loop μ-loop
-start-requires c κs = search needs
-
-begun-requires : tie.Need-begun-requires Inv-loop μ-loop
-begun-requires c κs = search needs
+begin-requires : tie.Need-begin-requires Inv-loop μ-loop
+begin-requires c κs = search needs
 
 loop-holds : tie.Need-loop-holds Inv-loop μ-loop
 loop-holds c = search needs
 
-is-due-requires : tie.Need-is-due-requires Inv-loop μ-loop
-is-due-requires c κs = search needs
+turn-requires : tie.Need-turn-requires Inv-loop μ-loop
+turn-requires c κs = search needs
 
-call-engine-requires : tie.Need-call-engine-requires Inv-loop μ-loop
-call-engine-requires c κs = search needs
+is-over-requires : tie.Need-is-over-requires Inv-loop μ-loop
+is-over-requires c κs = search needs
 
-byte-at-requires : tie.Need-byte-at-requires Inv-loop μ-loop
-byte-at-requires c κs = search needs
-
-lines-after-requires : tie.Need-lines-after-requires Inv-loop μ-loop
-lines-after-requires c κs = search needs
-
-after-result-requires : tie.Need-after-result-requires Inv-loop μ-loop
-after-result-requires c κs = search needs
-
-print-lines-requires : tie.Need-print-lines-requires Inv-loop μ-loop
-print-lines-requires c κs = search needs
-
-take-line-requires : tie.Need-take-line-requires Inv-loop μ-loop
-take-line-requires c κs = search needs
+output-of-requires : tie.Need-output-of-requires Inv-loop μ-loop
+output-of-requires c κs = search needs
 
 write-requires : tie.Need-write-requires Inv-loop μ-loop
 write-requires c κs = search needs
 
 returns : tie.Need-returns Inv-loop μ-loop
 returns c = search needs
-
-print-shown-requires : tie.Need-print-shown-requires Inv-loop μ-loop
-print-shown-requires c κs = search needs
 
 sub-left : tie.Need-sub-left Inv-loop μ-loop
 sub-left c = search needs
@@ -75,22 +50,13 @@ play-spec =
     (tie.spec
     Inv-loop
     μ-loop
-    default-options-requires
-    settings-of-requires
-    slice-aggregate-start
-    start-requires
-    begun-requires
+    begin-requires
     loop-holds
-    is-due-requires
-    call-engine-requires
-    byte-at-requires
-    lines-after-requires
-    after-result-requires
-    print-lines-requires
-    take-line-requires
+    turn-requires
+    is-over-requires
+    output-of-requires
     write-requires
     returns
-    print-shown-requires
     sub-left
     loop-less
     loop-again

@@ -56,7 +56,8 @@ returns-2 c =
     let z = c .before .before in
     let k = start (passed z) .args in
     let s = lent (passed z) in
-    ap (λ (r : CallResult). stepped r s) (c .refuse2 .ensures) ∙ body-other (k .e .operation) (k .e) (k .d .now) s (c .before .match2 .keys2) ∙ sym (goes z .whole _)
+    ap (λ (r : CallResult). stepped r s) (c .refuse2 .ensures) ∙ body-other (k .e .operation) (k .e) (k .bytes .now) s (c .before .match2 .keys2)
+    ∙ sym (goes z .whole _)
 
 refuse-requires-3 : tie.Need-refuse-requires-3
 refuse-requires-3 c κs = search needs
@@ -69,7 +70,7 @@ returns-3 c =
     let k = start (passed z) .args in
     let s = lent (passed z) in
     ap (λ (r : CallResult). stepped r s) (c .refuse3 .ensures)
-    ∙ body-much (k .e .operation) _ _ _ _ (o .operation .given .1) (k .e) (k .d .now) s (c .before .if1 .taken)
+    ∙ body-much (k .e .operation) _ _ _ _ (o .operation .given .1) (k .e) (k .bytes .now) s (c .before .if1 .taken)
     ∙ sym (goes z .whole _)
 
 body-given-requires : tie.Need-body-given-requires
@@ -102,7 +103,7 @@ returns-4 c =
     let k = start (passed z) .args in
     let s = lent (passed z) in
     packet-call (k .e) s _ _ _ _ (packet-sent (k .e) _ _ _ _ _ _ (y .carry-out .ensures) (p .packet-plan .ensures) (b .body-given .ensures))
-    ∙ body-goes (k .e .operation) _ _ _ _ (o .operation .given .1) (k .e) (k .d .now) s (u .if1 .left)
+    ∙ body-goes (k .e .operation) _ _ _ _ (o .operation .given .1) (k .e) (k .bytes .now) s (u .if1 .left)
     ∙ sym (goes z .whole _)
 
 pub body-given-spec : {M : Type 1} → statement M

@@ -2,6 +2,10 @@
 -- Assumes nothing.
 use native.Mathlib.Omega.{arith}
 use mathlib.Core.Path.{_≡_, ap, _∙_}
+use mathlib.Core.List.{List}
+use Prim.Native.Nat.{ℕ}
+use Rattle.incoming.specs.Frame.{coming}
+use Rattle.incoming.proofs.BytesPlaced.{octets-coming}
 use Rattle.incoming.specs.declared.frame.Frame.{Frame}
 use Rattle.model.specs.Step.{Stores, Stepped, stores, stepped}
 use Rattle.model.specs.Guard.{refuse}
@@ -23,9 +27,17 @@ start k = k .before .before .before .before .before .before .before
 abbrev lent : tie.After-guard-lent → Stores
 lent k = let a = start k .args in stores (a .packet .now) (a .headers .now) (a .body .now) (a .reply .now)
 
--- what is offered are bytes, as is known of a slice of bytes
-octets : (k : tie.After-guard-lent) → Octets (start k .args .input .now)
-octets k i = k .before .before .before .before .before .before .shared-slice-known .given i .fits
+-- the bytes that come
+abbrev offered : tie.After-guard-lent → List ℕ
+offered k = let a = start k .args in coming (a .packet .now) (a .e .begun) (a .placed) (a .input .now)
+
+-- they are bytes, as is known of slices of bytes
+octets : (k : tie.After-guard-lent) → Octets (offered k)
+octets k =
+    let a = start k .args in
+    octets-coming (a .packet .now) (a .e .begun) (a .placed) (a .input .now)
+    (λ i. k .before .before .before .before .slice-known .given i .fits)
+    (λ i. k .before .before .before .before .before .before .shared-slice-known .given i .fits)
 
 -- the guard says that the call may proceed
 abbrev passed : tie.After-enum-told → tie.After-guard-lent
@@ -36,12 +48,12 @@ goes z = going-lent kind.FromPeer _ _ _ _ (passed z .guard-lent .ensures) (z .en
 
 -- the stores once bytes were read
 abbrev read : tie.After-read-packet → Stores
-read r = withPacket (lent (passed (r .before .before))) (r .read-packet .last .1 .1 .0)
+read r = withPacket (lent (passed (r .before .before))) (r .read-packet .last .1 .1 .1 .0)
 
 -- what follows where the frame stands is the model's step
 ending : (r : tie.After-read-packet) (x : Frame) (d : Stepped) → let a = start (passed (r .before .before)) .args in
     r .read-packet .result .frame ≡ x → d ≡ framedAs x (a .e) (r .read-packet .result .begun) (r .read-packet .result .taken) (read r) (a .tables .now)
-    → d ≡ bytesOfferedStep (a .e) (a .input .now) (lent (passed (r .before .before))) (a .tables .now)
+    → d ≡ bytesOfferedStep (a .e) (offered (passed (r .before .before))) (lent (passed (r .before .before))) (a .tables .now)
 ending r x d k w = framed-call _ _ _ _ (r .read-packet .result) _ x d (goes (r .before .before)) (r .read-packet .ensures .1) k w
 
 guard-lent-requires : tie.Need-guard-lent-requires

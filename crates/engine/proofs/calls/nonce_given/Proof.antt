@@ -49,7 +49,8 @@ unfolding longRealm
 realm-fits y =
     let g = y .before .before in
     let k = start (passed (tested g)) .args in
-    realm-short (k .e) (k .n) (k .realm .now) (lent (passed (tested g))) (k .tables .now) (goes (tested g)) _ (g .before .is-used .ensures) _ (g .guard-nonce .ensures) (y .enum-told2 .given .1)
+    realm-short (k .e) (k .nonce) (k .realm .now) (lent (passed (tested g))) (k .tables .now) (goes (tested g)) _ (g .before .is-used .ensures) _
+    (g .guard-nonce .ensures) (y .enum-told2 .given .1)
 
 guard-lent-requires : tie.Need-guard-lent-requires
 guard-lent-requires c κs = search needs
@@ -66,7 +67,8 @@ returns c =
     let k = c .before .before .before .before in
     let a = start k .args in
     ap (λ (r : CallResult). called (stepped r (lent k)) (a .tables .now)) (c .refuse .ensures)
-    ∙ turned-lent kind.NonceGiven (a .e) (lent k) (a .tables .now) (λ (q : Refusal). called (refuse q (a .e) (lent k)) (a .tables .now)) _ _ _ (k .guard-lent .ensures)
+    ∙ turned-lent kind.NonceGiven (a .e) (lent k) (a .tables .now) (λ (q : Refusal). called (refuse q (a .e) (lent k)) (a .tables .now)) _ _ _
+    (k .guard-lent .ensures)
     (c .before .before .refusal .given .1)
 
 enum-told : tie.Need-enum-told
@@ -92,7 +94,8 @@ unfolding longRealm
 returns-2 c =
     let g = c .before .before .before .before in
     let k = start (passed (tested g)) .args in
-    nonce-refused (k .e) (k .n) (k .realm .now) (lent (passed (tested g))) (k .tables .now) (goes (tested g)) _ (g .before .is-used .ensures) _ (g .guard-nonce .ensures) _ _ (c .before .before .refusal2 .given .1)
+    nonce-refused (k .e) (k .nonce) (k .realm .now) (lent (passed (tested g))) (k .tables .now) (goes (tested g)) _ (g .before .is-used .ensures) _
+    (g .guard-nonce .ensures) _ _ (c .before .before .refusal2 .given .1)
     (c .refuse2 .ensures)
 
 enum-told-2 : tie.Need-enum-told-2
@@ -131,14 +134,16 @@ returns-3 c =
     let g = y .before .before in
     let k = start (passed (tested g)) .args in
     let s = lent (passed (tested g)) in
-    let header = bytesOf (challengeHeader (octets16 (k .n)) (optionsOf (k .e .settings)) (realmOf (k .e .settings) (k .realm .now))) in
-    let bytes : Peer → Option (List ℕ) = λ p. sendBytes (p .«remote_max_packet_length») 0x41 (fieldsOf (k .e .settings .«max_packet_length»)) header in
+    let header = bytesOf (challengeHeader (octets16 (k .nonce)) (optionsOf (k .e .settings)) (realmOf (k .e .settings) (k .realm .now))) in
+    let bytes : Peer → Option (List ℕ) =
+    λ p. sendBytes (p .«remote_max_packet_length») 0x41 (fieldsOf (k .e .settings .«max_packet_length»)) header in
     let p = n .challenged .result in
     ap₂ (λ (x : Stepped) (u : List ℕ). called x u)
     (sent-stepped (k .e) s p (bytes p) _ _ _ (w .send-challenge .ensures) (c .before .sent-plan .ensures) (c .took .ensures)
     ∙ ap (λ (p : Peer). after 0 (sent (k .e) p (bytes p) s)) (n .challenged .ensures))
     (m .remember .ensures)
-    ∙ nonce-taken (k .e) (k .n) (k .realm .now) s (k .tables .now) (goes (tested g)) _ (g .before .is-used .ensures) _ (g .guard-nonce .ensures) (y .enum-told2 .given .1)
+    ∙ nonce-taken (k .e) (k .nonce) (k .realm .now) s (k .tables .now) (goes (tested g)) _ (g .before .is-used .ensures) _ (g .guard-nonce .ensures)
+    (y .enum-told2 .given .1)
 
 pub nonce-given-spec : {M : Type 1} → statement M
 nonce-given-spec =

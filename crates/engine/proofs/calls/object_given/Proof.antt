@@ -89,7 +89,8 @@ returns-3 c =
     let k = start (passed z) .args in
     let s = lent (passed z) in
     ap (λ (r : CallResult). stepped r s) (c .refuse3 .ensures)
-    ∙ object-bad (k .e .operation) _ _ _ _ (o .operation .given .1) (k .e) (k .header-bytes .now) _ (b .is-bad-headers .ensures) (k .has-body) s (c .before .if1 .taken)
+    ∙ object-bad (k .e .operation) _ _ _ _ (o .operation .given .1) (k .e) (k .header-bytes .now) _ (b .is-bad-headers .ensures) (k .has-body) s
+    (c .before .if1 .taken)
     ∙ sym (goes z .whole _)
 
 copy-into-requires : tie.Need-copy-into-requires
@@ -130,7 +131,8 @@ returns-4 c =
     let k = start (passed z) .args in
     object-goes (k .e .operation) _ _ _ _ (b .before .before .operation .given .1)
     (k .e) (k .header-bytes .now) _ (b .is-bad-headers .ensures) (k .has-body) (lent (passed z)) (u .if1 .left) _ _ _ _
-    (n .sends-next .ensures) (i .before .object-of .ensures) (i .either .ensures) (w .copy-into .ensures ∙ store-front (k .header-bytes .now) (k .headers .now) (fits u))
+    (n .sends-next .ensures) (i .before .object-of .ensures) (i .either .ensures)
+    (w .copy-into .ensures ∙ store-front (k .header-bytes .now) (k .headers .now) (fits u))
     ∙ sym (goes z .whole _)
 
 pub object-given-spec : {M : Type 1} → statement M

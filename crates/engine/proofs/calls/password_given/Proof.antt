@@ -36,7 +36,8 @@ returns : tie.Need-returns
 unfolding passwordGivenStep
 returns c =
     let k = c .before .before .before .before in
-    refused-call kind.PasswordGiven (start k .args .e) (lent k) _ _ _ _ (c .refuse .ensures) (k .guard .ensures) (c .before .before .refusal .given .1)
+    refused-call kind.PasswordGiven (start k .args .e) (lent k) _ _ _ _ (c .refuse .ensures) (k .guard .ensures)
+    (c .before .before .refusal .given .1)
 
 enum-told : tie.Need-enum-told
 enum-told c = search needs

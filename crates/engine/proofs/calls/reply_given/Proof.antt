@@ -43,7 +43,8 @@ returns c =
     let k = c .before .before .before .before in
     let a = start k .args in
     ap (λ (r : CallResult). called (stepped r (lent k)) (a .tables .now)) (c .refuse .ensures)
-    ∙ turned-lent kind.ReplyGiven (a .e) (lent k) (a .tables .now) (λ (q : Refusal). called (refuse q (a .e) (lent k)) (a .tables .now)) _ _ _ (k .guard-lent .ensures)
+    ∙ turned-lent kind.ReplyGiven (a .e) (lent k) (a .tables .now) (λ (q : Refusal). called (refuse q (a .e) (lent k)) (a .tables .now)) _ _ _
+    (k .guard-lent .ensures)
     (c .before .before .refusal .given .1)
 
 enum-told : tie.Need-enum-told
@@ -60,7 +61,8 @@ returns-2 c =
     let b = c .before .before in
     let z = b .before in
     let k = start (passed z) .args in
-    reply-bad (k .e) (lent (passed z)) (k .code) (k .header-bytes .now) (k .tables .now) (goes z) _ (b .is-bad-reply .ensures) (c .before .if1 .taken) _
+    reply-bad (k .e) (lent (passed z)) (k .code) (k .header-bytes .now) (k .tables .now) (goes z) _ (b .is-bad-reply .ensures)
+    (c .before .if1 .taken) _
     (c .refuse2 .ensures)
 
 same-await-requires : tie.Need-same-await-requires
@@ -79,8 +81,14 @@ connect-answer-requires c κs =
     let z = b .before in
     let k = start (passed z) .args in
     let l = goes z in
-    let g = l .goes in
-    (g .bounds .count, l .tables, g .room .reply, g .room .headers, g .last .short, good-reply (k .code) (k .header-bytes .now) _ (b .is-bad-reply .ensures) (u .if1 .left))
+    let g = l .goes in (
+      g .bounds .count,
+      l .tables,
+      g .room .reply,
+      g .room .headers,
+      g .last .short,
+      good-reply (k .code) (k .header-bytes .now) _ (b .is-bad-reply .ensures) (u .if1 .left),
+    )
 
 same-length : tie.Need-same-length
 same-length c = search needs
@@ -103,7 +111,8 @@ returns-3 c =
     let b = u .before in
     let z = b .before in
     let k = start (passed z) .args in
-    reply-connect (k .e) (lent (passed z)) (k .code) (k .header-bytes .now) (k .tables .now) (goes z) _ (b .is-bad-reply .ensures) (u .if1 .left) _ (n .same-await .ensures) (t .if2 .taken) _
+    reply-connect (k .e) (lent (passed z)) (k .code) (k .header-bytes .now) (k .tables .now) (goes z) _ (b .is-bad-reply .ensures) (u .if1 .left) _
+    (n .same-await .ensures) (t .if2 .taken) _
     (a .connect-answer .ensures)
 
 slice-reshare-prefix-handle-disconnect : tie.Need-slice-reshare-prefix-handle-disconnect
@@ -137,7 +146,8 @@ returns-4 c =
     let b = u .before in
     let z = b .before in
     let k = start (passed z) .args in
-    reply-another (k .e) (lent (passed z)) (k .code) (k .header-bytes .now) (k .tables .now) (goes z) _ (b .is-bad-reply .ensures) (u .if1 .left) _ (n .same-await .ensures) (t .if2 .left)
+    reply-another (k .e) (lent (passed z)) (k .code) (k .header-bytes .now) (k .tables .now) (goes z) _ (b .is-bad-reply .ensures) (u .if1 .left) _
+    (n .same-await .ensures) (t .if2 .left)
     (linked (p .handle-disconnect .result) _) _ (p .handle-disconnect .ensures) (a .sends .ensures)
 
 pub reply-given-spec : {M : Type 1} → statement M

@@ -32,7 +32,8 @@ returns c =
     let q = c .before .before .before in
     let k = q .before .before in
     let a = start k .args in
-    start-refused (a .settings) (a .realm .now) (lent k) (a .tables .now) _ (k .before .is-long-realm .ensures) _ _ (k .guard-start .ensures) (c .before .fresh .ensures) _ (q .refusal .given .1) _ (c .refuse .ensures)
+    start-refused (a .settings) (a .realm .now) (lent k) (a .tables .now) _ (k .before .is-long-realm .ensures) _ _ (k .guard-start .ensures)
+    (c .before .fresh .ensures) _ (q .refusal .given .1) _ (c .refuse .ensures)
 
 enum-told : tie.Need-enum-told
 enum-told c = search needs
@@ -45,7 +46,8 @@ returns-2 c =
     let z = c .before in
     let k = z .before .before in
     let a = start k .args in
-    start-goes (a .settings) (a .realm .now) (lent k) (a .tables .now) _ (k .before .is-long-realm .ensures) _ _ (k .guard-start .ensures) (c .fresh2 .ensures) (z .enum-told .given .1)
+    start-goes (a .settings) (a .realm .now) (lent k) (a .tables .now) _ (k .before .is-long-realm .ensures) _ _ (k .guard-start .ensures)
+    (c .fresh2 .ensures) (z .enum-told .given .1)
 
 pub start-spec : {M : Type 1} → statement M
 start-spec =

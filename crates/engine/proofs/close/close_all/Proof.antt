@@ -40,7 +40,8 @@ loop-again c =
     let l = c .before .before .before .before .before .before in
     let x = l .before .before .before .args in (
       omega arith,
-      closing-on (x .ids .now) (x .count) (x .tables .now) (l .loop .i) (l .loop .left) _ (l .loop .tables) _ (l .loop .inv .1) (omega arith) (k .ensures .0) (k .ensures .1),
+      closing-on (x .ids .now) (x .count) (x .tables .now) (l .loop .i) (l .loop .left) _ (l .loop .tables) _ (l .loop .inv .1) (omega arith)
+          (k .ensures .0) (k .ensures .1),
     )
 
 same-length : tie.Need-same-length Inv-loop μ-loop

@@ -1,7 +1,11 @@
 -- `engine::close::guard_close` meets its contract. Each `return` rewrites with the tests that led there.
-use mathlib.Core.Path.{sym, _∙_}
+use mathlib.Core.Path.{_≡_, refl, sym, _∙_}
+use mathlib.Core.Bool.{Bool, true, false, not}
 use borrow.Author.Needs.{needs}
 use borrow.Author.Tests.{lt-ltb, le-ltb, not-true, not-false}
+use Rattle.base.specs.Pick.{pick}
+use Rattle.server.specs.declared.Refusal.the-variants as refusal
+use Rattle.engine.specs.declared.guard.Guarded.the-variants.{Proceed, Refuse}
 use Rattle.engine.specs.Close.{guardedClose}
 use Rattle.engine.proofs.close.guard_close.Statement.{statement}
 use Rattle.engine.proofs.close.guard_close.Tie as tie
@@ -27,36 +31,38 @@ unfolding guardedClose
 returns-3 c =
     let a = c .before in
     let s = a .before .before in
-    simp (le-ltb _ _ (s .before .if1 .left), sym (s .is-sound .ensures) ∙ not-false _ (a .before .if2 .left), sym (a .same-await .ensures) ∙ not-true _ (c .if3 .taken))
+    simp (
+      le-ltb _ _ (s .before .if1 .left),
+      sym (s .is-sound .ensures) ∙ not-false _ (a .before .if2 .left),
+      sym (a .same-await .ensures) ∙ not-true _ (c .if3 .taken),
+    )
 
 is-busy-requires : tie.Need-is-busy-requires
 is-busy-requires c κs = search needs
 
-returns-4 : tie.Need-returns-4
+-- past the tests before, the guard is decided by whether an operation is open
+decided : (b : tie.After-is-busy) (t : Bool) → b .is-busy .result ≡ t → let a = b .before .before .before .before .before .before .args in
+    pick t (Refuse refusal.WrongMoment) Proceed ≡ guardedClose (a .e) (a .tables)
 unfolding guardedClose
-returns-4 c =
-    let b = c .before in
+decided b t h =
     let a = b .before .before in
     let s = a .before .before in
     simp (
       le-ltb _ _ (s .before .if1 .left),
       sym (s .is-sound .ensures) ∙ not-false _ (a .before .if2 .left),
       sym (a .same-await .ensures) ∙ not-false _ (b .before .if3 .left),
-      sym (b .is-busy .ensures) ∙ c .if4 .taken,
-    )
+      sym (b .is-busy .ensures) ∙ h,
+    ) (go t)
+  where
+    go : (t : Bool) → pick t (Refuse refusal.WrongMoment) Proceed ≡ pick (not t) Proceed (Refuse refusal.WrongMoment)
+    go true = refl
+    go false = refl
+
+returns-4 : tie.Need-returns-4
+returns-4 c = decided (c .before) true (c .if4 .taken)
 
 returns-5 : tie.Need-returns-5
-unfolding guardedClose
-returns-5 c =
-    let b = c .before in
-    let a = b .before .before in
-    let s = a .before .before in
-    simp (
-      le-ltb _ _ (s .before .if1 .left),
-      sym (s .is-sound .ensures) ∙ not-false _ (a .before .if2 .left),
-      sym (a .same-await .ensures) ∙ not-false _ (b .before .if3 .left),
-      sym (b .is-busy .ensures) ∙ c .if4 .left,
-    )
+returns-5 c = decided (c .before) false (c .if4 .left)
 
 pub guard-close-spec : {M : Type 1} → statement M
 guard-close-spec =

@@ -33,7 +33,8 @@ is-among-requires c κs = search needs
 returns : tie.Need-returns Inv-loop μ-loop
 returns c =
     let l = c .before .before .before .before in
-    rw (sym (c .before .is-among .ensures) ∙ c .if1 .taken) at (sym (repeats-from (l .before .before .args .ids .now) (l .loop .i) (omega arith)) ∙ l .loop .inv .1)
+    rw (sym (c .before .is-among .ensures) ∙ c .if1 .taken) at
+    (sym (repeats-from (l .before .before .args .ids .now) (l .loop .i) (omega arith)) ∙ l .loop .inv .1)
 
 add-i : tie.Need-add-i Inv-loop μ-loop
 add-i c = search needs
@@ -45,7 +46,8 @@ loop-again : tie.Need-loop-again Inv-loop μ-loop
 loop-again c =
     let l = c .before .before .before .before in (
       omega arith,
-      rw (sym (c .before .is-among .ensures) ∙ c .if1 .left) at (sym (repeats-from (l .before .before .args .ids .now) (l .loop .i) (omega arith)) ∙ l .loop .inv .1),
+      rw (sym (c .before .is-among .ensures) ∙ c .if1 .left) at
+          (sym (repeats-from (l .before .before .args .ids .now) (l .loop .i) (omega arith)) ∙ l .loop .inv .1),
     )
 
 returns-2 : tie.Need-returns-2 Inv-loop μ-loop

@@ -27,14 +27,22 @@ unfolding judgedClose
 returns-3 c =
     let h = c .before in
     let o = h .before .before in
-    simp (le-ltb _ _ (o .before .if1 .left), sym (o .are-open .ensures) ∙ not-false _ (h .before .if2 .left), sym (h .has-repeated .ensures) ∙ c .if3 .taken)
+    simp (
+      le-ltb _ _ (o .before .if1 .left),
+      sym (o .are-open .ensures) ∙ not-false _ (h .before .if2 .left),
+      sym (h .has-repeated .ensures) ∙ c .if3 .taken,
+    )
 
 returns-4 : tie.Need-returns-4
 unfolding judgedClose
 returns-4 c =
     let h = c .before in
     let o = h .before .before in
-    simp (le-ltb _ _ (o .before .if1 .left), sym (o .are-open .ensures) ∙ not-false _ (h .before .if2 .left), sym (h .has-repeated .ensures) ∙ c .if3 .left)
+    simp (
+      le-ltb _ _ (o .before .if1 .left),
+      sym (o .are-open .ensures) ∙ not-false _ (h .before .if2 .left),
+      sym (h .has-repeated .ensures) ∙ c .if3 .left,
+    )
 
 pub judge-spec : {M : Type 1} → statement M
 judge-spec =

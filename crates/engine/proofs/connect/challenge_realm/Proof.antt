@@ -14,7 +14,8 @@ use Rattle.engine.proofs.connect.challenge_realm.Statement.{statement}
 use Rattle.engine.proofs.connect.challenge_realm.Tie as tie
 
 -- the challenge that is found stands in the packet
-here : (c : tie.After-known-told) → let v = c .before .start .given .0 in FoundIn 0x4D (c .before .before .before .before .before .args .packet .now) (v .0) (v .1 .0)
+here : (c : tie.After-known-told)
+    → let v = c .before .start .given .0 in FoundIn 0x4D (c .before .before .before .before .before .args .packet .now) (v .0) (v .1 .0)
 here c = first-found 0x4D _ 7 _ _ (sym (c .before .before .before .first-header .ensures) ∙ c .before .start .given .1)
 
 first-header-requires : tie.Need-first-header-requires

@@ -9,7 +9,8 @@ use Rattle.engine.proofs.connect.client_response.Statement.{statement}
 use Rattle.engine.proofs.connect.client_response.Tie as tie
 
 -- the response that is found stands in the packet
-here : (c : tie.After-known-told) → let v = c .before .start .given .0 in FoundIn 0x4E (c .before .before .before .before .before .args .p .now) (v .0) (v .1 .0)
+here : (c : tie.After-known-told)
+    → let v = c .before .start .given .0 in FoundIn 0x4E (c .before .before .before .before .before .args .p .now) (v .0) (v .1 .0)
 here c = first-found 0x4E _ 7 _ _ (sym (c .before .before .before .first-header .ensures) ∙ c .before .start .given .1)
 
 first-header-requires : tie.Need-first-header-requires

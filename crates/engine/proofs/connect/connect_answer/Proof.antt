@@ -21,7 +21,8 @@ returns c =
     let i = s .before .before in
     let b = i .before in
     let k = b .before .before .before .before .before .before .args in
-    answer-declined (k .e) (k .tables .now) (k .code) (k .header-bytes .now) (k .packet .now) (k .headers .now) (k .reply .now) _ (b .is-success .ensures)
+    answer-declined (k .e) (k .tables .now) (k .code) (k .header-bytes .now) (k .packet .now) (k .headers .now) (k .reply .now) _
+    (b .is-success .ensures)
     (not-true (b .is-success .result) (i .if1 .taken)) _ (s .sends-connect .ensures)
 
 last-connect-requires : tie.Need-last-connect-requires
@@ -51,7 +52,8 @@ returns-2 c =
     let b = i .before in
     let k = b .before .before .before .before .before .before .args in
     answer-full (k .e) (k .tables .now) (k .code) (k .header-bytes .now) (k .packet .now) (k .headers .now) (k .reply .now) _ (b .is-success .ensures)
-    (not-false (b .is-success .result) (i .if1 .left)) (answers (o .opens .result) _) (o .opens .ensures) (f .if2 .taken) _ (s .sends-connect2 .ensures)
+    (not-false (b .is-success .result) (i .if1 .left)) (answers (o .opens .result) _) (o .opens .ensures) (f .if2 .taken) _
+    (s .sends-connect2 .ensures)
 
 accepted-requires : tie.Need-accepted-requires
 accepted-requires c κs = search needs
@@ -73,7 +75,8 @@ returns-3 c =
     let i = o .before .before .before in
     let b = i .before in
     let k = b .before .before .before .before .before .before .args in
-    answer-accepted (k .e) (k .tables .now) (k .code) (k .header-bytes .now) (k .packet .now) (k .headers .now) (k .reply .now) _ (b .is-success .ensures)
+    answer-accepted (k .e) (k .tables .now) (k .code) (k .header-bytes .now) (k .packet .now) (k .headers .now) (k .reply .now) _
+    (b .is-success .ensures)
     (not-false (b .is-success .result) (i .if1 .left)) (answers (o .opens .result) _) (o .opens .ensures) (f .if2 .left) _ (s .accepted .ensures)
 
 pub connect-answer-spec : {M : Type 1} → statement M

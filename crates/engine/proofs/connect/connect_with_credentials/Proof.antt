@@ -61,8 +61,13 @@ connect-sends-requires c κs =
     let b = l .before in
     let w = b .before in
     let k = start w .args in
-    let p = start w .pre in
-    (p .3, p .1, kept w .short, user-fits (k .has-credentials) (k .has-user) _ (b .both .ensures) (k .user .now) (k .password .now) _ (l .is-long .ensures) (u .if1 .left), r .last-connect .ensures)
+    let p = start w .pre in (
+      p .3,
+      p .1,
+      kept w .short,
+      user-fits (k .has-credentials) (k .has-user) _ (b .both .ensures) (k .user .now) (k .password .now) _ (l .is-long .ensures) (u .if1 .left),
+      r .last-connect .ensures,
+    )
 
 same-length : tie.Need-same-length
 same-length c = search needs

@@ -24,7 +24,13 @@ limited-plan-requires c κs = search needs
 
 returns : tie.Need-returns
 unfolding connectPlan
-returns c = simp (c .limited-plan .ensures, c .before .client-response .ensures, c .before .before .limited .ensures, c .before .before .before .connect-limit .ensures)
+returns c =
+    simp (
+      c .limited-plan .ensures,
+      c .before .client-response .ensures,
+      c .before .before .limited .ensures,
+      c .before .before .before .connect-limit .ensures,
+    )
 
 pub handle-connect-spec : {M : Type 1} → statement M
 handle-connect-spec =

@@ -31,7 +31,8 @@ returns-2 c =
     let f = d .before .before in
     let u = f .before .before in
     let k = u .before .before .before .before .args in
-    replied-closing (k .e) (k .packet .now) (k .tables .now) _ (u .before .same-await .ensures) (not-false _ (u .if1 .left)) _ _ _ (f .before .last-from .ensures)
+    replied-closing (k .e) (k .packet .now) (k .tables .now) _ (u .before .same-await .ensures) (not-false _ (u .if1 .left)) _ _ _
+    (f .before .last-from .ensures)
     (f .first-id .ensures) (d .disconnected .ensures)
 
 pub handle-disconnect-spec : {M : Type 1} → statement M

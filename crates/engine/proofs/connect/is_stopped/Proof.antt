@@ -22,7 +22,8 @@ returns c = rw (c .enum-told .given .1) (sym (and-false (leb mostWrong (ones (c 
 
 returns-2 : tie.Need-returns-2
 unfolding stopsBy
-returns-2 c = rw (is-carried _ (c .before .match .keys2)) (c .too-many .ensures .0 ∙ sym (and-true (leb mostWrong (ones (c .before .before .args .window)))))
+returns-2 c =
+    rw (is-carried _ (c .before .match .keys2)) (c .too-many .ensures .0 ∙ sym (and-true (leb mostWrong (ones (c .before .before .args .window)))))
 
 pub is-stopped-spec : {M : Type 1} → statement M
 is-stopped-spec = tie.close (tie.spec enum-told too-many-requires returns returns-2)

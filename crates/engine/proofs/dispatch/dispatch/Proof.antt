@@ -88,10 +88,22 @@ returns-4 : tie.Need-returns-4
 returns-4 c = simp (c .before .enum-told4 .given .1, c .ask3 .ensures)
 
 returns-5 : tie.Need-returns-5
-returns-5 c = simp (c .put-route .ensures, c .before .before .before .enum-told5 .given .1, c .before .must-confirm-srm .ensures, c .before .before .nothing-gathered .ensures)
+returns-5 c =
+    simp (
+      c .put-route .ensures,
+      c .before .before .before .enum-told5 .given .1,
+      c .before .must-confirm-srm .ensures,
+      c .before .before .nothing-gathered .ensures,
+    )
 
 returns-6 : tie.Need-returns-6
-returns-6 c = simp (c .get-route .ensures, c .before .before .before .enum-told6 .given .1, c .before .must-confirm-srm2 .ensures, c .before .before .nothing-gathered2 .ensures)
+returns-6 c =
+    simp (
+      c .get-route .ensures,
+      c .before .before .before .enum-told6 .given .1,
+      c .before .must-confirm-srm2 .ensures,
+      c .before .before .nothing-gathered2 .ensures,
+    )
 
 returns-7 : tie.Need-returns-7
 returns-7 c = simp (c .before .before .enum-told7 .given .1, c .headers-route .ensures, c .before .nothing-gathered3 .ensures)

@@ -27,13 +27,21 @@ returns-2 : tie.Need-returns-2
 returns-2 c =
     let k = c .before .before .before in
     let o = k .before .before in
-    simp (o .enum-told .given .1, sym (k .before .same .ensures) ∙ k .if1 .taken, sym (c .before .before .first-header .ensures) ∙ c .enum-told3 .given .1)
+    simp (
+      o .enum-told .given .1,
+      sym (k .before .same .ensures) ∙ k .if1 .taken,
+      sym (c .before .before .first-header .ensures) ∙ c .enum-told3 .given .1,
+    )
 
 returns-3 : tie.Need-returns-3
 returns-3 c =
     let k = c .before .before .before in
     let o = k .before .before in
-    simp (o .enum-told .given .1, sym (k .before .same .ensures) ∙ k .if1 .taken, sym (c .before .before .first-header .ensures) ∙ c .enum-told2 .given .1)
+    simp (
+      o .enum-told .given .1,
+      sym (k .before .same .ensures) ∙ k .if1 .taken,
+      sym (c .before .before .first-header .ensures) ∙ c .enum-told2 .given .1,
+    )
 
 returns-4 : tie.Need-returns-4
 returns-4 c = simp (c .before .before .enum-told .given .1, sym (c .before .same .ensures) ∙ c .if1 .left)

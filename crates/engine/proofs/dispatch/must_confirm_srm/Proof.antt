@@ -18,10 +18,14 @@ returns : tie.Need-returns
 returns c = let x = c .before .args in granted (x .e .peer .«srm_enabled») (x .e .settings .«srm_supported») (x .v .enable) (c .if1 .taken)
 
 returns-2 : tie.Need-returns-2
-returns-2 c = let x = c .before .before .args in asked (x .e .peer .«srm_enabled») (x .e .settings .«srm_supported») (x .v .enable) (c .before .if1 .left) (c .if2 .taken)
+returns-2 c =
+    let x = c .before .before .args in
+    asked (x .e .peer .«srm_enabled») (x .e .settings .«srm_supported») (x .v .enable) (c .before .if1 .left) (c .if2 .taken)
 
 returns-3 : tie.Need-returns-3
-returns-3 c = let x = c .before .before .args in unsupported (x .e .peer .«srm_enabled») (x .e .settings .«srm_supported») (x .v .enable) (c .before .if1 .left) (c .if2 .left)
+returns-3 c =
+    let x = c .before .before .args in
+    unsupported (x .e .peer .«srm_enabled») (x .e .settings .«srm_supported») (x .v .enable) (c .before .if1 .left) (c .if2 .left)
 
 pub must-confirm-srm-spec : {M : Type 1} → statement M
 must-confirm-srm-spec = tie.close (tie.spec returns returns-2 returns-3)

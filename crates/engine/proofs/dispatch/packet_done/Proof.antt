@@ -26,7 +26,9 @@ act-requires c κs =
     (omega (arith, l, a .pre .0), rw w (a .pre .2), a .pre .3, rw w (a .pre .4), rw w (a .pre .5), a .pre .6, rw w (a .pre .7), a .pre .8)
 
 carry-out-requires : tie.Need-carry-out-requires
-carry-out-requires c κs = omega (arith, c .before .before .before .before .before .before .before .before .before .before .before .before .before .before .before .before .before .before .pre .8)
+carry-out-requires c κs =
+    let k = c .before .before .before .before .before .before .before .before .before in
+    omega (arith, k .before .before .before .before .before .before .before .before .before .pre .8)
 
 same-length : tie.Need-same-length
 same-length c = search needs
@@ -43,8 +45,10 @@ returns c =
     let d = k .before .before .before .before .before in
     let a = d .before .before .before .before .before .before in
     let x = k .act in
-    done-call (a .args .e) (a .args .n) (stores (a .args .packet .now) (a .args .headers .now) (a .args .body .now) (a .args .reply .now)) (a .args .tables .now)
-    (d .whole .result) (x .result) (x .last .1 .1 .1 .0) (x .last .1 .1 .1 .1 .0) (x .last .1 .1 .1 .1 .1 .0) _ (d .whole .ensures) (x .ensures (a .args .packet .now))
+    done-call (a .args .e) (a .args .n) (stores (a .args .packet .now) (a .args .headers .now) (a .args .body .now) (a .args .reply .now))
+    (a .args .tables .now)
+    (d .whole .result) (x .result) (x .last .1 .1 .1 .0) (x .last .1 .1 .1 .1 .0) (x .last .1 .1 .1 .1 .1 .0) _ (d .whole .ensures)
+    (x .ensures (a .args .packet .now))
     (c .before .before .carry-out .ensures)
 
 pub packet-done-spec : {M : Type 1} → statement M

@@ -35,8 +35,17 @@ target-at-requires : tie.Need-target-at-requires
 target-at-requires c κs =
     let k = c .before .before .before .before .before .before .before in
     let x = k .args in
-    let m : member (x .v .id) (take (x .e .peer .count) (x .tables .now)) ≡ true = and-right (x .v .«has_id») _ (sym (k .pre .2) ∙ c .before .if3 .taken) in
-    (omega (arith, c .find-place .ensures, placed (x .v .id) (take (x .e .peer .count) (x .tables .now)) m, length-take (x .e .peer .count) (x .tables .now), k .pre .0), k .pre .1)
+    let m : member (x .v .id) (take (x .e .peer .count) (x .tables .now)) ≡ true =
+    and-right (x .v .«has_id») _ (sym (k .pre .2) ∙ c .before .if3 .taken) in (
+      omega (
+        arith,
+        c .find-place .ensures,
+        placed (x .v .id) (take (x .e .peer .count) (x .tables .now)) m,
+        length-take (x .e .peer .count) (x .tables .now),
+        k .pre .0,
+      ),
+      k .pre .1,
+    )
 
 returns-3 : tie.Need-returns-3
 returns-3 c =
@@ -61,7 +70,8 @@ returns-4 c =
     let b = n .before .before in
     let m = b .before .before in
     let k = m .before .before in
-    rw (sym (m .is-marked .ensures) ∙ b .before .if1 .left, sym (b .is-busy .ensures) ∙ n .before .if2 .left, sym (k .pre .2) ∙ n .if3 .left) (c .unnamed2 .ensures)
+    rw (sym (m .is-marked .ensures) ∙ b .before .if1 .left, sym (b .is-busy .ensures) ∙ n .before .if2 .left, sym (k .pre .2) ∙ n .if3 .left)
+    (c .unnamed2 .ensures)
 
 pub packet-target-spec : {M : Type 1} → statement M
 packet-target-spec =

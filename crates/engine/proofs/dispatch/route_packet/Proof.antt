@@ -67,7 +67,14 @@ returns-3 c =
     let u = n .before .before .before .before in
     let v = u .before .before in
     let k = v .before .before in
-    simp (c .packet-target .ensures, n .heading-route .ensures, n .before .is-trailed .ensures, n .before .before .is-known .ensures, n .before .before .before .set-path-flags .ensures, v .survey-headers .ensures)
+    simp (
+      c .packet-target .ensures,
+      n .heading-route .ensures,
+      n .before .is-trailed .ensures,
+      n .before .before .is-known .ensures,
+      n .before .before .before .set-path-flags .ensures,
+      v .survey-headers .ensures,
+    )
     (sym (heading-way _ _ _ _ _ _ (sym (k .before .before .packet-head .ensures) ∙ k .opcode .given .1)
     (ap (λ (s : Survey). s .readable) (sym (v .survey-headers .ensures)) ∙ not-false _ (u .if1 .left))))
 

@@ -18,7 +18,11 @@ is-bad-headers-requires c κs = search needs
 
 returns-2 : tie.Need-returns-2
 unfolding badReply
-returns-2 c = simp (sym (c .before .before .is-code .ensures) ∙ not-false (c .before .before .is-code .result) (c .before .if1 .left), c .is-bad-headers .ensures)
+returns-2 c =
+    simp (
+      sym (c .before .before .is-code .ensures) ∙ not-false (c .before .before .is-code .result) (c .before .if1 .left),
+      c .is-bad-headers .ensures,
+    )
 
 pub is-bad-reply-spec : {M : Type 1} → statement M
 is-bad-reply-spec = tie.close (tie.spec is-code-requires returns is-bad-headers-requires returns-2)

@@ -20,7 +20,8 @@ same-length : tie.Need-same-length
 same-length c = search needs
 
 returns : tie.Need-returns
-returns c = object-made _ _ _ _ _ _ _ _ _ _ (c .before .before .before .next-packet .ensures) (c .before .before .before .before .before .wide16 .ensures .0)
+returns c =
+    object-made _ _ _ _ _ _ _ _ _ _ (c .before .before .before .next-packet .ensures) (c .before .before .before .before .before .wide16 .ensures .0)
     (c .packet-plan .ensures)
 
 pub object-plan-spec : {M : Type 1} → statement M

@@ -20,7 +20,8 @@ enum-known-outgoing c = search needs
 object-plan-requires : tie.Need-object-plan-requires
 object-plan-requires c κs = let k = c .before .before in
     let a = k .before .before .before .before .before in
-    let t = subst (λ (x : Turn). TurnReady x) (sym (k .before .before .next-turn .ensures) ∙ k .outgoing .given .1) (turn-ready (a .args .e) (a .pre .1)) in
+    let t =
+    subst (λ (x : Turn). TurnReady x) (sym (k .before .before .next-turn .ensures) ∙ k .outgoing .given .1) (turn-ready (a .args .e) (a .pre .1)) in
     (a .pre .0, omega (arith, t, a .pre .2), a .pre .3)
 
 enum-told : tie.Need-enum-told

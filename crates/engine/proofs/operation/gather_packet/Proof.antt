@@ -38,7 +38,7 @@ returns c = λ q y.
     let f = k .before .before .before .before .before in
     let a = f .before .before .before .before in
     let s = stores q (a .args .headers .now) (a .args .body .now) y in
-    gathered-planned _ _ _ _ _ _ _ _ _ s _ _
+    gathered-planned _ _ _ _ _ _ s _ _
     (gathered-way (a .args .e) (a .args .kind) _ _ _ s _ _ _ _ (k .gather .ensures .0) (f .headers-from .ensures)
     (k .before .before .before .before .keep .ensures) (k .before .before .before .wide .ensures) (a .pre .0))
     (c .handle-gathered .ensures)

@@ -1,6 +1,6 @@
 -- `engine_c::words::await_of` meets its contract. Each arm is a test of the definition; the last arm is what all tests leave. Assumes nothing.
 use borrow.Author.Tests.{ne-eqb}
-use Rattle.engine_c.specs.Words.{awaitOf}
+use Rattle.server.specs.Numbers.{awaitOf}
 use Rattle.engine_c.proofs.words.await_of.Statement.{statement}
 use Rattle.engine_c.proofs.words.await_of.Tie as tie
 

@@ -18,8 +18,8 @@ operation-numbers-requires c κs = search needs
 outcome-numbers-requires : tie.Need-outcome-numbers-requires
 outcome-numbers-requires c κs = search needs
 
-await-number-requires : tie.Need-await-number-requires
-await-number-requires c κs = search needs
+awaits-number-requires : tie.Need-awaits-number-requires
+awaits-number-requires c κs = search needs
 
 target-numbers-requires : tie.Need-target-numbers-requires
 target-numbers-requires c κs = search needs
@@ -52,7 +52,7 @@ returns c =
       c .before .before .wide2 .ensures,
       c .before .before .before .wide .ensures,
       c .before .before .before .before .target-numbers .ensures,
-      c .before .before .before .before .before .await-number .ensures,
+      c .before .before .before .before .before .awaits-number .ensures,
       c .before .before .before .before .before .before .before .before .peer-numbers .ensures,
       c .before .before .before .before .before .before .before .before .before .settings-numbers .ensures,
     )
@@ -65,7 +65,7 @@ store-spec =
     peer-numbers-requires
     operation-numbers-requires
     outcome-numbers-requires
-    await-number-requires
+    awaits-number-requires
     target-numbers-requires
     wide-requires
     wide-requires-2

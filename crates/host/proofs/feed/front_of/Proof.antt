@@ -5,17 +5,17 @@ use mathlib.Core.Bool.{Bool}
 use mathlib.Core.Path.{sym, ap}
 use Prim.Native.Nat.{ℕ}
 use Rattle.base.specs.Pick.{pick}
-use Rattle.host.specs.Feed.{frontOf}
+use Rattle.host.specs.Feed.{lead, frontOf}
 use Rattle.host.proofs.feed.front_of.Statement.{statement}
 use Rattle.host.proofs.feed.front_of.Tie as tie
 
 returns : tie.Need-returns
 unfolding frontOf
-returns c = sym (ap (λ (t : Bool). pick {A = ℕ} t 0 2048) (lt-ltb _ _ (c .if1 .taken)))
+returns c = sym (ap (λ (t : Bool). pick {A = ℕ} t 0 lead) (lt-ltb _ _ (c .if1 .taken)))
 
 returns-2 : tie.Need-returns-2
 unfolding frontOf
-returns-2 c = sym (ap (λ (t : Bool). pick {A = ℕ} t 0 2048) (le-ltb _ _ (c .if1 .left)))
+returns-2 c = sym (ap (λ (t : Bool). pick {A = ℕ} t 0 lead) (le-ltb _ _ (c .if1 .left)))
 
 pub front-of-spec : {M : Type 1} → statement M
 front-of-spec = tie.close (tie.spec returns returns-2)

@@ -1,7 +1,6 @@
 -- `packet::header::is_top_zero` meets its contract: all but the first byte are written as they were read. Assumes nothing.
 use native.Mathlib.Omega.{arith}
 use mathlib.Core.Path.{ap}
-use Prim.Native.Nat.{_-_}
 use lib.ListN.{length}
 use Rattle.packet.proofs.CanonicalLaws.{not-same, top-test}
 use borrow.Author.Needs.{needs}

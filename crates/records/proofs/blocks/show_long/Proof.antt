@@ -1,6 +1,6 @@
 -- `records::blocks::show_long` meets its contract: the stores have the lengths that they are made with. Assumes nothing.
 use borrow.Author.Needs.{needs}
-use Rattle.records.proofs.Filled.{filled}
+use Rattle.lines.proofs.Filled.{filled}
 use Rattle.records.proofs.blocks.show_long.Statement.{statement}
 use Rattle.records.proofs.blocks.show_long.Tie as tie
 

@@ -1,6 +1,6 @@
 -- `records::clocks::show_time_long` meets its contract: the store has the length that it is made with. Assumes nothing.
 use borrow.Author.Needs.{needs}
-use Rattle.records.proofs.Filled.{filled}
+use Rattle.lines.proofs.Filled.{filled}
 use Rattle.records.proofs.clocks.show_time_long.Statement.{statement}
 use Rattle.records.proofs.clocks.show_time_long.Tie as tie
 

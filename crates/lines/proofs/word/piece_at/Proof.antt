@@ -1,15 +1,15 @@
--- `lines::word::line_at` meets its contract. Each line starts within the text, and the numbers of the lines are counted up. Assumes nothing.
+-- `lines::word::piece_at` meets its contract. Each piece starts within the text, and the numbers of the pieces are counted up. Assumes nothing.
 use borrow.Author.Needs.{needs}
 use Prim.Native.Nat.{_≤_, _-_}
 use lib.ListN.{length}
-use Rattle.lines.proofs.word.line_at.Statement.{statement}
-use Rattle.lines.proofs.word.line_at.Tie as tie
+use Rattle.lines.proofs.word.piece_at.Statement.{statement}
+use Rattle.lines.proofs.word.piece_at.Tie as tie
 
 abbrev Inv-loop : tie.InvT-loop
-Inv-loop text k start₀ i₀ start i = start ≤ length text
+Inv-loop text k byte start₀ i₀ start i = start ≤ length text
 
 abbrev μ-loop : tie.MeasureT-loop
-μ-loop text k start₀ i₀ start i = k - i
+μ-loop text k byte start₀ i₀ start i = k - i
 
 loop-holds : tie.Need-loop-holds Inv-loop μ-loop
 loop-holds c = search needs
@@ -35,8 +35,8 @@ find-requires-2 c κs = search needs
 returns : tie.Need-returns Inv-loop μ-loop
 returns c = search needs
 
-pub line-at-spec : {M : Type 1} → statement M
-line-at-spec =
+pub piece-at-spec : {M : Type 1} → statement M
+piece-at-spec =
     tie.close
     (tie.spec
     Inv-loop

@@ -1,0 +1,17 @@
+-- `codec::main` meets its contract: the store has the length that it is made with. Assumes nothing.
+use borrow.Author.Needs.{needs}
+use Rattle.lines.proofs.Filled.{filled}
+use Rattle.codec.proofs.main.Statement.{statement}
+use Rattle.codec.proofs.main.Tie as tie
+
+slice-aggregate-turns : tie.Need-slice-aggregate-turns
+slice-aggregate-turns c = filled 300000 0
+
+turns-requires : tie.Need-turns-requires
+turns-requires c κs = search needs
+
+returns : tie.Need-returns
+returns c = search needs
+
+pub main-spec : {M : Type 1} → statement M
+main-spec = tie.close (tie.spec slice-aggregate-turns turns-requires returns)

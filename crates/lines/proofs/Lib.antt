@@ -1,0 +1,2 @@
+-- The lemmas that proofs of the programs cite.
+pub mod Filled

@@ -1,2 +1,0 @@
--- What several proofs cite.
-pub mod Filled
