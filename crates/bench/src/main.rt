@@ -40,8 +40,8 @@ fn turn(
     }
 }
 
-// Plays the session. A proved loop has to end, and nothing says that the input does, so the turns are counted down from a number that no run
-// uses up.
+// Plays the session. A proved loop has to end, and nothing says that the input does, so the turns are counted down from a number that no
+// run uses up.
 fn play(
     input: &mut [u8; 65536],
     tables: &mut [u64; 320],

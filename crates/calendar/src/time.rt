@@ -195,7 +195,7 @@ fn seconds_to(at: Instant) -> u64
     days * (DAY as u64) + (at.hour as u64) * 3600 + (at.minute as u64) * 60 + (at.second as u64)
 }
 
-// Returns the LegacyTime of a time that lies `seconds` seconds behind the first second of year 0, if there is such a time: 17 comes before 18.
+// Returns the LegacyTime of a time that lies `seconds` behind the first second of year 0, if there is such a time: 17 comes before 18.
 fn judge(exists: bool, seconds: u64) -> Legacy
     ensures { λ r. ⌜ r ≡ legacyFor exists seconds ⌝ }
 {

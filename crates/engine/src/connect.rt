@@ -415,8 +415,8 @@ fn must_stop(authentication: bool, window: u64, a: Answered) -> bool
     is_stopped(window, a)
 }
 
-// Goes on after the client's packet limit is set: stops the Connect, checks the client, or asks the host whether it accepts the Connect. All
-// questions to the host come to one call, since each further one leaves more copies of the state behind.
+// Goes on after the client's packet limit is set: stops the Connect, checks the client, or asks the host whether it accepts the Connect.
+// All questions to the host come to one call, since each further one leaves more copies of the state behind.
 fn limited_plan(e: Engine, peer: Peer, a: Answered) -> Plan
     ensures { λ r. ⌜ r ≡ limitedPlan e peer a ⌝ }
 {

@@ -468,8 +468,8 @@ pub(crate) fn is_busy(operation: Operation) -> bool
     }
 }
 
-// Returns the way of a packet that cannot be read. Inside an operation the engine ends with `Unreadable`. Otherwise it replies with 0x51 if
-// the first byte is `unknown`, that is if it names no opcode, else with 0x40, and refuses what trails a Put as before.
+// Returns the way of a packet that cannot be read. Inside an operation the engine ends with `Unreadable`. Otherwise the engine replies with
+// 0x51 if the first byte is `unknown`, that is if it names no opcode, else with 0x40, and refuses what trails a Put as before.
 pub(crate) fn unreadable(e: Engine, unknown: bool) -> Route
     ensures { λ r. ⌜ r ≡ unreadableRoute (e .operation) unknown ⌝ }
 {

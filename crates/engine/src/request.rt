@@ -26,8 +26,8 @@ use table::targets::Target;
 use table::targets::target_of;
 use table::targets::unnamed;
 
-// Returns where the headers of packet `q` start, whether they can be read or not. If its first byte names no opcode, or its fields are not
-// all there, that is its end, so that it has none.
+// Returns where the headers of packet `q` start, whether they can be read or not. If the first byte of `q` names no opcode, or its fields
+// are not all there, that is its end, so that it has none.
 pub(crate) fn last_from(q: &[u8]) -> usize
     ensures { λ r. ⌜ r ≡ lastFrom (now (q .entry)) ⌝ }
 {
@@ -95,8 +95,8 @@ pub(crate) fn is_enabling(q: &[u8], c: ConnectRequest) -> bool
     q[start] == ENABLE
 }
 
-// Whether the password is right for the stored challenge and the first AuthenticateResponse of packet `q`, which must bring a user id if the
-// server `demands` one.
+// Whether the password is right for the stored challenge and the first AuthenticateResponse of packet `q`, which must bring a user id if
+// the server `demands` one.
 pub(crate) fn is_right(
     stored: Challenge,
     q: &[u8],

@@ -1,5 +1,5 @@
-// The state and the result of a call as numbers, and back: what a host outside Rattle keeps between calls. specs/Words says what the numbers
-// mean. Decoding what `store` wrote gives the result back, whatever it was; the other direction is not claimed and not needed.
+// The state and the result of a call as numbers, and back: what a host outside Rattle keeps between calls. specs/Words says what the
+// numbers mean. Decoding what `store` wrote gives the result back, whatever it was; the other direction is not claimed and not needed.
 ghost use mathlib.Core.Path.{_≡_};
 ghost use Prim.Native.Nat.{_%_, _^_};
 ghost use Rattle.engine_c.specs.Words.{flag, opcodeOf, gatheredOf, idOf, challengeOf, outgoingOf, chunkOf, operationOf, operationIn};

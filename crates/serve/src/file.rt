@@ -25,7 +25,7 @@ const ENXIO: i32 = 6;
 
 const ETXTBSY: i32 = 26;
 
-// The first n bytes, or all if there are fewer.
+// Returns the first `n` bytes of `s`, or all if there are fewer.
 pub(crate) fn front(s: &[u8], n: usize) -> &[u8] {
     if n <= s.len() { &s[0..n] } else { s }
 }
@@ -54,8 +54,8 @@ fn filled(fd: i32, bytes: &[u8]) -> bool {
     false
 }
 
-// Returns whether the folder itself is on the disk, so that a name that was given in it stays. A file system that has no such thing says so,
-// and then nothing more can be done.
+// Returns whether the folder itself is on the disk, so that a name that was given in it stays. A file system that has no such thing says
+// so, and then nothing more can be done.
 fn is_folder_synced(folder: Folder) -> bool {
     let mut path = [0u8; LONGEST];
     let n = join(folder, b".", &mut path);
@@ -140,7 +140,8 @@ fn named(folder: Folder, from: &[u8], name: &[u8]) -> u8
     renamed(folder, from, name)
 }
 
-// Writes a new file whose path is `temporary`, of which `os::create_temp` replaces the end, and gives it its name. Gives the code of the reply.
+// Writes a new file whose path is `temporary`, of which `os::create_temp` replaces the end, and gives it its name. Gives the code of the
+// reply.
 fn write_as(folder: Folder, temporary: &mut [u8], name: &[u8], bytes: &[u8]) -> u8
     requires { ⌜ fileName (now name) ≡ true ⌝ }
 {
@@ -172,7 +173,7 @@ fn write(folder: Folder, name: &[u8], bytes: &[u8]) -> u8
     write_as(folder, &mut temporary[0..n], name, bytes)
 }
 
-// Gives the code of the reply.
+// Writes `bytes` to the file `name`, if that is the name of a file. Gives the code of the reply.
 fn write_named(folder: Folder, name: &[u8], bytes: &[u8]) -> u8 {
     if is_file_name(name) {
         return write(folder, name, bytes);
@@ -180,7 +181,7 @@ fn write_named(folder: Folder, name: &[u8], bytes: &[u8]) -> u8 {
     FORBIDDEN
 }
 
-// A Put's body goes to the file of its Name.
+// Writes a Put's body to the file of its Name. Gives the code of the reply.
 fn put(folder: Folder, headers: &[u8], bytes: &[u8]) -> u8 {
     let mut store = [0u8; 255];
     let n = name_in(headers, &mut store);
@@ -191,7 +192,8 @@ fn put(folder: Folder, headers: &[u8], bytes: &[u8]) -> u8 {
     code
 }
 
-// By convention a Put without a body asks for the file to be removed. That is not done here.
+// Stores the body of a Put, and gives the code of the reply. By convention a Put without a body asks for the file to be removed,
+// which the program does not do.
 pub(crate) fn put_body(folder: Folder, headers: &[u8], content: Body, body: &[u8]) -> u8 {
     match content {
         Body::Bytes(n) => put(folder, headers, front(body, n)),
