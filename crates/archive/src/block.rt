@@ -375,8 +375,8 @@ fn refused_for(fault: u8) -> Body
     Body::Malformed
 }
 
-// Reads the body of `blocks` to the front of `body`. Two passes, since blocks with a fault leave the target as it was: all are judged
-// before a byte is copied.
+// Reads the body of `blocks` to the front of `body`. There are two passes, since blocks with a fault leave the target as it was: all are
+// judged before a byte is copied.
 pub fn read(blocks: &[u8], body: &mut [u8]) -> Body
     ensures { λ r. ⌜ reading r (now (body .exit)) ≡ readInto (now (blocks .entry)) (now (body .entry)) ⌝ }
 {

@@ -77,8 +77,8 @@ fn play(
     }
 }
 
-// Lends the engine its stores. It keeps bodies of at most 1,024 bytes, so it uses no more of the body store, which is as long as the other
-// programs' are.
+// Lends the engine its stores. The engine keeps bodies of at most 1,024 bytes, so it uses no more of the body store, which is as long as
+// the other programs' are.
 fn main() {
     let mut input = [0u8; 65536];
     let mut tables = [0u64; 320];

@@ -21,6 +21,7 @@ pub struct Octets16 {
     pub second: u64,
 }
 
+// Returns `x` rotated left by `n` bits.
 fn rotate_left(x: u32, n: u32) -> u32
     requires { ⌜ (0 < n) × (n < 32) ⌝ }
     ensures { λ r. ⌜ r ≡ rotl x n ⌝ }
@@ -133,6 +134,7 @@ fn quad03(p: &[u8], s: Regs, t: Regs) -> Regs
     step0(p, s, t3, 15, 15, 0x49b40821, 22)
 }
 
+// Takes the 16 steps of round 0 on the block `p`, from the registers `t`.
 fn round0(p: &[u8], s: Regs, t: Regs) -> Regs
     requires { ⌜ (length (now p) ≡ 64) × (t ≡ steps (now p) 0 s) ⌝ }
     ensures { λ r. ⌜ r ≡ steps (now (p .entry)) 16 s ⌝ }
@@ -197,6 +199,7 @@ fn quad13(p: &[u8], s: Regs, t: Regs) -> Regs
     step1(p, s, t3, 31, 12, 0x8d2a4c8a, 20)
 }
 
+// Takes the 16 steps of round 1 on the block `p`, from the registers `t`.
 fn round1(p: &[u8], s: Regs, t: Regs) -> Regs
     requires { ⌜ (length (now p) ≡ 64) × (t ≡ steps (now p) 16 s) ⌝ }
     ensures { λ r. ⌜ r ≡ steps (now (p .entry)) 32 s ⌝ }
@@ -261,6 +264,7 @@ fn quad23(p: &[u8], s: Regs, t: Regs) -> Regs
     step2(p, s, t3, 47, 2, 0xc4ac5665, 23)
 }
 
+// Takes the 16 steps of round 2 on the block `p`, from the registers `t`.
 fn round2(p: &[u8], s: Regs, t: Regs) -> Regs
     requires { ⌜ (length (now p) ≡ 64) × (t ≡ steps (now p) 32 s) ⌝ }
     ensures { λ r. ⌜ r ≡ steps (now (p .entry)) 48 s ⌝ }
@@ -325,6 +329,7 @@ fn quad33(p: &[u8], s: Regs, t: Regs) -> Regs
     step3(p, s, t3, 63, 9, 0xeb86d391, 21)
 }
 
+// Takes the 16 steps of round 3 on the block `p`, from the registers `t`.
 fn round3(p: &[u8], s: Regs, t: Regs) -> Regs
     requires { ⌜ (length (now p) ≡ 64) × (t ≡ steps (now p) 48 s) ⌝ }
     ensures { λ r. ⌜ r ≡ steps (now (p .entry)) 64 s ⌝ }

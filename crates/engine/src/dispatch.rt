@@ -535,9 +535,9 @@ fn is_marked(opcode: Opcode) -> bool
     same(opcode, Opcode::Abort)
 }
 
-// Returns the Target under which a readable packet goes (docs/PROTOCOL.md#targets): the mark for a Connect or an Abort. Inside an operation
-// the Target of its first packet stays. Otherwise the Target is that of the packet's ConnectionID, or the mark if the packet names none
-// that is open.
+// Returns the Target under which a readable packet goes (docs/PROTOCOL.md#targets). A Connect or an Abort goes under the mark. Inside an
+// operation the Target of its first packet stays. Otherwise the Target is that of the packet's ConnectionID, or the mark if the packet
+// names none that is open.
 fn packet_target(e: Engine, opcode: Opcode, v: Survey, known: bool, tables: &[u64]) -> Target
     requires { ⌜ (e .peer .count ≤ 64) × (tableLength ≤ length (now tables)) × (known ≡ knownIn e (now tables) v) ⌝ }
     ensures { λ r. ⌜ r ≡ targetUnder e (now (tables .entry)) opcode v ⌝ }

@@ -35,6 +35,7 @@ pub fn put_line_at(out: &mut [u8], n: usize, text: &[u8], k: usize) -> usize
     put(out, n, &text[start..end])
 }
 
+// Returns the hexadecimal digit of `x`.
 fn digit(x: u8) -> u8
     requires { ⌜ x < 16 ⌝ }
 {
@@ -138,7 +139,7 @@ pub fn put_hex(out: &mut [u8], n: usize, s: &[u8], longest: usize) -> usize
     put_digits(out, n, s)
 }
 
-// Writes out what was collected, and gives how much is left of it.
+// Writes out what was collected, and returns how much is left of it: nothing.
 pub fn write(out: &[u8], n: usize) -> usize
     ensures { λ r. ⌜ r ≡ 0 ⌝ }
 {

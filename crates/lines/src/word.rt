@@ -140,7 +140,7 @@ pub fn number(s: &[u8]) -> usize
     n
 }
 
-// Copies what stands between two places behind it.
+// Copies what stands from `from` up to `to` to `at`, as far as there is room, and returns the place behind the copy.
 fn again(out: &mut [u8], from: usize, to: usize, at: usize) -> usize {
     let mut i = from;
     let mut n = at;
@@ -176,7 +176,7 @@ fn repeat(out: &mut [u8], from: usize, to: usize, count: usize) -> usize {
     n
 }
 
-// Stores a byte, where there is room.
+// Stores the byte `b` at `n` if there is room, and returns how many bytes there are then.
 fn push(out: &mut [u8], n: usize, b: u8) -> usize {
     if n < out.len() {
         out[n] = b;

@@ -398,7 +398,7 @@ fn places(longest: usize, offered: usize) -> bool {
     offered == 0
 }
 
-// Plays the session on standard input so often.
+// Plays the session on standard input as often as the first argument says.
 fn run(
     stream: &mut [u8],
     zeros: &[u8],

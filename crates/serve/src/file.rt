@@ -37,7 +37,7 @@ fn keeps() -> bool {
     os::arg_count() > 1
 }
 
-// Writes all of it, readable as other files are, and returns whether it is on the disk.
+// Writes `bytes` to the file `fd`, readable as other files are, and closes it. Returns whether they are all on the disk.
 fn filled(fd: i32, bytes: &[u8]) -> bool {
     libc::fchmod(fd, 0o644);
     if io::write_all(fd, bytes) {
@@ -90,7 +90,7 @@ fn reserved(folder: Folder, name: &[u8]) -> u8
     INTERNAL_SERVER_ERROR
 }
 
-// Gives a whole file its name.
+// Gives a whole file its name, and returns the code of the reply.
 fn renamed(folder: Folder, from: &[u8], name: &[u8]) -> u8
     requires { ⌜ fileName (now name) ≡ true ⌝ }
 {
@@ -162,8 +162,8 @@ fn write_as(folder: Folder, temporary: &mut [u8], name: &[u8], bytes: &[u8]) -> 
     INTERNAL_SERVER_ERROR
 }
 
-// Writes under another name first, so that no half of a file is ever seen and a link is replaced. Nobody can ask for that name. It carries
-// the number of this process, by which the next start knows whose it was. Gives the code of the reply.
+// Writes under another name first, so that no half of a file is ever seen and a link is replaced. Nobody can ask for that name, which
+// carries the number of this process, so that the next start knows whose the file was. Gives the code of the reply.
 fn write(folder: Folder, name: &[u8], bytes: &[u8]) -> u8
     requires { ⌜ fileName (now name) ≡ true ⌝ }
 {
@@ -173,7 +173,7 @@ fn write(folder: Folder, name: &[u8], bytes: &[u8]) -> u8
     write_as(folder, &mut temporary[0..n], name, bytes)
 }
 
-// Writes `bytes` to the file `name`, if that is the name of a file. Gives the code of the reply.
+// Writes `bytes` to the file `name`, unless no file may have that name. Gives the code of the reply.
 fn write_named(folder: Folder, name: &[u8], bytes: &[u8]) -> u8 {
     if is_file_name(name) {
         return write(folder, name, bytes);

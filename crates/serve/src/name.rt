@@ -62,7 +62,7 @@ fn is_plain(s: &[u8]) -> bool
     true
 }
 
-// Whether it may name a file here.
+// Whether `s` may name a file here.
 pub(crate) fn is_file_name(s: &[u8]) -> bool
     ensures { λ r. ⌜ r ≡ fileName (now (s .entry)) ⌝ }
 {
