@@ -1,6 +1,6 @@
--- What a host answers that keeps nothing, as document 01 gives it for the bench: it replies without headers, with 0x20 to Connect,
--- Disconnect and Put, with 0x51 otherwise; it only acknowledges an Abort, and has no password and no credentials. A nonce, which the bench
--- is never asked for, is the kernel's.
+-- What a host answers that keeps nothing, by the rules of the bench (docs/PROTOCOL.md#bench): it replies without headers, with 0x20 to
+-- Connect, Disconnect and Put, with 0x51 otherwise; it only acknowledges an Abort, and has no password and no credentials. A nonce, which
+-- the bench is never asked for, is the kernel's.
 use Prim.Native.Nat.{ℕ}
 use mathlib.Core.Bool.{Bool}
 use mathlib.Core.List.{List, []}
