@@ -48,10 +48,11 @@ rightCheck x = same (digestOf (take 496 x)) (drop 496 x)
 abbrev pub isLastBlock : List ℕ → Bool
 isLastBlock x = leb 32768 (be16 x 0)
 
--- How many payload bytes the block `x` uses, and which they are.
+-- How many payload bytes the block `x` uses.
 abbrev pub used : List ℕ → ℕ
 used x = be16 x 0 % 32768
 
+-- The payload bytes that the block `x` uses.
 unfoldable pub payloadOf : List ℕ → List ℕ
 payloadOf x = take (used x) (drop 6 x)
 

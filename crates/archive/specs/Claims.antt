@@ -1,5 +1,5 @@
--- One sequence of blocks for each body, and back: what is written reads as the body, and nothing else reads as it. A refusal changes nothing,
--- and the first faulty block decides which it is.
+-- One sequence of blocks for each body, and back: what is written reads as the body, and nothing else reads as it. A refusal changes
+-- nothing, and the first faulty block decides which it is.
 use Prim.Native.Nat.{ℕ, _*_, _/_, _<_, _≤_}
 use mathlib.Core.Path.{_≡_}
 use mathlib.Core.Bool.{false}
@@ -36,10 +36,11 @@ pub record OneSequence (x t : List ℕ) (n : ℕ) : Type 0 where
 abbrev pub WritesRead : Type 0
 WritesRead = (x t : List ℕ) (n : ℕ) → Octets x → readInto x t .answer ≡ Bytes n → OneSequence x t n
 
--- A refused call leaves the target as it was.
+-- A call of `write` that is refused leaves the target as it was.
 abbrev pub RefusedWriteLeaves : Type 0
 RefusedWriteLeaves = (b t : List ℕ) → 0 < wroteNumber (written b t .answer) → written b t .target ≡ t
 
+-- A call of `read` that is refused leaves the target as it was.
 abbrev pub RefusedReadLeaves : Type 0
 RefusedReadLeaves = (x t : List ℕ) → 0 < bodyNumber (readInto x t .answer) → readInto x t .target ≡ t
 

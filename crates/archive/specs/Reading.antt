@@ -1,4 +1,5 @@
--- All blocks of an input (request (a); docs/ARCHIVE.md): the first faulty one decides, and then what is left over. What a call of `read` gives.
+-- All blocks of an input (request (a); docs/ARCHIVE.md): the first faulty one decides, and then what is left over. What a call of `read`
+-- gives.
 use Prim.Native.Nat.{ℕ, zero, suc, _+_, _*_, _/_, _%_}
 use mathlib.Core.List.{List, [], _++_}
 use mathlib.Core.Bool.{Bool, false, _&&_}
@@ -16,6 +17,7 @@ pub record Judged : Type 0 where
   pub ended : Bool
   pub body : List ℕ
 
+-- Makes a `Judged`.
 abbrev pub judged : ℕ → Bool → List ℕ → Judged
 judged f e b = record { fault = f; ended = e; body = b }
 
@@ -27,10 +29,11 @@ judge (suc m) k ended b x =
     let f = faultOf k ended (length b) y in
     pick (eqb f 0) (judge m (k + 1) (isLastBlock y) (b ++ payloadOf y) (drop 512 x)) (judged f ended b)
 
--- All whole blocks of the input `x`, and the body that they hold.
+-- All whole blocks of the input `x`, judged.
 unfoldable pub judgedAll : List ℕ → Judged
 judgedAll x = judge (length x / 512) 0 false [] x
 
+-- The body that the whole blocks of the input `x` hold, up to the first faulty one.
 abbrev pub bodyOf : List ℕ → List ℕ
 bodyOf x = judgedAll x .body
 
@@ -56,6 +59,7 @@ pub record Reading : Type 0 where
   pub answer : Body
   pub target : List ℕ
 
+-- Makes a `Reading`.
 abbrev pub reading : Body → List ℕ → Reading
 reading r t = record { answer = r; target = t }
 

@@ -37,6 +37,7 @@ pub record Writing : Type 0 where
   pub answer : Wrote
   pub target : List ℕ
 
+-- Makes a `Writing`.
 abbrev pub writing : Wrote → List ℕ → Writing
 writing r t = record { answer = r; target = t }
 

@@ -1,6 +1,6 @@
-// A record's body as blocks of 512 bytes for the archive, each with its own check, and back (request (a); docs/ARCHIVE.md). A record without
-// body is not blocked: whoever has none does not call `write`, and an empty body, which is another thing, takes one block. The check is MD5,
-// as the request names it: it finds damage, and does not show that nobody made it anew.
+// A record's body as blocks of 512 bytes for the archive, each with its own check, and back (request (a); docs/ARCHIVE.md). A record
+// without body is not blocked: whoever has none does not call `write`, and an empty body, which is another thing, takes one block. The
+// check is MD5, as the request names it: it finds damage, and does not show that nobody made it anew.
 ghost use mathlib.Core.Path.{_≡_};
 ghost use Prim.Native.Nat.{_+_, _-_, _*_, _/_, _^_, _≤_, min};
 ghost use lib.ListN.{length};
@@ -262,8 +262,8 @@ fn is_check_right(block: &[u8]) -> bool
     is_same(&check, &block[CHECKED..])
 }
 
-// Tells whether length, padding and end mark of block `k` keep the rules, behind blocks that hold `before` body bytes. If `is_ended`, one of
-// them was the last, and no block may follow.
+// Tells whether length, padding and end mark of block `k` keep the rules, behind blocks that hold `before` body bytes. If `is_ended`, one
+// of them was the last, and no block may follow.
 fn is_form_right(block: &[u8], k: usize, is_ended: bool, before: usize) -> bool
     requires { ⌜ (length (now block) ≡ 512) × (before ≤ longest) ⌝ }
     ensures { λ r. ⌜ r ≡ rightForm k «is_ended» before (now (block .entry)) ⌝ }
@@ -375,8 +375,8 @@ fn refused_for(fault: u8) -> Body
     Body::Malformed
 }
 
-// Reads the body of `blocks` to the front of `body`. Two passes, since blocks with a fault leave the target as it was: all are judged before
-// a byte is copied.
+// Reads the body of `blocks` to the front of `body`. There are two passes, since blocks with a fault leave the target as it was: all are
+// judged before a byte is copied.
 pub fn read(blocks: &[u8], body: &mut [u8]) -> Body
     ensures { λ r. ⌜ reading r (now (body .exit)) ≡ readInto (now (blocks .entry)) (now (body .entry)) ⌝ }
 {

@@ -40,8 +40,8 @@ fn turn(
     }
 }
 
-// Plays the session. A proved loop has to end, and nothing says that the input does, so the turns are counted down from a number that no run
-// uses up.
+// Plays the session. A proved loop has to end, and nothing says that the input does, so the turns are counted down from a number that no
+// run uses up.
 fn play(
     input: &mut [u8; 65536],
     tables: &mut [u64; 320],
@@ -77,8 +77,8 @@ fn play(
     }
 }
 
-// Lends the engine its stores. It keeps bodies of at most 1,024 bytes, so it uses no more of the body store, which is as long as the other
-// programs' are.
+// Lends the engine its stores. The engine keeps bodies of at most 1,024 bytes, so it uses no more of the body store, which is as long as
+// the other programs' are.
 fn main() {
     let mut input = [0u8; 65536];
     let mut tables = [0u64; 320];

@@ -4,7 +4,7 @@ use lines::output;
 use server::Body;
 use server::HostRequest;
 
-// A body's length, or a dash where there is none.
+// Puts the length of `body`, or a dash if it is missing.
 fn put_body(out: &mut [u8], n: usize, body: Body) -> usize {
     match body {
         Body::Bytes(length) => output::put_number(out, n, length),
@@ -12,7 +12,7 @@ fn put_body(out: &mut [u8], n: usize, body: Body) -> usize {
     }
 }
 
-// Of a Put, how many header bytes were kept, and how many bytes its body has.
+// Puts how many header bytes of a Put were kept, and how many bytes its body has. Puts nothing for any other request.
 fn put_counts(out: &mut [u8], n: usize, request: HostRequest) -> usize {
     let HostRequest::Put { kept, body } = request else {
         return n;
@@ -23,7 +23,7 @@ fn put_counts(out: &mut [u8], n: usize, request: HostRequest) -> usize {
     put_body(out, c, body)
 }
 
-// A request by the name of the handler's method.
+// Prints a request by the name of the handler's method.
 pub(crate) fn request(request: HostRequest) {
     let mut out = [0u8; 64];
     let a = put_name(&mut out, 0, request);
@@ -40,13 +40,14 @@ fn packet(s: &[u8]) {
     output::write(&out, n);
 }
 
-// A reply, the first bytes of its store, in hexadecimal.
+// Prints a reply, the first `length` bytes of its store, in hexadecimal.
 pub(crate) fn reply(store: &[u8], length: usize) {
     if length <= store.len() {
         packet(&store[0..length]);
     }
 }
 
+// Prints the number with which the session ended.
 pub(crate) fn end(number: u8) {
     let mut out = [0u8; 16];
     let a = output::put(&mut out, 0, b"end ");

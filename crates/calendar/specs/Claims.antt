@@ -1,5 +1,5 @@
--- What is proved of the definitions: every LegacyTime comes back; a text that reads as a LegacyTime is its text; rolling a date counts the days;
--- and the count tells days apart.
+-- What is proved of the definitions: every LegacyTime comes back; a text that reads as a LegacyTime is its text; rolling a date counts the
+-- days; and the count tells days apart.
 use Prim.Native.Nat.{ℕ, _+_, _-_, _^_, _<_}
 use mathlib.Core.Path.{_≡_}
 use mathlib.Core.List.{List, [], _∷_}
@@ -17,10 +17,11 @@ ComesBack = (n : ℕ) → n < 2 ^ 32 → legacyOf (timeOf n) ≡ Seconds n
 abbrev pub OneText : Type 0
 OneText = (t : List ℕ) (n : ℕ) → legacyOf t ≡ Seconds n → timeOf n ≡ t
 
--- The last LegacyTime is 21060207T062815Z.
+-- The text 21060207T062815Z.
 abbrev pub lastText : List ℕ
 lastText = 0x32 ∷ 0x31 ∷ 0x30 ∷ 0x36 ∷ 0x30 ∷ 0x32 ∷ 0x30 ∷ 0x37 ∷ 0x54 ∷ 0x30 ∷ 0x36 ∷ 0x32 ∷ 0x38 ∷ 0x31 ∷ 0x35 ∷ 0x5A ∷ []
 
+-- The text of the last LegacyTime is 21060207T062815Z.
 abbrev pub LastTime : Type 0
 LastTime = timeOf (2 ^ 32 - 1) ≡ lastText
 

@@ -1,5 +1,5 @@
--- The Gregorian calendar in the years 0 to 9999, its leap years carried back to year 0 (request (f)): which days exist, the count of days, the
--- date so many days after a first of January, and a date rolled forward one day.
+-- The Gregorian calendar in the years 0 to 9999, its leap years carried back to year 0 (request (f)): which days exist, the count of days,
+-- the date so many days after a first of January, and a date rolled forward one day.
 use Prim.Native.Nat.{ℕ, zero, suc, _+_, _-_, _%_}
 use mathlib.Core.List.{List, [], _∷_}
 use mathlib.Core.Bool.{Bool, _&&_, _||_, not}

@@ -43,10 +43,11 @@ textOf i =
     decimal 4 (i .date .year) ++ (decimal 2 (i .date .month) ++ (decimal 2 (i .date .day) ++ (0x54
     ∷ (decimal 2 (i .hour) ++ (decimal 2 (i .minute) ++ (decimal 2 (i .second) ++ (0x5A ∷ [])))))))
 
--- A byte is a decimal digit, and each byte of a list is.
+-- A byte is a decimal digit.
 abbrev pub isDigit : ℕ → Bool
 isDigit b = leb 0x30 b && leb b 0x39
 
+-- Each byte of a list is a decimal digit.
 unfoldable pub allDigits : List ℕ → Bool
 allDigits [] = true
 allDigits (b ∷ l) = isDigit b && allDigits l
@@ -62,11 +63,12 @@ unfoldable pub numberAt : List ℕ → ℕ → ℕ → ℕ
 numberAt t at zero = 0
 numberAt t at (suc k) = numberAt t at k * 10 + (getD t (at + k) 0 - 0x30)
 
--- A byte is a digit, and two digits stand at a place.
+-- The byte `b` is a digit.
 pub record Digit (b : ℕ) : Type 0 where
   pub low : 0x30 ≤ b
   pub high : b ≤ 0x39
 
+-- Two digits stand at the place `at` of the text `t`.
 pub record DigitsAt (t : List ℕ) (at : ℕ) : Type 0 where
   pub inside : at + 2 ≤ length t
   pub tens : Digit (getD t at 0)
@@ -119,6 +121,7 @@ pub record Writing : Type 0 where
   pub number : ℕ
   pub target : List ℕ
 
+-- Makes a `Writing`, with the number of the answer `r`.
 abbrev pub writing : Wrote → List ℕ → Writing
 writing r t = record { number = wroteNumber r; target = t }
 

@@ -195,7 +195,8 @@ fn seconds_to(at: Instant) -> u64
     days * (DAY as u64) + (at.hour as u64) * 3600 + (at.minute as u64) * 60 + (at.second as u64)
 }
 
-// Returns the LegacyTime of a time that lies `seconds` seconds behind the first second of year 0, if there is such a time: 17 comes before 18.
+// Returns the LegacyTime of a time that lies `seconds` behind the first second of year 0. That the time does not exist (17) comes before
+// that it lies outside the 32 bits (18).
 fn judge(exists: bool, seconds: u64) -> Legacy
     ensures { λ r. ⌜ r ≡ legacyFor exists seconds ⌝ }
 {
@@ -212,7 +213,8 @@ fn judge(exists: bool, seconds: u64) -> Legacy
     }
 }
 
-// Reads a text as a LegacyTime: 16 comes before 17, and 17 before 18.
+// Reads a text as a LegacyTime. A text without the form (16) comes before a time that does not exist (17), and that before a time outside
+// the 32 bits (18).
 pub fn read_time(text: &[u8]) -> Legacy
     ensures { λ r. ⌜ r ≡ legacyOf (now (text .entry)) ⌝ }
 {

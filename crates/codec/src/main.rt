@@ -71,7 +71,7 @@ enum Kind {
     U32,
 }
 
-// A header or a tag of a list, with the place of its value. Nothing is there where it ends no later than it was looked for.
+// A header or a tag of a list, with the place of its value. Nothing is there if it ends no later than it was looked for.
 struct Piece {
     id: u8,
     start: usize,
@@ -100,7 +100,7 @@ fn put_octets(n: Octets16) {
     put(&out[0..n]);
 }
 
-// Bytes in hexadecimal; of more than 512, how many and their MD5.
+// Puts the bytes `s` in hexadecimal; of more than 512, how many there are and their MD5.
 fn put_digits(s: &[u8]) {
     if 512 < s.len() {
         put(b"#");
@@ -115,7 +115,7 @@ fn put_digits(s: &[u8]) {
     put(&out[0..n]);
 }
 
-// Bytes in hexadecimal, or a dash.
+// Puts the bytes `s` in hexadecimal, or a dash if there are none.
 fn put_hex(s: &[u8]) {
     if s.len() == 0 {
         put(b"-");
@@ -223,7 +223,7 @@ fn first(byte: u8) {
     put_byte(opcode::to_byte(op, is_final));
 }
 
-// A code and its Final bit: the original takes the bit away.
+// Answers a question on a response code. The Final bit of `byte` is taken away first, as the original does.
 fn code(byte: u8) {
     let b = byte & 0x7F;
     if !response::is_code(b) {
@@ -349,7 +349,7 @@ fn header_piece(s: &[u8], at: usize) -> Piece
     }
 }
 
-// A value of four bytes; of Permissions, as it is written back.
+// Returns a value of four bytes, that of Permissions as it is written back.
 fn number_of(id: u8, v: &[u8]) -> u32 {
     if v.len() < 4 {
         return 0;
@@ -396,7 +396,7 @@ fn is_wide(kind: Kind) -> bool {
     }
 }
 
-// The text of a header's value.
+// Writes the text of a header's value to `text`, and returns its length.
 fn decoded(kind: Kind, v: &[u8], text: &mut [u8]) -> usize
     ensures { λ r. ⌜ r ≤ length (now (text .exit)) ⌝ }
 {
@@ -406,7 +406,7 @@ fn decoded(kind: Kind, v: &[u8], text: &mut [u8]) -> usize
     decoded_ascii(v, text)
 }
 
-// The header as the writers give it, from its text where it has one.
+// Writes the header as the writers give it, from its text if it has one.
 fn write_header(kind: Kind, id: u8, v: &[u8], text: &[u8], store: &mut [u8]) -> Wrote {
     match kind {
         Kind::Unicode => header::put_unicode(store, 0, id, text),
@@ -442,7 +442,7 @@ fn put_named(name: &[u8], v: &[u8]) {
     put_hex(v);
 }
 
-// Why a text is not written: its length as a header, or of Type and Time itself.
+// Puts what is shown of a text that is too long to be written: its length as a header, or of Type and Time the text itself.
 fn put_refused(id: u8, text: &[u8]) {
     if id < 0x40 {
         put(b":error HeaderTooLarge ");
@@ -452,7 +452,7 @@ fn put_refused(id: u8, text: &[u8]) {
     }
 }
 
-// What became of a header: its bytes, or its text where that is too long to be written.
+// Puts what became of a header: its bytes, or what is shown of its text if that is too long to be written.
 fn put_written(done: Wrote, store: &[u8], id: u8, text: &[u8]) {
     match done {
         Wrote::Written(n) => {
@@ -471,7 +471,7 @@ fn put_written(done: Wrote, store: &[u8], id: u8, text: &[u8]) {
     }
 }
 
-// A header's value, or the header as it is written.
+// Puts a header's value, or the header as it is written if `is_rewritten` is set.
 fn show(id: u8, v: &[u8], is_rewritten: bool, text: &mut [u8], store: &mut [u8]) {
     let k = kind_of(id);
     let n = decoded(k, v, text);
@@ -519,7 +519,7 @@ fn each_header(s: &[u8], is_rewritten: bool) {
     }
 }
 
-// The `n` headers that fill the bytes: how many, their values, what the writers give for them, and whether that is the same.
+// Puts the `n` headers that fill the bytes: how many, their values, what the writers give for them, and whether that is the same.
 fn put_read_headers(n: usize, s: &[u8]) {
     put_number(n);
     each_header(s, false);
@@ -598,7 +598,7 @@ fn parsed(s: &[u8]) {
     put_request(opcode, is_final, &s[0..end], s.len() - end, &s[start..end]);
 }
 
-// What became of a packet or a tag list: its bytes, or which length is refused.
+// Puts what became of a packet or a tag list: its bytes, or which length is refused.
 fn put_done(done: Wrote, store: &[u8], refusal: &[u8], size: usize) {
     match done {
         Wrote::Written(n) => {
@@ -625,7 +625,7 @@ fn u16_at(s: &[u8], at: usize) -> u16
     n as u16
 }
 
-// The fields that a word names: four bytes, one, or the defaults.
+// Returns the fields that a word names: four bytes are a Connect's, one is a SetPath's, and `is_default` asks for the defaults.
 fn fields_of(b: &[u8], is_default: bool) -> Fields {
     if is_default {
         return Fields::Default;
@@ -664,7 +664,7 @@ fn sum(a: usize, b: usize) -> usize {
     0
 }
 
-// The number names an opcode only where it is its own value.
+// Answers with the bytes of a request. `byte` names an opcode only if it is the opcode's own value.
 fn request(byte: u8, is_final: bool, fields: Fields, headers: &[u8]) {
     let FirstByte::Known {
         opcode: op,
@@ -692,7 +692,7 @@ fn request(byte: u8, is_final: bool, fields: Fields, headers: &[u8]) {
     );
 }
 
-// `is_none` says that the reply has no Connect parameters; otherwise `parameters` are their bytes.
+// Answers with the bytes of a response. `is_none` says that the response has no Connect parameters; otherwise `parameters` are their bytes.
 fn reply(byte: u8, is_none: bool, parameters: &[u8], headers: &[u8]) {
     let code = byte & 0x7F;
     if !response::is_code(code) {
@@ -728,7 +728,7 @@ fn put_found(v: &[u8], f: Found) {
     }
 }
 
-// A realm, whose first byte is its charset.
+// Puts a realm, whose first byte is its charset.
 fn put_realm(v: &[u8], f: Found) {
     match f {
         Found::At { start, end } => {
@@ -834,7 +834,7 @@ fn respond(challenge: &[u8], has_user: bool, user: &[u8], password: &[u8]) {
     put_done(done, &store, b"error ValueTooLarge ", user.len());
 }
 
-// The realm's charset stands before its value.
+// Answers with the bytes of a challenge. The first byte of `realm` is its charset.
 fn write_challenge(
     nonce: &[u8],
     user_id_required: bool,
@@ -877,7 +877,7 @@ fn prefix(is_none: bool) -> usize {
     if is_none { 3 } else { 7 }
 }
 
-// A question on a byte or a list.
+// Answers a question on a byte or a list.
 fn answer_one(q: Question, a: &[u8]) {
     match q {
         Question::First => first(byte_at(a, 0)),
@@ -963,7 +963,7 @@ fn lines_of(s: &[u8]) {
     }
 }
 
-// Reads on behind what stands in the store, answers, and gives how much is left; the store's length where there is no more.
+// Reads on behind what stands in the store, answers, and gives how much is left, or the store's length if the input has ended.
 fn turn(s: &mut [u8], have: usize) -> usize
     requires { ⌜ have ≤ length (now s) ⌝ }
     ensures { λ r. ⌜ r ≤ length (now (s .exit)) ⌝ }
@@ -978,7 +978,8 @@ fn turn(s: &mut [u8], have: usize) -> usize
     keep(s, from, end)
 }
 
-// A proved loop has to end, and nothing says that the input does. So the turns are counted down, from a number that no run uses up.
+// Takes turns until the input ends. A proved loop has to end, and nothing says that the input does, so the turns are counted down, from a
+// number that no run uses up.
 fn turns(s: &mut [u8]) {
     let mut left = u64::MAX;
     let mut have = 0;

@@ -47,6 +47,7 @@ pub record Linked : Type 0 where
   pub peer : Peer
   pub tables : List ℕ
 
+-- Makes a `Linked`.
 abbrev pub linked : Peer → List ℕ → Linked
 linked p t = record { peer = p; tables = t }
 
@@ -151,6 +152,7 @@ pub record Opens : Type 0 where
   pub opening : Opening
   pub tables : List ℕ
 
+-- Makes an `Opens`.
 abbrev pub opens : Opening → List ℕ → Opens
 opens r t = record { opening = r; tables = t }
 
@@ -176,13 +178,16 @@ pub record Answers : Type 0 where
   pub answer : Answer
   pub tables : List ℕ
 
+-- Makes an `Answers`.
 abbrev pub answers : Answer → List ℕ → Answers
 answers r t = record { answer = r; tables = t }
 
+-- What opening leads to, with the id `f` that goes in front of the host's answer.
 abbrev pub answerFrom : Opens → ConnectionId → Answers
 answerFrom o f = answers (record { opening = o .opening; front = f }) (o .tables)
 
--- The same by numbers.
+-- What the host's answer to a Connect leads to, by numbers: the id that it names, whether there is a Target header, and the Target `g` that
+-- it gives.
 abbrev pub answerBy : Peer → List ℕ → Bool → ConnectionId → Bool → Target → Answers
 answerBy p t srm given has g = answerFrom (openingOf p t (openedBy p t srm given has g)) (frontBy p t given has)
 

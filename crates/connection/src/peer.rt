@@ -29,8 +29,8 @@ pub enum Challenge {
     Absent,
 }
 
-// What Connect and Disconnect change. The open ids are not here: they are the first `count` numbers of the table store, which the host lends
-// to the calls that look at them, so that a state of few bytes goes from call to call.
+// What Connect and Disconnect change. The open ids are not here: they are the first `count` numbers of the table store, which the host
+// lends to the calls that look at them, so that a state of few bytes goes from call to call.
 pub struct Peer {
     pub count: usize,
     // How many nonces the table store remembers, at most 32; nothing clears them.

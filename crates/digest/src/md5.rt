@@ -21,6 +21,7 @@ pub struct Octets16 {
     pub second: u64,
 }
 
+// Returns `x` rotated left by `n` bits.
 fn rotate_left(x: u32, n: u32) -> u32
     requires { ⌜ (0 < n) × (n < 32) ⌝ }
     ensures { λ r. ⌜ r ≡ rotl x n ⌝ }
@@ -28,9 +29,9 @@ fn rotate_left(x: u32, n: u32) -> u32
     (x << n) | (x >> (32 - n))
 }
 
-// The sum of a step, wrapping, in the order in which the hardware group checks it by hand: the constant `k` and the message word `w` first,
-// then the function's value `f`, then the register `a`. RFC 1321 adds a, f, w and k in this order, and the contract keeps its sum.
-// proofs/SumOrder shows that the two orders give one number for any four words.
+// Returns the sum of a step, wrapping, in the order in which the hardware group checks it by hand: the constant `k` and the message word
+// `w` first, then the function's value `f`, then the register `a`. RFC 1321 adds a, f, w and k in this order, and the contract keeps its
+// sum. proofs/SumOrder shows that the two orders give one number for any four words.
 fn sum4(a: u32, f: u32, k: u32, w: u32) -> u32
     ensures { λ r. ⌜ r ≡ (a + f + w + k) % 2 ^ 32 ⌝ }
 {
@@ -39,7 +40,7 @@ fn sum4(a: u32, f: u32, k: u32, w: u32) -> u32
     std::num::wrapping_add_u32(with_value, a)
 }
 
-// Word k of a block, the low-order byte first.
+// Returns word `k` of the block `p`, the low-order byte first.
 fn word_at(p: &[u8], k: usize) -> u32
     requires { ⌜ (k < 16) × (length (now p) ≡ 64) ⌝ }
     ensures { λ r. ⌜ r ≡ word (now (p .entry)) k ⌝ }
@@ -50,7 +51,8 @@ fn word_at(p: &[u8], k: usize) -> u32
         + 16777216 * base::wide32(p[4 * k + 3])
 }
 
-// Step i, of round r, after i steps from s: the word that it takes, its constant, its shift and its mix are the caller's.
+// Takes step `i`, of round `r`, if `t` has the registers after `i` steps from `s`. The caller gives the word's place `w`, the constant `k`,
+// the shift `n` and the function's value `f`.
 //
 // A worked step, so that a reader can follow `sum4` by hand: the first step of a message that begins with the bytes 61 62 63 00. All
 // numbers are hexadecimal, and proofs/SumOrder has them as theorems.
@@ -76,9 +78,9 @@ fn step(p: &[u8], s: Regs, t: Regs, r: usize, i: usize, w: usize, k: u32, n: u32
     }
 }
 
-// Round 0. The function is RFC 1321's F: where a bit of `b` is set the bit of `c`, elsewhere that of `d`. The body takes it in three
-// operations, where the RFC has four, because the code is faster so: `c ^ d` does not wait for `b`, the newest register. proofs/Choice shows
-// that both are equal.
+// Mixes the registers in round 0. The function is RFC 1321's F: if a bit of `b` is set, the bit of `c`, else that of `d`. The body takes it
+// in three operations, while the RFC has four, because the code is faster so: `c ^ d` does not wait for `b`, the newest register.
+// proofs/Choice shows that both are equal.
 fn mix0(b: u32, c: u32, d: u32) -> u32
     ensures { λ r. ⌜ r ≡ mixOf 0 b c d ⌝ }
 {
@@ -132,6 +134,7 @@ fn quad03(p: &[u8], s: Regs, t: Regs) -> Regs
     step0(p, s, t3, 15, 15, 0x49b40821, 22)
 }
 
+// Takes the 16 steps of round 0 on the block `p`, from the registers `t`.
 fn round0(p: &[u8], s: Regs, t: Regs) -> Regs
     requires { ⌜ (length (now p) ≡ 64) × (t ≡ steps (now p) 0 s) ⌝ }
     ensures { λ r. ⌜ r ≡ steps (now (p .entry)) 16 s ⌝ }
@@ -142,7 +145,7 @@ fn round0(p: &[u8], s: Regs, t: Regs) -> Regs
     quad03(p, s, c)
 }
 
-// Round 1.
+// Mixes the registers in round 1. The function is RFC 1321's G.
 fn mix1(b: u32, c: u32, d: u32) -> u32
     ensures { λ r. ⌜ r ≡ mixOf 1 b c d ⌝ }
 {
@@ -196,6 +199,7 @@ fn quad13(p: &[u8], s: Regs, t: Regs) -> Regs
     step1(p, s, t3, 31, 12, 0x8d2a4c8a, 20)
 }
 
+// Takes the 16 steps of round 1 on the block `p`, from the registers `t`.
 fn round1(p: &[u8], s: Regs, t: Regs) -> Regs
     requires { ⌜ (length (now p) ≡ 64) × (t ≡ steps (now p) 16 s) ⌝ }
     ensures { λ r. ⌜ r ≡ steps (now (p .entry)) 32 s ⌝ }
@@ -206,7 +210,7 @@ fn round1(p: &[u8], s: Regs, t: Regs) -> Regs
     quad13(p, s, c)
 }
 
-// Round 2.
+// Mixes the registers in round 2. The function is RFC 1321's H.
 fn mix2(b: u32, c: u32, d: u32) -> u32
     ensures { λ r. ⌜ r ≡ mixOf 2 b c d ⌝ }
 {
@@ -260,6 +264,7 @@ fn quad23(p: &[u8], s: Regs, t: Regs) -> Regs
     step2(p, s, t3, 47, 2, 0xc4ac5665, 23)
 }
 
+// Takes the 16 steps of round 2 on the block `p`, from the registers `t`.
 fn round2(p: &[u8], s: Regs, t: Regs) -> Regs
     requires { ⌜ (length (now p) ≡ 64) × (t ≡ steps (now p) 32 s) ⌝ }
     ensures { λ r. ⌜ r ≡ steps (now (p .entry)) 48 s ⌝ }
@@ -270,7 +275,7 @@ fn round2(p: &[u8], s: Regs, t: Regs) -> Regs
     quad23(p, s, c)
 }
 
-// Round 3.
+// Mixes the registers in round 3. The function is RFC 1321's I.
 fn mix3(b: u32, c: u32, d: u32) -> u32
     ensures { λ r. ⌜ r ≡ mixOf 3 b c d ⌝ }
 {
@@ -324,6 +329,7 @@ fn quad33(p: &[u8], s: Regs, t: Regs) -> Regs
     step3(p, s, t3, 63, 9, 0xeb86d391, 21)
 }
 
+// Takes the 16 steps of round 3 on the block `p`, from the registers `t`.
 fn round3(p: &[u8], s: Regs, t: Regs) -> Regs
     requires { ⌜ (length (now p) ≡ 64) × (t ≡ steps (now p) 48 s) ⌝ }
     ensures { λ r. ⌜ r ≡ steps (now (p .entry)) 64 s ⌝ }
@@ -334,7 +340,7 @@ fn round3(p: &[u8], s: Regs, t: Regs) -> Regs
     quad33(p, s, c)
 }
 
-// The 64 steps on a block.
+// Takes the 64 steps on the block `p` from the registers `s`.
 fn all_steps(p: &[u8], s: Regs) -> Regs
     requires { ⌜ length (now p) ≡ 64 ⌝ }
     ensures { λ r. ⌜ r ≡ steps (now (p .entry)) 64 s ⌝ }
@@ -345,7 +351,7 @@ fn all_steps(p: &[u8], s: Regs) -> Regs
     round3(p, s, c)
 }
 
-// One block, added to the registers from before.
+// Adds what the 64 steps on the block `p` give to the registers `s` from before.
 fn block(p: &[u8], s: Regs) -> Regs
     requires { ⌜ length (now p) ≡ 64 ⌝ }
     ensures { λ r. ⌜ r ≡ blockOf (now (p .entry)) s ⌝ }

@@ -9,6 +9,7 @@ pub struct Value {
     pub second: u64,
 }
 
+// Stores the MD5 digest of `message` in `out`.
 #[no_mangle]
 pub extern "C" fn digest_md5(message: &[u8], out: &mut [u8; 16])
     ensures { λ r. ⌜ now (out .exit) ≡ digestOf (now (message .entry)) ⌝ }
@@ -16,6 +17,7 @@ pub extern "C" fn digest_md5(message: &[u8], out: &mut [u8; 16])
     *out = digest::md5::digest(message);
 }
 
+// Computes OBEX's request digest for `password` and a nonce in two halves of eight bytes each, the first byte the highest.
 #[no_mangle]
 pub extern "C" fn digest_request(first: u64, second: u64, password: &[u8]) -> Value
     ensures { λ r. ⌜ record { first = r .first; second = r .second }

@@ -1,4 +1,5 @@
--- Connect from its packet to its reply, and Disconnect, by the stores that they touch: the design level between model/specs/Connect and the code.
+-- Connect from its packet to its reply, and Disconnect, by the stores that they touch: the design level between model/specs/Connect and the
+-- code.
 use Prim.Native.Nat.{ℕ, _+_, _^_, _≤_, _<_}
 use mathlib.Core.List.{List, []}
 use mathlib.Core.Bool.{Bool, true, false, _&&_, _||_}
@@ -92,6 +93,7 @@ questionOf authentication c a n = pick authentication (verifiesBy c a) (asked aw
 abbrev pub questionPlan : Engine → Peer → Question → Plan
 questionPlan e p q = asksPlan e p Nothing (q .awaits) (q .request)
 
+-- The engine checks the client: it asks the host for the password, or for a nonce if there is no response that can be checked.
 abbrev pub verifiesPlan : Engine → Peer → Challenge → Answered → Plan
 verifiesPlan e p c a = questionPlan e p (verifiesBy c a)
 
@@ -130,6 +132,7 @@ pub record Answering : Type 0 where
   pub headers : List ℕ
   pub reply : List ℕ
 
+-- Makes an `Answering`.
 abbrev pub answering : CallResult → List ℕ → List ℕ → Answering
 answering r h y = record { took = r; headers = h; reply = y }
 
@@ -138,6 +141,7 @@ pub record Accepting : Type 0 where
   pub answer : Answering
   pub tables : List ℕ
 
+-- Makes an `Accepting`.
 abbrev pub accepting : Answering → List ℕ → Accepting
 accepting a t = record { answer = a; tables = t }
 
@@ -187,6 +191,7 @@ openedBy a e code hs q h y =
     pick (a .opening .full) (leaving h (connectReplies e (e .peer) response.serviceUnavailable [] y))
     (challengedBy (answeredIn (headersOf q)) e (a .opening .peer) code (a .front) hs q h y)
 
+-- The engine answers a Connect that the host accepts, and leaves the table store as opening the id left it.
 abbrev pub openedIn : Answers → Engine → ℕ → List ℕ → List ℕ → List ℕ → List ℕ → Accepting
 openedIn a e code hs q h y = accepting (openedBy (a .answer) e code hs q h y) (a .tables)
 
@@ -199,8 +204,8 @@ acceptedBy e t code hs q h y =
 unfoldable pub repliedLink : Engine → List ℕ → List ℕ → Linked
 repliedLink e q t = pick (sameAwait (e .awaits) await.Disconnect) (disconnectedPeer (e .peer) t (first header-id.connectionId (headersOf q))) (linked (e .peer) t)
 
--- Credentials answer the Connect that waits, whose headers stand at the front of the header store. The engine refuses a user id over 255 bytes with
--- `BadAnswer`, and the call with `WrongMoment` if no Connect waits.
+-- Credentials answer the Connect that waits, whose headers stand at the front of the header store. The engine refuses a user id over 255
+-- bytes with `BadAnswer`, and the call with `WrongMoment` if no Connect waits.
 abbrev pub credentialsBy : Operation → Engine → Option Credentials → List ℕ → List ℕ → List ℕ → Written
 credentialsBy (Connecting code f n) e c q h y =
     pick (longUser c) (written (refusedWith refusal.BadAnswer e) y) (connectReplies e (e .peer) code (acceptedHeaders e f q (take n h) c) y)

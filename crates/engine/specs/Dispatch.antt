@@ -1,4 +1,5 @@
--- Which way a packet goes, decided without the stores, and what acting on it does: the design level between model/specs/Dispatch and the code.
+-- Which way a packet goes, decided without the stores, and what acting on it does: the design level between model/specs/Dispatch and the
+-- code.
 use Prim.Native.Nat.{ℕ}
 use mathlib.Core.List.{List}
 use mathlib.Core.Bool.{Bool, true, false, _&&_, not}
@@ -80,6 +81,7 @@ keepRoute code = Plain (brief.Keep (sentCode code))
 abbrev pub unauthorizedFor : Engine → Opcode → Bool
 unauthorizedFor e o = e .settings .authentication && (not (e .peer .authenticated) && not (sameOpcode o op.Disconnect))
 
+-- The model's rejection, as the code has it.
 abbrev pub admissionOf : Rejection → Admission
 admissionOf admits = Admits
 admissionOf (rejects code) = Rejects code
@@ -92,18 +94,21 @@ drainedBy e h = e .peer .«srm_enabled» && (drains (h .opcode) && not (h .«is_
 abbrev pub rejectedRoute : Engine → Heading → ℕ → Route
 rejectedRoute e h code = pick (drainedBy e h) (Plain (brief.Drain code)) (codeRoute code)
 
--- The ways of a packet of a Put, of a Get's request, of a Get's object, and of an operation of headers alone.
+-- The engine gathers a packet of a Put; under SRM the packet may ask for an additional Continue.
 abbrev pub putRoute : Heading → Gathered → Bool → Bool → Route
 putRoute h g srm confirm =
     Gather (record { «is_final» = h .«is_final»; asked = h .survey .additional; srm = srm; «confirm_srm» = confirm }) kind.Put g
 
+-- The engine gathers a packet of a Get's request; the packet may ask the engine to wait.
 abbrev pub getRoute : Heading → Gathered → Bool → Bool → Route
 getRoute h g srm confirm =
     Gather (record { «is_final» = h .«is_final»; asked = h .survey .wait; srm = srm; «confirm_srm» = confirm }) kind.Get g
 
+-- The engine sends the next packet of a Get's object.
 abbrev pub sendRoute : Heading → Outgoing → Bool → Route
 sendRoute h o srm = Send o srm (h .survey .wait)
 
+-- The engine gathers a packet of an operation of headers alone, for which there is no SRM.
 abbrev pub headersRoute : Heading → Opcode → Gathered → Route
 headersRoute h o g =
     Gather (record { «is_final» = h .«is_final»; asked = false; srm = false; «confirm_srm» = false }) (kind.Headers o) g
@@ -210,6 +215,7 @@ targetUnder e t o v = pick (isMarked o) unnamed (pick (busy (e .operation)) (e .
 abbrev pub targeted : Engine → Target → Engine
 targeted e g = engineWith (e .settings) (e .peer) (e .operation) (e .awaits) (e .begun) (e .length) g
 
+-- The engine takes a step that needs no more of the packet than its heading.
 unfoldable pub simplePlan : Engine → Simple → Plan
 simplePlan e (brief.Ask a r) = asksPlan e (e .peer) Nothing a r
 simplePlan e (brief.Code a b) = codePlan e (e .peer) a b

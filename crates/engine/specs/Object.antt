@@ -28,7 +28,8 @@ use Rattle.engine.specs.declared.object.Turn.the-variants.{Send, Wait, E
 abbrev pub sendingOn : NextPacket → Bool → Bool → Bool → Operation
 sendingOn k last srm wait = pick last Nothing (Sending (k .outgoing) (k .chunk) srm wait)
 
--- The engine sends a packet of the object, asks for the body bytes that it needs, or replies with 0x50 if a header is too long for any packet.
+-- The engine sends a packet of the object, asks for the body bytes that it needs, or replies with 0x50 if a header is too long for any
+-- packet.
 abbrev pub madePlan : Next → Engine → Bool → Bool → NextPacket → Plan
 madePlan (next.Send n last) e srm wait k =
     plan (engineWith (e .settings) (e .peer) (sendingOn k last srm wait) await.Taken 0 (e .length) (e .target)) (outcome.Reply n) Silent
@@ -45,6 +46,7 @@ pub record PlanMade : Type 0 where
   pub plan : Plan
   pub reply : List ℕ
 
+-- Makes a `PlanMade`.
 abbrev pub planMade : Plan → List ℕ → PlanMade
 planMade p y = record { plan = p; reply = y }
 

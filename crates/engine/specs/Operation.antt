@@ -1,5 +1,5 @@
--- A Put, a Get's request and the operations of headers alone, decided without the stores: the design level between model/specs/Operation and the
--- code.
+-- A Put, a Get's request and the operations of headers alone, decided without the stores: the design level between model/specs/Operation
+-- and the code.
 use Prim.Native.Nat.{ℕ}
 use mathlib.Core.Bool.{Bool, true, false}
 use Rattle.base.specs.Pick.{pick}

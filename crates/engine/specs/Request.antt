@@ -1,5 +1,5 @@
--- The last whole packet, read again: where its headers start, and those that the answer to a Connect looks for. `proofs/LastPacket.antt` says
--- that they are the model's `lastHeaders`.
+-- The last whole packet, read again: where its headers start, and those that the answer to a Connect looks for. `proofs/LastPacket.antt`
+-- says that they are the model's `lastHeaders`.
 use Prim.Native.Nat.{ℕ}
 use mathlib.Core.List.{List}
 use mathlib.Core.Bool.{Bool, true, false}

@@ -35,6 +35,7 @@ smallBytes (Fields b limit) = packetBytes b (fieldsOf limit) []
 abbrev pub planned : Plan → Stores → Done
 planned p s = done (p .engine) (p .outcome) (withReply s (front (smallBytes (p .small)) (s .reply)))
 
+-- Makes a `Plan`.
 abbrev pub plan : Engine → Outcome → ShortReply → Plan
 plan e o m = record { engine = e; outcome = o; small = m }
 
@@ -64,10 +65,12 @@ fieldsPlan e p code =
 unfoldable pub codeKeepingPlan : Engine → Operation → ℕ → Plan
 codeKeepingPlan e o b = plan (engineWith (e .settings) (e .peer) o await.Taken 0 (e .length) (e .target)) (outcome.Reply 3) (Byte b)
 
+-- How many bytes a Continue has: three, and two more for the header that grants Single Response Mode (SRM).
 abbrev pub continueLength : Bool → ℕ
 continueLength true = 5
 continueLength false = 3
 
+-- The short reply that a Continue is, by whether it grants SRM.
 abbrev pub continueSmall : Bool → ShortReply
 continueSmall true = Grant
 continueSmall false = Byte 0x90
@@ -82,6 +85,7 @@ pub record Written : Type 0 where
   pub took : CallResult
   pub reply : List ℕ
 
+-- Makes a `Written`.
 abbrev pub written : CallResult → List ℕ → Written
 written r y = record { took = r; reply = y }
 

@@ -98,8 +98,8 @@ pub fn start(
 }
 
 // Offers the engine bytes from the client: first the `placed` ones that the host has put into the packet store itself, behind the `begun`
-// ones of an unfinished packet, then those of `input`. The engine takes them up to the end of a packet and never past it; the host offers the
-// rest again after the packet is answered (docs/PROTOCOL.md#frames). The open ids in `tables` decide whether a packet is admitted.
+// ones of an unfinished packet, then those of `input`. The engine takes them up to the end of a packet and never past it; the host offers
+// the rest again after the packet is answered (docs/PROTOCOL.md#frames). The open ids in `tables` decide whether a packet is admitted.
 pub fn bytes_offered(
     e: Engine,
     placed: usize,

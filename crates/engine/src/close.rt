@@ -121,7 +121,7 @@ pub(crate) fn close_all(ids: &[u32], tables: &mut [u64], count: usize) -> usize
     left
 }
 
-// The peer once `closed` ids were closed and `left` are left. If none was closed, nothing changes.
+// Returns the peer once `closed` ids were closed and `left` are left. If none was closed, nothing changes.
 pub(crate) fn closed_peer(peer: Peer, closed: usize, left: usize) -> Peer
     ensures { λ r. ⌜ r ≡ closedBy peer closed left ⌝ }
 {
@@ -131,7 +131,7 @@ pub(crate) fn closed_peer(peer: Peer, closed: usize, left: usize) -> Peer
     with_left(peer, left)
 }
 
-// The result with this peer: bytes are wanted as before, and a packet that has begun goes on.
+// Returns the result with `peer`: the engine wants bytes as before, and a packet that has begun goes on.
 pub(crate) fn go_on_with(e: Engine, peer: Peer) -> CallResult
     ensures { λ r. ⌜ r ≡ goesOnWith e peer ⌝ }
 {

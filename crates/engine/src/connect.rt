@@ -348,7 +348,7 @@ pub(crate) struct Question {
     pub request: HostRequest,
 }
 
-// The engine asks the host for a nonce.
+// Returns the question that asks the host for a nonce.
 fn nonce_question() -> Question
     ensures { λ r. ⌜ r ≡ nonceAsked ⌝ }
 {
@@ -358,8 +358,8 @@ fn nonce_question() -> Question
     }
 }
 
-// If the client has answered a stored challenge, the engine asks the host for the password. Otherwise it asks for a nonce, to challenge the
-// client (again): the source's verify_client gives up at the same two places.
+// Asks the host for the password, if the client has answered a stored challenge. Otherwise asks it for a nonce, to challenge the client
+// (again): the source's verify_client gives up at the same two places.
 fn verifies(challenge: Challenge, a: Answered) -> Question
     ensures { λ r. ⌜ r ≡ verifiesBy challenge a ⌝ }
 {
@@ -375,7 +375,8 @@ fn verifies(challenge: Challenge, a: Answered) -> Question
     }
 }
 
-// What the host is asked about a Connect that is not stopped: the client is checked if a password is required, and else the host decides.
+// Returns what the engine asks the host about a Connect that is not stopped: if a password is required, the engine checks the client, and
+// otherwise the host decides.
 fn connect_question(
     authentication: bool,
     challenge: Challenge,
@@ -414,8 +415,8 @@ fn must_stop(authentication: bool, window: u64, a: Answered) -> bool
     is_stopped(window, a)
 }
 
-// Goes on after the client's packet limit is set: stops the Connect, checks the client, or asks the host whether it accepts the Connect. All
-// questions to the host come to one call, since each further one leaves more copies of the state behind.
+// Goes on after the client's packet limit is set: stops the Connect, checks the client, or asks the host whether it accepts the Connect.
+// All questions to the host come to one call, since each further one leaves more copies of the state behind.
 fn limited_plan(e: Engine, peer: Peer, a: Answered) -> Plan
     ensures { λ r. ⌜ r ≡ limitedPlan e peer a ⌝ }
 {

@@ -154,7 +154,7 @@ fn has_drain(opcode: Opcode) -> bool
     same(opcode, Opcode::Get)
 }
 
-// The way of a packet that gets `code` and opens nothing.
+// Returns the way of a packet to which the engine replies with `code`, and after which nothing is open.
 fn reply_code(code: u8) -> Route
     ensures { λ r. ⌜ r ≡ codeRoute code ⌝ }
 {
@@ -164,7 +164,7 @@ fn reply_code(code: u8) -> Route
     })
 }
 
-// The way of a packet that gets `code` and leaves what is open.
+// Returns the way of a packet to which the engine replies with `code`, and after which what is open stays.
 fn keep_code(code: u8) -> Route
     ensures { λ r. ⌜ r ≡ keepRoute code ⌝ }
 {
@@ -211,7 +211,7 @@ fn must_confirm_srm(e: Engine, v: Survey) -> bool
     false
 }
 
-// The way of a packet of a Put.
+// Returns the way of a packet of a Put, of which `begun` was gathered before.
 fn put_route(h: Heading, begun: Gathered, srm: bool, confirm_srm: bool) -> Route
     ensures { λ r. ⌜ r ≡ putRoute h begun srm «confirm_srm» ⌝ }
 {
@@ -227,7 +227,7 @@ fn put_route(h: Heading, begun: Gathered, srm: bool, confirm_srm: bool) -> Route
     }
 }
 
-// The way of a packet of a Get's request.
+// Returns the way of a packet of a Get's request, of which `begun` was gathered before.
 fn get_route(h: Heading, begun: Gathered, srm: bool, confirm_srm: bool) -> Route
     ensures { λ r. ⌜ r ≡ getRoute h begun srm «confirm_srm» ⌝ }
 {
@@ -243,7 +243,7 @@ fn get_route(h: Heading, begun: Gathered, srm: bool, confirm_srm: bool) -> Route
     }
 }
 
-// The way of a packet that asks for the next part of an object.
+// Returns the way of a packet that asks for the next part of the object `outgoing`.
 fn send_route(h: Heading, outgoing: Outgoing, srm: bool) -> Route
     ensures { λ r. ⌜ r ≡ sendRoute h outgoing srm ⌝ }
 {
@@ -254,7 +254,7 @@ fn send_route(h: Heading, outgoing: Outgoing, srm: bool) -> Route
     }
 }
 
-// The way of a packet of an operation of headers alone.
+// Returns the way of a packet of an operation of headers alone, of which `begun` was gathered before.
 fn headers_route(h: Heading, opcode: Opcode, begun: Gathered) -> Route
     ensures { λ r. ⌜ r ≡ headersRoute h opcode begun ⌝ }
 {
@@ -270,7 +270,7 @@ fn headers_route(h: Heading, opcode: Opcode, begun: Gathered) -> Route
     }
 }
 
-// The way of a packet about which the engine asks the host.
+// Returns the way of a packet about which the engine asks the host with `request`.
 fn ask(awaits: Await, request: HostRequest) -> Route
     ensures { λ r. ⌜ r ≡ askRoute awaits request ⌝ }
 {
@@ -317,7 +317,7 @@ fn dispatch(e: Engine, h: Heading) -> Route
     }
 }
 
-// The way of a packet while nothing is open. A Connect is never turned away.
+// Returns the way of a packet while nothing is open. The engine tests no admission of a Connect.
 fn open_route(e: Engine, h: Heading) -> Route
     ensures { λ r. ⌜ r ≡ openRoute e h ⌝ }
 {
@@ -331,7 +331,8 @@ fn open_route(e: Engine, h: Heading) -> Route
     }
 }
 
-// The next packet of an open operation goes its way if it has the operation's opcode, `open`. Another opcode interrupts.
+// Returns `route` for the next packet of an operation, if the packet has the operation's opcode, `open`. A packet with another opcode
+// interrupts the operation.
 fn next_request(h: Heading, open: Opcode, route: Route) -> Route
     ensures { λ r. ⌜ r ≡ continuedRoute h «open» route ⌝ }
 {
@@ -342,7 +343,8 @@ fn next_request(h: Heading, open: Opcode, route: Route) -> Route
     interrupts()
 }
 
-// The way of a packet that interrupts an operation: 0x40, and the engine ends with `OtherOperation` once the reply is taken.
+// Returns the way of a packet that interrupts an operation: the engine replies with 0x40, and ends with `OtherOperation` once the reply is
+// taken.
 fn interrupts() -> Route
     ensures { λ r. ⌜ r ≡ interruptsRoute ⌝ }
 {
@@ -352,7 +354,7 @@ fn interrupts() -> Route
     })
 }
 
-// The way of a packet of an operation that is drained: the reply follows the final packet.
+// Returns the way of a packet of an operation that is drained: the engine replies with `code`, but only to the final packet.
 fn draining(h: Heading, code: u8) -> Route
     ensures { λ r. ⌜ r ≡ drainingRoute h code ⌝ }
 {
@@ -362,8 +364,8 @@ fn draining(h: Heading, code: u8) -> Route
     Route::Plain(Simple::Drain { code })
 }
 
-// The way of a packet that trails a Put that was too long (docs/PROTOCOL.md#trailing): it gets 0x4D as the Put did, and a final one is the
-// last of them.
+// Returns the way of a packet that trails a Put that was too long (docs/PROTOCOL.md#trailing): the engine replies with 0x4D as it did to
+// the Put, and a final packet is the last that it refuses so.
 fn trailed(is_final: bool) -> Route
     ensures { λ r. ⌜ r ≡ trailedRoute «is_final» ⌝ }
 {
@@ -373,8 +375,8 @@ fn trailed(is_final: bool) -> Route
     keep_code(response::REQUESTED_ENTITY_TOO_LARGE)
 }
 
-// The way of a packet by what is open. What does not trail a Put that was too long is judged as with nothing open; both come to one call,
-// since a second one would keep the compiler from inlining it.
+// Returns the way of a packet by what is open. After a Put that was too long, the engine judges a packet that does not trail it as with
+// nothing open; both cases come to one call, since a second one would keep the compiler from inlining it.
 fn inside(e: Engine, h: Heading) -> Route
     ensures { λ r. ⌜ r ≡ insideRoute (e .operation) e h ⌝ }
 {
@@ -412,8 +414,8 @@ fn inside(e: Engine, h: Heading) -> Route
     }
 }
 
-// The way of a readable packet. An Abort goes before all else: it is answered in every state. What trails a Put that was too long is
-// refused before admission is tested.
+// Returns the way of a readable packet. An Abort goes before all else, since the engine answers it in every state. The engine refuses what
+// trails a Put that was too long before it tests the admission.
 pub(crate) fn heading_route(e: Engine, h: Heading) -> Route
     ensures { λ r. ⌜ r ≡ headingRoute e h ⌝ }
 {
@@ -466,8 +468,8 @@ pub(crate) fn is_busy(operation: Operation) -> bool
     }
 }
 
-// The way of a packet that cannot be read. Inside an operation the engine ends with `Unreadable`; otherwise it replies with 0x51 if the
-// first byte names no opcode, else with 0x40, and refuses what trails a Put as before.
+// Returns the way of a packet that cannot be read. Inside an operation the engine ends with `Unreadable`. Otherwise the engine replies with
+// 0x51 if the first byte is `unknown`, that is if it names no opcode, else with 0x40, and refuses what trails a Put as before.
 pub(crate) fn unreadable(e: Engine, unknown: bool) -> Route
     ensures { λ r. ⌜ r ≡ unreadableRoute (e .operation) unknown ⌝ }
 {
@@ -533,8 +535,9 @@ fn is_marked(opcode: Opcode) -> bool
     same(opcode, Opcode::Abort)
 }
 
-// The Target under which a readable packet goes (docs/PROTOCOL.md#targets). Inside an operation that of its first packet stays; else it is
-// that of the ConnectionID, if the packet names one that is open.
+// Returns the Target under which a readable packet goes (docs/PROTOCOL.md#targets). A Connect or an Abort goes under the mark. Inside an
+// operation the Target of its first packet stays. Otherwise the Target is that of the packet's ConnectionID, or the mark if the packet
+// names none that is open.
 fn packet_target(e: Engine, opcode: Opcode, v: Survey, known: bool, tables: &[u64]) -> Target
     requires { ⌜ (e .peer .count ≤ 64) × (tableLength ≤ length (now tables)) × (known ≡ knownIn e (now tables) v) ⌝ }
     ensures { λ r. ⌜ r ≡ targetUnder e (now (tables .entry)) opcode v ⌝ }
@@ -553,7 +556,7 @@ fn packet_target(e: Engine, opcode: Opcode, v: Survey, known: bool, tables: &[u6
     unnamed()
 }
 
-// The way of a packet that cannot be read, by its first byte. The Target stays.
+// Returns the way of a packet that cannot be read and begins with `byte`. The Target stays.
 fn unreadable_route(e: Engine, byte: u8) -> Routed
     ensures { λ r. ⌜ r ≡ routed (unreadableRoute (e .operation) (unknownByte (firstByte byte))) (e .target) ⌝ }
 {
@@ -616,7 +619,7 @@ pub(crate) fn simple_plan(e: Engine, brief: Simple) -> Plan
     }
 }
 
-// The state with the Target under which the last packet goes.
+// Returns the state with `target`, the Target under which the last packet goes.
 fn with_target(e: Engine, target: Target) -> Engine
     ensures { λ r. ⌜ r ≡ targeted e target ⌝ }
 {
@@ -666,7 +669,7 @@ fn act(
     }
 }
 
-// The state after a whole packet of `n` bytes has arrived: later answers read it again from the packet store.
+// Returns the state after a whole packet of `n` bytes has arrived: later answers read it again from the packet store.
 fn whole(e: Engine, n: usize) -> Engine
     ensures { λ r. ⌜ r ≡ arrived e n (e .target) ⌝ }
 {
@@ -697,7 +700,7 @@ pub(crate) fn packet_done(
     carry_out(plan, reply)
 }
 
-// The result with the count of bytes that were taken.
+// Returns the result `r` with `taken`, the count of bytes that the engine took.
 pub(crate) fn with_taken(r: CallResult, taken: usize) -> CallResult
     ensures { λ w. ⌜ w ≡ withTaken r taken ⌝ }
 {
@@ -710,7 +713,7 @@ pub(crate) fn with_taken(r: CallResult, taken: usize) -> CallResult
     }
 }
 
-// The result if the packet is not whole yet: `begun` bytes of it stand in the packet store.
+// Returns the result if the packet is not whole yet: `begun` bytes of it stand in the packet store, and the engine wants more.
 pub(crate) fn more(e: Engine, begun: usize, taken: usize) -> CallResult
     ensures { λ r. ⌜ r ≡ moreTook e begun taken ⌝ }
 {

@@ -270,7 +270,8 @@ pub(crate) fn guard_start(
     Guarded::Proceed
 }
 
-// Returns the refusal of a nonce, or says that it may be taken: a realm of `realm` bytes that is too long comes before a nonce that was used.
+// Returns the refusal of a nonce, or says that the engine may take it: a realm of `realm` bytes that is too long comes before a nonce that
+// was used.
 pub(crate) fn guard_nonce(settings: Settings, realm: usize, used: bool) -> Guarded
     ensures { λ r. ⌜ r ≡ guardedNonce (settings .«has_realm» && ltb maxRealm realm) used ⌝ }
 {
@@ -283,7 +284,7 @@ pub(crate) fn guard_nonce(settings: Settings, realm: usize, used: bool) -> Guard
     }
 }
 
-// What a refused call returns: the state as it was, and `refusal`.
+// Returns the result of a refused call: the state as it was, and `refusal`.
 pub(crate) fn refuse(e: Engine, refusal: Refusal) -> CallResult
     ensures { λ r. ⌜ r ≡ refusedWith refusal e ⌝ }
 {

@@ -34,7 +34,7 @@ use server::HostRequest;
 use server::Operation;
 use server::Outcome;
 
-// The operation that is open after a packet of an object: none after the last packet.
+// Returns the operation that is open after a packet of an object: none after the `last` packet.
 fn sending(k: NextPacket, last: bool, srm: bool, wait: bool) -> Operation
     ensures { λ r. ⌜ r ≡ sendingOn k last srm wait ⌝ }
 {
@@ -51,8 +51,8 @@ fn sending(k: NextPacket, last: bool, srm: bool, wait: bool) -> Operation
     }
 }
 
-// The plan for a packet of an object: the packet is sent, or body bytes are asked for first. If a header is too long for any packet, the
-// reply is 0x50 and the Get ends.
+// Plans a packet of an object: the engine replies with it, or asks the host for body bytes first. If a header is too long for any packet,
+// the engine replies with 0x50 and the Get ends.
 pub(crate) fn packet_plan(e: Engine, srm: bool, wait: bool, k: NextPacket) -> Plan
     ensures { λ r. ⌜ r ≡ packetPlan e srm wait k ⌝ }
 {
@@ -120,8 +120,8 @@ pub(crate) fn sends_next(
     carry_out(packet_plan(e, srm, wait, k), reply)
 }
 
-// An object before its first packet. `lead` puts the grant of Single Response Mode (SRM) in front of the object's headers, if SRM was not
-// granted with a Continue before.
+// Returns an object before its first packet, with `total` bytes of headers. `lead` puts the grant of Single Response Mode (SRM) in front of
+// the headers, if the engine did not grant SRM with a Continue before.
 pub(crate) fn object_of(total: usize, lead: bool, has_body: bool) -> Outgoing
     ensures { λ r. ⌜ r ≡ objectOf total lead «has_body» ⌝ }
 {
@@ -156,7 +156,7 @@ enum Turn {
     End,
 }
 
-// Under SRM the next packet of an object follows at once, unless the last request asked to wait.
+// Returns what follows a packet of an object. Under SRM the engine sends the next one at once, unless the last request asked to wait.
 fn follows(outgoing: Outgoing, srm: bool, wait: bool) -> Turn
     ensures { λ r. ⌜ r ≡ followsTurn outgoing srm wait ⌝ }
 {
@@ -173,7 +173,7 @@ fn follows(outgoing: Outgoing, srm: bool, wait: bool) -> Turn
     Turn::Wait
 }
 
-// What follows a reply by the operation that is open.
+// Returns what follows a reply by the operation that is open: only a packet of an object can follow at once.
 fn goes_on(operation: Operation) -> Turn
     ensures { λ r. ⌜ r ≡ goesTurn operation ⌝ }
 {
@@ -209,7 +209,7 @@ fn goes_on(operation: Operation) -> Turn
     }
 }
 
-// What follows the reply: the engine ends after the last one.
+// Returns what follows the reply. If the reply was the last one, the engine ends.
 fn next_turn(e: Engine) -> Turn
     ensures { λ r. ⌜ r ≡ turnOf e ⌝ }
 {

@@ -56,7 +56,7 @@ pub(crate) struct GatherFlags {
     pub confirm_srm: bool,
 }
 
-// What is gathered before the first packet of an operation: nothing.
+// Returns what is gathered before the first packet of an operation: nothing.
 pub(crate) fn nothing_gathered() -> Gathered
     ensures { λ r. ⌜ r ≡ nothingGathered ⌝ }
 {
@@ -69,7 +69,7 @@ pub(crate) fn nothing_gathered() -> Gathered
     }
 }
 
-// Which headers the engine keeps of an operation.
+// Returns which headers the engine keeps of an operation of this `kind`.
 pub(crate) fn keep(kind: GatherKind) -> Keep
     ensures { λ r. ⌜ r ≡ keepOf kind ⌝ }
 {
@@ -80,7 +80,7 @@ pub(crate) fn keep(kind: GatherKind) -> Keep
     }
 }
 
-// Where the headers start in a packet of an operation.
+// Returns where the headers start in a packet of an operation of this `kind`.
 fn headers_from(kind: GatherKind) -> usize
     ensures { λ r. ⌜ r ≡ fromOf kind ⌝ }
 {
@@ -91,7 +91,7 @@ fn headers_from(kind: GatherKind) -> usize
     }
 }
 
-// The body of a Put: missing if no body header came, which differs from an empty body.
+// Returns the body of a Put: missing if no body header came, which differs from an empty body.
 fn put_body(g: Gathered) -> Body
     ensures { λ r. ⌜ r ≡ putBody g ⌝ }
 {
@@ -102,7 +102,8 @@ fn put_body(g: Gathered) -> Body
     }
 }
 
-// What is open once a Put was refused before its final packet: if the setting is on, the packets that trail it are refused with it.
+// Returns what is open once the engine has refused a Put before its final packet: if `refuse_trailing` is set, the engine refuses the
+// packets that trail the Put as well (docs/PROTOCOL.md#trailing).
 fn overrun(settings: Settings) -> Operation
     ensures { λ r. ⌜ r ≡ overrunOf settings ⌝ }
 {
@@ -209,7 +210,7 @@ pub(crate) fn handle_get(e: Engine, g: Gathered, flags: GatherFlags) -> Plan
     )
 }
 
-// The host request for an operation of headers alone.
+// Returns the request to the host for an operation of headers alone, of which `kept` bytes were kept.
 fn headers_request(opcode: Opcode, kept: usize) -> HostRequest
     ensures { λ r. ⌜ r ≡ headersRequest opcode kept ⌝ }
 {

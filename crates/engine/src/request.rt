@@ -26,8 +26,8 @@ use table::targets::Target;
 use table::targets::target_of;
 use table::targets::unnamed;
 
-// Where the headers of packet `q` start, whether they can be read or not: at its end if its first byte names no opcode or its fields are not
-// all there, so that it has none.
+// Returns where the headers of packet `q` start, whether they can be read or not. If the first byte of `q` names no opcode, or its fields
+// are not all there, that is its end, so that it has none.
 pub(crate) fn last_from(q: &[u8]) -> usize
     ensures { λ r. ⌜ r ≡ lastFrom (now (q .entry)) ⌝ }
 {
@@ -49,7 +49,7 @@ pub(crate) fn last_connect(q: &[u8]) -> ConnectRequest
     connect_request(q, last_from(q))
 }
 
-// The first ConnectionID among the headers of `s` from a place on.
+// Returns the first ConnectionID among the headers of `s` from `from` on, if there is one.
 pub(crate) fn first_id(s: &[u8], from: usize) -> ConnectionId
     ensures { λ r. ⌜ r ≡ idIn (first header-id.connectionId (headersFrom (now (s .entry)) from)) ⌝ }
 {
@@ -71,7 +71,7 @@ pub(crate) fn has_target(c: ConnectRequest) -> bool
     true
 }
 
-// The Target that the Connect `c` in packet `q` gives an id: that of its first Target header, or the mark.
+// Returns the Target that the Connect `c` in packet `q` gives an id: that of its first Target header, or the mark.
 pub(crate) fn first_target(q: &[u8], c: ConnectRequest) -> Target
     requires { ⌜ c ≡ lastConnect (now q) ⌝ }
     ensures { λ r. ⌜ r ≡ targetGiven (first header-id.target (headersIn (requestOf (now (q .entry))))) ⌝ }
@@ -95,8 +95,8 @@ pub(crate) fn is_enabling(q: &[u8], c: ConnectRequest) -> bool
     q[start] == ENABLE
 }
 
-// Whether the password is right for the stored challenge and the first AuthenticateResponse of packet `q`, which must bring a user id if the
-// server `demands` one.
+// Whether the password is right for the stored challenge and the first AuthenticateResponse of packet `q`, which must bring a user id if
+// the server `demands` one.
 pub(crate) fn is_right(
     stored: Challenge,
     q: &[u8],

@@ -75,7 +75,7 @@ pub(crate) fn engine_with(
     }
 }
 
-// The peer at the start: no id is open, the id counter stands at 1, and the client's packet limit is the smallest there is.
+// Returns the peer at the start: no id is open, the id counter stands at 1, and the client's packet limit is the smallest there is.
 fn fresh_peer() -> Peer
     ensures { λ r. ⌜ r ≡ freshPeer ⌝ }
 {
@@ -91,7 +91,7 @@ fn fresh_peer() -> Peer
     }
 }
 
-// An engine at its start; one that awaits nothing, if the start is refused.
+// Returns an engine at its start. `awaits` is bytes, or nothing if the start is refused.
 pub(crate) fn fresh(settings: Settings, awaits: Await) -> Engine
     ensures { λ r. ⌜ r ≡ engineWith settings freshPeer Operation.Nothing awaits 0 0 unnamedTarget ⌝ }
 {
@@ -106,7 +106,7 @@ pub(crate) fn fresh(settings: Settings, awaits: Await) -> Engine
     )
 }
 
-// The engine wants bytes.
+// Plans that the engine wants bytes, with `operation` open.
 pub(crate) fn wants(e: Engine, peer: Peer, operation: Operation) -> Plan
     ensures { λ r. ⌜ r ≡ wantsPlan e peer operation ⌝ }
 {
@@ -125,7 +125,7 @@ pub(crate) fn wants(e: Engine, peer: Peer, operation: Operation) -> Plan
     }
 }
 
-// The engine asks the host.
+// Plans that the engine asks the host with `request`, with `operation` open.
 pub(crate) fn asks(
     e: Engine,
     peer: Peer,
@@ -142,7 +142,7 @@ pub(crate) fn asks(
     }
 }
 
-// The engine ends with `end`.
+// Plans that the engine ends with `end`.
 pub(crate) fn ends(e: Engine, peer: Peer, end: End) -> Plan
     ensures { λ r. ⌜ r ≡ endsPlan e peer end ⌝ }
 {
@@ -161,7 +161,7 @@ pub(crate) fn ends(e: Engine, peer: Peer, end: End) -> Plan
     }
 }
 
-// How the engine ends at the end of the stream, with `begun` bytes of a packet in the packet store.
+// Returns how the engine ends at the end of the stream, with `begun` bytes of a packet in the packet store.
 pub(crate) fn stream_end(begun: usize) -> End
     ensures { λ r. ⌜ r ≡ pick (eqb begun 0) end.Disconnected end.Truncated ⌝ }
 {
@@ -171,7 +171,7 @@ pub(crate) fn stream_end(begun: usize) -> End
     End::Truncated
 }
 
-// The engine replies with a first byte and no headers.
+// Plans a reply of the first byte `byte` and no headers, with no operation open afterwards.
 pub(crate) fn code(e: Engine, peer: Peer, awaits: Await, byte: u8) -> Plan
     ensures { λ r. ⌜ r ≡ codePlan e peer awaits byte ⌝ }
 {
@@ -190,7 +190,7 @@ pub(crate) fn code(e: Engine, peer: Peer, awaits: Await, byte: u8) -> Plan
     }
 }
 
-// The engine replies with a code, Connect's fields and no headers.
+// Plans a reply of `code`, Connect's fields and no headers.
 pub(crate) fn fields(e: Engine, peer: Peer, code: u8) -> Plan
     ensures { λ r. ⌜ r ≡ fieldsPlan e peer code ⌝ }
 {
@@ -212,7 +212,7 @@ pub(crate) fn fields(e: Engine, peer: Peer, code: u8) -> Plan
     }
 }
 
-// The engine replies with a first byte and no headers, and `operation` is open afterwards.
+// Plans a reply of the first byte `byte` and no headers, with `operation` open afterwards.
 pub(crate) fn code_keeping(e: Engine, operation: Operation, byte: u8) -> Plan
     ensures { λ r. ⌜ r ≡ codeKeepingPlan e operation byte ⌝ }
 {
@@ -232,7 +232,7 @@ pub(crate) fn code_keeping(e: Engine, operation: Operation, byte: u8) -> Plan
     }
 }
 
-// The engine says Continue, with SRM if `grant` is set, and the operation goes on.
+// Plans a Continue, with the grant of SRM if `grant` is set. The operation goes on.
 pub(crate) fn continues(e: Engine, operation: Operation, grant: bool) -> Plan
     ensures { λ r. ⌜ r ≡ continuePlan e operation grant ⌝ }
 {
@@ -278,7 +278,7 @@ pub(crate) fn write_short_reply(small: ShortReply, reply: &mut [u8])
     }
 }
 
-// The result of a plan for a call that takes no bytes.
+// Returns the result of the plan `p` for a call that takes no bytes. The plan's short reply is not written here.
 pub(crate) fn took(p: Plan) -> CallResult
     ensures { λ r. ⌜ r ≡ tookBy p ⌝ }
 {
@@ -301,7 +301,7 @@ pub(crate) fn carry_out(p: Plan, reply: &mut [u8]) -> CallResult
     took(p)
 }
 
-// The plan after a reply was written: the host sends it, or the engine ends with `ReplyTooLarge`.
+// Plans what follows the writing of a reply: the host sends it, or the engine ends with `ReplyTooLarge`.
 pub(crate) fn sent_plan(e: Engine, peer: Peer, sent: Sent) -> Plan
     ensures { λ r. ⌜ r ≡ sentPlan e peer sent ⌝ }
 {

@@ -29,6 +29,7 @@ pub record Made : Type 0 where
   pub stores : Stores
   pub tables : List ℕ
 
+-- Makes a `Made`.
 abbrev pub made : Call → List ℕ → Stores → List ℕ → Made
 made c w t u = record { call = c; words = w; stores = t; tables = u }
 

@@ -1,5 +1,5 @@
--- How the state and the result of a call stand in the 64 numbers that a host outside Rattle keeps (docs/RUST.md has the table). Every list of
--- numbers is read as some state: a kind that nothing has is the last kind, and a field keeps the bits that its type has.
+-- How the state and the result of a call stand in the 64 numbers that a host outside Rattle keeps (docs/RUST.md has the table). Every list
+-- of numbers is read as some state: a kind that nothing has is the last kind, and a field keeps the bits that its type has.
 use Prim.Native.Nat.{ℕ, _%_, _^_}
 use mathlib.Core.List.{List}
 use mathlib.Core.Bool.{Bool}
@@ -55,6 +55,7 @@ twelve kind a b c d e f g h i j k =
 
 -- ---- the settings: numbers 0 to 9
 
+-- The settings of ten numbers, in the order of the table in docs/RUST.md.
 abbrev pub settingsOf : ℕ → ℕ → ℕ → ℕ → ℕ → ℕ → ℕ → ℕ → ℕ → ℕ → Settings
 settingsOf object packet charset has srm auth user only enforced trailing =
     record {
@@ -70,17 +71,21 @@ settingsOf object packet charset has srm auth user only enforced trailing =
       «refuse_trailing» = flag trailing;
     }
 
+-- The settings of the first ten of twelve numbers, as `settings_numbers` of the code makes them.
 abbrev pub settingsBy : Numbers → Settings
 settingsBy n = settingsOf (n .kind) (n .a) (n .b) (n .c) (n .d) (n .e) (n .f) (n .g) (n .h) (n .i)
 
+-- The settings in the host's numbers.
 abbrev pub settingsIn : List ℕ → Settings
 settingsIn w = settingsOf (at w 0) (at w 1) (at w 2) (at w 3) (at w 4) (at w 5) (at w 6) (at w 7) (at w 8) (at w 9)
 
 -- ---- the peer: numbers 12 to 21
 
+-- The challenge: if `n` is 1, one is stored whose nonce has the halves `a` and `b`.
 abbrev pub challengeOf : ℕ → ℕ → ℕ → Challenge
 challengeOf n a b = pick (eqb n 1) (Stored (record { first = a; second = b })) Absent
 
+-- The peer of ten numbers, in the order of the table in docs/RUST.md.
 abbrev pub peerOf : ℕ → ℕ → ℕ → ℕ → ℕ → ℕ → ℕ → ℕ → ℕ → ℕ → Peer
 peerOf count nonces window next remote srm auth stored a b =
     record {
@@ -94,14 +99,17 @@ peerOf count nonces window next remote srm auth stored a b =
       challenge = challengeOf stored a b;
     }
 
+-- The peer of the first ten of twelve numbers, as `peer_numbers` of the code makes them.
 abbrev pub peerBy : Numbers → Peer
 peerBy n = peerOf (n .kind) (n .a) (n .b) (n .c) (n .d) (n .e) (n .f) (n .g) (n .h) (n .i)
 
+-- The peer in the host's numbers.
 abbrev pub peerIn : List ℕ → Peer
 peerIn w = peerOf (at w 12) (at w 13) (at w 14) (at w 15) (at w 16) (at w 17) (at w 18) (at w 19) (at w 20) (at w 21)
 
 -- ---- the open operation: numbers 24 to 35
 
+-- The opcode of kind `n`; a user-defined one has the value `x`.
 unfoldable pub opcodeOf : ℕ → ℕ → Opcode
 opcodeOf n x =
     pick (eqb n 0) op.Connect
@@ -113,19 +121,25 @@ opcodeOf n x =
     (pick (eqb n 6) op.Session
     (pick (eqb n 7) op.Abort (op.UserDefined (x % 2 ^ 8)))))))))
 
+-- What was gathered: `kept` bytes of headers and `n` of a body, whether a body header came, whether one passed the limit, and whether a
+-- header did not fit.
 abbrev pub gatheredOf : ℕ → ℕ → ℕ → ℕ → ℕ → Gathered
 gatheredOf kept n came over full = record { kept = kept; body = n; came = flag came; over = flag over; full = flag full }
 
+-- The ConnectionID `x` if `n` is 1, else none.
 abbrev pub idOf : ℕ → ℕ → ConnectionId
 idOf n x = pick (eqb n 1) (front-id.Id (x % 2 ^ 32)) front-id.Missing
 
+-- An object that is being sent: its header bytes, how many of them went out, three flags, and the byte `x` that was read ahead.
 abbrev pub outgoingOf : ℕ → ℕ → ℕ → ℕ → ℕ → ℕ → Outgoing
 outgoingOf total sent lead has pending x =
     record { total = total; sent = sent; lead = flag lead; «has_body» = flag has; «has_pending» = flag pending; pending = x % 2 ^ 8 }
 
+-- A chunk of an object: where its header starts, how many of its bytes stand there, and how many more the host is asked for.
 abbrev pub chunkOf : ℕ → ℕ → ℕ → Chunk
 chunkOf place got room = record { at = place; got = got; room = room }
 
+-- The operation, by its kind. Kind 0 and any kind over 7 are nothing.
 unfoldable pub operationOf : Numbers → Operation
 operationOf n =
     pick (eqb (n .kind) 1) (operation.Putting (gatheredOf (n .a) (n .b) (n .c) (n .d) (n .e)) (flag (n .f)))
@@ -137,6 +151,7 @@ operationOf n =
     (pick (eqb (n .kind) 6) (operation.Draining (n .a % 2 ^ 8))
     (pick (eqb (n .kind) 7) operation.Trailing operation.Nothing))))))
 
+-- The operation's kind and values in the host's numbers.
 abbrev pub operationIn : List ℕ → Numbers
 operationIn w =
     twelve (at w 24) (at w 25) (at w 26) (at w 27) (at w 28) (at w 29) (at w 30) (at w 31) (at w 32) (at w 33) (at w 34) (at w 35)
@@ -147,6 +162,7 @@ operationIn w =
 abbrev pub targetOf : ℕ → ℕ → ℕ → Target
 targetOf n a b = record { length = n; bytes = record { first = a; second = b } }
 
+-- The state in the host's numbers.
 unfoldable pub engineOf : List ℕ → Engine
 engineOf w =
     record {
@@ -161,7 +177,7 @@ engineOf w =
 
 -- ---- the outcome: numbers 44 to 55
 
--- An end and a refusal by their numbers (docs/PROTOCOL.md#ends, #refusals).
+-- The end that has the number `n` (docs/PROTOCOL.md#ends).
 unfoldable pub endOf : ℕ → End
 endOf n =
     pick (eqb n 1) end.Disconnected
@@ -171,6 +187,7 @@ endOf n =
     (pick (eqb n 5) end.OtherOperation
     (pick (eqb n 6) end.HeadersTooLarge end.ReplyTooLarge)))))
 
+-- The refusal that has the number `n` (docs/PROTOCOL.md#refusals).
 unfoldable pub refusalOf : ℕ → Refusal
 refusalOf n =
     pick (eqb n 8) refusal.BadAnswer
@@ -180,12 +197,15 @@ refusalOf n =
     (pick (eqb n 19) refusal.TooManyIds
     (pick (eqb n 20) refusal.IdNotOpen refusal.IdRepeated)))))
 
+-- The place from `a` up to `b` if `n` is 1, else none.
 abbrev pub foundOf : ℕ → ℕ → ℕ → Found
 foundOf n a b = pick (eqb n 1) (place.At a b) place.Missing
 
+-- A body of `a` bytes if `n` is 1, else none.
 abbrev pub bodyOf : ℕ → ℕ → Body
 bodyOf n a = pick (eqb n 1) (body.Bytes a) body.Missing
 
+-- The outcome, by its kind. From 4 on it is a request to the host; any kind over 15 asks for body bytes.
 unfoldable pub outcomeOf : Numbers → Outcome
 outcomeOf n =
     pick (eqb (n .kind) 0) outcome.WantsBytes
@@ -207,6 +227,7 @@ outcomeOf n =
     (outcome.Request (request.Credentials (record { first = n .a; second = n .b }) (flag (n .c)) (flag (n .d)) (foundOf (n .e) (n .f) (n .g))))
     (outcome.Request (request.Read (n .a))))))))))))))))))
 
+-- The outcome's kind and values in the host's numbers.
 abbrev pub outcomeIn : List ℕ → Numbers
 outcomeIn w =
     twelve (at w 44) (at w 45) (at w 46) (at w 47) (at w 48) (at w 49) (at w 50) (at w 51) (at w 52) (at w 53) (at w 54) (at w 55)

@@ -1,6 +1,6 @@
-// The engine for Rust and C. The host keeps the state as 64 numbers and lends them (`words`; specs/Words says what they mean). Each call reads
-// the state there, does what the engine's call of that name does with the stores that it is lent, and leaves there the state, how many bytes
-// were taken, and the outcome. Whatever the numbers are, they are some state, so no call requires anything.
+// The engine for Rust and C. The host keeps the state as 64 numbers and lends them (`words`; specs/Words says what they mean). Each call
+// reads the state there, does what the engine's call of that name does with the stores that it is lent, and leaves there the state, how
+// many bytes were taken, and the outcome. Whatever the numbers are, they are some state, so no call requires anything.
 ghost use mathlib.Core.Path.{_≡_};
 ghost use Rattle.packet.specs.AuthWrite.{given};
 ghost use Rattle.connection.specs.Pieces.{credentialsOf};
@@ -24,7 +24,7 @@ pub extern "C" fn obex_engine_version() -> u64
     1
 }
 
-// Starts an engine with the settings that stand in the first ten numbers, and with the bytes of `realm` if the settings say that there is one.
+// Starts an engine with the settings in the first ten numbers, and with the bytes of `realm` if the settings say that there is one.
 #[no_mangle]
 pub extern "C" fn obex_engine_start(
     words: &mut [u64; 64],

@@ -1,5 +1,5 @@
-// The state and the result of a call as numbers, and back: what a host outside Rattle keeps between calls. specs/Words says what the numbers
-// mean. Decoding what `store` wrote gives the result back, whatever it was; the other direction is not claimed and not needed.
+// The state and the result of a call as numbers, and back: what a host outside Rattle keeps between calls. specs/Words says what the
+// numbers mean. Decoding what `store` wrote gives the result back, whatever it was; the other direction is not claimed and not needed.
 ghost use mathlib.Core.Path.{_≡_};
 ghost use Prim.Native.Nat.{_%_, _^_};
 ghost use Rattle.engine_c.specs.Words.{flag, opcodeOf, gatheredOf, idOf, challengeOf, outgoingOf, chunkOf, operationOf, operationIn};
@@ -69,19 +69,21 @@ fn wide(n: usize) -> u64
     n as u64
 }
 
-// Returns `n` as a number of the host's, from which its type's bits give it back; so do the next two.
+// Returns `n` as a number of the host's, whose low 8 bits give `n` back.
 fn wide8(n: u8) -> u64
     ensures { λ r. ⌜ r % 2 ^ 8 ≡ n ⌝ }
 {
     n as u64
 }
 
+// Returns `n` as a number of the host's, whose low 16 bits give `n` back.
 fn wide16(n: u16) -> u64
     ensures { λ r. ⌜ r % 2 ^ 16 ≡ n ⌝ }
 {
     n as u64
 }
 
+// Returns `n` as a number of the host's, whose low 32 bits give `n` back.
 fn wide32(n: u32) -> u64
     ensures { λ r. ⌜ r % 2 ^ 32 ≡ n ⌝ }
 {

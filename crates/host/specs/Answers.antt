@@ -1,6 +1,6 @@
--- What a host answers that keeps nothing, as document 01 gives it for the bench: it replies without headers, with 0x20 to Connect, Disconnect and
--- Put, with 0x51 otherwise; it only acknowledges an Abort, and has no password and no credentials. A nonce, which the bench is never asked for, is
--- the kernel's.
+-- What a host answers that keeps nothing, by the rules of the bench (docs/PROTOCOL.md#bench): it replies without headers, with 0x20 to
+-- Connect, Disconnect and Put, with 0x51 otherwise; it only acknowledges an Abort, and has no password and no credentials. A nonce, which
+-- the bench is never asked for, is the kernel's.
 use Prim.Native.Nat.{ℕ}
 use mathlib.Core.Bool.{Bool}
 use mathlib.Core.List.{List, []}
@@ -37,8 +37,8 @@ kindFor (request.Read n) = kind.NoBody
 abbrev pub answered : Call → Engine → Stores → List ℕ → Called
 answered c e s t = stepOf (record { engine = e; stores = s; tables = t; realm = [] }) c
 
--- What comes of an answer of each kind. A nonce is some sixteen bytes: no contract can say which ones the kernel gives. If it has none, the host
--- makes a call that is not due, and the engine refuses it.
+-- What comes of an answer of each kind. A nonce is some sixteen bytes: no contract can say which ones the kernel gives. If it has none, the
+-- host makes a call that is not due, and the engine refuses it.
 abbrev pub Answers : Kind → Engine → Stores → List ℕ → Called → Type 0
 Answers (kind.Reply code) e s t r = r ≡ answered (replyGiven code []) e s t
 Answers kind.Acknowledge e s t r = r ≡ answered abortAcknowledged e s t

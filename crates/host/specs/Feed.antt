@@ -24,11 +24,12 @@ left r i = take (r .end - r .at) (drop (r .at) i)
 abbrev pub hasLeft : Rest → List ℕ → Bool
 hasLeft r i = ltb (r .at) (r .end) && leb (r .end) (length i)
 
--- How long an input store is of which a read fills 65,536 bytes, and how many bytes at its front stay unused: the constants `INPUT` and `LEAD`
--- of the code, to which the contract of `front_of` ties them.
+-- How long an input store is of which a read fills 65,536 bytes: the constant `INPUT` of the code, by the contract of `front_of`.
 abbrev pub inputLength : ℕ
 inputLength = 67584
 
+-- How many bytes at the front of a store of `inputLength` bytes stay unused: the constant `LEAD` of the code, by the contract of
+-- `front_of`.
 abbrev pub lead : ℕ
 lead = 2048
 

@@ -67,8 +67,8 @@ fn kind_of(request: HostRequest) -> Kind
     }
 }
 
-// Answers `request` with the call that is due. If the kernel has no random bytes for a nonce, no call can answer, and the one that is made is
-// refused. The stores are arrays, since a program's stores have lengths that are known; the engine is lent them whole.
+// Answers `request` with the call that is due. If the kernel has no random bytes for a nonce, no call can answer, and the one that is made
+// is refused. The stores are arrays, since a program's stores have lengths that are known; the engine is lent them whole.
 pub fn answer(
     e: Engine,
     request: HostRequest,

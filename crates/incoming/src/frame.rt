@@ -116,7 +116,7 @@ fn read_on(begun: usize, input: &[u8], packet: &mut [u8]) -> Framed
     }
 }
 
-// Returns how long the packet is with which `input` begins. Returns 0 if `input` does not hold all of it, or if its length field is under 3.
+// Returns the length of the packet with which `input` begins, or 0 if `input` does not hold all of it or its length field is under 3.
 fn whole_length(input: &[u8]) -> usize
     ensures fits { λ r. ⌜ (r ≤ length (now (input .entry))) × (r ≤ maxPacket) ⌝ }
     ensures field { λ r. ⌜ (0 < r → (3 ≤ r) × (r ≡ be16 (now (input .entry)) 1)) ⌝ }
@@ -155,8 +155,8 @@ fn read_offered(begun: usize, input: &[u8], packet: &mut [u8]) -> Framed
     read_on(begun, input, packet)
 }
 
-// Returns where a packet with the length field `n` ends at the earliest, once a byte more than `begun` of it is there: not before that byte,
-// the end of its prefix, and its length.
+// Returns where a packet with the length field `n` ends at the earliest, once a byte more than `begun` of it is there: not before that
+// byte, the end of its prefix, and its length.
 fn earliest_end(begun: usize, n: usize) -> usize
     requires { ⌜ (begun < maxPacket) × (n ≤ maxPacket) ⌝ }
     ensures reached { λ r. ⌜ (3 ≤ r) × (begun < r) × (n ≤ r) × (r ≤ maxPacket) ⌝ }

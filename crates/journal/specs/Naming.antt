@@ -1,6 +1,6 @@
--- The Target that a request to the host names (docs/PROTOCOL.md#targets), said without the engine: under which Target each id was opened, the
--- latest first, and the Target of what is being done. It is fed like the journal, with the journal before the call beside it. A closed id is
--- not looked up, and one that is opened again is found first under its newer Target, so nothing has to be taken out.
+-- The Target that a request to the host names (docs/PROTOCOL.md#targets), said without the engine: under which Target each id was opened,
+-- the latest first, and the Target of what is being done. It is fed like the journal, with the journal before the call beside it. A closed
+-- id is not looked up, and one that is opened again is found first under its newer Target, so nothing has to be taken out.
 use Prim.Native.Nat.{ℕ}
 use mathlib.Core.List.{List, [], _∷_}
 use mathlib.Core.Bool.{Bool, _&&_, _||_, not}

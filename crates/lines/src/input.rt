@@ -3,7 +3,7 @@ ghost use Prim.Native.Nat.{_≤_};
 ghost use lib.ListN.{length};
 use libc::STDIN_FILENO;
 
-// Reads once; no bytes are the end.
+// Reads standard input once into `s`, and returns how many bytes came: none at the end.
 pub fn read(s: &mut [u8]) -> usize
     ensures { λ r. ⌜ r ≤ length (now (s .exit)) ⌝ }
 {
@@ -11,7 +11,7 @@ pub fn read(s: &mut [u8]) -> usize
     io::count(got, s)
 }
 
-// Moves what stands between two places to the front.
+// Moves what stands from `from` up to `to` to the front of `s`, and returns how many bytes that are.
 pub fn keep(s: &mut [u8], from: usize, to: usize) -> usize
     requires { ⌜ (from ≤ to) × (to ≤ length (now s)) ⌝ }
     ensures { λ r. ⌜ r ≤ length (now (s .exit)) ⌝ }

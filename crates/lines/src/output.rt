@@ -7,14 +7,14 @@ use base::copy_into;
 use digest::md5;
 use libc::STDOUT_FILENO;
 
-// The smaller number.
+// Returns the smaller number.
 pub fn least(a: usize, b: usize) -> usize
     ensures { λ r. ⌜ (r ≤ a) × (r ≤ b) ⌝ }
 {
     if a < b { a } else { b }
 }
 
-// Bytes behind the first n.
+// Puts the bytes `s` behind the first `n`, and returns how many bytes there are then.
 pub fn put(out: &mut [u8], n: usize, s: &[u8]) -> usize
     ensures { λ r. ⌜ r ≤ length (now (out .exit)) ⌝ }
 {
@@ -24,8 +24,8 @@ pub fn put(out: &mut [u8], n: usize, s: &[u8]) -> usize
     at + k
 }
 
-// Puts the line of `text` with the number `k`, without its end, behind the first `n` bytes. A name that depends on a case is the line of one
-// text, so that the store is lent once and not in every case.
+// Puts the line of `text` with the number `k`, without its end, behind the first `n` bytes. A name that depends on a case is the line of
+// one text, so that the store is lent once and not in every case.
 pub fn put_line_at(out: &mut [u8], n: usize, text: &[u8], k: usize) -> usize
     ensures { λ r. ⌜ r ≤ length (now (out .exit)) ⌝ }
 {
@@ -35,20 +35,21 @@ pub fn put_line_at(out: &mut [u8], n: usize, text: &[u8], k: usize) -> usize
     put(out, n, &text[start..end])
 }
 
+// Returns the hexadecimal digit of `x`.
 fn digit(x: u8) -> u8
     requires { ⌜ x < 16 ⌝ }
 {
     if x < 10 { 48 + x } else { 87 + x }
 }
 
-// The two digits of a byte.
+// Returns the two hexadecimal digits of `b`.
 pub fn pair(b: u8) -> [u8; 2]
     ensures { λ r. ⌜ 2 ≡ length r ⌝ }
 {
     [digit(b / 16 % 16), digit(b % 16)]
 }
 
-// The digits of the bytes, as many as there is room for.
+// Writes the bytes `s` in hexadecimal to `out`, as many as there is room for, and returns how many digits there are.
 pub fn digits(s: &[u8], out: &mut [u8]) -> usize
     ensures { λ r. ⌜ r ≤ length (now (out .exit)) ⌝ }
 {
@@ -64,6 +65,7 @@ pub fn digits(s: &[u8], out: &mut [u8]) -> usize
     2 * n
 }
 
+// Puts the byte `b` in two hexadecimal digits behind the first `n` bytes.
 pub fn put_byte(out: &mut [u8], n: usize, b: u8) -> usize
     ensures { λ r. ⌜ r ≤ length (now (out .exit)) ⌝ }
 {
@@ -71,7 +73,7 @@ pub fn put_byte(out: &mut [u8], n: usize, b: u8) -> usize
     put(out, n, &two)
 }
 
-// A number of four bytes, in eight digits.
+// Puts the number `x` in eight hexadecimal digits behind the first `n` bytes.
 pub fn put_u32(out: &mut [u8], n: usize, x: u32) -> usize
     ensures { λ r. ⌜ r ≤ length (now (out .exit)) ⌝ }
 {
@@ -84,7 +86,7 @@ pub fn put_u32(out: &mut [u8], n: usize, x: u32) -> usize
     put_digits(out, n, &bytes)
 }
 
-// A number in decimal digits.
+// Puts the number `x` in decimal digits behind the first `n` bytes.
 pub fn put_number(out: &mut [u8], n: usize, x: usize) -> usize
     ensures { λ r. ⌜ r ≤ length (now (out .exit)) ⌝ }
 {
@@ -93,6 +95,7 @@ pub fn put_number(out: &mut [u8], n: usize, x: usize) -> usize
     put(out, n, &text[..k])
 }
 
+// Puts 1 if `b` is true, and 0 otherwise, behind the first `n` bytes.
 pub fn put_flag(out: &mut [u8], n: usize, b: bool) -> usize
     ensures { λ r. ⌜ r ≤ length (now (out .exit)) ⌝ }
 {
@@ -102,7 +105,7 @@ pub fn put_flag(out: &mut [u8], n: usize, b: bool) -> usize
     put(out, n, b"0")
 }
 
-// Bytes in hexadecimal; none are no word.
+// Puts the bytes `s` in hexadecimal behind the first `n` bytes, and nothing if there are none.
 pub fn put_digits(out: &mut [u8], n: usize, s: &[u8]) -> usize
     ensures { λ r. ⌜ r ≤ length (now (out .exit)) ⌝ }
 {
@@ -111,7 +114,7 @@ pub fn put_digits(out: &mut [u8], n: usize, s: &[u8]) -> usize
     at + k
 }
 
-// How many bytes there are, and their MD5.
+// Puts how many bytes `s` has, and their MD5, behind the first `n` bytes.
 pub fn put_digest(out: &mut [u8], n: usize, s: &[u8]) -> usize
     ensures { λ r. ⌜ r ≤ length (now (out .exit)) ⌝ }
 {
@@ -122,7 +125,8 @@ pub fn put_digest(out: &mut [u8], n: usize, s: &[u8]) -> usize
     put_digits(out, c, &sum)
 }
 
-// Bytes in hexadecimal, or a dash; of more than the longest, how many and their MD5.
+// Puts the bytes `s` in hexadecimal behind the first `n` bytes, or a dash if there are none. If there are more than `longest`, puts how
+// many there are, and their MD5.
 pub fn put_hex(out: &mut [u8], n: usize, s: &[u8], longest: usize) -> usize
     ensures { λ r. ⌜ r ≤ length (now (out .exit)) ⌝ }
 {
@@ -135,7 +139,7 @@ pub fn put_hex(out: &mut [u8], n: usize, s: &[u8], longest: usize) -> usize
     put_digits(out, n, s)
 }
 
-// Writes out what was collected, and gives how much is left of it.
+// Writes out what was collected, and returns how much is left of it: nothing.
 pub fn write(out: &[u8], n: usize) -> usize
     ensures { λ r. ⌜ r ≡ 0 ⌝ }
 {
@@ -144,7 +148,7 @@ pub fn write(out: &[u8], n: usize) -> usize
     0
 }
 
-// The same where the store is half full.
+// Writes out what was collected if the store is half full, and returns how much is left of it.
 pub fn flush(out: &[u8], n: usize) -> usize
     ensures { λ r. ⌜ r ≤ n ⌝ }
 {

@@ -18,7 +18,7 @@ pub struct Place {
     pub end: usize,
 }
 
-// The place of a byte from another place on, or the end.
+// Returns the first place of `byte` in `s` from `from` on, or the end of `s`.
 pub fn find(s: &[u8], from: usize, byte: u8) -> usize
     requires { ⌜ from ≤ length (now s) ⌝ }
     ensures { λ r. ⌜ (from ≤ r) × (r ≤ length (now (s .entry))) ⌝ }
@@ -33,7 +33,7 @@ pub fn find(s: &[u8], from: usize, byte: u8) -> usize
     i
 }
 
-// The place after another, or the end.
+// Returns the place after `end`, or `end` if that is the end of `s`.
 pub fn after(s: &[u8], end: usize) -> usize
     requires { ⌜ end ≤ length (now s) ⌝ }
     ensures { λ r. ⌜ (end ≤ r) × (r ≤ length (now (s .entry))) ⌝ }
@@ -93,14 +93,14 @@ pub fn line_number(text: &[u8], w: &[u8]) -> usize
     k
 }
 
-// The byte at a place, 0 past the end.
+// Returns the byte at `at`, or 0 past the end.
 pub fn byte_at(s: &[u8], at: usize) -> u8
     ensures { λ r. ⌜ r ≡ getD (now (s .entry)) at 0 ⌝ }
 {
     if at < s.len() { s[at] } else { 0 }
 }
 
-// What a digit stands for; 0 for any other sign.
+// Returns what the digit `c` stands for, or 0 for any other sign.
 pub fn value(c: u8) -> u8
     ensures { λ r. ⌜ r < 16 ⌝ }
 {
@@ -116,7 +116,7 @@ pub fn value(c: u8) -> u8
     if c < 103 { c - 87 } else { 0 }
 }
 
-// A digit more, up to the tenth.
+// Returns `n` with the digit `c` behind it, up to the tenth digit.
 fn more(n: usize, c: u8) -> usize
     requires { ⌜ n < 20000000000 ⌝ }
     ensures { λ r. ⌜ r < 20000000000 ⌝ }
@@ -127,7 +127,7 @@ fn more(n: usize, c: u8) -> usize
     n * 10 + wide(value(c))
 }
 
-// A word as a decimal number, as far as ten digits go.
+// Returns the word `s` as a decimal number, as far as ten digits go.
 pub fn number(s: &[u8]) -> usize
     ensures { λ r. ⌜ r < 20000000000 ⌝ }
 {
@@ -140,7 +140,7 @@ pub fn number(s: &[u8]) -> usize
     n
 }
 
-// Copies what stands between two places behind it.
+// Copies what stands from `from` up to `to` to `at`, as far as there is room, and returns the place behind the copy.
 fn again(out: &mut [u8], from: usize, to: usize, at: usize) -> usize {
     let mut i = from;
     let mut n = at;
@@ -158,7 +158,7 @@ fn again(out: &mut [u8], from: usize, to: usize, at: usize) -> usize {
     n
 }
 
-// What stands between two places, so often.
+// Repeats what stands from `from` up to `to`, so that it stands there `count` times as far as there is room, and returns where that ends.
 fn repeat(out: &mut [u8], from: usize, to: usize, count: usize) -> usize {
     if count == 0 {
         return from;
@@ -176,7 +176,7 @@ fn repeat(out: &mut [u8], from: usize, to: usize, count: usize) -> usize {
     n
 }
 
-// Stores a byte, where there is room.
+// Stores the byte `b` at `n` if there is room, and returns how many bytes there are then.
 fn push(out: &mut [u8], n: usize, b: u8) -> usize {
     if n < out.len() {
         out[n] = b;
@@ -185,7 +185,7 @@ fn push(out: &mut [u8], n: usize, b: u8) -> usize {
     n
 }
 
-// The end of a group: its bytes stand there so often.
+// Reads the count at the end of a group, and repeats the group's bytes as often as it says.
 fn group(s: &[u8], p: Scan, out: &mut [u8]) -> Scan
     requires { ⌜ p .at < length (now s) ⌝ }
     ensures { λ r. ⌜ (p .at < r .at) × (r .at ≤ length (now (s .entry))) ⌝ }
@@ -200,7 +200,8 @@ fn group(s: &[u8], p: Scan, out: &mut [u8]) -> Scan
     }
 }
 
-// Two digits, or the end of a group of bytes and how often they stand there; any other sign is passed over.
+// Reads two digits, or the count at the end of a group. A sign that is neither, such as a bracket, is passed over, and a group starts
+// behind it.
 fn scan_one(s: &[u8], p: Scan, out: &mut [u8]) -> Scan
     requires { ⌜ p .at < length (now s) ⌝ }
     ensures { λ r. ⌜ (p .at < r .at) × (r .at ≤ length (now (s .entry))) ⌝ }
@@ -233,7 +234,8 @@ fn scan_one(s: &[u8], p: Scan, out: &mut [u8]) -> Scan
     }
 }
 
-// The bytes of a word in hexadecimal: pairs of digits and groups (HEX*COUNT). A dash stands for no bytes.
+// Writes the bytes of a word in hexadecimal to `out`, and returns how many there are. The word has pairs of digits and groups (HEX*COUNT).
+// A dash stands for no bytes.
 pub fn unhex(s: &[u8], out: &mut [u8]) -> usize
     ensures { λ r. ⌜ r ≤ length (now (out .exit)) ⌝ }
 {

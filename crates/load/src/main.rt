@@ -1,5 +1,6 @@
-// Plays a session on standard input to the engine many times and counts what comes back, for its throughput: load COUNT READ [1]. With a READ
-// of 0 a read ends where a packet does, and goes straight into the packet store unless a 1 follows. Every other read goes into the input store.
+// Plays a session on standard input to the engine many times and counts what comes back, for its throughput: load COUNT READ [1]. With a
+// READ of 0 a read ends where a packet does, and goes straight into the packet store unless a 1 follows. Every other read goes into the
+// input store.
 ghost use Prim.Native.Nat.{_≤_};
 use base::be16_at;
 use base::copy_into;
@@ -20,8 +21,8 @@ use server::default_settings;
 use std::num::wrapping_add_usize;
 
 // The stores are arrays of known lengths, so that the proof need not be told that no call changes them. The table store is longer than the
-// engine asks. So are the packet, header and reply stores: arrays of 65,535 bytes side by side begin a byte apart, counted from the start of a
-// page, and some processors copy at a tenth of their speed between two such places (docs/PERFORMANCE.md).
+// engine asks. So are the packet, header and reply stores: arrays of 65,535 bytes side by side begin a byte apart, counted from the start
+// of a page, and some processors copy at a tenth of their speed between two such places (docs/PERFORMANCE.md).
 const READ: usize = 65536;
 
 const TABLES: usize = 320;
@@ -65,7 +66,7 @@ fn last_byte(s: &[u8], n: usize) -> usize {
 
 // ---- the peer
 
-// How long the next read is at most; 0: it ends where a packet does.
+// Returns how long the next read is at most. If `longest` is 0, the read ends where a packet does.
 fn longest_read(longest: usize, rest: &[u8]) -> usize {
     if longest != 0 {
         return longest;
@@ -76,7 +77,7 @@ fn longest_read(longest: usize, rest: &[u8]) -> usize {
     be16_at(rest, 1)
 }
 
-// The next read, into `store`.
+// Reads on in the stream, into `store`.
 fn read_into(p: Progress, stream: &[u8], longest: usize, store: &mut [u8]) -> Progress {
     let at = least(p.at, stream.len());
     let n = least(longest_read(longest, &stream[at..]), stream.len() - at);
@@ -89,7 +90,7 @@ fn read_into(p: Progress, stream: &[u8], longest: usize, store: &mut [u8]) -> Pr
     q
 }
 
-// The next read, where nothing is left of the last one.
+// Reads on in the stream, if nothing is left of the last read.
 fn next_read(
     p: Progress,
     stream: &[u8],
@@ -106,7 +107,7 @@ fn next_read(
     read_into(p, stream, longest, input)
 }
 
-// Of the last read so much was taken.
+// Notes that the engine took `n` bytes of the last read.
 fn taken(p: Progress, n: usize) -> Progress {
     let from = least(p.from, p.to);
     let mut q = p;
@@ -161,7 +162,7 @@ fn asked(p: Progress, request: HostRequest, body: &[u8]) -> Progress {
     }
 }
 
-// What is done before the call that follows an outcome.
+// Does what comes before the call that follows `outcome`: reads on, counts what came back, or chooses how much of the object is given.
 fn noted(
     p: Progress,
     outcome: Outcome,
@@ -181,7 +182,7 @@ fn noted(
     }
 }
 
-// Success for everything, the object for a Get.
+// Answers a Get with the object and a read of its body with `chunk`, acknowledges an Abort, and replies with Success to all else.
 fn answer(
     e: Engine,
     request: HostRequest,
@@ -214,7 +215,7 @@ fn answer(
     }
 }
 
-// Up to where the bytes from `from` to `to` stand in the packet store already: all of them or none.
+// Returns up to where the bytes from `from` to `to` stand in the packet store already: all of them or none.
 fn placed_to(placing: bool, from: usize, to: usize) -> usize
     requires { ⌜ from ≤ to ⌝ }
     ensures { λ r. ⌜ (from ≤ r) × (r ≤ to) ⌝ }
@@ -254,7 +255,7 @@ fn offer(
     )
 }
 
-// The call that follows an outcome.
+// Makes the call that follows `outcome`.
 fn call(
     e: Engine,
     outcome: Outcome,
@@ -294,7 +295,7 @@ fn is_over(outcome: Outcome) -> bool {
     }
 }
 
-// A session begins: what came back stays.
+// Begins a session at the start of the stream. What came back before stays counted.
 fn begin(p: Progress) -> Progress {
     let mut q = p;
     q.at = 0;
@@ -303,7 +304,7 @@ fn begin(p: Progress) -> Progress {
     q
 }
 
-// One session with an engine of its own.
+// Plays one session with an engine of its own.
 fn play(
     p: Progress,
     stream: &[u8],
@@ -373,7 +374,7 @@ fn print(p: Progress) {
     write(&out, n);
 }
 
-// Before the first session nothing is read and nothing has come back.
+// Returns the progress before the first session: nothing is read, and nothing has come back.
 fn nothing_yet(placing: bool) -> Progress {
     Progress {
         placing,
@@ -397,7 +398,7 @@ fn places(longest: usize, offered: usize) -> bool {
     offered == 0
 }
 
-// Plays the session on standard input so often.
+// Plays the session on standard input as often as the first argument says.
 fn run(
     stream: &mut [u8],
     zeros: &[u8],

@@ -45,6 +45,7 @@ framedAs More e b n s t =
 framedAs Short e b n s t = after n (ends e (e .peer) end.LengthTooSmall s)
 framedAs Whole e b n s t = after n (packetDone e b s t)
 
+-- The stores with another packet store.
 abbrev pub withPacket : Stores → List ℕ → Stores
 withPacket s p = stores p (s .headers) (s .body) (s .reply)
 
@@ -66,11 +67,12 @@ replyTakenStep e s =
     guarded kind.ReplyTaken e s
     (after 0 (pick (sameAwait (e .awaits) await.Taken) (goesOn (e .operation) e s) (ends e (e .peer) end.OtherOperation s)))
 
--- The host's reply by what it answers: a Disconnect closes ids before its reply is made; to a Get or any other request the reply is sent as
--- it is.
+-- The engine sends the host's reply, with the peer and the table store that `l` has.
 abbrev pub sendsLinked : Engine → Linked → ℕ → List ℕ → Stores → DoneTabled
 sendsLinked e l code hs s = doneTabled (sends e (l .peer) code hs s) (l .tables)
 
+-- The host's reply by what it answers: to a Connect it may open an id, a Disconnect closes ids before its reply is made, and to any other
+-- request the reply is sent as it is (docs/PROTOCOL.md#connect, #disconnect).
 unfoldable pub replyAnswer : Engine → ℕ → List ℕ → Stores → List ℕ → DoneTabled
 replyAnswer e code hs s t =
     pick (sameAwait (e .awaits) await.Connect) (connectAnswer e code hs s t)
@@ -84,6 +86,7 @@ replyChecked e code hs s t =
     pick (badReply code hs) (called (refuse refusal.BadAnswer e s) t)
     (called (after 0 (replyAnswer e code hs s t .done)) (replyAnswer e code hs s t .tables))
 
+-- The reply that the host gives: a code and headers. The table store `t` says which ConnectionIDs are open.
 unfoldable pub replyGivenStep : Engine → ℕ → List ℕ → Stores → List ℕ → Called
 replyGivenStep e code hs s t = guardedCalled kind.ReplyGiven e s t (replyChecked e code hs s t)
 

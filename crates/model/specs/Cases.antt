@@ -21,11 +21,11 @@ use Rattle.model.specs.Runs.{State, stepOf, stateOf, handed}
 use Rattle.server.specs.declared.Outcome.{Outcome}
 use Rattle.server.specs.declared.Outcome.the-variants as outcome
 
--- the source's settings with a Put limit, and what trails a Put that was too long refused with it
+-- The source's settings with a Put limit, but what trails a Put that was too long is refused with it.
 abbrev pub refusingSettings : ℕ → Settings
 refusingSettings limit = settingsWith limit true
 
--- a fresh engine with some settings, and stores of zeros
+-- A fresh engine with some settings, and stores of zeros.
 abbrev pub freshWith : Settings → State
 freshWith st =
     record {
@@ -41,20 +41,20 @@ freshWith st =
       realm = [];
     }
 
--- a fresh engine with a Put limit and else the source's settings
+-- A fresh engine with a Put limit and else the source's settings.
 abbrev pub freshState : ℕ → State
 freshState limit = freshWith (defaultSettings limit)
 
--- the state after a call, by the model's step
+-- The state after a call, by the model's step.
 abbrev pub nextState : State → Call → State
 nextState s c = stateOf (s .realm) (stepOf s c)
 
--- the records that calls hand over
+-- The records that calls hand over.
 abbrev pub recordsBy : State → List Call → List Record
 recordsBy s [] = []
 recordsBy s (c ∷ cs) = handed (stepOf s c .took .outcome) (stepOf s c .stores) ++ recordsBy (nextState s c) cs
 
--- the replies that calls make
+-- The reply that a call makes, if it makes one.
 abbrev pub replyIn : Outcome → Stores → List (List ℕ)
 replyIn (outcome.Reply n) s = take n (s .reply) ∷ []
 replyIn outcome.WantsBytes s = []
@@ -62,12 +62,13 @@ replyIn (outcome.Request r) s = []
 replyIn (outcome.End n) s = []
 replyIn (outcome.Refused n) s = []
 
+-- The replies that calls make, in order.
 abbrev pub replies : State → List Call → List (List ℕ)
 replies s [] = []
 replies s (c ∷ cs) = replyIn (stepOf s c .took .outcome) (stepOf s c .stores) ++ replies (nextState s c) cs
 
--- what is given: a first byte; open ids and a counter; bytes of text; calls on a fresh engine with a Put limit; or such calls if what
--- trails a Put that was too long is refused
+-- What is given: a first byte; open ids and a counter; bytes of text; calls on a fresh engine with a Put limit; or such calls if what
+-- trails a Put that was too long is refused.
 pub data Given : Type 0 where
   byte : ℕ → Given
   counter : List ℕ → ℕ → Given
@@ -75,14 +76,14 @@ pub data Given : Type 0 where
   calls : ℕ → List Call → Given
   refusing : ℕ → List Call → Given
 
--- what comes of it: an operation; an id; scalar values; or replies and records
+-- What comes of what is given: an operation; an id; scalar values; or replies and records.
 pub data Comes : Type 0 where
   operation : FirstByte → Comes
   id : ℕ → Comes
   scalars : List ℕ → Comes
   session : List (List ℕ) → List Record → Comes
 
--- what the definitions make of it
+-- What the definitions make of what is given.
 unfoldable pub comesOf : Given → Comes
 comesOf (byte b) = operation (firstByte b)
 comesOf (counter ids c) = id (newId ids c)
@@ -90,22 +91,24 @@ comesOf (text s) = scalars (scalars16 s)
 comesOf (calls limit cs) = session (replies (freshState limit) cs) (recordsBy (freshState limit) cs)
 comesOf (refusing limit cs) = session (replies (freshWith (refusingSettings limit)) cs) (recordsBy (freshWith (refusingSettings limit)) cs)
 
--- a row of the table
+-- A row of the table.
 pub record Row : Type 0 where
   pub given : Given
   pub comes : Comes
 
+-- Makes a `Row`.
 abbrev pub row : Given → Comes → Row
 row g c = record { given = g; comes = c }
 
--- with what the definitions make of what it is given
+-- The row with what the definitions make of what it is given.
 unfoldable pub evaluated : Row → Row
 evaluated r = row (r .given) (comesOf (r .given))
 
+-- The record of a Put with the body `b` and no kept headers.
 abbrev pub putBody : List ℕ → Record
 putBody b = record { headers = []; body = some b }
 
--- the cases
+-- The cases.
 abbrev pub table : List Row
 table =
     -- P1, P2

@@ -1,5 +1,5 @@
--- Connections that the host closes together, all or none (docs/PROTOCOL.md#closing-several): what is left, and why ids are refused. The source
--- has no such call.
+-- Connections that the host closes together, all or none (docs/PROTOCOL.md#closing-several): what is left, and why ids are refused. The
+-- source has no such call.
 use Prim.Native.Nat.{ℕ}
 use mathlib.Core.List.{List, [], _∷_}
 use mathlib.Core.Bool.{not}
@@ -22,6 +22,7 @@ pub record Remaining : Type 0 where
   pub count : ℕ
   pub tables : List ℕ
 
+-- Makes a `Remaining`.
 abbrev pub remaining : ℕ → List ℕ → Remaining
 remaining n t = record { count = n; tables = t }
 
@@ -40,6 +41,7 @@ pub record Closed : Type 0 where
   pub took : CallResult
   pub tables : List ℕ
 
+-- Makes a `Closed`.
 abbrev pub closed : CallResult → List ℕ → Closed
 closed r t = record { took = r; tables = t }
 

@@ -32,6 +32,7 @@ use Rattle.model.specs.Operation.{nothingGathered, putPacket, getPacket,
 use Rattle.model.specs.Object.{sendsNext}
 use Rattle.model.specs.Connect.{connectPacket, srmAsked}
 
+-- Whether the engine admits a packet, or the code with which it turns the packet away.
 pub data Rejection : Type 0 where
   admits : Rejection
   rejects : ℕ → Rejection
@@ -75,6 +76,7 @@ dispatches op.Action e r v s = headersPacket e r op.Action nothingGathered s
 dispatches op.Session e r v s = headersPacket e r op.Session nothingGathered s
 dispatches (op.UserDefined x) e r v s = headersPacket e r (op.UserDefined x) nothingGathered s
 
+-- The engine dispatches a packet that it admits, and turns any other away with the code.
 abbrev pub admittedAs : Rejection → Engine → Packet → Survey → Stores → Done
 admittedAs admits e r v s = dispatches (r .opcode) e r v s
 admittedAs (rejects code) e r v s = rejected e r code s
@@ -158,6 +160,7 @@ packetTarget (some r) e t =
 abbrev pub arrived : Engine → ℕ → Target → Engine
 arrived e n g = engineWith (e .settings) (e .peer) (e .operation) (e .awaits) 0 n g
 
+-- What follows a whole packet of `n` bytes at the front of the packet store. The table store `t` says which ConnectionIDs are open.
 unfoldable pub packetDone : Engine → ℕ → Stores → List ℕ → Done
 packetDone e n s t =
     let q = take n (s .packet) in readAs (requestOf q) (arrived e n (packetTarget (requestOf q) e t)) q s t

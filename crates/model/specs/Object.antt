@@ -30,6 +30,7 @@ sendsMade e srm wait next.Read m s =
     (withReply s (m .reply))
 sendsMade e srm wait next.TooLarge m s = repliesCode e (e .peer) Nothing response.internalServerError (withReply s (m .reply))
 
+-- What follows `m`, which was made of the object and says what comes next.
 abbrev pub sendsPacket : Engine → Bool → Bool → Made → Stores → Done
 sendsPacket e srm wait m s = sendsMade e srm wait (m .packet .next) m s
 

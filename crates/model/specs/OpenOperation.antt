@@ -1,7 +1,7 @@
--- Operations (docs/PROTOCOL.md, "Words"): an operation is open from its first packet to its last reply. For every run of calls from an accepted
--- start, the engine has an operation open exactly if the journal has one, or if the host was told last of a reply or of a request and the
--- answer to it is still to come. The journal opens an operation with its first packet, and of a packet that leaves none open a reply is due
--- (`OpensOrReplies` of the journal). Of a run only the functions' contracts are known, and nothing is asked of what happens.
+-- Operations (docs/PROTOCOL.md, "Words"): an operation is open from its first packet to its last reply. For every run of calls from an
+-- accepted start, the engine has an operation open exactly if the journal has one, or if the host was told last of a reply or of a request
+-- and the answer to it is still to come. The journal opens an operation with its first packet, and of a packet that leaves none open a
+-- reply is due (`OpensOrReplies` of the journal). Of a run only the functions' contracts are known, and nothing is asked of what happens.
 use Prim.Native.Nat.{ℕ}
 use mathlib.Core.Path.{_≡_}
 use mathlib.Core.List.{List, [], _∷_}

@@ -63,6 +63,7 @@ putGathered e r v srm confirm g s =
     (pick (r .final) (putFinal e (g .got) (withGathered s g))
     (putContinues e (g .got) srm confirm (v .additional) (withGathered s g)))
 
+-- A Put packet, whose headers are gathered behind `g`. `srm` says that SRM is on, `confirm` that it is still to be granted.
 unfoldable pub putPacket : Engine → Packet → Survey → Bool → Bool → Gathered → Stores → Done
 putPacket e r v srm confirm g s = putGathered e r v srm confirm (gathers e keep.Put (r .headers) g s) s
 
@@ -79,6 +80,7 @@ getGathered e r v srm confirm g s =
     (asks e (e .peer) (Getting (g .got) srm confirm (v .wait)) await.Get (request.Get (g .got .kept)) (withGathered s g))
     (getContinues e (g .got) srm confirm (v .wait) (withGathered s g)))
 
+-- A packet of a Get's request, whose headers are gathered behind `g`. `srm` says that SRM is on, `confirm` that it is still to be granted.
 unfoldable pub getPacket : Engine → Packet → Survey → Bool → Bool → Gathered → Stores → Done
 getPacket e r v srm confirm g s = getGathered e r v srm confirm (gathers e keep.Get (r .headers) g s) s
 
@@ -94,11 +96,14 @@ headersRequest op.Get n = request.UserDefined 0x03 n
 headersRequest op.SetPath n = request.UserDefined 0x05 n
 headersRequest op.Abort n = request.UserDefined 0x7F n
 
+-- A packet of an Action, a Session or a user-defined operation. Kept headers over 65,535 bytes end the engine first; the host gets the
+-- headers with the final packet (docs/PROTOCOL.md#headers-only).
 abbrev pub headersGathered : Engine → Packet → Opcode → Gathering → Stores → Done
 headersGathered e r o g s =
     pick (g .got .full) (ends e (e .peer) end.HeadersTooLarge (withGathered s g))
     (pick (r .final) (asks e (e .peer) Nothing await.Reply (headersRequest o (g .got .kept)) (withGathered s g))
     (continues e (GatheringOp o (g .got)) false (withGathered s g)))
 
+-- A packet of an operation of headers alone, with the opcode `o`. All its headers are gathered behind `g`.
 unfoldable pub headersPacket : Engine → Packet → Opcode → Gathered → Stores → Done
 headersPacket e r o g s = headersGathered e r o (gathers e keep.All (r .headers) g s) s

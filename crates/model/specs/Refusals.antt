@@ -1,10 +1,10 @@
 -- What a host sees of a call, and what follows from that alone: which calls are due to be refused, and with which number
 -- (docs/PROTOCOL.md#refusals), and what the journal is fed (docs/PROTOCOL.md#journal). A call is due to be refused by the lengths of the
--- stores that it is lent (10), by what waits since the last call that was not refused (9), by the answer itself (8), if it gives a nonce, by
--- the last 32 nonces of such calls that were not refused (15), and, if it closes connections, by the operation and the ids that the journal
--- has open (9, 19 to 21). Neither the engine's state nor a store is in the type of anything here. What this file shares with the model, and
--- so cannot tell wrong, are the tests of an answer: `badReply`, `badHeaders`, `longUser`, `among`, `allOpen` and `repeats` (README, "What must
--- be believed").
+-- stores that it is lent (10), by what waits since the last call that was not refused (9), by the answer itself (8), if it gives a nonce,
+-- by the last 32 nonces of such calls that were not refused (15), and, if it closes connections, by the operation and the ids that the
+-- journal has open (9, 19 to 21). Neither the engine's state nor a store is in the type of anything here. What this file shares with the
+-- model, and so cannot tell wrong, are the tests of an answer: `badReply`, `badHeaders`, `longUser`, `among`, `allOpen` and `repeats`
+-- (README, "What must be believed").
 use Prim.Native.Nat.{ℕ}
 use mathlib.Core.List.{List, [], _∷_}
 use mathlib.Core.Bool.{Bool, true, false, _&&_, _||_, not}

@@ -18,6 +18,7 @@ use Rattle.model.specs.Step.{Stores}
 unfoldable pub lastPacket : Engine → Stores → List ℕ
 lastPacket e s = take (e .length) (s .packet)
 
+-- The headers of the last packet; none if it cannot be read.
 unfoldable pub lastHeaders : Engine → Stores → List Header
 lastHeaders e s = headersIn (requestOf (lastPacket e s))
 
@@ -35,6 +36,7 @@ abbrev pub userIn : List ℕ → Found → Found
 userIn q place.Missing = place.Missing
 userIn q (place.At a b) = placedAt a (lastValue (part q a b) 1)
 
+-- Where the user id of a Connect's first AuthenticateResponse stands in the packet. A Connect's headers start at place 7.
 unfoldable pub userPlace : Engine → Stores → Found
 userPlace e s = userIn (lastPacket e s) (firstPlace header-id.authenticateResponse (lastPacket e s) 7)
 

@@ -1,6 +1,6 @@
--- The Targets that requests name (docs/PROTOCOL.md#targets): in every run of calls from an accepted start, each request to the host names the
--- Target that is due, which `Naming` of the journal says by the feed alone. The requests about a Connect and an Abort carry the mark. Of a
--- run only the functions' contracts are known, and nothing is asked of what happens.
+-- The Targets that requests name (docs/PROTOCOL.md#targets): in every run of calls from an accepted start, each request to the host names
+-- the Target that is due, which `Naming` of the journal says by the feed alone. The requests about a Connect and an Abort carry the mark.
+-- Of a run only the functions' contracts are known, and nothing is asked of what happens.
 use Prim.Native.Nat.{ℕ}
 use mathlib.Core.Path.{_≡_}
 use mathlib.Core.List.{List, [], _∷_}

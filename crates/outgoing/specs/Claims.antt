@@ -1,5 +1,5 @@
--- What is claimed of an object that is sent: its packets are those of Packets, in whatever pieces the host reads the body. The run below makes
--- them by the two definitions that the contracts of `next_packet` and `body_given` cite.
+-- What is claimed of an object that is sent: its packets are those of Packets, in whatever pieces the host reads the body. The run below
+-- makes them by the two definitions that the contracts of `next_packet` and `body_given` cite.
 use mathlib.Core.Path.{_≡_}
 use Prim.Native.Nat.{ℕ, zero, suc, _≤_, min}
 use mathlib.Core.List.{List, [], _∷_}
@@ -17,8 +17,8 @@ use Rattle.outgoing.specs.Packets.{Packets, allSent, cannotGo, before, p
 
 -- ---- the host
 
--- How a host reads: from what is left of the body, how many bytes it gives at most, less one. So a read gives no bytes only if none are left,
--- and since each read leaves less, every way to cut a body into pieces is one of these.
+-- How a host reads: from what is left of the body, how many bytes it gives at most, less one. So a read gives no bytes only if none are
+-- left, and since each read leaves less, every way to cut a body into pieces is one of these.
 abbrev pub Reads : Type 0
 Reads = List ℕ → ℕ
 

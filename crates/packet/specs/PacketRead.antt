@@ -28,6 +28,7 @@ abbrev pub headBy : FirstByte → List ℕ → Head
 headBy Unknown p = head.Unreadable
 headBy (Known o f) p = pick (ltb (length p) (prefixOf o)) head.Unreadable (head.Known o f (prefixOf o))
 
+-- What stands before the headers of the packet `p`, by its first byte.
 unfoldable pub packetHead : List ℕ → Head
 packetHead p = headBy (firstByte (getD p 0 0)) p
 

@@ -38,11 +38,12 @@ numbered n r s = record { answer = r; number = n; store = s }
 abbrev pub laid : List ℕ → ℕ → List ℕ → List ℕ
 laid d at l = paste d at l (length l)
 
--- The answer to bytes that are longer than their length field can say, and its number.
+-- The answer to bytes that are longer than their length field can say.
 abbrev pub overlongFor : LengthField → Wrote
 overlongFor OneByte = BadValue
 overlongFor TwoBytes = TooLong
 
+-- The number of the answer to bytes that are longer than their length field can say.
 abbrev pub overlongNumber : LengthField → ℕ
 overlongNumber OneByte = 8
 overlongNumber TwoBytes = 7

@@ -56,8 +56,8 @@ pub const LAST_USER_DEFINED: u8 = 0x1F;
 // Abort ends the current operation.
 pub const ABORT: u8 = 0x7F;
 
-// The table in which a first byte is looked up: its row is the first hexadecimal digit, its column the second. An entry is the number of the
-// opcode, with the Final bit if the packet is final. 0x40, which is the number of no opcode, stands at the bytes that are unknown.
+// The table in which a first byte is looked up: its row is the first hexadecimal digit, its column the second. An entry is the number of
+// the opcode, with the Final bit if the packet is final. 0x40, which is the number of no opcode, stands at the bytes that are unknown.
 // Reserved bits 5 and 6 are ignored, as the standard requires, so the rows repeat; Abort alone sets them, in the last column of two rows.
 //                                  _0  _1  _2  _3  _4  _5  _6  _7  _8  _9  _A  _B  _C  _D  _E  _F
 const FIRST_BYTES: [u8; 256] = *b"\x00\x01\x02\x03\x40\x05\x06\x07\x40\x40\x40\x40\x40\x40\x40\x40\

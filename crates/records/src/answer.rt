@@ -15,7 +15,7 @@ pub(crate) fn bad_question() {
     io::write_all(STDOUT_FILENO, b"bad question\n");
 }
 
-// The line of an answer: its number, and the target's bytes.
+// Puts the line of an answer: its number, and the target's bytes.
 fn put_answer(out: &mut [u8], number: usize, target: &[u8]) -> usize
     ensures { λ r. ⌜ r ≤ length (now (out .exit)) ⌝ }
 {
@@ -32,7 +32,7 @@ pub(crate) fn number_and_target(number: usize, target: &[u8]) {
     write(&out, n);
 }
 
-// The line of an answer: its number, a length, and the target's bytes.
+// Puts the line of an answer: its number, a length, and the target's bytes.
 fn put_long_answer(out: &mut [u8], number: usize, size: usize, target: &[u8]) -> usize
     ensures { λ r. ⌜ r ≤ length (now (out .exit)) ⌝ }
 {

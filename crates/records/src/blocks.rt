@@ -24,12 +24,12 @@ struct Told {
     length: usize,
 }
 
-// The length of what was written.
+// Returns the length of what was written, or 0 if nothing was.
 fn written_length(answer: Wrote) -> usize {
     if let Wrote::Written(n) = answer { n } else { 0 }
 }
 
-// The length of the body that was read.
+// Returns the length of the body that was read, or 0 if none was.
 fn body_length(answer: Body) -> usize {
     if let Body::Bytes(n) = answer { n } else { 0 }
 }
@@ -58,14 +58,14 @@ fn show(is_write: bool, digits: &[u8], room: usize, source: &mut [u8], store: &m
     number_length_and_target(told.number, told.length, &store[0..size]);
 }
 
-// A question on few bytes, in stores that are made quickly.
+// Answers a question on few bytes, in stores that are made quickly.
 fn show_short(is_write: bool, digits: &[u8], room: usize) {
     let mut source = [0u8; 2048];
     let mut store = [0xEEu8; 2048];
     show(is_write, digits, room, &mut source, &mut store);
 }
 
-// Any question. No line has digits for more than 131,072 bytes.
+// Answers any question. No line has digits for more than 131,072 bytes.
 fn show_long(is_write: bool, digits: &[u8], room: usize) {
     let mut source = [0u8; 131072];
     let mut store = [0xEEu8; 1048576];

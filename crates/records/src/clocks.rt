@@ -1,6 +1,6 @@
-// The questions on clocks: `time ROOM SECONDS`, answered `NUMBER TARGET`, where ROOM is the target's length in bytes, and the target is filled
-// with ee first and shown whole; `legacy TEXT`, where TEXT is bytes in hexadecimal, answered `NUMBER SECONDS`; `roll YEAR MONTH DAY`, answered
-// `NUMBER YEAR MONTH DAY`.
+// The questions on clocks: `time ROOM SECONDS`, answered `NUMBER TARGET`, where ROOM is the target's length in bytes, and the target is
+// filled with ee first and shown whole; `legacy TEXT`, where TEXT is bytes in hexadecimal, answered `NUMBER SECONDS`; `roll YEAR MONTH
+// DAY`, answered `NUMBER YEAR MONTH DAY`.
 ghost use mathlib.Core.Path.{_≡_};
 ghost use Prim.Native.Nat.{_≤_};
 ghost use lib.ListN.{length};

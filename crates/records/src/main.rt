@@ -17,8 +17,8 @@ use lines::input::whole;
 use lines::word::after;
 use lines::word::find;
 
-// What the store has of a line whose end is not read yet: how many bytes, and whether the line's start was dropped because the line is longer
-// than the store. `is_over` says that the input has ended.
+// What the store has of a line whose end is not read yet: how many bytes, and whether the line's start was dropped because the line is
+// longer than the store. `is_over` says that the input has ended.
 struct Rest {
     have: usize,
     is_cut: bool,
@@ -65,7 +65,7 @@ fn last(s: &[u8], is_cut: bool) {
     line(s, is_cut);
 }
 
-// What is left behind the lines that were answered. A line that fills the store has no room for its end: its start is dropped.
+// Returns what is left behind the lines that were answered. A line that fills the store has no room for its end, so its start is dropped.
 fn rest_of(have: usize, room: usize, from: usize, is_cut: bool) -> Rest
     requires { ⌜ have ≤ room ⌝ }
     ensures { λ r. ⌜ r .have ≤ room ⌝ }
@@ -106,7 +106,8 @@ fn turn(s: &mut [u8], before: Rest) -> Rest
     rest_of(left, s.len(), from, before.is_cut)
 }
 
-// A proved loop has to end, and nothing says that the input does. So the turns are counted down, from a number that no run uses up.
+// Takes turns until the input ends. A proved loop has to end, and nothing says that the input does, so the turns are counted down, from a
+// number that no run uses up.
 fn turns(s: &mut [u8]) {
     let mut left = u64::MAX;
     let mut rest = Rest {
@@ -123,7 +124,7 @@ fn turns(s: &mut [u8]) {
     }
 }
 
-// A line of 262,144 bytes and its end fit in the store.
+// Answers the lines of standard input. A line of 262,144 bytes and its end fit in the store.
 fn main() {
     let mut input = [0u8; 262145];
     turns(&mut input);

@@ -21,7 +21,7 @@ pub enum Number {
     Malformed,
 }
 
-// The question that a word names.
+// Returns the question that `word` names.
 pub(crate) fn question_of(word: &[u8]) -> Question {
     match line_number(b"write\nread\nstore\nrestore\ntime\nlegacy\nroll\n", word) {
         0 => Question::Write,
@@ -35,7 +35,7 @@ pub(crate) fn question_of(word: &[u8]) -> Question {
     }
 }
 
-// The value of a digit, in lower case as in the answers; 16 for any other sign.
+// Returns the value of the digit `c`, in lower case as in the answers, or 16 for any other sign.
 fn digit(c: u8) -> u8 {
     if c < b'0' {
         return 16;
@@ -61,7 +61,7 @@ fn is_of_base(word: &[u8], base: u8) -> bool {
     true
 }
 
-// The number that `word` names. A word of more than ten digits is malformed: every number that is asked about is shorter.
+// Returns the number that `word` names. A word of more than ten digits is malformed: every number that is asked about is shorter.
 pub(crate) fn number_of(word: &[u8]) -> Number {
     if word.len() == 0 {
         return Number::Malformed;
@@ -91,7 +91,7 @@ pub(crate) fn is_bytes(word: &[u8], unit: usize) -> bool
     is_of_base(word, 16)
 }
 
-// The room that a question names: at most `largest`, with bytes in hexadecimal behind it, a multiple of `unit` digits.
+// Returns the room that `word` names, if it is at most `largest` and `digits` are bytes in hexadecimal, a multiple of `unit` digits.
 pub(crate) fn room_of(word: &[u8], digits: &[u8], unit: usize, largest: usize) -> Number
     requires { ⌜ 0 < unit ⌝ }
 {

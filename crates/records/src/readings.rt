@@ -20,7 +20,7 @@ use samples::encode;
 // The largest target that is asked about, in words: 1 MiB.
 const LARGEST: usize = 524288;
 
-// The number of an answer.
+// Returns the number of `answer`.
 fn number(answer: Coded) -> usize
     ensures { λ r. ⌜ r ≡ codedNumber answer ⌝ }
 {
@@ -31,7 +31,8 @@ fn number(answer: Coded) -> usize
     }
 }
 
-// The 16-bit numbers whose bytes these are, high-order byte first, as many as there is room for.
+// Writes the 16-bit numbers whose bytes are `octets`, high-order byte first, to `words`, as many as there is room for, and returns how
+// many.
 fn words_of(octets: &[u8], words: &mut [u16]) -> usize
     ensures { λ r. ⌜ r ≤ length (now (words .exit)) ⌝ }
 {
@@ -46,7 +47,7 @@ fn words_of(octets: &[u8], words: &mut [u16]) -> usize
     k
 }
 
-// The bytes of 16-bit numbers, as many as there is room for.
+// Writes the bytes of the 16-bit numbers `words` to `octets`, as many as there is room for, and returns how many.
 fn octets_of(words: &[u16], octets: &mut [u8]) -> usize
     ensures { λ r. ⌜ r ≤ length (now (octets .exit)) ⌝ }
 {
@@ -93,7 +94,7 @@ fn show(
     number_and_target(number(answer), &octets[0..n]);
 }
 
-// A question on few words, in stores that are made quickly.
+// Answers a question on few words, in stores that are made quickly.
 fn show_short(is_store: bool, digits: &[u8], room: usize) {
     let mut octets = [0u8; 512];
     let mut words = [0u16; 256];
@@ -101,7 +102,7 @@ fn show_short(is_store: bool, digits: &[u8], room: usize) {
     show(is_store, digits, room, &mut octets, &mut words, &mut store);
 }
 
-// Any question. No line has digits for more than 65,536 words.
+// Answers any question. No line has digits for more than 65,536 words.
 fn show_long(is_store: bool, digits: &[u8], room: usize) {
     let mut octets = [0u8; 1048576];
     let mut words = [0u16; 65536];

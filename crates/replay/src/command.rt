@@ -142,7 +142,7 @@ fn key_of(w: &[u8]) -> Key {
     }
 }
 
-// The settings with which the original starts. The body store holds 1 MiB, so its limit is cut down to that.
+// Returns the options with which the original starts. The body store holds 1 MiB, so the Put limit is cut down to that.
 fn default_options() -> Options {
     Options {
         settings: default_settings(1048576),
@@ -198,8 +198,8 @@ fn is_realm(key: Key) -> bool {
     if let Key::Realm = key { true } else { false }
 }
 
-// Stores the realm's bytes if the setting is a realm, and returns how many there are. The store keeps 1,024 of them, so that a realm of over
-// 254 bytes reaches the engine, which refuses it.
+// Stores the realm's bytes if the setting is a realm, and returns how many there are. The store keeps 1,024 of them, so that a realm of
+// over 254 bytes reaches the engine, which refuses it.
 fn realm(key: Key, w: &[u8], store: &mut [u8]) -> usize {
     if is_realm(key) {
         return unhex(w, store);
@@ -292,7 +292,7 @@ fn read_of(n: usize) -> Call {
     Call::Bytes
 }
 
-// The call of a command that hands over no bytes, by the words behind its name.
+// Returns the call of a command that hands over no bytes, by the words `s` behind its name.
 fn call_alone(c: Command, s: &[u8]) -> Call {
     match c {
         Command::Read => read_of(number(s)),
@@ -302,7 +302,7 @@ fn call_alone(c: Command, s: &[u8]) -> Call {
     }
 }
 
-// The call of a command, by the words behind its name; the bytes of an answer go into `words`.
+// Returns the call of a command, by the words `s` behind its name. The bytes of an answer go into `words`.
 fn decode_answer(c: Command, s: &[u8], words: &mut [u8]) -> Decoded {
     match c {
         Command::Nonce => bare(nonce(s, words)),
@@ -316,7 +316,7 @@ fn is_start(c: Command) -> bool {
     if let Command::Start = c { true } else { false }
 }
 
-// The call of any command. The realm of a start goes into `realm`.
+// Returns the call of any command. The realm of a start goes into `realm`.
 pub(crate) fn decode(c: Command, s: &[u8], words: &mut [u8], realm: &mut [u8]) -> Decoded {
     if is_start(c) {
         return bare(Call::Start(options_of(s, realm)));

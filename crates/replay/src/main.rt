@@ -181,7 +181,7 @@ fn print_shown<'a>(
     with_shown(with_output(s, n), false, false)
 }
 
-// The state after a call that returned `took`: how far the stream is taken, and which call follows.
+// Returns the state after a call that returned `took`: how far the stream is taken, and which call follows.
 fn after_result(s: Replay, took: CallResult) -> Replay {
     let outcome = took.outcome;
     after_call(with_taken(s, took.taken), outcome)
@@ -231,7 +231,7 @@ struct Played {
     state: Replay,
 }
 
-// The state before the first line, with an engine as the original starts it.
+// Returns the state before the first line, with an engine as the original starts it.
 fn begin(
     tables: &mut [u64; 320],
     packet: &mut [u8; 65536],
@@ -358,8 +358,8 @@ fn turn(
     )
 }
 
-// Plays the sessions, from an engine as the original starts it. A proved loop has to end, and nothing says that the input does, so the turns
-// are counted down from a number that no run uses up.
+// Plays the sessions, from an engine as the original starts it. A proved loop has to end, and nothing says that the input does, so the
+// turns are counted down from a number that no run uses up.
 fn play(
     input: &mut [u8; 1048576],
     stream: &mut [u8; 131072],

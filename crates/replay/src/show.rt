@@ -185,7 +185,7 @@ fn put_word(out: &mut [u8], n: usize, w: Word, s: &[u8], tables: &[u64], v: Valu
     }
 }
 
-// The word that a number in hexadecimal is, with the last bytes of sixteen from `from` on.
+// Returns the word for the number `x` in hexadecimal: the last bytes of sixteen, from `from` on.
 fn digits_of(x: u64, from: usize) -> Word {
     Word::Octets {
         octets: Octets16 {
@@ -200,7 +200,7 @@ fn place(start: usize, end: usize) -> Place {
     Place { start, end }
 }
 
-// The word that a letter stands for. `charset` is the byte at the start of the part of the packet store.
+// Returns the word that `letter` stands for. `charset` is the byte at the start of the part of the packet store.
 fn word_of(letter: u8, v: Values, charset: u8) -> Word {
     let octets = v.octets;
     match letter {
@@ -223,7 +223,7 @@ fn word_of(letter: u8, v: Values, charset: u8) -> Word {
     }
 }
 
-// The store of which a letter stands for a part.
+// Returns the store of which `letter` stands for a part.
 fn store_of<'a>(
     letter: u8,
     packet: &'a [u8],
@@ -386,7 +386,7 @@ fn with_number(v: Values, form: usize, x: usize) -> Line {
     Line { form, values }
 }
 
-// A line with a part of a store that starts at `start`.
+// Returns a line with the part of a store from `start` up to `end`.
 fn with_part(v: Values, form: usize, start: usize, end: usize) -> Line {
     let mut values = v;
     values.start = start;
@@ -396,7 +396,7 @@ fn with_part(v: Values, form: usize, start: usize, end: usize) -> Line {
 
 // ---- the lines of requests
 
-// Connect's fields stand before its headers.
+// Returns the line of a Connect, whose fields stand before its headers.
 fn connect(v: Values, length: usize) -> Line {
     let mut values = v;
     values.from = 3;
@@ -438,7 +438,8 @@ fn password(v: Values, user_id: Found) -> Line {
     }
 }
 
-// The realm is its charset and the bytes behind that. It is printed whole.
+// Returns the line of a request for credentials, with the realm if there is one: its charset, and the bytes behind that, which are printed
+// whole.
 fn with_realm(v: Values, realm: Found) -> Line {
     match realm {
         Found::At { start, end } => {
@@ -470,7 +471,7 @@ fn credentials(
     with_realm(values, realm)
 }
 
-// The line of a request. The original makes its nonces itself, so it tells of no request for one.
+// Returns the line of a request. The original makes its nonces itself, so it tells of no request for one.
 fn request_line(v: Values, request: HostRequest) -> Line {
     match request {
         HostRequest::Connect { length } => connect(v, length),
@@ -500,7 +501,7 @@ fn request_line(v: Values, request: HostRequest) -> Line {
 
 // ---- other lines
 
-// The line of what a call returned. `opcode` is the first byte of the packet, whose top bit says whether it is final.
+// Returns the line of what a call returned. `opcode` is the first byte of the packet, whose top bit says whether it is final.
 pub(crate) fn outcome_line(outcome: Outcome, opcode: u8, longest: usize) -> Line {
     let mut v = no_values(longest);
     v.first = flag(opcode >= 128);
@@ -527,7 +528,7 @@ fn with_challenge(v: Values, challenge: Challenge) -> Line {
     }
 }
 
-// The line of the state, or none if `shows` is false.
+// Returns the line of the state, or none if `shows` is false.
 pub(crate) fn state_line(p: Peer, shows: bool) -> Line {
     let mut v = no_values(0);
     if !shows {
@@ -542,7 +543,7 @@ pub(crate) fn state_line(p: Peer, shows: bool) -> Line {
     with_challenge(v, challenge)
 }
 
-// A line with a number and sixteen bytes.
+// Returns a line with the number `x` and sixteen bytes.
 fn with_octets(v: Values, form: usize, x: usize, octets: Octets16) -> Line {
     let mut values = v;
     values.first = x;
@@ -550,7 +551,7 @@ fn with_octets(v: Values, form: usize, x: usize, octets: Octets16) -> Line {
     Line { form, values }
 }
 
-// The line of a Target: its length and its sixteen bytes, or none for the mark.
+// Returns the line of a Target: its length and its sixteen bytes, or the word none for the mark.
 fn named_line(v: Values, target: Target) -> Line {
     if is_named(target) {
         let bytes = target.bytes;
@@ -562,7 +563,7 @@ fn named_line(v: Values, target: Target) -> Line {
     }
 }
 
-// The line of the Target that a request names. There is none without a request, or if `shows` is false.
+// Returns the line of the Target that a request names. There is none without a request, or if `shows` is false.
 pub(crate) fn target_line(outcome: Outcome, target: Target, shows: bool) -> Line {
     let v = no_values(0);
     if !shows {
@@ -574,7 +575,7 @@ pub(crate) fn target_line(outcome: Outcome, target: Target, shows: bool) -> Line
     }
 }
 
-// The line of the stores as far as they are lent.
+// Returns the line of the stores as far as they are lent.
 fn stores_line(lent: Lent) -> Line {
     let mut v = no_values(0);
     v.start = lent.packet;
@@ -587,7 +588,7 @@ fn stores_line(lent: Lent) -> Line {
     }
 }
 
-// The line of what only the port's state has: the window over the last 64 checks of passwords, and how many nonces are remembered.
+// Returns the line of what only the port's state has: the window over the last 64 checks of passwords, and how many nonces are remembered.
 fn own_line(p: Peer) -> Line {
     let mut v = no_values(0);
     v.window = p.window;
@@ -598,7 +599,7 @@ fn own_line(p: Peer) -> Line {
     }
 }
 
-// The line that is to be shown, or none.
+// Returns the line that is to be shown, or none.
 pub(crate) fn shown_line(lent: Lent, shown: Shown, p: Peer) -> Line {
     if shown.stores {
         return stores_line(lent);

@@ -95,7 +95,7 @@ pub(crate) fn bare(call: Call) -> Decoded {
     }
 }
 
-// The state before the first line.
+// Returns the state before the first line.
 pub(crate) fn begun() -> Replay {
     Replay {
         due: bare(Call::Nothing),
@@ -112,12 +112,14 @@ pub(crate) fn begun() -> Replay {
     }
 }
 
+// Returns the state with `n` bytes of output collected.
 pub(crate) fn with_output(s: Replay, n: usize) -> Replay {
     let mut r = s;
     r.n = n;
     r
 }
 
+// Returns the state with the next line at `at` of the input store, which is filled up to `end`.
 pub(crate) fn with_lines(s: Replay, at: usize, end: usize) -> Replay {
     let mut r = s;
     let lines = Lines { at, end };
@@ -125,20 +127,21 @@ pub(crate) fn with_lines(s: Replay, at: usize, end: usize) -> Replay {
     r
 }
 
-// The state after a read of standard input, which has ended if it gave no bytes.
+// Returns the state after a read of standard input. `over` says that the input has ended, since the read gave no bytes.
 pub(crate) fn with_input(s: Replay, end: usize, over: bool) -> Replay {
     let mut r = with_lines(s, 0, end);
     r.over = over;
     r
 }
 
+// Returns the state with the call that is due.
 pub(crate) fn with_due(s: Replay, due: Decoded) -> Replay {
     let mut r = s;
     r.due = due;
     r
 }
 
-// A start brings its own realm; before any other call the realm stays.
+// Returns the state with the realm of the call that is due: a start brings its own, and before any other call the realm stays.
 pub(crate) fn with_realm(s: Replay) -> Replay {
     let due = s.due;
     let call = due.call;
@@ -168,7 +171,7 @@ fn with_stream(s: Replay, stream: Stream) -> Replay {
     r
 }
 
-// The state after the engine has taken `n` bytes.
+// Returns the state after the engine has taken `n` bytes.
 pub(crate) fn with_taken(s: Replay, n: usize) -> Replay {
     let stream = s.stream;
     with_stream(
@@ -181,7 +184,8 @@ pub(crate) fn with_taken(s: Replay, n: usize) -> Replay {
     )
 }
 
-// The printed digits of a byte string, two for each byte, have to fit beside a line's other words into half of the output store.
+// Returns the state in which byte strings of up to `n` bytes are printed whole, but of no more than 100,000: their digits, two for each
+// byte, have to fit beside a line's other words into half of the output store.
 fn with_longest(s: Replay, n: usize) -> Replay {
     let mut r = s;
     r.longest = least(n, 100000);
@@ -194,7 +198,7 @@ fn with_hold(s: Replay) -> Replay {
     r
 }
 
-// The state with what is to be printed.
+// Returns the state with what is to be printed.
 pub(crate) fn with_shown(s: Replay, stores: bool, own: bool) -> Replay {
     let mut r = s;
     let shown = Shown { stores, own };
@@ -202,7 +206,7 @@ pub(crate) fn with_shown(s: Replay, stores: bool, own: bool) -> Replay {
     r
 }
 
-// The state at a start: the peer has sent nothing yet, and every store is lent whole.
+// Returns the state at a start: the peer has sent nothing yet, and every store is lent whole.
 fn fresh(s: Replay) -> Replay {
     let mut r = s;
     r.stream = no_bytes();
@@ -232,7 +236,7 @@ fn lent_of(w: &[u8]) -> Lent {
     }
 }
 
-// The state with as much of the stores lent as `w` says. A line that `show` printed is no command.
+// Returns the state with as much of the stores lent as `w` says. A line that `show` printed is no command.
 fn with_lent(s: Replay, w: &[u8]) -> Replay {
     if byte_at(w, 0) == b'#' {
         return s;
@@ -242,7 +246,7 @@ fn with_lent(s: Replay, w: &[u8]) -> Replay {
     r
 }
 
-// The state after the engine's host has read `n` bytes more.
+// Returns the state after the engine's host has read `n` bytes more.
 fn with_read(s: Replay, n: usize) -> Replay {
     let stream = s.stream;
     with_stream(
@@ -260,7 +264,8 @@ pub(crate) fn minus(a: usize, b: usize) -> usize {
     if a < b { 0 } else { a - b }
 }
 
-// The state after the peer has sent a piece. It goes behind the bytes that the engine has not taken, which move to the front.
+// Returns the state after the peer has sent a piece. The piece goes behind the bytes that the engine has not taken, which move to the
+// front.
 fn with_sent(s: Replay, w: &[u8], store: &mut [u8]) -> Replay {
     let stream = s.stream;
     let end = least(stream.sent, store.len());
@@ -277,7 +282,7 @@ fn with_sent(s: Replay, w: &[u8], store: &mut [u8]) -> Replay {
     )
 }
 
-// What a command changes that sends nothing.
+// Returns the state with what a command changes that sends nothing, by the words `w` behind its name.
 fn settled_alone(s: Replay, c: Command, w: &[u8]) -> Replay {
     match c {
         Command::Read => with_read(s, number(w)),
@@ -295,7 +300,7 @@ fn is_sent(c: Command) -> bool {
     if let Command::Sent = c { true } else { false }
 }
 
-// What a command changes before its call, by the words `w` behind its name.
+// Returns the state with what a command changes before its call, by the words `w` behind its name.
 pub(crate) fn settled(s: Replay, c: Command, w: &[u8], store: &mut [u8]) -> Replay {
     if is_sent(c) {
         return with_sent(s, w, store);
@@ -335,7 +340,7 @@ fn next_call(s: Replay, outcome: Outcome) -> Call {
     }
 }
 
-// The state after a call, with the call that follows.
+// Returns the state after a call, with the call that follows.
 pub(crate) fn after_call(s: Replay, outcome: Outcome) -> Replay {
     let due = s.due;
     let call = next_call(s, outcome);

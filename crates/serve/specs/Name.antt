@@ -6,14 +6,15 @@ use lib.Dec.{eqb, ltb}
 use lib.ListN.{length, getD}
 use Rattle.base.specs.Pick.{pick}
 
--- a byte of a name: neither a zero nor a separator
+-- Whether a byte may stand in a name: it is neither a zero nor a separator.
 unfoldable pub part : ℕ → Bool
 part b = pick (eqb b 0) false (pick (eqb b 47) false true)
 
+-- Whether all bytes may stand in a name.
 unfoldable pub plain : List ℕ → Bool
 plain [] = true
 plain (b ∷ s) = pick (part b) (plain s) false
 
--- one to 255 plain bytes, of which the first is no dot
+-- Whether the bytes are a name that is served: one to 255 plain bytes, of which the first is no dot.
 unfoldable pub fileName : List ℕ → Bool
 fileName s = pick (eqb (length s) 0) false (pick (ltb 255 (length s)) false (pick (eqb (getD s 0 0) 46) false (plain s)))

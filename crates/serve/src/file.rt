@@ -25,7 +25,7 @@ const ENXIO: i32 = 6;
 
 const ETXTBSY: i32 = 26;
 
-// The first n bytes, or all if there are fewer.
+// Returns the first `n` bytes of `s`, or all if there are fewer.
 pub(crate) fn front(s: &[u8], n: usize) -> &[u8] {
     if n <= s.len() { &s[0..n] } else { s }
 }
@@ -37,7 +37,7 @@ fn keeps() -> bool {
     os::arg_count() > 1
 }
 
-// Writes all of it, readable as other files are, and returns whether it is on the disk.
+// Writes `bytes` to the file `fd`, readable as other files are, and closes it. Returns whether they are all on the disk.
 fn filled(fd: i32, bytes: &[u8]) -> bool {
     libc::fchmod(fd, 0o644);
     if io::write_all(fd, bytes) {
@@ -54,8 +54,8 @@ fn filled(fd: i32, bytes: &[u8]) -> bool {
     false
 }
 
-// Returns whether the folder itself is on the disk, so that a name that was given in it stays. A file system that has no such thing says so,
-// and then nothing more can be done.
+// Returns whether the folder itself is on the disk, so that a name that was given in it stays. A file system that has no such thing says
+// so, and then nothing more can be done.
 fn is_folder_synced(folder: Folder) -> bool {
     let mut path = [0u8; LONGEST];
     let n = join(folder, b".", &mut path);
@@ -90,7 +90,7 @@ fn reserved(folder: Folder, name: &[u8]) -> u8
     INTERNAL_SERVER_ERROR
 }
 
-// Gives a whole file its name.
+// Gives a whole file its name, and returns the code of the reply.
 fn renamed(folder: Folder, from: &[u8], name: &[u8]) -> u8
     requires { ⌜ fileName (now name) ≡ true ⌝ }
 {
@@ -140,7 +140,8 @@ fn named(folder: Folder, from: &[u8], name: &[u8]) -> u8
     renamed(folder, from, name)
 }
 
-// Writes a new file whose path is `temporary`, of which `os::create_temp` replaces the end, and gives it its name. Gives the code of the reply.
+// Writes a new file whose path is `temporary`, of which `os::create_temp` replaces the end, and gives it its name. Gives the code of the
+// reply.
 fn write_as(folder: Folder, temporary: &mut [u8], name: &[u8], bytes: &[u8]) -> u8
     requires { ⌜ fileName (now name) ≡ true ⌝ }
 {
@@ -161,8 +162,8 @@ fn write_as(folder: Folder, temporary: &mut [u8], name: &[u8], bytes: &[u8]) -> 
     INTERNAL_SERVER_ERROR
 }
 
-// Writes under another name first, so that no half of a file is ever seen and a link is replaced. Nobody can ask for that name. It carries
-// the number of this process, by which the next start knows whose it was. Gives the code of the reply.
+// Writes under another name first, so that no half of a file is ever seen and a link is replaced. Nobody can ask for that name, which
+// carries the number of this process, so that the next start knows whose the file was. Gives the code of the reply.
 fn write(folder: Folder, name: &[u8], bytes: &[u8]) -> u8
     requires { ⌜ fileName (now name) ≡ true ⌝ }
 {
@@ -172,7 +173,7 @@ fn write(folder: Folder, name: &[u8], bytes: &[u8]) -> u8
     write_as(folder, &mut temporary[0..n], name, bytes)
 }
 
-// Gives the code of the reply.
+// Writes `bytes` to the file `name`, unless no file may have that name. Gives the code of the reply.
 fn write_named(folder: Folder, name: &[u8], bytes: &[u8]) -> u8 {
     if is_file_name(name) {
         return write(folder, name, bytes);
@@ -180,7 +181,7 @@ fn write_named(folder: Folder, name: &[u8], bytes: &[u8]) -> u8 {
     FORBIDDEN
 }
 
-// A Put's body goes to the file of its Name.
+// Writes a Put's body to the file of its Name. Gives the code of the reply.
 fn put(folder: Folder, headers: &[u8], bytes: &[u8]) -> u8 {
     let mut store = [0u8; 255];
     let n = name_in(headers, &mut store);
@@ -191,7 +192,8 @@ fn put(folder: Folder, headers: &[u8], bytes: &[u8]) -> u8 {
     code
 }
 
-// By convention a Put without a body asks for the file to be removed. That is not done here.
+// Stores the body of a Put, and gives the code of the reply. By convention a Put without a body asks for the file to be removed,
+// which the program does not do.
 pub(crate) fn put_body(folder: Folder, headers: &[u8], content: Body, body: &[u8]) -> u8 {
     match content {
         Body::Bytes(n) => put(folder, headers, front(body, n)),

@@ -19,7 +19,8 @@ fn write(out: &[u8], n: usize) {
     io::write_all(STDERR_FILENO, front(out, n));
 }
 
-// A peer names its files, and no control character of theirs goes to a terminal. Behind 0xC2 stand U+0080 to U+009F.
+// Returns the sign by which the log shows the byte `b`, which stands behind `before`. A peer names its files, and no control character of
+// theirs goes to a terminal. Behind 0xC2 stand U+0080 to U+009F.
 fn shown(before: u8, b: u8) -> u8 {
     if b < 32 {
         return b'?';
@@ -48,7 +49,7 @@ fn put_text(out: &mut [u8], n: usize, s: &[u8]) -> usize {
     at
 }
 
-// What became of it, by the code of the reply.
+// Puts what became of a request, by the code of the reply.
 fn put_code(out: &mut [u8], n: usize, code: u8) -> usize {
     match code {
         FORBIDDEN => output::put(out, n, b" refused 43"),
@@ -60,7 +61,7 @@ fn put_code(out: &mut [u8], n: usize, code: u8) -> usize {
     }
 }
 
-// The size of what was written.
+// Puts the size of what was written, if the reply is Success.
 fn put_size(out: &mut [u8], n: usize, size: usize, code: u8) -> usize {
     if code == SUCCESS {
         let a = output::put(out, n, b" ");
@@ -70,6 +71,7 @@ fn put_size(out: &mut [u8], n: usize, size: usize, code: u8) -> usize {
     n
 }
 
+// Tells of a Put of `size` bytes to the file `name`, by the code of the reply.
 pub(crate) fn put(name: &[u8], size: usize, code: u8) {
     let mut out = [0u8; 400];
     let a = output::put(&mut out, 0, b"put ");
@@ -87,6 +89,7 @@ fn code_of(opened: Opened) -> u8 {
     }
 }
 
+// Tells of a Get of the file `name`, and why it could not be opened, if so.
 pub(crate) fn get(name: &[u8], opened: Opened) {
     let mut out = [0u8; 400];
     let a = output::put(&mut out, 0, b"get ");
@@ -96,7 +99,7 @@ pub(crate) fn get(name: &[u8], opened: Opened) {
     write(&out, n);
 }
 
-// A file whose bytes could not be read on.
+// Tells of a file whose bytes could not be read on.
 pub(crate) fn get_failed() {
     os::fail(b"read");
     io::write_all(STDERR_FILENO, b"get failed 50\n");
@@ -117,8 +120,8 @@ fn line_of(opcode: u8) -> usize {
     }
 }
 
-// A reply that the engine gave without asking: a Put over the limit, a packet that cannot be read. `opcode` is the packet's first byte, `code`
-// the reply's. That a Put may go on is no news.
+// Tells of a reply that the engine gave without asking, such as that to a Put over the limit or to a packet that cannot be read. `opcode`
+// is the packet's first byte, `code` the reply's. Continue and Success are no news.
 pub(crate) fn own_reply(opcode: u8, code: u8) {
     if code == CONTINUE_BYTE {
         return;
@@ -135,7 +138,7 @@ pub(crate) fn own_reply(opcode: u8, code: u8) {
     write(&out, n);
 }
 
-// An operation that was open when the session ended. Nothing is stored of a Put that is cut off.
+// Tells of a Put or a Get that was open when the session ended. Nothing is stored of a Put that is cut off.
 pub(crate) fn cut_off(operation: Operation) {
     match operation {
         Operation::Putting { .. } => {
@@ -148,7 +151,7 @@ pub(crate) fn cut_off(operation: Operation) {
     }
 }
 
-// A request by its name alone.
+// Tells of a request by its name alone.
 pub(crate) fn request(request: HostRequest) {
     let mut out = [0u8; 32];
     let a = put_name(&mut out, 0, request);
@@ -156,6 +159,7 @@ pub(crate) fn request(request: HostRequest) {
     write(&out, n);
 }
 
+// Tells with which number the session ended.
 pub(crate) fn end(number: u8) {
     let mut out = [0u8; 16];
     let a = output::put(&mut out, 0, b"end ");

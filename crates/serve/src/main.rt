@@ -34,7 +34,7 @@ struct Serving {
     lost: bool,
 }
 
-// The settings are the original's, with Single Response Mode (SRM), and with records of 1 MiB at most.
+// Returns the original's settings, with Single Response Mode (SRM), and with records of 1 MiB at most.
 fn settings() -> Settings {
     let mut s = default_settings(1048576);
     s.srm_supported = true;
@@ -164,8 +164,8 @@ fn end_of(s: Serving) -> u8 {
     over(outcome)
 }
 
-// Serves one session. A proved loop has to end, and nothing says that the input does, so the turns are counted down from a number that no run
-// uses up.
+// Serves one session. A proved loop has to end, and nothing says that the input does, so the turns are counted down from a number that no
+// run uses up.
 fn serve(
     input: &mut [u8; INPUT],
     chunk: &mut [u8; CHUNK],

@@ -18,7 +18,7 @@ fn stored(done: text::Decoded, len: usize) -> usize
     }
 }
 
-// The text of the first Name at the front of the store. None if it is missing, or longer than the store.
+// Puts the text of the first Name at the front of `store`, and returns its length: 0 if the Name is missing, or longer than the store.
 pub(crate) fn name_in(headers: &[u8], store: &mut [u8]) -> usize
     ensures { λ r. ⌜ r ≤ length (now (store .exit)) ⌝ }
 {
@@ -35,7 +35,7 @@ pub(crate) fn name_in(headers: &[u8], store: &mut [u8]) -> usize
     stored(done, store.len())
 }
 
-// Neither a zero nor a separator.
+// Whether `b` is neither a zero nor a separator.
 fn is_part(b: u8) -> bool
     ensures { λ r. ⌜ r ≡ part b ⌝ }
 {
@@ -62,7 +62,7 @@ fn is_plain(s: &[u8]) -> bool
     true
 }
 
-// Whether it may name a file here.
+// Whether `s` may name a file here.
 pub(crate) fn is_file_name(s: &[u8]) -> bool
     ensures { λ r. ⌜ r ≡ fileName (now (s .entry)) ⌝ }
 {

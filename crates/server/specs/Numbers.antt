@@ -10,6 +10,7 @@ use Rattle.server.specs.declared.End.the-variants as end
 use Rattle.server.specs.declared.Refusal.{Refusal}
 use Rattle.server.specs.declared.Refusal.the-variants as refusal
 
+-- The number of an end (docs/PROTOCOL.md#ends).
 abbrev pub endNumber : End → ℕ
 endNumber end.Disconnected = 1
 endNumber end.Truncated = 2
@@ -19,6 +20,7 @@ endNumber end.OtherOperation = 5
 endNumber end.HeadersTooLarge = 6
 endNumber end.ReplyTooLarge = 7
 
+-- The number of a refusal (docs/PROTOCOL.md#refusals).
 abbrev pub refusalNumber : Refusal → ℕ
 refusalNumber refusal.BadAnswer = 8
 refusalNumber refusal.WrongMoment = 9

@@ -4,8 +4,8 @@ use mathlib.Core.Bool.{Bool, false}
 use Rattle.packet.specs.Limits.{maxPacket}
 use Rattle.server.specs.declared.Settings.{Settings}
 
--- The source's settings, but for the Put limit, and for whether the engine refuses what trails a Put that was too long, which the source does
--- not know.
+-- The source's settings, but for the Put limit, and for whether the engine refuses what trails a Put that was too long, which the source
+-- does not know.
 abbrev pub settingsWith : ℕ → Bool → Settings
 settingsWith limit refuse =
     record {

@@ -28,7 +28,7 @@ pub struct Settings {
     pub refuse_trailing: bool,
 }
 
-// The source's settings, but for the Put limit: the host chooses `max_object_size`, since it must lend a body store of that length.
+// Returns the source's settings, but for the Put limit: the host chooses `max_object_size`, since it must lend a body store of that length.
 pub fn default_settings(max_object_size: u32) -> Settings
     ensures { λ r. ⌜ r ≡ defaultSettings «max_object_size» ⌝ }
 {
@@ -269,7 +269,7 @@ pub struct CallResult {
     pub outcome: Outcome,
 }
 
-// The number of `end`, for logs and for the bench.
+// Returns the number of `end` (docs/PROTOCOL.md#ends), which logs and the C interface give instead of its name.
 pub fn end_number(end: End) -> u8
     ensures { λ r. ⌜ r ≡ endNumber end ⌝ }
 {
@@ -284,7 +284,7 @@ pub fn end_number(end: End) -> u8
     }
 }
 
-// The number of `refusal`, for logs and for the bench.
+// Returns the number of `refusal` (docs/PROTOCOL.md#refusals), which logs and the C interface give instead of its name.
 pub fn refusal_number(refusal: Refusal) -> u8
     ensures { λ r. ⌜ r ≡ refusalNumber refusal ⌝ }
 {
@@ -299,7 +299,7 @@ pub fn refusal_number(refusal: Refusal) -> u8
     }
 }
 
-// The number of what the engine waits for in `a`. Two such things are told apart by it.
+// Returns the number of `a`, what the engine waits for. Two such things are told apart by it.
 pub fn await_number(a: Await) -> u8
     ensures { λ r. ⌜ r ≡ awaitNumber a ⌝ }
 {

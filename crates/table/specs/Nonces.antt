@@ -44,6 +44,7 @@ remembered n t = joined (take n (drop firstHalves t)) (take n (drop secondHalves
 abbrev pub nonceAt : List ℕ → ℕ → Octets16
 nonceAt t i = record { first = getD t (firstHalves + i) 0; second = getD t (secondHalves + i) 0 }
 
+-- Whether two nonces are the same, in both halves.
 abbrev pub sameNonce : Octets16 → Octets16 → Bool
 sameNonce a b = eqb (a .first) (b .first) && eqb (a .second) (b .second)
 

@@ -17,10 +17,11 @@ secondHalves = 96
 abbrev pub targetLengths : ℕ
 targetLengths = 128
 
--- Where the first and the second eight bytes of the Targets begin.
+-- Where the first eight bytes of the Targets begin.
 abbrev pub targetFirsts : ℕ
 targetFirsts = 192
 
+-- Where the second eight bytes of the Targets begin.
 abbrev pub targetSeconds : ℕ
 targetSeconds = 256
 

@@ -1,5 +1,5 @@
--- The Targets of the open ids (docs/PROTOCOL.md#targets), in three columns of the table store. Beside the id at place `i` stand the length of
--- its Target, which is over 16 for the mark, and the two halves of its sixteen bytes, filled up with zeros.
+-- The Targets of the open ids (docs/PROTOCOL.md#targets), in three columns of the table store. Beside the id at place `i` stand the length
+-- of its Target, which is over 16 for the mark, and the two halves of its sixteen bytes, filled up with zeros.
 use Prim.Native.Nat.{ℕ, suc, _+_, _-_}
 use mathlib.Core.Bool.{Bool}
 use mathlib.Core.List.{List, [], _∷_, _++_}
@@ -19,6 +19,7 @@ maxTarget = 16
 
 -- ---- a Target
 
+-- Makes a `Target`.
 abbrev pub target : ℕ → Octets16 → Target
 target n b = record { length = n; bytes = b }
 
@@ -26,6 +27,7 @@ target n b = record { length = n; bytes = b }
 abbrev pub unnamed : Target
 unnamed = target 17 (record { first = 0; second = 0 })
 
+-- Whether a Target is not the mark.
 unfoldable pub isNamed : Target → Bool
 isNamed g = leb (g .length) maxTarget
 

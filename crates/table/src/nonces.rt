@@ -1,5 +1,5 @@
-// The nonces that the engine took last (docs/PROTOCOL.md#nonces): the latest stands in front, and the oldest of 32 falls out. The source has
-// no such rule.
+// The nonces that the engine took last (docs/PROTOCOL.md#nonces): the latest stands in front, and the oldest of 32 falls out. The source
+// has no such rule.
 ghost use mathlib.Core.Path.{_≡_};
 ghost use Prim.Native.Nat.{_≤_, _<_};
 ghost use lib.ListN.{length};

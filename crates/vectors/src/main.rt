@@ -11,7 +11,7 @@ fn put_byte(b: u8) {
     io::write_all(STDOUT_FILENO, &two);
 }
 
-// A line of bytes in hexadecimal, or a dash.
+// Puts a line of bytes in hexadecimal, or a dash if there are none.
 fn put_line(s: &[u8]) {
     if s.len() == 0 {
         io::write_all(STDOUT_FILENO, b"-");
@@ -35,7 +35,7 @@ fn put_text(done: text::Decoded, s: &[u8]) {
     }
 }
 
-// By the word's length: md5, utf8, utf16 or encode16.
+// Answers a question whose word has the length `word`, by which md5, utf8, utf16 and encode16 differ.
 fn answer(word: usize, s: &[u8]) {
     let mut store = [0u8; 8192];
     if word == 3 {
