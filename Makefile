@@ -1,11 +1,14 @@
-.PHONY: help run test check serve interop faults oracle compare planted perf mutants rust rust-perf
+.PHONY: help try run test check backends serve interop faults oracle compare planted perf mutants rust rust-perf
 
-# Bare `make` says what there is, and runs nothing. The times are those of two cores; what is proved stays proved until a file changes.
+# Bare `make` says what there is, and runs nothing. The times are those of two cores with nothing else to do; what is proved stays proved until
+# a file changes.
 help:
 	@echo 'command        what it does                                                            needs                  about'
-	@echo 'make run       proves the bench and plays a session through the engine, line by line   Rattle (rt), python3   10 minutes, then at once'
+	@echo 'make try       plays a session through the engine, line by line, without a proof       Rattle (rt), python3   10 seconds'
+	@echo 'make run       proves the bench, and plays the same session                            Rattle, python3        10 minutes, then at once'
 	@echo 'make test      the gate: proves all from nothing, refuses wrong programs, runs all     Rattle, python3        30 minutes'
-	@echo 'make check     what needs no prover: trace, edits, contracts, stored sessions          python3                5 seconds'
+	@echo 'make check     what needs no prover: documents, trace, edits, contracts, sessions      python3                5 seconds'
+	@echo 'make backends  every program compiled in three ways and interpreted, compared          Rattle, python3        3 minutes'
 	@echo 'make serve     a server of the files in a folder: DIR=./served PORT=6500               Rattle, python3        10 minutes, then at once'
 	@echo 'make faults    that server with slow and full disks, kills, many and silent clients    Rattle, cc, root       12 minutes, then 2'
 	@echo 'make interop   stock clients put and get files at that server                          Rattle, root, Debian   11 minutes, then 1'
@@ -14,8 +17,17 @@ help:
 	@echo 'make planted   the sessions tell wrong readings of the papers apart                    the oracle             half an hour'
 	@echo 'make perf      throughput of port and original in one run                              the oracle, openssl    10 minutes, then 3'
 	@echo 'make mutants   the wrong programs that are not in the gate, NAME=crate for one crate   Rattle, python3        1 to 2 hours; goes on where it stopped'
-	@echo 'make rust      the engine for Rust and C: its archive, tests, sessions through both    Rattle, cargo, cc      12 minutes, then 1'
+	@echo 'make rust      the engine for Rust and C: its archive, tests, sessions through both    Rattle, cargo, cc      12 minutes, then 4'
 	@echo 'make rust-perf throughput of both servers through one Rust API, after make rust        cargo                  1 minute'
+
+# Plays the example session through the bench without proving anything, in four ways, and prints what it wrote.
+try:
+	@tools/backends --show record
+
+# What the compiler makes beside what the language says: every program on its stored input, and the sessions of the bench. Last line:
+# 'backends: N runs as stored, M that the interpreter cannot make, 0 not ended in time, 0 different'.
+backends:
+	@tools/backends
 
 # Proves what is needed, then plays the example session through the bench. Only the session goes to standard output.
 run:
@@ -28,9 +40,9 @@ test: export RT_JOBS ?= 3
 test:
 	@tools/progress ci
 
-# The repository agrees with itself: the trace names what there is, every edit applies to its file, every public function has a contract, the
-# documented table of first bytes is the code's, the stored sessions are as they are made, and as far as bench and oracle are built as these
-# do them.
+# The repository agrees with itself: documents and trace name what there is, quoted code is the tree's, the style of code and proofs gets no
+# worse, every edit applies to its file, every public function has a contract, the documented table of first bytes is the code's, the stored
+# sessions are as they are made, and as far as bench and oracle are built as these do them.
 check:
 	@tools/check-all
 

@@ -1,5 +1,5 @@
 #!/usr/bin/env python3
-"""questions: what make-leaves and compare-leaves share. Parts of questions for the program of crates/codec (headers, tag lists and packets,
+"""questions: what make-codec and compare-codec share. Parts of questions for the program of crates/codec (headers, tag lists and packets,
 valid and damaged), and the original's answers to questions, in the words of that program. Needs `make oracle` first.
 
 Usage: tools/questions.py <QUESTIONS    prints the original's answer to each line

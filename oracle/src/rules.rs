@@ -1,4 +1,4 @@
-//! What the rules of the engine lead to, as `oracle cover` counts it: document 01's Engine
+//! What the rules of the engine lead to, as `oracle cover` counts it: the scope's Engine
 //! section and the places where it can be read in another way.
 
 use crate::auth::{DigestChallenge, DigestResponse};

@@ -42,7 +42,7 @@ void obex_engine_stream_ended(uint64_t *words, OBEX_STORES);
 void obex_engine_reply_taken(uint64_t *words, OBEX_STORES);
 void obex_engine_reply_given(uint64_t *words, uint8_t code, const uint8_t *header_bytes, size_t length, uint64_t *tables, size_t tables_length, OBEX_STORES);
 void obex_engine_object_given(uint64_t *words, const uint8_t *header_bytes, size_t length, bool has_body, OBEX_STORES);
-void obex_engine_body_given(uint64_t *words, const uint8_t *d, size_t length, OBEX_STORES);
+void obex_engine_body_given(uint64_t *words, const uint8_t *bytes, size_t length, OBEX_STORES);
 void obex_engine_body_failed(uint64_t *words, OBEX_STORES);
 void obex_engine_abort_acknowledged(uint64_t *words, OBEX_STORES);
 void obex_engine_password_given(uint64_t *words, bool has_password, const uint8_t *password, size_t length, OBEX_STORES);
