@@ -4,9 +4,9 @@ use check::same;
 use digest::md5;
 use digest::md5::Octets16;
 use libc::STDOUT_FILENO;
-use lines::input::keep;
-use lines::input::read;
-use lines::input::whole;
+use lines::input::before_first;
+use lines::input::bytes_of;
+use lines::input::next_line;
 use lines::output::digits;
 use lines::output::pair;
 use lines::word::after;
@@ -942,7 +942,12 @@ fn line_long(s: &[u8]) {
     words(s, &mut a, &mut b, &mut c, &mut d);
 }
 
-fn line(s: &[u8]) {
+// Answers one line.
+fn line(s: &[u8], is_cut: bool) {
+    if is_cut {
+        put(b"bad question\n");
+        return;
+    }
     let group = find(s, 0, b'*');
     if s.len() < 2000 {
         if group == s.len() {
@@ -953,46 +958,23 @@ fn line(s: &[u8]) {
     line_long(s);
 }
 
-// Answers the lines of `s`, all of which are whole.
-fn lines_of(s: &[u8]) {
-    let mut at = 0;
-    while at < s.len() {
-        let end = find(s, at, b'\n');
-        line(&s[at..end]);
-        at = end + 1;
-    }
-}
-
-// Reads on behind what stands in the store, answers, and gives how much is left, or the store's length if the input has ended.
-fn turn(s: &mut [u8], have: usize) -> usize
-    requires { ⌜ have ≤ length (now s) ⌝ }
-    ensures { λ r. ⌜ r ≤ length (now (s .exit)) ⌝ }
-{
-    let n = read(&mut s[have..]);
-    if n == 0 {
-        return s.len();
-    }
-    let end = have + n;
-    let from = whole(&s[0..end]);
-    lines_of(&s[0..from]);
-    keep(s, from, end)
-}
-
-// Takes turns until the input ends. A proved loop has to end, and nothing says that the input does, so the turns are counted down, from a
-// number that no run uses up.
-fn turns(s: &mut [u8]) {
-    let mut left = u64::MAX;
-    let mut have = 0;
-    while left > 0 {
-        have = turn(s, have);
-        if have == s.len() {
+// Answers the lines of standard input, which is read into `s`. A line that is longer than the store is no question.
+fn lines_of(s: &mut [u8]) {
+    let mut steps = u64::MAX;
+    let mut at = before_first();
+    while steps > 0 {
+        at = next_line(s, at);
+        if at.is_over {
             return;
         }
-        left -= 1;
+        if at.is_there {
+            line(bytes_of(s, at), at.is_cut);
+        }
+        steps -= 1;
     }
 }
 
 fn main() {
     let mut input = [0u8; 300000];
-    turns(&mut input);
+    lines_of(&mut input);
 }

@@ -1,7 +1,9 @@
 // Answers stored questions, a line each: a word and bytes in hexadecimal. What it writes is compared with the original's answers.
 use digest::md5;
-use libc::STDIN_FILENO;
 use libc::STDOUT_FILENO;
+use lines::input::before_first;
+use lines::input::bytes_of;
+use lines::input::next_line;
 use lines::output::pair;
 use lines::word::find;
 use lines::word::unhex;
@@ -57,7 +59,11 @@ fn answer(word: usize, s: &[u8]) {
     put_text(done, &store);
 }
 
-fn line(s: &[u8]) {
+// Answers one line.
+fn line(s: &[u8], is_cut: bool) {
+    if is_cut {
+        return;
+    }
     let gap = find(s, 0, b' ');
     if gap < s.len() {
         let mut bytes = [0u8; 2048];
@@ -67,17 +73,23 @@ fn line(s: &[u8]) {
     }
 }
 
-fn lines_of(s: &[u8]) {
-    let mut at = 0;
-    while at < s.len() {
-        let end = find(s, at, b'\n');
-        line(&s[at..end]);
-        at = end + 1;
+// Answers the lines of standard input, which is read into `s`. A line that is longer than the store has no answer.
+fn lines_of(s: &mut [u8]) {
+    let mut steps = u64::MAX;
+    let mut at = before_first();
+    while steps > 0 {
+        at = next_line(s, at);
+        if at.is_over {
+            return;
+        }
+        if at.is_there {
+            line(bytes_of(s, at), at.is_cut);
+        }
+        steps -= 1;
     }
 }
 
 fn main() {
     let mut input = [0u8; 65536];
-    let n = io::read_full(STDIN_FILENO, &mut input);
-    lines_of(&input[0..n]);
+    lines_of(&mut input);
 }

@@ -4,14 +4,14 @@ use Rattle.lines.proofs.Filled.{filled}
 use Rattle.codec.proofs.main.Statement.{statement}
 use Rattle.codec.proofs.main.Tie as tie
 
-slice-aggregate-turns : tie.Need-slice-aggregate-turns
-slice-aggregate-turns c = filled 300000 0
+slice-aggregate-lines-of : tie.Need-slice-aggregate-lines-of
+slice-aggregate-lines-of c = filled 300000 0
 
-turns-requires : tie.Need-turns-requires
-turns-requires c κs = search needs
+lines-of-requires : tie.Need-lines-of-requires
+lines-of-requires c κs = search needs
 
 returns : tie.Need-returns
 returns c = search needs
 
 pub main-spec : {M : Type 1} → statement M
-main-spec = tie.close (tie.spec slice-aggregate-turns turns-requires returns)
+main-spec = tie.close (tie.spec slice-aggregate-lines-of lines-of-requires returns)

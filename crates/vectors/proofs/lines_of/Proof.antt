@@ -1,36 +1,39 @@
--- `vectors::lines_of` goes on past each line. Assumes nothing.
+-- `vectors::lines_of` meets its contract: the steps are counted down, and no step changes the store's length. Assumes nothing.
 use borrow.Author.Needs.{needs}
-use Prim.Native.Nat.{_-_}
+use mathlib.Core.Path.{_≡_}
 use lib.ListN.{length}
 use Rattle.vectors.proofs.lines_of.Statement.{statement}
 use Rattle.vectors.proofs.lines_of.Tie as tie
 
 abbrev Inv-loop : tie.InvT-loop
-Inv-loop s at₀ at = Unit {0}
+Inv-loop s₀ steps₀ at₀ s steps at = length s ≡ length s₀
 
 abbrev μ-loop : tie.MeasureT-loop
-μ-loop s at₀ at = length s - at
+μ-loop s₀ steps₀ at₀ s steps at = steps
+
+before-first-requires : tie.Need-before-first-requires Inv-loop μ-loop
+before-first-requires c κs = search needs
 
 loop-holds : tie.Need-loop-holds Inv-loop μ-loop
 loop-holds c = search needs
 
-find-requires : tie.Need-find-requires Inv-loop μ-loop
-find-requires c κs = search needs
+next-line-requires : tie.Need-next-line-requires Inv-loop μ-loop
+next-line-requires c κs = search needs
 
-sub-line : tie.Need-sub-line Inv-loop μ-loop
-sub-line c = search needs
+same-length : tie.Need-same-length Inv-loop μ-loop
+same-length c = search needs
 
-part-line-start : tie.Need-part-line-start Inv-loop μ-loop
-part-line-start c = search needs
+returns : tie.Need-returns Inv-loop μ-loop
+returns c = search needs
 
-part-line-end : tie.Need-part-line-end Inv-loop μ-loop
-part-line-end c = search needs
+bytes-of-requires : tie.Need-bytes-of-requires Inv-loop μ-loop
+bytes-of-requires c κs = search needs
 
 line-requires : tie.Need-line-requires Inv-loop μ-loop
 line-requires c κs = search needs
 
-add-at : tie.Need-add-at Inv-loop μ-loop
-add-at c = search needs
+sub-steps : tie.Need-sub-steps Inv-loop μ-loop
+sub-steps c = search needs
 
 loop-less : tie.Need-loop-less Inv-loop μ-loop
 loop-less c = search needs
@@ -38,8 +41,11 @@ loop-less c = search needs
 loop-again : tie.Need-loop-again Inv-loop μ-loop
 loop-again c = search needs
 
-returns : tie.Need-returns Inv-loop μ-loop
-returns c = search needs
+same-length-2 : tie.Need-same-length-2 Inv-loop μ-loop
+same-length-2 c = search needs
+
+returns-2 : tie.Need-returns-2 Inv-loop μ-loop
+returns-2 c = search needs
 
 pub lines-of-spec : {M : Type 1} → statement M
 lines-of-spec =
@@ -47,13 +53,15 @@ lines-of-spec =
     (tie.spec
     Inv-loop
     μ-loop
+    before-first-requires
     loop-holds
-    find-requires
-    sub-line
-    part-line-start
-    part-line-end
+    next-line-requires
+    same-length
+    returns
+    bytes-of-requires
     line-requires
-    add-at
+    sub-steps
     loop-less
     loop-again
-    returns)
+    same-length-2
+    returns-2)
