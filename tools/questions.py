@@ -30,12 +30,13 @@ def expand(text):
 
 
 def headers_of(question):
-    """The digits of the headers that a `headers` or `packet` question gives."""
+    """The digits of the headers that a question on headers, a packet or a response gives."""
     word, text = question.split(' ')
     digits = expand(text)
     if word == 'headers':
         return digits
-    start, end = 3 + fields_of(int(digits[0:2], 16)), int(digits[2:6], 16)
+    start = {'answer': 3, 'connect-answer': 7}.get(word) or 3 + fields_of(int(digits[0:2], 16))
+    end = int(digits[2:6], 16)
     return digits[2 * start:2 * end]
 
 
@@ -67,7 +68,7 @@ def expected(question, answer):
     word = question.split(' ', 1)[0]
     if word == 'code' and answer != 'unknown':
         return answer.rsplit(' ', 1)[0]
-    if word in ('headers', 'packet') and answer != 'unreadable':
+    if word in ('headers', 'packet', 'answer', 'connect-answer') and answer != 'unreadable':
         values, rewritten = answer.rsplit(' = ', 1)
         same = rewritten == (headers_of(question) or '-')
         return short(values) + ' = ' + (shown(rewritten) if len(rewritten) > 1024 else rewritten) + (' canonical' if same else ' other')
@@ -170,6 +171,57 @@ def random_packet(r):
     if kind < 0.85:
         return packet(first, rest, max(0, 3 + len(rest) + r.choice([-4, -3, -2, -1, 1, 2, 256]))) + random_bytes(r, 3)
     return damaged(r, p)
+
+
+def random_response(r):
+    """A question on a response, its code mostly one that there is."""
+    connect = r.random() < 0.4
+    code = r.choice((0x10, 0x20, 0x21, 0x24, 0x40, 0x41, 0x43, 0x44, 0x50, 0x53, 0x61, r.randrange(128))) + r.choice((128, 128, 128, 0))
+    fields = bytes(r.choice((0, 0x10, 4, 255, r.randrange(256))) for _ in range(4 if connect else 0))
+    rest = fields + random_run(r)
+    p = packet(code, rest)
+    kind = r.random()
+    if kind >= 0.7:
+        p = r.choice((p + random_bytes(r, 5), packet(code, rest, max(0, 3 + len(rest) + r.choice((-4, -3, -2, -1, 1, 2, 256)))), damaged(r, p)))
+    return ('connect-answer ' if connect else 'answer ') + word(p)
+
+
+def every_response():
+    """Questions on responses of every first byte and every length up to 9: to a Connect or not, the length field right or one off."""
+    rest = (bytes([0x10, 0, 4, 0, 0x97, 1]), bytes([0x97, 1, 0x98, 2, 0x97, 0]), bytes([0x48, 0, 3, 0x49, 0, 3]))
+    for first in range(256):
+        for n in range(10):
+            for tail in rest:
+                for size in {n, n + 1, max(n - 1, 0)} if tail is rest[0] else {n}:
+                    p = (bytes([first]) + wide16(size) + tail)[:n]
+                    yield 'answer ' + word(p)
+                    yield 'connect-answer ' + word(p)
+
+
+# headers that must lead, chunks, and others that lie close to them
+LEADS = ['cb00000001', 'cb000000ff', '460003', '4600054142', '9701', '9700', '9801', '9802', '480003', '480006616263', '490003', '4900056465',
+         '4e0003', '4d0003', 'c000000002', '010009006100620000', '420006612f00', '4a00056665']
+
+
+def queue_pool(r):
+    """Headers as the original writes them, for `random_queue`."""
+    return LEADS + [h for h in canonical([random_header(r) for _ in range(300)]) if h != '-']
+
+
+def random_queue(r, pool):
+    """A question on what is still to be sent: a limit, headers, a body, and steps, the last of which empty the queue."""
+    def some():
+        return r.choice(pool[:len(LEADS)] if r.random() < 0.6 else pool)
+    headers = [some() for _ in range(r.choice((0, 1, 2, 2, 3, 3, 4, 5, 6)))]
+    size = sum(len(h) for h in headers) // 2
+    limit = r.choice((3 + size + r.randrange(-4, 9), 3 + size // 2 + r.randrange(6), 3 + r.randrange(40), 3 + r.randrange(12), 255))
+    body = r.choice(('none', '-', random_bytes(r, 8).hex() or '-', random_bytes(r, 60).hex() or '-', random_bytes(r, 60).hex() or '-'))
+    if r.random() < 0.03:
+        limit, body = r.choice((600, 1024, 65535)), random_bytes(r, 3000).hex() or '-'
+    steps = []
+    for _ in range(r.randrange(1, 8)):
+        steps += r.choice((['n'], ['n'], ['n', 'r'], ['n', 'r'], ['i:' + some()], ['n', 'r', 'i:' + some()], ['r'], ['n', 'n', 'r']))
+    return 'queue %d %s %s %s' % (max(limit, 0), ''.join(headers) or '-', body, ','.join(steps + ['n'] * 8))
 
 
 def canonical(runs):

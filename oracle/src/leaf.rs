@@ -8,6 +8,7 @@ use crate::header::Headers;
 use crate::hex;
 use crate::opcode::Opcode;
 use crate::packet::{packet_length, ConnectParameters, Request, Response, SetPathFlags};
+use crate::queue;
 use crate::response::ResponseCode;
 use crate::show::{self, put};
 use crate::tlv::{self, TagLengthValue};
@@ -81,6 +82,17 @@ pub fn answer(line: &str, out: &mut Vec<u8>) -> Option<()> {
         ["digest", nonce, password] => {
             let (nonce, password) = (hex::parse(nonce)?, hex::parse(password)?);
             hex::push(out, &request_digest(&nonce, &password));
+        }
+        ["queue", limit, headers, body, steps] => {
+            let limit = limit.parse().ok()?;
+            let body = match body {
+                "none" => None,
+                bytes => Some(hex::parse(bytes)?),
+            };
+            match parse_headers(&hex::parse(headers)?) {
+                Some(headers) => queue::answer(limit, headers, body, steps, out)?,
+                None => out.extend_from_slice(UNREADABLE),
+            }
         }
         ["find-response", headers] => find_response(&hex::parse(headers)?, out),
         ["find-challenges", headers] => find_challenges(&hex::parse(headers)?, out),

@@ -20,6 +20,7 @@ mod host;
 mod leaf;
 mod lines;
 mod load;
+mod queue;
 mod rules;
 mod script;
 mod sessions;

@@ -8,7 +8,8 @@ ghost use Rattle.base.specs.Bytes.{bytes16};
 ghost use Rattle.packet.specs.Placed.{laid, putting};
 ghost use Rattle.packet.specs.Packet.{fieldsOf, prefixOf, connectLimit, packetBytes};
 ghost use Rattle.packet.specs.PacketWrite.{connectBytes, setPathByte, fieldBytes, filled4, parameterBytes, writePacket, writeRequest, writeResponse};
-ghost use Rattle.packet.specs.PacketRead.{packetHead, packetLength, parsePacket, parseFront, flagsOf};
+ghost use Rattle.packet.specs.PacketRead.{packetHead, packetLength, parsePacket, parseFront, flagsOf, parseResponse};
+ghost use Rattle.packet.specs.ResponsePacket.{responsePrefix};
 use crate::flags::flag_bits;
 use crate::header::is_readable;
 use crate::limits::MAX_PACKET;
@@ -58,6 +59,18 @@ pub enum Parsed {
     // The headers stand from `headers` up to the packet's end at `length`.
     Request {
         opcode: Opcode,
+        is_final: bool,
+        headers: usize,
+        length: usize,
+    },
+    Unreadable,
+}
+
+// A response as read.
+pub enum ParsedResponse {
+    // The code stands without the Final bit; the headers stand from `headers` up to the packet's end at `length`.
+    Response {
+        code: u8,
         is_final: bool,
         headers: usize,
         length: usize,
@@ -180,6 +193,41 @@ fn byte_at(p: &[u8], at: usize) -> u8
         return 0;
     }
     p[at]
+}
+
+// Returns how many bytes stand before the headers of a response: Connect's fields stand there only if it answers a Connect.
+fn response_prefix(connect: bool) -> usize
+    ensures { λ r. ⌜ r ≡ responsePrefix connect ⌝ }
+{
+    if connect {
+        return PACKET_PREFIX_LENGTH + 4;
+    }
+    PACKET_PREFIX_LENGTH
+}
+
+// Reads `p` as one response, to a Connect or to another request, whatever its length field says. As in the source, the Final bit is read
+// and not demanded.
+pub fn parse_response(p: &[u8], connect: bool) -> ParsedResponse
+    ensures { λ r. ⌜ r ≡ parseResponse connect (now (p .entry)) ⌝ }
+{
+    let first = byte_at(p, 0);
+    let code = first % 128;
+    if !response::is_code(code) {
+        return ParsedResponse::Unreadable;
+    }
+    let start = response_prefix(connect);
+    if p.len() < start {
+        return ParsedResponse::Unreadable;
+    }
+    if !is_readable(p, start) {
+        return ParsedResponse::Unreadable;
+    }
+    ParsedResponse::Response {
+        code,
+        is_final: 128 <= first,
+        headers: start,
+        length: p.len(),
+    }
 }
 
 // Returns the limit that a Connect names: the largest packet that its sender can receive.

@@ -12,46 +12,46 @@ use Rattle.model.specs.Step.{Stores, engineWith}
 use Rattle.model.proofs.Fit.{or-left, or-right, Room}
 use Rattle.simulator.specs.declared.Simulated.the-variants as simulated
 use Rattle.simulator.specs.declared.Ranged.the-variants as ranged
-use Rattle.simulator.specs.Play.{Moment, zeros, blank, settingsFor, connected, played, turns, badLimit, badRange}
-use Rattle.simulator.specs.Play.{simulate, simulateRange, packetsOf}
-use Rattle.simulator.specs.Claims.{Agrees, Formula, Bounds, Corners}
+use Rattle.simulator.specs.Play.{Moment, blankStore, blank, settingsFor, sessionWith, played, turns, badLimit, badRange}
+use Rattle.simulator.specs.Play.{simulate, simulateRange, formulaPackets}
+use Rattle.simulator.specs.Claims.{AgreesWithFormula, Formula, Bounds, Corners}
 use Rattle.simulator.proofs.Counting.{at-least-one, between}
 use Rattle.simulator.proofs.Turns.{Ended, ended-as, ended-by, to-the-end}
 use Rattle.simulator.proofs.Openings.{zeros-length, blank-room, begun-is, peerOf, peer-limit, peer-mode, peer-fits}
 use Rattle.simulator.proofs.Openings.{connects-to, connectLength, length-short, opening, opens-to}
 
 module _ (n m : ℕ) (srm : Bool) (low : 255 ≤ m) (high : m ≤ 65535) where
-  tables : 320 ≤ length (zeros 320)
+  tables : 320 ≤ length (blankStore 320)
   tables = omega (arith, zeros-length 320)
 
-  long : 65535 ≤ length (zeros 65535)
+  long : 65535 ≤ length (blankStore 65535)
   long = omega (arith, zeros-length 65535)
 
   -- the session, once it is connected
   record Session : Type 0 where
     stores : Stores
     room : Room 0 stores
-    is : connected n m srm ≡ opening m low high srm (zeros 320) tables n stores (connectLength srm)
+    is : sessionWith n m srm ≡ opening m low high srm (blankStore 320) tables n stores (connectLength srm)
 
   session : Session
   session =
-      let v = connects-to m low high srm (zeros 320) tables n blank blank-room in
+      let v = connects-to m low high srm (blankStore 320) tables n blank blank-room in
       record { stores = v .0; room = v .1 .0; is = rw (begun-is srm) (v .1 .1) }
 
   requests-are : (w : Bool) (c : ℕ) → 1 ≤ c → 1 + pick w 0 (c - 1) ≡ pick w 1 c
   requests-are true c h = refl
   requests-are false c h = omega arith
 
-  pub ended : Ended (packetsOf n m) (pick srm 1 (packetsOf n m)) (played n m srm)
+  pub ended : Ended (formulaPackets n m) (pick srm 1 (formulaPackets n m)) (played n m srm)
   unfolding played
   ended =
       let f : turns n ≡ suc (suc (4 * n + 6)) = omega arith in
       let v =
-      opens-to m low high srm (zeros 320) tables (zeros 65535) n (session .stores) (connectLength srm) (4 * n + 6) (session .room)
-      (length-short m low high srm (zeros 320) tables) in
+      opens-to m low high srm (blankStore 320) tables (blankStore 65535) n (session .stores) (connectLength srm) (4 * n + 6) (session .room)
+      (length-short m low high srm (blankStore 320) tables) in
       let e =
-      to-the-end (zeros 65535) long m low high (settingsFor srm) (peerOf m srm) (peer-fits m low high srm (zeros 320) tables)
-      (peer-limit m low high srm (zeros 320) tables) unnamed (zeros 320) tables srm n n 0 1 (4 * n + 6) _ (omega arith) (omega arith)
+      to-the-end (blankStore 65535) long m low high (settingsFor srm) (peerOf m srm) (peer-fits m low high srm (blankStore 320) tables)
+      (peer-limit m low high srm (blankStore 320) tables) unnamed (blankStore 320) tables srm n n 0 1 (4 * n + 6) _ (omega arith) (omega arith)
       (record {
         stores = v .0;
         len = 3;
@@ -67,22 +67,25 @@ module _ (n m : ℕ) (srm : Bool) (low : 255 ≤ m) (high : m ≤ 65535) where
         bytes = omega arith;
         is = refl;
       }) in
-      ended-by (packetsOf n m) (pick srm 1 (packetsOf n m)) _ _ (rw (f, session .is) (v .1 .1))
-      (ended-as (0 + packetsOf n m) (packetsOf n m) (1 + pick srm 0 (packetsOf n m - 1)) (pick srm 1 (packetsOf n m)) _ (omega arith)
-      (requests-are srm (packetsOf n m) (at-least-one n m (omega arith))) e)
+      ended-by (formulaPackets n m) (pick srm 1 (formulaPackets n m)) _ _ (rw (f, session .is) (v .1 .1))
+      (ended-as (0 + formulaPackets n m) (formulaPackets n m) (1 + pick srm 0 (formulaPackets n m - 1)) (pick srm 1 (formulaPackets n m)) _
+      (omega arith)
+      (requests-are srm (formulaPackets n m) (at-least-one n m (omega arith))) e)
 
   -- ---- the formula
 
-  answers : simulate n m srm ≡ simulated.Counts (packetsOf n m) (pick srm 1 (packetsOf n m))
+  answers : simulate n m srm ≡ simulated.Counts (formulaPackets n m) (pick srm 1 (formulaPackets n m))
   unfolding simulate
   answers = rw (le-ltb m 255 low, le-ltb 65535 m high, ended .packets, ended .requests)
 
-  pub agrees : Agrees n m srm
+  pub agrees : AgreesWithFormula n m srm
   unfolding engineWith
   agrees =
       record {
-        limit = ap (λ (x : Moment). x .game .engine .peer .«remote_max_packet_length») (session .is) ∙ peer-limit m low high srm (zeros 320) tables;
-        mode = ap (λ (x : Moment). x .game .engine .peer .«srm_enabled») (session .is) ∙ peer-mode m low high srm (zeros 320) tables;
+        limit =
+            ap (λ (x : Moment). x .game .engine .peer .«remote_max_packet_length») (session .is)
+            ∙ peer-limit m low high srm (blankStore 320) tables;
+        mode = ap (λ (x : Moment). x .game .engine .peer .«srm_enabled») (session .is) ∙ peer-mode m low high srm (blankStore 320) tables;
         over = ended .over;
         whole = ended .left;
         free = ended .waits;

@@ -16,8 +16,8 @@ use Rattle.model.proofs.Fit.{or-left, or-right}
 use Rattle.simulator.specs.declared.Move.{Move}
 use Rattle.simulator.specs.declared.Move.the-variants as move
 use Rattle.simulator.specs.declared.Game.{Game}
-use Rattle.simulator.specs.Play.{Moment, moment, stateIn, moveFor, callFor, gameAfter, momentAfter, made, turn, takenBy, askedBy, plays}
-use Rattle.simulator.specs.Play.{connectPacket, settingsFor, zeros, begunIn, begun, connects, freshGame, turns, played, badLimit, badRange}
+use Rattle.simulator.specs.Play.{Moment, moment, stateIn, moveFor, callFor, gameAfter, momentAfter, moved, turn, takenBy, askedBy, plays}
+use Rattle.simulator.specs.Play.{openingPacket, settingsFor, blankStore, begunIn, begun, connects, freshGame, turns, played, badLimit, badRange}
 use Rattle.simulator.proofs.Turns.{plays-turn}
 
 -- the move that is due, its call, and what is counted
@@ -28,7 +28,7 @@ unfolding turn
 turned z x v took s g hv hc hg =
     ap (λ (y : Game). moment y s (x .tables)) hg
     ∙ ap (λ (c : Called). momentAfter x v c) hc
-    ∙ ap (λ (w : Move). made z x w) hv
+    ∙ ap (λ (w : Move). moved z x w) hv
 
 -- a turn counts one packet and one request at most
 pub record Counted (x y : Moment) : Type 0 where
@@ -71,19 +71,19 @@ plays-one z (suc f) x y h o e =
 -- ---- the Connect
 
 pub connect-with : (m : ℕ) (srm : Bool) → srm ≡ true
-    → (0x80 ∷ 0x00 ∷ 0x09 ∷ 0x10 ∷ 0x00 ∷ m / 256 ∷ m % 256 ∷ 0x97 ∷ 0x01 ∷ []) ≡ connectPacket m srm
+    → (0x80 ∷ 0x00 ∷ 0x09 ∷ 0x10 ∷ 0x00 ∷ m / 256 ∷ m % 256 ∷ 0x97 ∷ 0x01 ∷ []) ≡ openingPacket m srm
 unfolding packetBytes
 connect-with m srm h = rw h
 
 pub connect-without : (m : ℕ) (srm : Bool) → srm ≡ false
-    → (0x80 ∷ 0x00 ∷ 0x07 ∷ 0x10 ∷ 0x00 ∷ m / 256 ∷ m % 256 ∷ []) ≡ connectPacket m srm
+    → (0x80 ∷ 0x00 ∷ 0x07 ∷ 0x10 ∷ 0x00 ∷ m / 256 ∷ m % 256 ∷ []) ≡ openingPacket m srm
 unfolding packetBytes
 connect-without m srm h = rw h
 
 -- the four calls that open a session
 pub connected-by : (srm : Bool) (m : ℕ) (s z₀ z₁ z₂ z₃ : Stores) (t u : List ℕ) (r₀ r₁ r₂ r₃ : CallResult)
     → stepped r₀ z₀ ≡ startStep (settingsFor srm) [] s t
-    → stepped r₁ z₁ ≡ bytesOfferedStep (r₀ .engine) (connectPacket m srm) z₀ t
+    → stepped r₁ z₁ ≡ bytesOfferedStep (r₀ .engine) (openingPacket m srm) z₀ t
     → called (stepped r₂ z₂) u ≡ replyGivenStep (r₁ .engine) 0x20 [] z₁ t
     → stepped r₃ z₃ ≡ replyTakenStep (r₂ .engine) z₂
     → called (stepped r₃ z₃) u ≡ connects (begunIn srm s t) m srm
@@ -94,11 +94,11 @@ connected-by srm m s z₀ z₁ z₂ z₃ t u r₀ r₁ r₂ r₃ h₀ h₁ h₂ 
 
 pub played-by : (n m : ℕ) (srm : Bool) (r : CallResult) (z : Stores) (t : List ℕ) (y : Moment)
     → called (stepped r z) t ≡ connects (begun srm) m srm
-    → y ≡ plays (zeros 65535) (turns n) (moment (freshGame n r) z t)
+    → y ≡ plays (blankStore 65535) (turns n) (moment (freshGame n r) z t)
     → y ≡ played n m srm
 unfolding played
 played-by n m srm r z t y h e =
-    e ∙ ap (λ (c : Called). plays (zeros 65535) (turns n) (moment (freshGame n (c .took)) (c .stores) (c .tables))) h
+    e ∙ ap (λ (c : Called). plays (blankStore 65535) (turns n) (moment (freshGame n (c .took)) (c .stores) (c .tables))) h
 
 -- ---- limits that are none are refused before they are cut to 16 bits
 

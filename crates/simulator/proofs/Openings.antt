@@ -40,14 +40,14 @@ use Rattle.model.specs.Guard.{longRealm, badReply, badHeaders}
 use Rattle.model.specs.Calls.{withPacket, offers, bytesOfferedStep, replyAnswer, replyGivenStep, replyTakenStep, objectGivenStep, startStep, started}
 use Rattle.model.specs.Runs.{State}
 use Rattle.model.proofs.Fit.{Room, room-reply, not-short, tables-long, none-begun, Shape, Sits, is-sound}
-use Rattle.simulator.specs.Play.{Moment, moment, settingsFor, zeros, blank, begun, connectPacket, connects, connectedFrom}
-use Rattle.simulator.specs.Play.{getPacket, gameAfter, turn, plays}
+use Rattle.simulator.specs.Play.{Moment, moment, settingsFor, blankStore, blank, begun, openingPacket, connects, connectedFrom}
+use Rattle.simulator.specs.Play.{plainGet, gameAfter, turn, plays}
 use Rattle.simulator.proofs.Turns.{Three, three, plays-turn, object, chunkAt, next-plain}
 
 -- ---- the start
 
-pub zeros-length : (n : ℕ) → length (zeros n) ≡ n
-unfolding zeros
+pub zeros-length : (n : ℕ) → length (blankStore n) ≡ n
+unfolding blankStore
 zeros-length n = length-replicate n 0
 
 pub blank-room : Room 0 blank
@@ -62,9 +62,9 @@ blank-room =
 abbrev pub firstState : Bool → Stores → List ℕ → State
 firstState srm s t = record { engine = started (settingsFor srm); stores = s; tables = t; realm = [] }
 
-pub begun-is : (srm : Bool) → begun srm ≡ firstState srm blank (zeros 320)
+pub begun-is : (srm : Bool) → begun srm ≡ firstState srm blank (blankStore 320)
 unfolding startStep longRealm
-begun-is srm = rw (tables-long (zeros 320) (omega (arith, zeros-length 320)), not-short 0 blank blank-room)
+begun-is srm = rw (tables-long (blankStore 320) (omega (arith, zeros-length 320)), not-short 0 blank blank-room)
 
 -- ---- the Connect
 
@@ -84,7 +84,7 @@ connectLength false = 7
 connect-comes : (m : ℕ) (srm : Bool) (x₀ x₁ x₂ x₃ x₄ x₅ x₆ x₇ x₈ : ℕ) (rest : List ℕ) (s : Stores) (t : List ℕ)
     → let e = started (settingsFor srm) in
     let p = x₀ ∷ x₁ ∷ x₂ ∷ x₃ ∷ x₄ ∷ x₅ ∷ x₆ ∷ x₇ ∷ x₈ ∷ rest in
-    offers e (framed p 0 0 (connectPacket m srm)) s t
+    offers e (framed p 0 0 (openingPacket m srm)) s t
     ≡ after (connectLength srm)
     (asks (engineWith (settingsFor srm) freshPeer Nothing await.Bytes 0 (connectLength srm) unnamed)
     (limited freshPeer (named-limit m)) Nothing await.Connect
@@ -158,7 +158,7 @@ good-headers = refl
 
 -- a Get packet while nothing is open
 get-comes : (m : ℕ) (srm : Bool) (len x y z : ℕ) (rest : List ℕ) (s : Stores) (t : List ℕ)
-    → offers (engineWith (settingsFor srm) (peerOf m srm) Nothing await.Bytes 0 len unnamed) (framed (x ∷ y ∷ z ∷ rest) 0 0 getPacket) s t
+    → offers (engineWith (settingsFor srm) (peerOf m srm) Nothing await.Bytes 0 len unnamed) (framed (x ∷ y ∷ z ∷ rest) 0 0 plainGet) s t
     ≡ after 3
     (done (engineWith (settingsFor srm) (peerOf m srm) (Getting nothingGathered srm false false) await.Get 0 3 unnamed)
     (outcome.Request (request.Get 0))
@@ -229,7 +229,7 @@ module _ (m : ℕ) (low : 255 ≤ m) (high : m ≤ 65535) (srm : Bool) (t : List
       go false = omega arith
 
   connect-offered : (s : Stores) → Room 0 s → (v : Nine (s .packet))
-      → bytesOfferedStep (started (settingsFor srm)) (connectPacket m srm) s t
+      → bytesOfferedStep (started (settingsFor srm)) (openingPacket m srm) s t
       ≡ after (connectLength srm)
       (asks (engineWith (settingsFor srm) freshPeer Nothing await.Bytes 0 (connectLength srm) unnamed) (named-peer m) Nothing await.Connect
       (request.Connect (connectLength srm)) (withPacket s (connectIn m srm (v .x₇) (v .x₈) (v .rest))))
@@ -322,7 +322,7 @@ module _ (m : ℕ) (low : 255 ≤ m) (high : m ≤ 65535) (srm : Bool) (t : List
   getIn s rest = withPacket s (0x83 ∷ 0x00 ∷ 0x03 ∷ rest)
 
   get-offered : (s : Stores) (len : ℕ) → Room 0 s → len ≤ 65535 → (v : Three (s .packet))
-      → bytesOfferedStep (free len) getPacket s t
+      → bytesOfferedStep (free len) plainGet s t
       ≡ after 3 (done gettingAt (outcome.Request (request.Get 0)) (getIn s (v .rest)))
   unfolding bytesOfferedStep engineWith
   get-offered s len r l v =

@@ -38,7 +38,7 @@ use Rattle.model.specs.Calls.{withPacket, offers, bodyGivenStep, replyTakenStep
 use Rattle.outgoing.proofs.Sent.{body-sends}
 use Rattle.model.proofs.Fit.{Room, not-short, room-reply, none-begun, Shape, Sits, is-sound, tables-long}
 use Rattle.simulator.specs.declared.Game.{Game}
-use Rattle.simulator.specs.Play.{Moment, moment, getPacket, giving, gameAfter, turn, plays, packetsOf}
+use Rattle.simulator.specs.Play.{Moment, moment, plainGet, giving, gameAfter, turn, plays, formulaPackets}
 use Rattle.simulator.proofs.Counting.{last-one, one-more, at-least-one}
 
 -- ---- an object without headers
@@ -357,19 +357,19 @@ module _ (z : List ℕ) (long : 65535 ≤ length z) (m : ℕ) (low : 255 ≤ m) 
 
   asks-on : (b len x y u : ℕ) (rest : List ℕ) (s : Stores)
       → let e = engineAt (Sending (object true b) noChunk srm false) await.Bytes len in
-      offers e (framed (x ∷ y ∷ u ∷ rest) 0 0 getPacket) s t
-      ≡ after (offers e (framed (x ∷ y ∷ u ∷ rest) 0 0 getPacket) s t .took .taken)
+      offers e (framed (x ∷ y ∷ u ∷ rest) 0 0 plainGet) s t
+      ≡ after (offers e (framed (x ∷ y ∷ u ∷ rest) 0 0 plainGet) s t .took .taken)
       (sendsNext (engineAt (Sending (object true b) noChunk srm false) await.Bytes 3) (object true b) srm false (asked s rest))
   unfolding engineWith framed frameEnd packetDone packetTarget requestOf named firstByte readHeaders walk headerAt sameOpcode surveyOf first
   asks-on b len x y u rest s = refl
 
   offered-on : (s : Stores) (len b : ℕ) (v : Three (s .packet)) → Lent s → len ≤ 65535
-      → (taken : ℕ) × (bytesOfferedStep (engineAt (Sending (object true b) noChunk srm false) await.Bytes len) getPacket s t
+      → (taken : ℕ) × (bytesOfferedStep (engineAt (Sending (object true b) noChunk srm false) await.Bytes len) plainGet s t
       ≡ after taken (sendsNext (engineAt (Sending (object true b) noChunk srm false) await.Bytes 3) (object true b) srm false (asked s (v .rest))))
   unfolding bytesOfferedStep engineWith
   offered-on s len b v r l =
       let o = Sending (object true b) noChunk srm false in (
-        offers (engineAt o await.Bytes len) (framed (v .a ∷ v .b ∷ v .c ∷ v .rest) 0 0 getPacket) s t .took .taken,
+        offers (engineAt o await.Bytes len) (framed (v .a ∷ v .b ∷ v .c ∷ v .rest) 0 0 plainGet) s t .took .taken,
         rw (
           tables-long t tables,
           not-short (st .«max_object_size») s r,
@@ -582,10 +582,11 @@ module _ (z : List ℕ) (long : 65535 ≤ length z) (m : ℕ) (low : 255 ≤ m) 
       go true = omega arith
       go false = omega arith
 
-  ends-last : (r p q f : ℕ) (x : Moment) → r ≤ m - 6 → 3 ≤ f → Again r p q x → Ended (p + packetsOf r m) (q + furtherOf (packetsOf r m)) (plays z f x)
+  ends-last : (r p q f : ℕ) (x : Moment) → r ≤ m - 6 → 3 ≤ f → Again r p q x
+      → Ended (p + formulaPackets r m) (q + furtherOf (formulaPackets r m)) (plays z f x)
   ends-last r p q f x w i a =
       let n = last-one r m (omega arith) w in
-      ended-as (p + 1) (p + packetsOf r m) q (q + furtherOf (packetsOf r m)) (plays z f x) (rw n) (rw n (none-further srm))
+      ended-as (p + 1) (p + formulaPackets r m) q (q + furtherOf (formulaPackets r m)) (plays z f x) (rw n) (rw n (none-further srm))
       (ended-by (p + 1) q _ _ (ap (λ (y : Moment). plays z f y) (a .is))
       (last-packet f (a .stores) (a .len) (a .has) (a .pending) (a .got) (a .room) (a .left) p q (a .lent) (a .short) (omega (arith, a .rest))
       (omega (arith, a .rest, a .bytes)) i))
@@ -596,13 +597,13 @@ module _ (z : List ℕ) (long : 65535 ≤ length z) (m : ℕ) (low : 255 ≤ m) 
 
   abbrev Ends : ℕ → Type 0
   Ends k = (r p q f : ℕ) (x : Moment) → r ≤ k → 3 * r + 3 ≤ f → Again r p q x
-      → Ended (p + packetsOf r m) (q + furtherOf (packetsOf r m)) (plays z f x)
+      → Ended (p + formulaPackets r m) (q + furtherOf (formulaPackets r m)) (plays z f x)
 
   pub to-the-end : (k : ℕ) → Ends k
   to-the-end zero r p q f x h i a = ends-last r p q f x (omega arith) (omega arith) a
   to-the-end (suc k) r p q f x h i a = go (ltb (m - 6) r) refl (to-the-end k)
     where
-      go : (t : Bool) → ltb (m - 6) r ≡ t → Ends k → Ended (p + packetsOf r m) (q + furtherOf (packetsOf r m)) (plays z f x)
+      go : (t : Bool) → ltb (m - 6) r ≡ t → Ends k → Ended (p + formulaPackets r m) (q + furtherOf (formulaPackets r m)) (plays z f x)
       go false e ih = ends-last r p q f x (ltb-false _ _ e) (omega arith) a
       go true e ih =
           let w : m - 6 < r = ltb-true _ _ e in
@@ -610,8 +611,8 @@ module _ (z : List ℕ) (long : 65535 ≤ length z) (m : ℕ) (low : 255 ≤ m) 
           let o = at-least-one (r - (m - 6)) m (omega arith) in
           let v = again-more r p q f x a w (omega arith) in
           let y = ih (r - (m - 6)) (p + 1) (v .1 .0) (v .0) (v .1 .1 .0) (omega arith) (omega (arith, v .1 .1 .1 .1 .1 .0)) (v .1 .1 .1 .0) in
-          ended-by (p + packetsOf r m) (q + furtherOf (packetsOf r m)) _ _ (v .1 .1 .1 .1 .0)
-          (ended-as (p + 1 + packetsOf (r - (m - 6)) m) (p + packetsOf r m) (v .1 .0 + furtherOf (packetsOf (r - (m - 6)) m))
-          (q + furtherOf (packetsOf r m)) (plays z (v .0) (v .1 .1 .0)) (rw n (omega arith))
-          (ap (λ (c : ℕ). c + furtherOf (packetsOf (r - (m - 6)) m)) (v .1 .1 .1 .1 .1 .1) ∙ further (packetsOf (r - (m - 6)) m) q o
+          ended-by (p + formulaPackets r m) (q + furtherOf (formulaPackets r m)) _ _ (v .1 .1 .1 .1 .0)
+          (ended-as (p + 1 + formulaPackets (r - (m - 6)) m) (p + formulaPackets r m) (v .1 .0 + furtherOf (formulaPackets (r - (m - 6)) m))
+          (q + furtherOf (formulaPackets r m)) (plays z (v .0) (v .1 .1 .0)) (rw n (omega arith))
+          (ap (λ (c : ℕ). c + furtherOf (formulaPackets (r - (m - 6)) m)) (v .1 .1 .1 .1 .1 .1) ∙ further (formulaPackets (r - (m - 6)) m) q o
           ∙ ap (λ (c : ℕ). q + furtherOf c) (sym n)) y)

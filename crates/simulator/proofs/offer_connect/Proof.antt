@@ -23,8 +23,8 @@ bytes-offered-requires c κs = search needs
 
 returns : tie.Need-returns
 returns c =
-    let made = c .before .before .before .before in
-    let tested = made .before .before .before in
+    let moved = c .before .before .before .before in
+    let tested = moved .before .before .before in
     let a = tested .before in
     c .bytes-offered .ensures .0
     ∙ ap (λ (l : List ℕ). bytesOfferedStep (a .args .e) l
@@ -39,8 +39,8 @@ bytes-offered-requires-2 c κs = search needs
 
 returns-2 : tie.Need-returns-2
 returns-2 c =
-    let made = c .before .before .before .before in
-    let tested = made .before .before .before in
+    let moved = c .before .before .before .before in
+    let tested = moved .before .before .before in
     let a = tested .before in
     c .bytes-offered2 .ensures .0
     ∙ ap (λ (l : List ℕ). bytesOfferedStep (a .args .e) l

@@ -1,6 +1,6 @@
 -- `simulator::play_get` meets its contract: a session is opened, and its Get played; the stores are zeros. Assumes nothing.
 use mathlib.Core.Path.{ap}
-use Rattle.simulator.specs.Play.{Moment, moment, zeros}
+use Rattle.simulator.specs.Play.{Moment, moment, blankStore}
 use Rattle.simulator.proofs.Moves.{played-by}
 use borrow.Author.Needs.{needs}
 use Rattle.simulator.proofs.play_get.Statement.{statement}
@@ -22,10 +22,10 @@ play-on-requires : tie.Need-play-on-requires
 play-on-requires c κs = search needs
 
 returns : tie.Need-returns
-unfolding zeros
+unfolding blankStore
 returns c =
-    let made = c .before .before .before .before in
-    let k = made .before .before .before .before in
+    let moved = c .before .before .before .before in
+    let k = moved .before .before .before .before in
     let stored = k .before .before .before in
     let a = stored .before .before .before .args in
     ap (λ (x : Moment). x .game)

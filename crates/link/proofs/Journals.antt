@@ -1,0 +1,253 @@
+-- The journal of the server's calls, along a run of the link: it stands as the server does, so that a Put which it admits the server admits too.
+-- Each call of the run is the model's step, and the bytes that come up are bytes, so the records theorem's coupling goes along. Assumes nothing.
+use mathlib.Core.Path.{_≡_, refl, sym, ap, subst, _∙_}
+use mathlib.Core.List.{List, [], _∷_, _++_}
+use mathlib.Core.Bool.{Bool, true, false, _&&_, not, false≢true}
+use mathlib.Core.Option.{Option, none, some}
+use Prim.Native.Nat.{ℕ, zero, suc}
+use native.Mathlib.Omega.{arith}
+use lib.ListN.{take}
+use Rattle.base.specs.Pick.{pick}
+use Rattle.text.specs.Unicode.{Octets}
+use Rattle.packet.specs.Header.{first}
+use Rattle.packet.specs.Packet.{Request}
+use Rattle.packet.specs.declared.opcode.Opcode.{Opcode}
+use Rattle.journal.specs.Calls.{Call, bytesOffered, streamEnded, replyTaken, replyGiven, objectGiven, bodyGiven, bodyFailed, abortAcknowledged, passwordGiven, nonceGiven, credentialsGiven, connectionsClosed}
+use Rattle.journal.specs.Journal.{Journal, journalAfter, unauthorized, notOpen, admitted, trails as trailsPut}
+use Rattle.journal.specs.PutForm.{isTrailing}
+use Rattle.incoming.specs.Survey.{surveyOf}
+use Rattle.server.specs.declared.Await.{Await}
+use Rattle.server.specs.declared.Await.the-variants as waits
+use Rattle.server.specs.declared.Operation.{Operation}
+use Rattle.server.specs.declared.Operation.the-variants.{Trailing}
+use Rattle.server.specs.declared.Outcome.{Outcome as ServerOutcome}
+use Rattle.server.specs.declared.Outcome.the-variants as told
+use Rattle.server.specs.declared.Settings.{Settings as ServerSettings}
+use Rattle.model.specs.Dispatch.{admits, rejects, rejection, knownIn, trails}
+use Rattle.model.specs.Refusals.{Known, learns, feedFrom, atStart}
+use Rattle.model.specs.Runs.{State, Started, Performed, next, OffersOctets, Ran, seen}
+use Rattle.model.specs.Theorem.{journalOf}
+use Rattle.model.proofs.Coupling.{CoupledAt, Held, OpenedAt}
+use Rattle.model.proofs.Dispatch.{rejection-is, admitted-is}
+use Rattle.model.proofs.Records.{Between, between-next, start-between}
+use Rattle.client_model.specs.declared.Outcome.{Outcome}
+use Rattle.client_model.specs.declared.Outcome.the-variants as said
+use Rattle.link.specs.Link.{Link, Move, user, host, sendUp, sendDown, offerUp, offerDown, closeUp, closeDown, isAnswer, sendsDown, replyBytes, closesUp, serverCall, callAfter, upAfter, closeAfter, move, moves, performedBy, performedIn}
+use Rattle.link.specs.Claims.{journalIn}
+use Rattle.link.proofs.Parts.{Ties}
+
+-- ---- along a list of calls
+
+-- the state after some calls
+abbrev after : State → List Performed → State
+after s [] = s
+after s (x ∷ xs) = after (next s x) xs
+
+after-append : (s : State) (xs ys : List Performed) → after s (xs ++ ys) ≡ after (after s xs) ys
+after-append s [] ys = refl
+after-append s (x ∷ xs) ys = after-append (next s x) xs ys
+
+ran-append : (s : State) (xs ys : List Performed) → Ran s xs → Ran (after s xs) ys → Ran s (xs ++ ys)
+ran-append s [] ys p q = q
+ran-append s (x ∷ xs) ys p q = (p .0, ran-append (next s x) xs ys (p .1) q)
+
+-- engine and journal stand together after them
+pub record Together (st : ServerSettings) (s : State) (j : Journal) : Type 0 where
+  pub known : Known
+  pub between : Between st known s j
+
+run-between : (st : ServerSettings) (xs : List Performed) (w : Known) (s : State) (j : Journal) → Between st w s j → Ran s xs
+    → Together st (after s xs) (journalAfter j (feedFrom w j (seen st s xs)))
+run-between st [] w s j b r = record { known = w; between = b }
+run-between st (x ∷ xs) w s j b r =
+    run-between st xs (learns w (x .call) (x .result .outcome)) (next s x) _ (between-next st w s j b x (r .0)) (r .1)
+
+-- ---- the calls of a run of the link
+
+octets-take : (n : ℕ) (l : List ℕ) → Octets l → Octets (take n l)
+octets-take zero l o k = omega arith
+octets-take (suc n) [] o k = omega arith
+octets-take (suc n) (x ∷ l) o zero = o 0
+octets-take (suc n) (x ∷ l) o (suc k) = octets-take n l (λ i. o (suc i)) k
+
+-- a call of a move offers bytes
+answer-octets : (c : Call) → isAnswer c ≡ true → OffersOctets c
+answer-octets (bytesOffered i) e = absurd (false≢true e)
+answer-octets streamEnded e = tt
+answer-octets replyTaken e = tt
+answer-octets (replyGiven code hs) e = tt
+answer-octets (objectGiven hs b) e = tt
+answer-octets (bodyGiven d) e = tt
+answer-octets bodyFailed e = tt
+answer-octets abortAcknowledged e = tt
+answer-octets (passwordGiven p) e = tt
+answer-octets (nonceGiven n) e = tt
+answer-octets (credentialsGiven c) e = tt
+answer-octets (connectionsClosed l) e = tt
+
+abbrev CallOctets : Option Call → Type 0
+CallOctets none = Unit {0}
+CallOctets (some c) = OffersOctets c
+
+call-octets : (l : Link) → Octets (l .up) → (m : Move) → CallOctets (serverCall l m)
+call-octets l o (user u) = tt
+call-octets l o (host c) = by (isAnswer c) refl
+  where
+    by : (b : Bool) → isAnswer c ≡ b → CallOctets (pick b (some c) none)
+    by true e = answer-octets c e
+    by false e = tt
+call-octets l o sendUp = tt
+call-octets l o sendDown = by (l .told)
+  where
+    by : (t : ServerOutcome) → CallOctets (sendsDown t)
+    by (told.Reply n) = tt
+    by told.WantsBytes = tt
+    by (told.Request r) = tt
+    by (told.End x) = tt
+    by (told.Refused r) = tt
+call-octets l o (offerUp n) = octets-take n (l .up) o
+call-octets l o (offerDown n) = tt
+call-octets l o closeUp = by (l .said) (l .up)
+  where
+    by : (s : Outcome) (u : List ℕ) → CallOctets (closesUp s u)
+    by (said.End x) [] = tt
+    by (said.End x) (b ∷ u) = tt
+    by said.Ready u = tt
+    by (said.Send n) u = tt
+    by said.WantsBytes u = tt
+    by (said.Read n) u = tt
+    by (said.Part k b) u = tt
+    by (said.Done c n) u = tt
+    by (said.Stopped c n) u = tt
+    by (said.Aborted c n) u = tt
+    by (said.Refused r) u = tt
+call-octets l o closeDown = tt
+
+-- it is what its contract says
+call-ran : (s : State) (c : Option Call) → CallOctets c → Ran s (performedBy s c)
+call-ran s none o = tt
+call-ran s (some c) o = (record { step = refl; octets = o }, tt)
+
+-- the server after a move is that after its call
+moved-server : (l : Link) (m : Move) → move l m .server ≡ after (l .server) (performedBy (l .server) (serverCall l m))
+unfolding move
+moved-server l m = by m
+  where
+    called : (c : Option Call) (down : List ℕ) → callAfter c l down .server ≡ after (l .server) (performedBy (l .server) c)
+    called none down = refl
+    called (some c) down = refl
+
+    sent : (o : Outcome) → upAfter o l .server ≡ l .server
+    sent (said.Send n) = refl
+    sent said.Ready = refl
+    sent said.WantsBytes = refl
+    sent (said.Read n) = refl
+    sent (said.Part k b) = refl
+    sent (said.Done c n) = refl
+    sent (said.Stopped c n) = refl
+    sent (said.Aborted c n) = refl
+    sent (said.End x) = refl
+    sent (said.Refused r) = refl
+
+    closed : (o : ServerOutcome) (down : List ℕ) → closeAfter o down l .server ≡ l .server
+    closed (told.End x) [] = refl
+    closed (told.End x) (b ∷ down) = refl
+    closed told.WantsBytes down = refl
+    closed (told.Reply n) down = refl
+    closed (told.Request r) down = refl
+    closed (told.Refused r) down = refl
+
+    by : (m : Move) → move l m .server ≡ after (l .server) (performedBy (l .server) (serverCall l m))
+    by (user u) = refl
+    by (host c) = called (serverCall l (host c)) (l .down)
+    by sendUp = sent (l .said)
+    by sendDown = called (serverCall l sendDown) (l .down ++ replyBytes (l .told) (l .server .stores .reply))
+    by (offerUp n) = called (serverCall l (offerUp n)) (l .down)
+    by (offerDown n) = refl
+    by closeUp = called (serverCall l closeUp) (l .down)
+    by closeDown = closed (l .told) (l .down)
+
+-- the bytes under way are bytes at each moment of a run
+abbrev pub OctetsIn : Link → List Move → Type 0
+OctetsIn l [] = Unit {0}
+OctetsIn l (m ∷ ms) = Octets (l .up) × OctetsIn (move l m) ms
+
+run-ran : (ms : List Move) (l : Link) → OctetsIn l ms → Ran (l .server) (performedIn l ms)
+    × (moves l ms .server ≡ after (l .server) (performedIn l ms))
+run-ran [] l o = (tt, refl)
+run-ran (m ∷ ms) l o =
+    let p = performedBy (l .server) (serverCall l m) in
+    let w = run-ran ms (move l m) (o .1) in
+    let e = moved-server l m in (
+      ran-append (l .server) p (performedIn (move l m) ms) (call-ran (l .server) (serverCall l m) (call-octets l (o .0) m))
+          (subst (λ (s : State). Ran s (performedIn (move l m) ms)) e (w .0)),
+      w .1 ∙ ap (λ (s : State). after s (performedIn (move l m) ms)) e ∙ sym (after-append (l .server) p (performedIn (move l m) ms)),
+    )
+
+pub run-together : (st : ServerSettings) (l : Link) (ms : List Move) → Started st (l .server) → OctetsIn l ms
+    → Together st (moves l ms .server) (journalIn st l ms)
+run-together st l ms f o =
+    let w = run-ran ms l o in
+    subst (λ (s : State). Together st s (journalIn st l ms)) (sym (w .1))
+    (run-between st (performedIn l ms) atStart (l .server) (journalOf st) (start-between st (l .server) f) (w .0))
+
+-- ---- what is admitted
+
+and-left : (a b : Bool) → (a && b) ≡ true → a ≡ true
+and-left true b e = refl
+and-left false b e = e
+
+and-right : (a b : Bool) → (a && b) ≡ true → b ≡ true
+and-right true b e = e
+and-right false b e = absurd (false≢true e)
+
+not-both : (a b : Bool) → not (a && b) ≡ true → a ≡ true → b ≡ false
+not-both true true e i = absurd (false≢true e)
+not-both true false e i = refl
+not-both false b e i = absurd (false≢true i)
+
+module _ (st : ServerSettings) (s : State) (j : Journal) (w : Together st s j) (a : s .engine .awaits ≡ waits.Bytes) where
+  held : Held (s .tables) (s .engine .settings) (s .engine .peer) (s .engine .operation) (s .stores) (take (s .engine .begun) (s .stores .packet)) j
+  held =
+      subst (λ (x : Await). CoupledAt (s .tables) x (s .engine .operation) (s .engine .settings) (s .engine .peer) (s .engine .begun)
+      (s .engine .length) (s .stores) j) a
+      (w .between .coupled)
+
+  -- a request that passes is not turned away
+  passes : (r : Request) → admitted (j .settings) (j .standing) r ≡ true
+      → let v = surveyOf (some (r .headers)) in rejection (s .engine) (r .opcode) v (knownIn (s .engine) (s .tables) v) ≡ admits
+  passes r e =
+      rejection-is (s .tables) (s .engine) (s .stores) j (held .fixed) r
+      ∙ by (unauthorized (j .settings) (j .standing) (r .opcode)) (notOpen (j .standing .ids) (first 0xCB (r .headers)))
+      (sym (admitted-is (s .tables) (s .engine) (s .stores) j (held .fixed) r) ∙ e)
+    where
+      by : (x y : Bool) → (not x && not y) ≡ true → pick x (rejects 0x41) (pick y (rejects 0x53) admits) ≡ admits
+      by true y i = absurd (false≢true i)
+      by false true i = absurd (false≢true i)
+      by false false i = refl
+
+  -- what trails a Put is the same for both
+  trails-open : s .engine .operation ≡ Trailing → isTrailing (j .opened) ≡ true
+  trails-open e = ap isTrailing (subst
+      (λ (o : Operation). OpenedAt (s .engine .settings .«max_object_size») o (s .stores .headers) (s .stores .body) (j .opened)) e (held .opened))
+
+  same-trails : (r : Request) → trails r ≡ trailsPut r
+  unfolding trails trailsPut
+  same-trails r = refl
+
+  pub together-ties : Ties st j s
+  together-ties =
+      record {
+        settings = w .between .settings;
+        admits =
+            λ r o e. record {
+              admitted =
+                  subst (λ (x : Opcode). let v = surveyOf (some (r .headers)) in rejection (s .engine) x v
+                  (knownIn (s .engine) (s .tables) v) ≡ admits) o
+                  (passes r (and-left (admitted (j .settings) (j .standing) r) (not (isTrailing (j .opened) && trailsPut r)) e));
+              begins =
+                  λ i. same-trails r
+                  ∙ not-both (isTrailing (j .opened)) (trailsPut r)
+                  (and-right (admitted (j .settings) (j .standing) r) (not (isTrailing (j .opened) && trailsPut r)) e) (trails-open i);
+            };
+      }
