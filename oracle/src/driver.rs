@@ -124,6 +124,9 @@ fn engine(shared: &Shared) -> Engine {
     if let Some(size) = settings.max_object_size {
         engine.max_object_size = size;
     }
+    if let Some(counter) = settings.counter {
+        engine.count_from(counter);
+    }
     engine.srm_supported = settings.srm_supported;
     engine.authentication = settings.authentication.take();
     engine

@@ -1,6 +1,6 @@
 // Appended to the copy of engine/server.rs by the oracle's build.rs; not part of the
-// original. It reads the private fields, which only this module can, and changes
-// nothing.
+// original. It reads the private fields, which only this module can, and sets one at
+// the start of a session: the counter of ids.
 
 /// What the engine keeps from one operation to the next.
 pub(crate) struct Inspection<'a> {
@@ -13,6 +13,11 @@ pub(crate) struct Inspection<'a> {
 }
 
 impl<T, H> ServerEngine<T, H> {
+    /// Lets ids be counted up from a number other than 1, so that the wrap is met.
+    pub(crate) fn count_from(&mut self, counter: u32) {
+        self.next_connection_id = counter;
+    }
+
     pub(crate) fn inspect(&self) -> Inspection<'_> {
         Inspection {
             remote_max_packet_length: self.remote_max_packet_length,

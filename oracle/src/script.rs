@@ -21,6 +21,8 @@ pub struct Settings {
     pub srm_supported: bool,
     pub authentication: Option<Authentication>,
     pub max_object_size: Option<usize>,
+    /// The number from which ids are counted up.
+    pub counter: Option<u32>,
 }
 
 /// Bytes that the peer sends, in one or several reads.
@@ -139,6 +141,7 @@ fn settings(words: &[&str]) -> Option<Settings> {
             "name" => {}
             "max_packet_length" => settings.max_packet_length = Some(value.parse().ok()?),
             "max_object_size" => settings.max_object_size = Some(value.parse().ok()?),
+            "counter" => settings.counter = Some(value.parse().ok()?),
             "srm" => settings.srm_supported = flag(value)?,
             "auth" => requires_authentication = flag(value)?,
             "realm" => {

@@ -3,7 +3,7 @@ ghost use mathlib.Core.Path.{_≡_};
 ghost use mathlib.Core.Bool.{true};
 ghost use Prim.Native.Nat.{_+_, _%_};
 ghost use Rattle.calendar.specs.Time.{isInstant, moment, textOf, allDigits, isForm, numberAt, readInstant, instantOf};
-ghost use Rattle.calendar.specs.Time.{DigitsAt, legacyFor, legacyOf, writing, writeTime};
+ghost use Rattle.calendar.specs.Time.{DigitsAt, legacyFor, legacyOf, writing, writeTime, legacyNumber, wroteNumber};
 use crate::date::Date;
 use crate::date::date_after_epoch;
 use crate::date::day_number;
@@ -46,6 +46,28 @@ const DAY: u32 = 86400;
 const FIRST: u64 = 62167219200;
 
 const END: u64 = 66462186496;
+
+// Returns the number of an answer of `write_time`.
+pub fn wrote_number(answer: Wrote) -> usize
+    ensures { λ r. ⌜ r ≡ wroteNumber answer ⌝ }
+{
+    match answer {
+        Wrote::Written => 0,
+        Wrote::Short => 10,
+    }
+}
+
+// Returns the number of an answer of `read_time`.
+pub fn legacy_number(answer: Legacy) -> usize
+    ensures { λ r. ⌜ r ≡ legacyNumber answer ⌝ }
+{
+    match answer {
+        Legacy::Seconds(_) => 0,
+        Legacy::Malformed => 16,
+        Legacy::Nonexistent => 17,
+        Legacy::Outside => 18,
+    }
+}
 
 // Returns the last decimal digit of `n`, as a byte of text.
 fn digit(n: u16) -> u8

@@ -5,7 +5,7 @@ ghost use mathlib.Core.List.{_++_};
 ghost use Prim.Native.Nat.{_+_, _-_, _*_, _/_, _%_, _^_, _<_, _≤_, min, max};
 ghost use lib.ListN.{length, take, drop};
 ghost use lib.Seq.{paste};
-ghost use Rattle.digest.specs.Md5.{mixOf, rotl, word, steps, blockOf, le, zeros, padded, blocks, digestOf, beValue, octets16, numbers16, outputOf, requestDigest};
+ghost use Rattle.digest.specs.Md5.{mixOf, rotl, rfcSum, handSum, word, steps, blockOf, le, zeros, padded, blocks, digestOf, beValue, octets16, numbers16, outputOf, requestDigest};
 ghost use Rattle.digest.specs.Turn.{Turn, spanOf, partLaid};
 
 struct Regs {
@@ -30,10 +30,10 @@ fn rotate_left(x: u32, n: u32) -> u32
 }
 
 // Returns the sum of a step, wrapping, in the order in which the hardware group checks it by hand: the constant `k` and the message word
-// `w` first, then the function's value `f`, then the register `a`. RFC 1321 adds a, f, w and k in this order, and the contract keeps its
-// sum. proofs/SumOrder shows that the two orders give one number for any four words.
+// `w` first, then the function's value `f`, then the register `a` (`handSum`). RFC 1321 adds a, f, w and k in this order (`rfcSum`).
+// The contract has both: proofs/SumOrder shows that the two orders give one number for any four words.
 fn sum4(a: u32, f: u32, k: u32, w: u32) -> u32
-    ensures { λ r. ⌜ r ≡ (a + f + w + k) % 2 ^ 32 ⌝ }
+    ensures { λ r. ⌜ (r ≡ handSum a f w k) × (r ≡ rfcSum a f w k) ⌝ }
 {
     let constant_and_word = std::num::wrapping_add_u32(k, w);
     let with_value = std::num::wrapping_add_u32(constant_and_word, f);
@@ -549,6 +549,13 @@ pub fn octets16_at(s: &[u8], at: usize) -> Octets16
         first: number_at(s, at),
         second: number_at(s, at + 8),
     }
+}
+
+// Reads sixteen bytes as two numbers: for a host that has drawn a nonce.
+pub fn octets16_of(bytes: [u8; 16]) -> Octets16
+    ensures { λ r. ⌜ r ≡ numbers16 bytes ⌝ }
+{
+    octets16_at(&bytes, 0)
 }
 
 // Returns the 16 bytes of `n`.

@@ -1,6 +1,6 @@
 // A host that keeps nothing: it answers with codes without headers, and has no password and no credentials. A nonce is the kernel's.
 use digest::md5::Octets16;
-use digest::md5::octets16_at;
+use digest::md5::octets16_of;
 use engine::calls;
 use packet::response::NOT_IMPLEMENTED;
 use packet::response::SUCCESS;
@@ -32,7 +32,7 @@ enum Drawn {
 fn draw() -> Drawn {
     let mut bytes = [0u8; 16];
     if libc::getentropy(&mut bytes) == 0 {
-        return Drawn::Fresh(octets16_at(&bytes, 0));
+        return Drawn::Fresh(octets16_of(bytes));
     }
     Drawn::Missing
 }

@@ -1,10 +1,8 @@
 // The questions on clocks: `time ROOM SECONDS`, answered `NUMBER TARGET`, where ROOM is the target's length in bytes, and the target is
 // filled with ee first and shown whole; `legacy TEXT`, where TEXT is bytes in hexadecimal, answered `NUMBER SECONDS`; `roll YEAR MONTH
 // DAY`, answered `NUMBER YEAR MONTH DAY`.
-ghost use mathlib.Core.Path.{_≡_};
 ghost use Prim.Native.Nat.{_≤_};
 ghost use lib.ListN.{length};
-ghost use Rattle.calendar.specs.Time.{legacyNumber, wroteNumber};
 use crate::answer::bad_question;
 use crate::answer::number_and_target;
 use crate::question::Number;
@@ -14,9 +12,10 @@ use calendar::date::Date;
 use calendar::date::Rolling;
 use calendar::date::roll_copy;
 use calendar::time::Legacy;
-use calendar::time::Wrote;
+use calendar::time::legacy_number;
 use calendar::time::read_time;
 use calendar::time::write_time;
+use calendar::time::wrote_number;
 use lines::output::least;
 use lines::output::put;
 use lines::output::put_number;
@@ -27,28 +26,6 @@ use lines::word::unhex;
 
 // The largest target that is asked about, in bytes: 1 MiB.
 const LARGEST: usize = 1048576;
-
-// Returns the number of an answer of `write_time`.
-fn wrote_number(answer: Wrote) -> usize
-    ensures { λ r. ⌜ r ≡ wroteNumber answer ⌝ }
-{
-    match answer {
-        Wrote::Written => 0,
-        Wrote::Short => 10,
-    }
-}
-
-// Returns the number of an answer of `read_time`.
-fn legacy_number(answer: Legacy) -> usize
-    ensures { λ r. ⌜ r ≡ legacyNumber answer ⌝ }
-{
-    match answer {
-        Legacy::Seconds(_) => 0,
-        Legacy::Malformed => 16,
-        Legacy::Nonexistent => 17,
-        Legacy::Outside => 18,
-    }
-}
 
 // Returns the seconds of an answer of `read_time`, or 0 if it has none.
 fn seconds_of(answer: Legacy) -> usize {

@@ -41,6 +41,8 @@ pub struct Options {
     pub targets: bool,
     // Whether the stores are filled with zeros.
     pub clear: bool,
+    // The number from which ids are counted up.
+    pub counter: u32,
 }
 
 // A call on the engine.
@@ -85,6 +87,7 @@ enum Key {
     RefuseTrailing,
     Targets,
     Clear,
+    Counter,
     Other,
 }
 
@@ -124,7 +127,8 @@ fn key_of(w: &[u8]) -> Key {
         user_id_enforced\n\
         refuse_trailing\n\
         targets\n\
-        clear\n";
+        clear\n\
+        counter\n";
     match line_number(names, w) {
         0 => Key::MaxPacketLength,
         1 => Key::MaxObjectSize,
@@ -138,6 +142,7 @@ fn key_of(w: &[u8]) -> Key {
         9 => Key::RefuseTrailing,
         10 => Key::Targets,
         11 => Key::Clear,
+        12 => Key::Counter,
         _ => Key::Other,
     }
 }
@@ -149,6 +154,7 @@ fn default_options() -> Options {
         realm_length: 0,
         targets: false,
         clear: false,
+        counter: 1,
     }
 }
 
@@ -189,6 +195,7 @@ fn with_option(o: Options, key: Key, w: &[u8], realm: usize) -> Options {
         Key::Realm => r.realm_length = realm,
         Key::Targets => r.targets = is_set(w),
         Key::Clear => r.clear = is_set(w),
+        Key::Counter => r.counter = (number(w) % 4294967296) as u32,
         _ => {}
     }
     r

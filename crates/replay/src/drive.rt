@@ -255,6 +255,13 @@ fn host_call(
     }
 }
 
+// Returns a start's result with the id counter at `counter`. No host can set it; the wrap behind the last number is compared by it.
+fn counting(result: CallResult, counter: u32) -> CallResult {
+    let mut r = result;
+    r.engine.peer.next_connection_id = counter;
+    r
+}
+
 // Makes any call: one that comes from the peer, a start, or one of the host's.
 fn any_call(
     e: Engine,
@@ -271,7 +278,9 @@ fn any_call(
 ) -> CallResult {
     match call {
         Call::Bytes => offer(e, input, tables, packet, headers, body, reply),
-        Call::Start(o) => calls::start(o.settings, realm, tables, packet, headers, body, reply),
+        Call::Start(o) => {
+            counting(calls::start(o.settings, realm, tables, packet, headers, body, reply), o.counter)
+        }
         _ => host_call(e, call, a, b, realm, tables, packet, headers, body, reply),
     }
 }

@@ -274,8 +274,8 @@ impl Draft {
             1,
             next,
             next,
-            next + 1,
-            next + 2,
+            next.wrapping_add(1),
+            next.wrapping_add(2),
             u32::MAX,
             u32::MAX - 1,
             any,
@@ -289,11 +289,11 @@ impl Draft {
     }
 
     fn allocate(&mut self) {
-        while self.ids.contains(&self.next_id) {
-            self.next_id += 1;
+        while self.ids.contains(&self.next_id) || self.next_id == u32::MAX {
+            self.next_id = self.next_id.wrapping_add(1);
         }
         self.open(self.next_id);
-        self.next_id += 1;
+        self.next_id = self.next_id.wrapping_add(1);
     }
 
     /// The host's answer to a challenge; the length of the header that comes of it.

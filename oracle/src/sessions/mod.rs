@@ -90,6 +90,8 @@ struct Draft {
     srm_supported: bool,
     own_limit: u16,
     max_object_size: usize,
+    /// The number from which ids are counted up, if it is not 1.
+    counter: Option<u32>,
     authentication: Option<Authentication>,
 
     packets: Vec<Wire>,
@@ -118,11 +120,13 @@ struct Draft {
 impl Draft {
     fn new(seed: u64, session: u64) -> Draft {
         let mut random = Random::new(seed, session);
+        let counter = Draft::counter(seed, session);
         Draft {
             name: format!("{seed}.{session}"),
             srm_supported: !random.one_in(3),
             own_limit: random.pick(&LIMITS),
             max_object_size: random.pick(&OBJECT_SIZES),
+            counter,
             authentication: None,
             random,
             packets: Vec::new(),
@@ -134,7 +138,7 @@ impl Draft {
             wrong: Random::new(!seed, session).one_in(200),
             limit: 255,
             ids: Vec::new(),
-            next_id: 1,
+            next_id: counter.unwrap_or(1),
             srm: false,
             authenticated: false,
             challenges: 0,
@@ -142,6 +146,16 @@ impl Draft {
             admitted: true,
             ended: false,
         }
+    }
+
+    /// In one of 50 sessions ids are counted up from just before the wrap, or from 0. By
+    /// numbers of its own, so that all other sessions stay as they are.
+    fn counter(seed: u64, session: u64) -> Option<u32> {
+        let mut random = Random::new(!seed.rotate_left(32), session);
+        let last = u32::MAX;
+        random
+            .one_in(50)
+            .then(|| random.pick(&[0, last - 40, last - 2, last - 1, last]))
     }
 
     /// The script of the session.
@@ -234,6 +248,9 @@ impl Draft {
             u8::from(self.srm_supported),
             self.max_object_size
         );
+        if let Some(counter) = self.counter {
+            let _ = write!(out, " counter={counter}");
+        }
         if let Some(authentication) = &self.authentication {
             out.push_str(" auth=1");
             if let Some(realm) = &authentication.realm {

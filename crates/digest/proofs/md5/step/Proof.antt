@@ -2,6 +2,7 @@
 use mathlib.Core.Path.{sym}
 use native.Mathlib.Numerals.{add-one}
 use Rattle.digest.specs.Md5.{steps, stepOf}
+use Rattle.digest.proofs.SumOrder.{rfc-once}
 use borrow.Author.Needs.{needs}
 use Rattle.digest.proofs.md5.step.Statement.{statement}
 use Rattle.digest.proofs.md5.step.Tie as tie
@@ -26,7 +27,8 @@ returns c =
       add-one,
       c .wrapping-add-u32 .ensures,
       c .before .rotate-left .ensures,
-      c .before .before .sum4 .ensures,
+      c .before .before .sum4 .ensures .1,
+      rfc-once,
       c .before .before .before .word-at .ensures,
       pre .1,
       sym (pre .0 .before),
