@@ -107,7 +107,7 @@ pub record StartsMade (a : ServerStart) (b : ClientStart) : Type 0 where
 
 -- The link of two ends that were started so.
 abbrev pub startedBy : ServerStart → ClientStart → Link
-startedBy a b = startedLink (a .realm) (a .result) (a .left) (a .tables) (b .result) (b .left)
+startedBy a b = startedLink (a .result) (a .left) (a .tables) (b .result) (b .left)
 
 -- ---- the claims
 
