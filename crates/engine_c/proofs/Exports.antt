@@ -10,23 +10,23 @@ use Rattle.engine_c.specs.Words.{settingsIn, resultOf}
 use Rattle.engine_c.specs.Theorem.{Kept, stateIn, Made, performedBy, keptAfter, RanOn, ExportsUphold}
 
 -- the state that a call leaves is the one that is read from the numbers
-handed-on : (k : Kept) (x : Made) → stateIn (keptAfter k x) ≡ next (stateIn k) (performedBy x)
+handed-on : (x : Made) → stateIn (keptAfter x) ≡ next (performedBy x)
 unfolding resultOf
-handed-on k x = refl
+handed-on x = refl
 
 ran : (k : Kept) (xs : List Made) → RanOn k xs → Ran (stateIn k) (map performedBy xs)
 ran k [] h = tt
 ran k (x ∷ xs) h =
-    (h .0, subst (λ (s : State). Ran s (map performedBy xs)) (handed-on k x) (ran (keptAfter k x) xs (h .1)))
+    (h .0, (h .1 .0, subst (λ (s : State). Ran s (map performedBy xs)) (handed-on x) (ran (keptAfter x) xs (h .1 .1))))
 
 -- the same of the start
-started-on : (k : Kept) → stateIn k ≡ state (k .realm) (resultOf (k .words)) (k .stores) (k .tables)
+started-on : (k : Kept) → stateIn k ≡ state (resultOf (k .words)) (k .stores) (k .tables)
 unfolding resultOf
 started-on k = refl
 
 pub exports-uphold : ExportsUphold
-exports-uphold w s k xs a h =
+exports-uphold w l s k xs a h =
     subst (λ (z : State). Upholds (settingsIn w) z (map performedBy xs)) (sym (started-on k))
-    (contracts-uphold (settingsIn w) (k .realm) s (k .stores) (k .tables) (resultOf (k .words)) (map performedBy xs)
+    (contracts-uphold (settingsIn w) l s (k .stores) (k .tables) (resultOf (k .words)) (map performedBy xs)
     (record { says = a .says; accepted = a .accepted })
     (subst (λ (z : State). Ran z (map performedBy xs)) (started-on k) (ran k xs h)))

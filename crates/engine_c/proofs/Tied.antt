@@ -1,7 +1,6 @@
 -- What a caller learns from each export's contract is what `ExportsUphold` needs of it, so that theorem speaks of the exports' own clauses.
 -- `Learnt` is the reading of an `ensures` clause that the check makes: a contract that stops saying it breaks its line here. A call that is
--- not lent the table store says nothing of it: its line holds for every table store that the host keeps beside it, and so does that of a call
--- without the realm. Assumes nothing.
+-- not lent the table store says nothing of it: its line holds for every table store that the host keeps beside it. Assumes nothing.
 use mathlib.Core.Path.{_≡_, ap}
 use mathlib.Core.List.{List}
 use Prim.Native.Nat.{ℕ}
@@ -17,7 +16,7 @@ use Rattle.model.specs.Step.{Stores, stores, Stepped, stepped, called}
 use Rattle.model.specs.Calls.{startStep}
 use Rattle.model.specs.Runs.{Says, beside}
 use Rattle.engine_c.specs.Words.{settingsIn, resultOf}
-use Rattle.engine_c.specs.Theorem.{Kept, stateIn, made, performedBy}
+use Rattle.engine_c.specs.Theorem.{Kept, stateIn, returned}
 use Rattle.engine_c.proofs.obex_engine_start
 use Rattle.engine_c.proofs.obex_engine_start.Kinds as start-kinds
 use Rattle.engine_c.proofs.obex_engine_start.Reads as start-reads
@@ -59,8 +58,8 @@ use Rattle.engine_c.proofs.obex_engine_connections_closed.Kinds as conn
 use Rattle.engine_c.proofs.obex_engine_connections_closed.Reads as connections-closed-reads
 
 -- what the host keeps before a call
-abbrev before : List ℕ → List ℕ → List ℕ → Stores → Kept
-before t l w s = record { words = w; stores = s; tables = t; realm = l }
+abbrev before : List ℕ → List ℕ → Stores → Kept
+before t w s = record { words = w; stores = s; tables = t }
 
 pub start-says : (κs : Lfts 7) (a : ArgsD obex_engine_start.signature κs) (r : ResD obex_engine_start.signature κs)
     (x : AtExit (endedOf 7 start-kinds.ps start-kinds.r) κs)
@@ -71,109 +70,109 @@ pub start-says : (κs : Lfts 7) (a : ArgsD obex_engine_start.signature κs) (r :
     ≡ startStep (settingsIn (now (a .0))) (now (a .1 .0)) (stores (now (p .0)) (now (p .1 .0)) (now (p .1 .1 .0)) (now (p .1 .1 .1 .0))) (now (a .1 .1 .0))
 start-says κs a r x h = h
 
-pub bytes-offered-says : (l : List ℕ) (κs : Lfts 7) (a : ArgsD obex_engine_bytes_offered.signature κs) (r : ResD obex_engine_bytes_offered.signature κs)
+pub bytes-offered-says : (κs : Lfts 7) (a : ArgsD obex_engine_bytes_offered.signature κs) (r : ResD obex_engine_bytes_offered.signature κs)
     (x : AtExit (endedOf 7 bytes-offered-kinds.ps bytes-offered-kinds.r) κs)
     → bytes-offered-reads.Learnt κs a r x
     → let p = a .1 .1 .1 in
     let q = x .1 .1 .1 in
-    Says (stateIn (before (now (a .1 .1 .0)) l (now (a .0)) (stores (now (p .0)) (now (p .1 .0)) (now (p .1 .1 .0)) (now (p .1 .1 .1 .0)))))
-    (performedBy (made (bytesOffered (now (a .1 .0))) (now (x .0)) (stores (now (q .0)) (now (q .1 .0)) (now (q .1 .1 .0)) (now (q .1 .1 .1 .0))) (now (a .1 .1 .0))))
-bytes-offered-says l κs a r x h = record { step = ap (λ (m : Stepped). called m (now (a .1 .1 .0))) (h .0); octets = h .1 }
+    Says (stateIn (before (now (a .1 .1 .0)) (now (a .0)) (stores (now (p .0)) (now (p .1 .0)) (now (p .1 .1 .0)) (now (p .1 .1 .1 .0)))))
+    (bytesOffered (now (a .1 .0))) (returned (now (x .0)) (stores (now (q .0)) (now (q .1 .0)) (now (q .1 .1 .0)) (now (q .1 .1 .1 .0))) (now (a .1 .1 .0)))
+bytes-offered-says κs a r x h = record { step = ap (λ (m : Stepped). called m (now (a .1 .1 .0))) (h .0); octets = h .1 }
 
-pub stream-ended-says : (t l : List ℕ) (κs : Lfts 5) (a : ArgsD obex_engine_stream_ended.signature κs) (r : ResD obex_engine_stream_ended.signature κs)
+pub stream-ended-says : (t : List ℕ) (κs : Lfts 5) (a : ArgsD obex_engine_stream_ended.signature κs) (r : ResD obex_engine_stream_ended.signature κs)
     (x : AtExit (endedOf 5 stream-ended-kinds.ps stream-ended-kinds.r) κs)
     → stream-ended-reads.Learnt κs a r x
     → let p = a .1 in
     let q = x .1 in
-    Says (stateIn (before t l (now (a .0)) (stores (now (p .0)) (now (p .1 .0)) (now (p .1 .1 .0)) (now (p .1 .1 .1 .0)))))
-    (performedBy (made streamEnded (now (x .0)) (stores (now (q .0)) (now (q .1 .0)) (now (q .1 .1 .0)) (now (q .1 .1 .1 .0))) (t)))
-stream-ended-says t l κs a r x h = record { step = ap (λ (m : Stepped). called m t) h; octets = tt }
+    Says (stateIn (before t (now (a .0)) (stores (now (p .0)) (now (p .1 .0)) (now (p .1 .1 .0)) (now (p .1 .1 .1 .0)))))
+    streamEnded (returned (now (x .0)) (stores (now (q .0)) (now (q .1 .0)) (now (q .1 .1 .0)) (now (q .1 .1 .1 .0))) t)
+stream-ended-says t κs a r x h = record { step = ap (λ (m : Stepped). called m t) h; octets = tt }
 
-pub reply-taken-says : (t l : List ℕ) (κs : Lfts 5) (a : ArgsD obex_engine_reply_taken.signature κs) (r : ResD obex_engine_reply_taken.signature κs)
+pub reply-taken-says : (t : List ℕ) (κs : Lfts 5) (a : ArgsD obex_engine_reply_taken.signature κs) (r : ResD obex_engine_reply_taken.signature κs)
     (x : AtExit (endedOf 5 reply-taken-kinds.ps reply-taken-kinds.r) κs)
     → reply-taken-reads.Learnt κs a r x
     → let p = a .1 in
     let q = x .1 in
-    Says (stateIn (before t l (now (a .0)) (stores (now (p .0)) (now (p .1 .0)) (now (p .1 .1 .0)) (now (p .1 .1 .1 .0)))))
-    (performedBy (made replyTaken (now (x .0)) (stores (now (q .0)) (now (q .1 .0)) (now (q .1 .1 .0)) (now (q .1 .1 .1 .0))) (t)))
-reply-taken-says t l κs a r x h = record { step = ap (λ (m : Stepped). called m t) h; octets = tt }
+    Says (stateIn (before t (now (a .0)) (stores (now (p .0)) (now (p .1 .0)) (now (p .1 .1 .0)) (now (p .1 .1 .1 .0)))))
+    replyTaken (returned (now (x .0)) (stores (now (q .0)) (now (q .1 .0)) (now (q .1 .1 .0)) (now (q .1 .1 .1 .0))) t)
+reply-taken-says t κs a r x h = record { step = ap (λ (m : Stepped). called m t) h; octets = tt }
 
-pub reply-given-says : (l : List ℕ) (κs : Lfts 7) (a : ArgsD obex_engine_reply_given.signature κs) (r : ResD obex_engine_reply_given.signature κs)
+pub reply-given-says : (κs : Lfts 7) (a : ArgsD obex_engine_reply_given.signature κs) (r : ResD obex_engine_reply_given.signature κs)
     (x : AtExit (endedOf 7 reply-given-kinds.ps reply-given-kinds.r) κs)
     → reply-given-reads.Learnt κs a r x
     → let p = a .1 .1 .1 .1 in
     let q = x .1 .1 .1 .1 in
-    Says (stateIn (before (now (a .1 .1 .1 .0)) l (now (a .0)) (stores (now (p .0)) (now (p .1 .0)) (now (p .1 .1 .0)) (now (p .1 .1 .1 .0)))))
-    (performedBy (made (replyGiven (a .1 .0) (now (a .1 .1 .0))) (now (x .0)) (stores (now (q .0)) (now (q .1 .0)) (now (q .1 .1 .0)) (now (q .1 .1 .1 .0))) (now (x .1 .1 .1 .0))))
-reply-given-says l κs a r x h = record { step = h; octets = tt }
+    Says (stateIn (before (now (a .1 .1 .1 .0)) (now (a .0)) (stores (now (p .0)) (now (p .1 .0)) (now (p .1 .1 .0)) (now (p .1 .1 .1 .0)))))
+    (replyGiven (a .1 .0) (now (a .1 .1 .0))) (returned (now (x .0)) (stores (now (q .0)) (now (q .1 .0)) (now (q .1 .1 .0)) (now (q .1 .1 .1 .0))) (now (x .1 .1 .1 .0)))
+reply-given-says κs a r x h = record { step = h; octets = tt }
 
-pub object-given-says : (t l : List ℕ) (κs : Lfts 6) (a : ArgsD obex_engine_object_given.signature κs) (r : ResD obex_engine_object_given.signature κs)
+pub object-given-says : (t : List ℕ) (κs : Lfts 6) (a : ArgsD obex_engine_object_given.signature κs) (r : ResD obex_engine_object_given.signature κs)
     (x : AtExit (endedOf 6 object-given-kinds.ps object-given-kinds.r) κs)
     → object-given-reads.Learnt κs a r x
     → let p = a .1 .1 .1 in
     let q = x .1 .1 .1 in
-    Says (stateIn (before t l (now (a .0)) (stores (now (p .0)) (now (p .1 .0)) (now (p .1 .1 .0)) (now (p .1 .1 .1 .0)))))
-    (performedBy (made (objectGiven (now (a .1 .0)) (a .1 .1 .0)) (now (x .0)) (stores (now (q .0)) (now (q .1 .0)) (now (q .1 .1 .0)) (now (q .1 .1 .1 .0))) (t)))
-object-given-says t l κs a r x h = record { step = ap (λ (m : Stepped). called m t) h; octets = tt }
+    Says (stateIn (before t (now (a .0)) (stores (now (p .0)) (now (p .1 .0)) (now (p .1 .1 .0)) (now (p .1 .1 .1 .0)))))
+    (objectGiven (now (a .1 .0)) (a .1 .1 .0)) (returned (now (x .0)) (stores (now (q .0)) (now (q .1 .0)) (now (q .1 .1 .0)) (now (q .1 .1 .1 .0))) t)
+object-given-says t κs a r x h = record { step = ap (λ (m : Stepped). called m t) h; octets = tt }
 
-pub body-given-says : (t l : List ℕ) (κs : Lfts 6) (a : ArgsD obex_engine_body_given.signature κs) (r : ResD obex_engine_body_given.signature κs)
+pub body-given-says : (t : List ℕ) (κs : Lfts 6) (a : ArgsD obex_engine_body_given.signature κs) (r : ResD obex_engine_body_given.signature κs)
     (x : AtExit (endedOf 6 body-given-kinds.ps body-given-kinds.r) κs)
     → body-given-reads.Learnt κs a r x
     → let p = a .1 .1 in
     let q = x .1 .1 in
-    Says (stateIn (before t l (now (a .0)) (stores (now (p .0)) (now (p .1 .0)) (now (p .1 .1 .0)) (now (p .1 .1 .1 .0)))))
-    (performedBy (made (bodyGiven (now (a .1 .0))) (now (x .0)) (stores (now (q .0)) (now (q .1 .0)) (now (q .1 .1 .0)) (now (q .1 .1 .1 .0))) (t)))
-body-given-says t l κs a r x h = record { step = ap (λ (m : Stepped). called m t) h; octets = tt }
+    Says (stateIn (before t (now (a .0)) (stores (now (p .0)) (now (p .1 .0)) (now (p .1 .1 .0)) (now (p .1 .1 .1 .0)))))
+    (bodyGiven (now (a .1 .0))) (returned (now (x .0)) (stores (now (q .0)) (now (q .1 .0)) (now (q .1 .1 .0)) (now (q .1 .1 .1 .0))) t)
+body-given-says t κs a r x h = record { step = ap (λ (m : Stepped). called m t) h; octets = tt }
 
-pub body-failed-says : (t l : List ℕ) (κs : Lfts 5) (a : ArgsD obex_engine_body_failed.signature κs) (r : ResD obex_engine_body_failed.signature κs)
+pub body-failed-says : (t : List ℕ) (κs : Lfts 5) (a : ArgsD obex_engine_body_failed.signature κs) (r : ResD obex_engine_body_failed.signature κs)
     (x : AtExit (endedOf 5 body-failed-kinds.ps body-failed-kinds.r) κs)
     → body-failed-reads.Learnt κs a r x
     → let p = a .1 in
     let q = x .1 in
-    Says (stateIn (before t l (now (a .0)) (stores (now (p .0)) (now (p .1 .0)) (now (p .1 .1 .0)) (now (p .1 .1 .1 .0)))))
-    (performedBy (made bodyFailed (now (x .0)) (stores (now (q .0)) (now (q .1 .0)) (now (q .1 .1 .0)) (now (q .1 .1 .1 .0))) (t)))
-body-failed-says t l κs a r x h = record { step = ap (λ (m : Stepped). called m t) h; octets = tt }
+    Says (stateIn (before t (now (a .0)) (stores (now (p .0)) (now (p .1 .0)) (now (p .1 .1 .0)) (now (p .1 .1 .1 .0)))))
+    bodyFailed (returned (now (x .0)) (stores (now (q .0)) (now (q .1 .0)) (now (q .1 .1 .0)) (now (q .1 .1 .1 .0))) t)
+body-failed-says t κs a r x h = record { step = ap (λ (m : Stepped). called m t) h; octets = tt }
 
-pub abort-acknowledged-says : (t l : List ℕ) (κs : Lfts 5) (a : ArgsD obex_engine_abort_acknowledged.signature κs) (r : ResD obex_engine_abort_acknowledged.signature κs)
+pub abort-acknowledged-says : (t : List ℕ) (κs : Lfts 5) (a : ArgsD obex_engine_abort_acknowledged.signature κs) (r : ResD obex_engine_abort_acknowledged.signature κs)
     (x : AtExit (endedOf 5 abort-acknowledged-kinds.ps abort-acknowledged-kinds.r) κs)
     → abort-acknowledged-reads.Learnt κs a r x
     → let p = a .1 in
     let q = x .1 in
-    Says (stateIn (before t l (now (a .0)) (stores (now (p .0)) (now (p .1 .0)) (now (p .1 .1 .0)) (now (p .1 .1 .1 .0)))))
-    (performedBy (made abortAcknowledged (now (x .0)) (stores (now (q .0)) (now (q .1 .0)) (now (q .1 .1 .0)) (now (q .1 .1 .1 .0))) (t)))
-abort-acknowledged-says t l κs a r x h = record { step = ap (λ (m : Stepped). called m t) h; octets = tt }
+    Says (stateIn (before t (now (a .0)) (stores (now (p .0)) (now (p .1 .0)) (now (p .1 .1 .0)) (now (p .1 .1 .1 .0)))))
+    abortAcknowledged (returned (now (x .0)) (stores (now (q .0)) (now (q .1 .0)) (now (q .1 .1 .0)) (now (q .1 .1 .1 .0))) t)
+abort-acknowledged-says t κs a r x h = record { step = ap (λ (m : Stepped). called m t) h; octets = tt }
 
-pub password-given-says : (t l : List ℕ) (κs : Lfts 6) (a : ArgsD obex_engine_password_given.signature κs) (r : ResD obex_engine_password_given.signature κs)
+pub password-given-says : (t : List ℕ) (κs : Lfts 6) (a : ArgsD obex_engine_password_given.signature κs) (r : ResD obex_engine_password_given.signature κs)
     (x : AtExit (endedOf 6 password-given-kinds.ps password-given-kinds.r) κs)
     → password-given-reads.Learnt κs a r x
     → let p = a .1 .1 .1 in
     let q = x .1 .1 .1 in
-    Says (stateIn (before t l (now (a .0)) (stores (now (p .0)) (now (p .1 .0)) (now (p .1 .1 .0)) (now (p .1 .1 .1 .0)))))
-    (performedBy (made (passwordGiven (given (a .1 .0) (now (a .1 .1 .0)))) (now (x .0)) (stores (now (q .0)) (now (q .1 .0)) (now (q .1 .1 .0)) (now (q .1 .1 .1 .0))) (t)))
-password-given-says t l κs a r x h = record { step = ap (λ (m : Stepped). called m t) h; octets = tt }
+    Says (stateIn (before t (now (a .0)) (stores (now (p .0)) (now (p .1 .0)) (now (p .1 .1 .0)) (now (p .1 .1 .1 .0)))))
+    (passwordGiven (given (a .1 .0) (now (a .1 .1 .0)))) (returned (now (x .0)) (stores (now (q .0)) (now (q .1 .0)) (now (q .1 .1 .0)) (now (q .1 .1 .1 .0))) t)
+password-given-says t κs a r x h = record { step = ap (λ (m : Stepped). called m t) h; octets = tt }
 
 pub nonce-given-says : (κs : Lfts 7) (a : ArgsD obex_engine_nonce_given.signature κs) (r : ResD obex_engine_nonce_given.signature κs)
     (x : AtExit (endedOf 7 nonce-given-kinds.ps nonce-given-kinds.r) κs)
     → nonce-given-reads.Learnt κs a r x
     → let p = a .1 .1 .1 .1 .1 in
     let q = x .1 .1 .1 .1 .1 in
-    Says (stateIn (before (now (a .1 .1 .1 .1 .0)) (now (a .1 .1 .1 .0)) (now (a .0)) (stores (now (p .0)) (now (p .1 .0)) (now (p .1 .1 .0)) (now (p .1 .1 .1 .0)))))
-    (performedBy (made (nonceGiven (record { first = a .1 .0; second = a .1 .1 .0 })) (now (x .0)) (stores (now (q .0)) (now (q .1 .0)) (now (q .1 .1 .0)) (now (q .1 .1 .1 .0))) (now (x .1 .1 .1 .1 .0))))
+    Says (stateIn (before (now (a .1 .1 .1 .1 .0)) (now (a .0)) (stores (now (p .0)) (now (p .1 .0)) (now (p .1 .1 .0)) (now (p .1 .1 .1 .0)))))
+    (nonceGiven (record { first = a .1 .0; second = a .1 .1 .0 }) (now (a .1 .1 .1 .0))) (returned (now (x .0)) (stores (now (q .0)) (now (q .1 .0)) (now (q .1 .1 .0)) (now (q .1 .1 .1 .0))) (now (x .1 .1 .1 .1 .0)))
 nonce-given-says κs a r x h = record { step = h; octets = tt }
 
-pub credentials-given-says : (t l : List ℕ) (κs : Lfts 7) (a : ArgsD obex_engine_credentials_given.signature κs) (r : ResD obex_engine_credentials_given.signature κs)
+pub credentials-given-says : (t : List ℕ) (κs : Lfts 7) (a : ArgsD obex_engine_credentials_given.signature κs) (r : ResD obex_engine_credentials_given.signature κs)
     (x : AtExit (endedOf 7 credentials-given-kinds.ps credentials-given-kinds.r) κs)
     → credentials-given-reads.Learnt κs a r x
     → let p = a .1 .1 .1 .1 .1 in
     let q = x .1 .1 .1 .1 .1 in
-    Says (stateIn (before t l (now (a .0)) (stores (now (p .0)) (now (p .1 .0)) (now (p .1 .1 .0)) (now (p .1 .1 .1 .0)))))
-    (performedBy (made (credentialsGiven (credentialsOf (a .1 .0) (given (a .1 .1 .0) (now (a .1 .1 .1 .0))) (now (a .1 .1 .1 .1 .0)))) (now (x .0)) (stores (now (q .0)) (now (q .1 .0)) (now (q .1 .1 .0)) (now (q .1 .1 .1 .0))) (t)))
-credentials-given-says t l κs a r x h = record { step = ap (λ (m : Stepped). called m t) h; octets = tt }
+    Says (stateIn (before t (now (a .0)) (stores (now (p .0)) (now (p .1 .0)) (now (p .1 .1 .0)) (now (p .1 .1 .1 .0)))))
+    (credentialsGiven (credentialsOf (a .1 .0) (given (a .1 .1 .0) (now (a .1 .1 .1 .0))) (now (a .1 .1 .1 .1 .0)))) (returned (now (x .0)) (stores (now (q .0)) (now (q .1 .0)) (now (q .1 .1 .0)) (now (q .1 .1 .1 .0))) t)
+credentials-given-says t κs a r x h = record { step = ap (λ (m : Stepped). called m t) h; octets = tt }
 
--- the call is lent the table store alone, so its line holds for every four stores and every realm that the host keeps beside it
-pub connections-closed-says : (s : Stores) (l : List ℕ) (κs : Lfts 3) (a : ArgsD obex_engine_connections_closed.signature κs)
+-- the call is lent the table store alone, so its line holds for every four stores that the host keeps beside it
+pub connections-closed-says : (s : Stores) (κs : Lfts 3) (a : ArgsD obex_engine_connections_closed.signature κs)
     (r : ResD obex_engine_connections_closed.signature κs) (x : AtExit (endedOf 3 connections-closed-kinds.ps connections-closed-kinds.r) κs)
     → connections-closed-reads.Learnt κs a r x
-    → let k = before (now (a .1 .1 .0)) l (now (a .0)) s in
-    Says (stateIn k) (performedBy (made (connectionsClosed (now (a .1 .0))) (now (x .0)) s (now (x .1 .1 .0))))
-connections-closed-says s l κs a r x h = record { step = ap (beside (stateIn (before (now (a .1 .1 .0)) l (now (a .0)) s))) h; octets = tt }
+    → let k = before (now (a .1 .1 .0)) (now (a .0)) s in
+    Says (stateIn k) (connectionsClosed (now (a .1 .0))) (returned (now (x .0)) s (now (x .1 .1 .0)))
+connections-closed-says s κs a r x h = record { step = ap (beside (stateIn (before (now (a .1 .1 .0)) (now (a .0)) s))) h; octets = tt }

@@ -33,9 +33,9 @@ kindFor request.Nonce = kind.Nonce
 kindFor (request.Credentials n u r p) = kind.NoCredentials
 kindFor (request.Read n) = kind.NoBody
 
--- What the engine does with the answer: the model's step, with the table store, and with a realm of no bytes.
+-- What the engine does with the answer: the model's step, with the table store.
 abbrev pub answered : Call → Engine → Stores → List ℕ → Called
-answered c e s t = stepOf (record { engine = e; stores = s; tables = t; realm = [] }) c
+answered c e s t = stepOf (record { engine = e; stores = s; tables = t }) c
 
 -- What comes of an answer of each kind. A nonce is some sixteen bytes: no contract can say which ones the kernel gives. If it has none, the
 -- host makes a call that is not due, and the engine refuses it.
@@ -44,5 +44,5 @@ Answers (kind.Reply code) e s t r = r ≡ answered (replyGiven code []) e s t
 Answers kind.Acknowledge e s t r = r ≡ answered abortAcknowledged e s t
 Answers kind.NoPassword e s t r = r ≡ answered (passwordGiven none) e s t
 Answers kind.NoCredentials e s t r = r ≡ answered (credentialsGiven none) e s t
-Answers kind.Nonce e s t r = (n : Octets16) × ((drawn : Bool) × (r ≡ answered (pick drawn (nonceGiven n) bodyFailed) e s t))
+Answers kind.Nonce e s t r = (n : Octets16) × ((drawn : Bool) × (r ≡ answered (pick drawn (nonceGiven n []) bodyFailed) e s t))
 Answers kind.NoBody e s t r = r ≡ answered bodyFailed e s t

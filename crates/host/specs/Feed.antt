@@ -9,8 +9,8 @@ use lib.ListN.{length, take, drop}
 use lib.Dec.{ltb, leb}
 use Rattle.base.specs.Pick.{pick}
 use Rattle.journal.specs.Calls.{Call, bytesOffered, streamEnded}
-use Rattle.model.specs.Step.{Stores}
-use Rattle.model.specs.Runs.{Says, performed}
+use Rattle.model.specs.Step.{Stores, stepped, called}
+use Rattle.model.specs.Runs.{Says}
 use Rattle.server.specs.declared.Engine.{Engine}
 use Rattle.host.specs.Rest.{Within}
 use Rattle.host.specs.declared.feed.Rest.{Rest}
@@ -65,10 +65,10 @@ movedOn r n = record { at = r .at + n; end = r .end }
 
 -- The engine `e` was offered the part `r` of the store `i`, with the four stores `s` and the table store `t`. It came to the step `x`, the
 -- input store `j` and the four stores `z`. Between them lies the part that was offered, `offered`. `says` is what the call's contract says,
--- so that the call is one of a run of the records theorem; the realm is one of no bytes.
+-- so that the call is one of a run of the records theorem.
 pub record Feeds (e : Engine) (r : Rest) (i : List ℕ) (s : Stores) (t : List ℕ) (x : Step) (j : List ℕ) (z : Stores) : Type 0 where
   pub offered : Rest
   pub refilled : Refilled r i offered j
-  pub says : Says (record { engine = e; stores = s; tables = t; realm = [] }) (performed (offer (left offered j)) (x .took) z t)
+  pub says : Says (record { engine = e; stores = s; tables = t }) (offer (left offered j)) (called (stepped (x .took) z) t)
   pub rest : x .rest ≡ movedOn offered (x .took .taken)
   pub within : Within (x .rest) (length j)

@@ -7,7 +7,7 @@ use Prim.Native.Nat.{ℕ, zero, suc, _+_, _-_, _≤_, _<_}
 use native.Mathlib.Omega.{arith}
 use lib.ListN.{length, length-set, getD, set, take, drop, length-drop}
 use lib.Dec.{ltb, leb}
-use lib.Seq.{drop-cons, set-getD, take-all, take-set-le, getD-take, getD-set-same, getD-drop, sets, length-sets}
+use lib.Seq.{drop-cons, set-getD, take-all, take-set-le, take-suc-set, getD-take, getD-set-same, getD-drop, sets, length-sets}
 use borrow.Author.Tests.{ltb-true, ltb-false, leb-true, leb-false}
 use Rattle.base.specs.Pick.{pick}
 use Rattle.base.specs.Bytes.{be16}
@@ -194,7 +194,7 @@ counts p b t (x ∷ xs) =
 -- ---- bytes that a host has put there
 
 -- what stands in front of them stays
-front-stays : (xs p : List ℕ) (n b : ℕ) → n ≤ b → take n (sets p b xs) ≡ take n p
+pub front-stays : (xs p : List ℕ) (n b : ℕ) → n ≤ b → take n (sets p b xs) ≡ take n p
 front-stays [] p n b h = refl
 front-stays (x ∷ xs) p n b h = front-stays xs (set p b x) n (suc b) (omega arith) ∙ take-set-le n p b x h
 
@@ -217,54 +217,48 @@ placed-there (x ∷ xs) p b h =
     ∙ ap (λ (y : ℕ). y ∷ placedIn (sets p b (x ∷ xs)) (suc b) (length xs)) (first-byte x xs p b (omega arith))
     ∙ ap (λ (l : List ℕ). x ∷ l) (placed-there xs (set p b x) (suc b) (omega (arith, length-set p b x)))
 
--- the test after the first of them reads no other
-first-test : (x : ℕ) (xs p : List ℕ) (b : ℕ) → frameEnd (sets p b (x ∷ xs)) (b + 1) ≡ frameEnd (set p b x) (b + 1)
-first-test x xs p b =
-    frame-prefix (sets p b (x ∷ xs)) (b + 1)
-    ∙ ap (λ (l : List ℕ). frameEnd l (b + 1)) (front-stays xs (set p b x) (b + 1) (suc b) (omega arith))
-    ∙ sym (frame-prefix (set p b x) (b + 1))
+-- ---- bytes depend on those of the packet that stand in front of them, and on nothing behind
 
--- the first of them is written over itself
-first-step : (x : ℕ) (xs p : List ℕ) (b t : ℕ) → b < length p → let q = sets p b (x ∷ xs) in
-    framed q b t (x ∷ xs) ≡ framesAt (frameEnd (set p b x) (b + 1)) (b + 1) (t + 1) q (framed q (b + 1) (t + 1) xs)
+-- two stores are as long, and the same up to where the packet has come
+pub record SameFront (f g : Frames) : Type 0 where
+  pub result : g .result ≡ f .result
+  pub front : take (f .result .begun) (g .packet) ≡ take (f .result .begun) (f .packet)
+  pub long : length (g .packet) ≡ length (f .packet)
+
+-- one byte more
+one-more : (p q : List ℕ) (b x : ℕ) → take b q ≡ take b p → length q ≡ length p → take (suc b) (set q b x) ≡ take (suc b) (set p b x)
+one-more p q b x h l = by (ltb b (length p)) refl
+  where
+    by : (u : Bool) → ltb b (length p) ≡ u → take (suc b) (set q b x) ≡ take (suc b) (set p b x)
+    by true w =
+        let k = ltb-true b (length p) w in
+        take-suc-set q b x (omega (arith, k, l)) ∙ ap (λ (y : List ℕ). y ++ (x ∷ [])) h ∙ sym (take-suc-set p b x k)
+    by false w =
+        let k = ltb-false b (length p) w in
+        let same : q ≡ p = sym (take-all b q (omega (arith, k, l))) ∙ h ∙ take-all b p k in
+        ap (λ (y : List ℕ). take (suc b) (set y b x)) same
+
+pub front-alone : (xs p q : List ℕ) (b t : ℕ) → take b q ≡ take b p → length q ≡ length p → SameFront (framed p b t xs) (framed q b t xs)
 unfolding framed
-first-step x xs p b t h =
-    let q = sets p b (x ∷ xs) in
-    let stays : set q b x ≡ q = ap (set q b) (sym (first-byte x xs p b h)) ∙ set-getD q b 0 in
-    rw (stays, first-test x xs p b)
-
--- in the stores `q` and `p` bytes come to the same if all of them are taken
-abbrev Alike : List ℕ → List ℕ → ℕ → ℕ → List ℕ → Type 0
-Alike q p b t xs = framed q b t xs .result .taken ≡ t + length xs → framed q b t xs ≡ framed p b t xs
-
--- no bytes are put there
-none-put : (xs p : List ℕ) (b : ℕ) → length xs ≡ 0 → sets p b xs ≡ p
-none-put [] p b h = refl
-none-put (x ∷ xs) p b h = absurd (omega (arith, h))
-
--- by how the packet stands after the first of them; if it has ended, it was the only one
-after-first : (f : Frame) (x : ℕ) (xs p : List ℕ) (b t : ℕ) → let q = sets p b (x ∷ xs) in
-    framesAt f (b + 1) (t + 1) q (framed q (b + 1) (t + 1) xs) .result .taken ≡ t + suc (length xs) → Alike q (set p b x) (b + 1) (t + 1) xs
-    → framesAt f (b + 1) (t + 1) q (framed q (b + 1) (t + 1) xs)
-    ≡ framesAt f (b + 1) (t + 1) (set p b x) (framed (set p b x) (b + 1) (t + 1) xs)
-after-first More x xs p b t k rest = rest (omega (arith, k))
-after-first Whole x xs p b t k rest =
-    ap (λ (l : List ℕ). framedAt (b + 1) (t + 1) Whole l) (none-put xs (set p b x) (suc b) (omega (arith, k)))
-after-first Short x xs p b t k rest =
-    ap (λ (l : List ℕ). framedAt (b + 1) (t + 1) Short l) (none-put xs (set p b x) (suc b) (omega (arith, k)))
-
--- if all of them are taken, it is as if they had been offered
-pub as-offered : (xs p : List ℕ) (b t : ℕ) → b + length xs ≤ length p
-    → framed (sets p b xs) b t xs .result .taken ≡ t + length xs → framed (sets p b xs) b t xs ≡ framed p b t xs
-unfolding framed
-as-offered [] p b t h k = refl
-as-offered (x ∷ xs) p b t h k =
-    let step = first-step x xs p b t (omega arith) in
+front-alone [] p q b t h l = record { result = refl; front = h; long = l }
+front-alone (x ∷ xs) p q b t h l =
     let next : suc b ≡ b + 1 = omega arith in
-    step
-    ∙ after-first (frameEnd (set p b x) (b + 1)) x xs p b t (ap (λ (f : Frames). f .result .taken) (sym step) ∙ k)
-    (subst (λ (c : ℕ). Alike (sets p b (x ∷ xs)) (set p b x) c (t + 1) xs) next
-    (as-offered xs (set p b x) (suc b) (t + 1) (omega (arith, length-set p b x))))
+    let front : take (b + 1) (set q b x) ≡ take (b + 1) (set p b x) =
+    subst (λ (n : ℕ). take n (set q b x) ≡ take n (set p b x)) next (one-more p q b x h l) in
+    let long : length (set q b x) ≡ length (set p b x) = length-set q b x ∙ l ∙ sym (length-set p b x) in
+    let test : frameEnd (set q b x) (b + 1) ≡ frameEnd (set p b x) (b + 1) =
+    frame-prefix (set q b x) (b + 1) ∙ ap (λ (y : List ℕ). frameEnd y (b + 1)) front ∙ sym (frame-prefix (set p b x) (b + 1)) in
+    subst (λ (f : Frame). SameFront (framed p b t (x ∷ xs)) (framesAt f (b + 1) (t + 1) (set q b x) (framed (set q b x) (b + 1) (t + 1) xs)))
+    (sym test)
+    (by (frameEnd (set p b x) (b + 1)) front long (front-alone xs (set p b x) (set q b x) (b + 1) (t + 1) front long))
+  where
+    by : (f : Frame) → take (b + 1) (set q b x) ≡ take (b + 1) (set p b x) → length (set q b x) ≡ length (set p b x)
+        → SameFront (framed (set p b x) (b + 1) (t + 1) xs) (framed (set q b x) (b + 1) (t + 1) xs)
+        → SameFront (framesAt f (b + 1) (t + 1) (set p b x) (framed (set p b x) (b + 1) (t + 1) xs))
+        (framesAt f (b + 1) (t + 1) (set q b x) (framed (set q b x) (b + 1) (t + 1) xs))
+    by More fr lo r = r
+    by Whole fr lo r = record { result = refl; front = fr; long = lo }
+    by Short fr lo r = record { result = refl; front = fr; long = lo }
 
 -- ---- the bytes that come are bytes
 

@@ -151,7 +151,7 @@ module _ (j : Journal) where
   call-fair bodyFailed = inr (calm j j refl)
   call-fair abortAcknowledged = inr (calm j j refl)
   call-fair (passwordGiven p) = inr (calm j _ refl)
-  call-fair (nonceGiven n) = inr (calm j _ refl)
+  call-fair (nonceGiven n l) = inr (calm j _ refl)
   call-fair (credentialsGiven c) = inr (calm j j refl)
   call-fair (connectionsClosed l) = inr (calm j _ refl)
 

@@ -406,7 +406,7 @@ module _ (j : Journal) (fs : List Fed) (h : j .ended ≡ false) (ih : (d : Journ
   call-told bodyFailed = same-told
   call-told abortAcknowledged = same-told
   call-told (passwordGiven p) = ih (stands j (passwordChecked (j .standing) (passes j p))) h at n i place
-  call-told (nonceGiven d) = ih (stands j (challenged (j .standing) (octets16 d))) h at n i place
+  call-told (nonceGiven d l) = ih (stands j (challenged (j .standing) (octets16 d))) h at n i place
   call-told (credentialsGiven c) = same-told
   call-told (connectionsClosed l) = ih (stands j (closes (j .standing) l)) h at n i place
 

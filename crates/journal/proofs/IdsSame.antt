@@ -26,7 +26,7 @@ changesIds (bodyGiven d) = false
 changesIds bodyFailed = false
 changesIds abortAcknowledged = false
 changesIds (passwordGiven p) = false
-changesIds (nonceGiven n) = false
+changesIds (nonceGiven n l) = false
 changesIds (credentialsGiven c) = false
 
 -- ---- packets
@@ -107,7 +107,7 @@ module _ (j : Journal) where
   call-same bodyFailed e = refl
   call-same abortAcknowledged e = refl
   call-same (passwordGiven p) e = checked-same (passes j p)
-  call-same (nonceGiven n) e = refl
+  call-same (nonceGiven n l) e = refl
   call-same (credentialsGiven c) e = refl
 
   taken-same : (o : Opened) (b : ℕ) → takenAt o j b .standing .ids ≡ ids

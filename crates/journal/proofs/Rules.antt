@@ -197,7 +197,7 @@ module _ (j : Journal) (k : Ruled (j .standing .checks)) where
   call-kept bodyFailed w = k
   call-kept abortAcknowledged w = k
   call-kept (passwordGiven p) w = checked-kept (passes j p) (w p refl)
-  call-kept (nonceGiven n) w = k
+  call-kept (nonceGiven n l) w = k
   call-kept (credentialsGiven c) w = k
   call-kept (connectionsClosed l) w = same-kept _ (closes-same (j .standing) l)
 

@@ -30,8 +30,8 @@ pub data Call : Type 0 where
   abortAcknowledged : Call
   -- The host gives the password, if there is one.
   passwordGiven : Option (List ℕ) → Call
-  -- The host gives a nonce for a new challenge.
-  nonceGiven : Octets16 → Call
+  -- The host gives a nonce for a new challenge, and the bytes of the realm that the challenge shows.
+  nonceGiven : Octets16 → List ℕ → Call
   -- The host gives credentials to answer the peer's challenge, if it has any.
   credentialsGiven : Option Credentials → Call
   -- The host closes these connection ids together.

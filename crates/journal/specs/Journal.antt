@@ -435,7 +435,7 @@ journalCall j (bodyGiven d) = unchanged j
 journalCall j bodyFailed = unchanged j
 journalCall j abortAcknowledged = unchanged j
 journalCall j (passwordGiven p) = unchanged (stands j (passwordChecked (j .standing) (passes j p)))
-journalCall j (nonceGiven n) = unchanged (stands j (challenged (j .standing) (octets16 n)))
+journalCall j (nonceGiven n l) = unchanged (stands j (challenged (j .standing) (octets16 n)))
 journalCall j (credentialsGiven c) = unchanged j
 journalCall j (connectionsClosed l) = unchanged (stands j (closes (j .standing) l))
 
@@ -481,7 +481,7 @@ callTakes j (bodyGiven d) = 0
 callTakes j bodyFailed = 0
 callTakes j abortAcknowledged = 0
 callTakes j (passwordGiven p) = 0
-callTakes j (nonceGiven n) = 0
+callTakes j (nonceGiven n l) = 0
 callTakes j (credentialsGiven c) = 0
 callTakes j (connectionsClosed l) = 0
 
@@ -520,7 +520,7 @@ callReads j (bodyGiven d) = []
 callReads j bodyFailed = []
 callReads j abortAcknowledged = []
 callReads j (passwordGiven p) = []
-callReads j (nonceGiven n) = []
+callReads j (nonceGiven n l) = []
 callReads j (credentialsGiven c) = []
 callReads j (connectionsClosed l) = []
 

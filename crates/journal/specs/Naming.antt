@@ -113,7 +113,7 @@ callNames j n (bodyGiven d) = n
 callNames j n bodyFailed = n
 callNames j n abortAcknowledged = n
 callNames j n (passwordGiven p) = n
-callNames j n (nonceGiven o) = n
+callNames j n (nonceGiven o l) = n
 callNames j n (credentialsGiven c) = n
 callNames j n (connectionsClosed l) = n
 

@@ -179,7 +179,7 @@ dueIn m j (stepBy (bodyGiven d)) = speaks
 dueIn m j (stepBy bodyFailed) = speaks
 dueIn m j (stepBy abortAcknowledged) = speaks
 dueIn m j (stepBy (passwordGiven p)) = speaks
-dueIn m j (stepBy (nonceGiven n)) = speaks
+dueIn m j (stepBy (nonceGiven n l)) = speaks
 dueIn m j (stepBy (credentialsGiven c)) = speaks
 dueIn m j (stepBy (connectionsClosed l)) = silent
 
@@ -196,7 +196,7 @@ modeAfter m j (stepBy (bodyGiven d)) = m
 modeAfter m j (stepBy bodyFailed) = m
 modeAfter m j (stepBy abortAcknowledged) = m
 modeAfter m j (stepBy (passwordGiven p)) = m
-modeAfter m j (stepBy (nonceGiven n)) = m
+modeAfter m j (stepBy (nonceGiven n l)) = m
 modeAfter m j (stepBy (credentialsGiven c)) = m
 modeAfter m j (stepBy (connectionsClosed l)) = m
 

@@ -91,21 +91,21 @@ module _ (k : Kind) (cs : Settings) (g : Past) (l : Link) (w : Awaits k cs l) (b
   -- a call that is refused, or leads on
   answered : (c : Call) → isAnswer c ≡ true → (bad : Bool) (r : Refusal) (d : Done) (t : List ℕ)
       → stepOf (l .server) c ≡ pick bad (called (refuse r (l .server .engine) (l .server .stores)) (l .server .tables)) (called (after 0 d) t)
-      → (bad ≡ false → Did k cs (heldId k (l .client .«connection_id»)) (stateAt d t (l .server .realm)) (d .outcome))
+      → (bad ≡ false → Did k cs (heldId k (l .client .«connection_id»)) (stateAt d t) (d .outcome))
       → Phase k cs g (move l (host c))
   unfolding move
   answered c i bad r d t e did =
       subst (λ (b : Bool). Phase k cs g (callAfter (pick b (some c) none) l (l .down))) (sym i)
       (subst (λ (m : Called). Phase k cs g (serverDid l m (drop (m .took .taken) (l .up)) (l .down))) (sym e) (by bad did))
     where
-      by : (b : Bool) → (b ≡ false → Did k cs (heldId k (l .client .«connection_id»)) (stateAt d t (l .server .realm)) (d .outcome))
+      by : (b : Bool) → (b ≡ false → Did k cs (heldId k (l .client .«connection_id»)) (stateAt d t) (d .outcome))
           → let m = pick b (called (refuse r (l .server .engine) (l .server .stores)) (l .server .tables)) (called (after 0 d) t) in
           Phase k cs g (serverDid l m (drop (m .took .taken) (l .up)) (l .down))
       by true did = now
       by false did =
           subst (λ (u : List ℕ). Phase k cs g
-          (linkWith (l .client) (l .stores) (l .said) (stateAt d t (l .server .realm)) (toldAfter (l .told) (d .outcome)) u (l .down))) (sym up)
-          (did-phase k cs g l w begun dn n bd (stateAt d t (l .server .realm)) (d .outcome) (did refl))
+          (linkWith (l .client) (l .stores) (l .said) (stateAt d t) (toldAfter (l .told) (d .outcome)) u (l .down))) (sym up)
+          (did-phase k cs g l w begun dn n bd (stateAt d t) (d .outcome) (did refl))
 
   -- one that does not fit
   pub unanswered : (a : Await) (c : Call) → l .server .engine .awaits ≡ a → hostFits a c ≡ false → Phase k cs g (move l (host c))
@@ -162,7 +162,7 @@ module _ (cs : Settings) (g : Past) (l : Link) (w : Awaits connecting cs l) (beg
       answered connecting cs g l w begun v up dn f st n bd now (replyGiven code hs) refl (badReply code hs) why.BadAnswer (d .done) (d .tables)
       (reply-step connecting cs g l w begun v up dn f st n bd now code hs waits.Connect a refl)
       (λ i. let x = fair code hs i in
-      answer-did cs id e s (l .server .realm) (stood connecting cs g l w begun v up dn f st n bd now) (q .1) t
+      answer-did cs id e s (stood connecting cs g l w begun v up dn f st n bd now) (q .1) t
       (peer-stands connecting cs g l w begun v up dn f st n bd now) code hs (x .headers) oct (x .reads) (x .is-code) (x .within))
 
   given-password : (x : Option (List ℕ)) → l .server .engine .awaits ≡ waits.Password → Phase connecting cs g (move l (host (passwordGiven x)))
@@ -175,12 +175,13 @@ module _ (cs : Settings) (g : Past) (l : Link) (w : Awaits connecting cs l) (beg
       answered connecting cs g l w begun v up dn f st n bd now (passwordGiven x) refl false why.BadAnswer d t
       (ap (keeps (l .server)) (passes (limitFor (l .server)) (l .server) v kind.PasswordGiven (after 0 d)
       (ap (λ (z : Await). fits kind.PasswordGiven z) a)))
-      (λ i. password-did cs id e s (l .server .realm) (stood connecting cs g l w begun v up dn f st n bd now) (q .1) t x
+      (λ i. password-did cs id e s (stood connecting cs g l w begun v up dn f st n bd now) (q .1) t x
       (peer-stands connecting cs g l w begun v up dn f st n bd now))
 
-  given-nonce : (x : Octets16) → l .server .engine .awaits ≡ waits.Nonce → Phase connecting cs g (move l (host (nonceGiven x)))
+  given-nonce : (x : Octets16) (realm : List ℕ) → l .server .engine .awaits ≡ waits.Nonce
+      → Phase connecting cs g (move l (host (nonceGiven x realm)))
   unfolding nonceGivenStep
-  given-nonce x a = by (longRealm (e .settings) (l .server .realm)) refl
+  given-nonce x realm a = by (longRealm (e .settings) realm) refl
     where
       e : Engine
       e = l .server .engine
@@ -192,26 +193,26 @@ module _ (cs : Settings) (g : Past) (l : Link) (w : Awaits connecting cs l) (beg
       t = l .server .tables
 
       d : Done
-      d = nonceAnswer e x (l .server .realm) s
+      d = nonceAnswer e x realm s
 
-      step : stepOf (l .server) (nonceGiven x) ≡ nonceChecked e x (l .server .realm) s t
+      step : stepOf (l .server) (nonceGiven x realm) ≡ nonceChecked e x realm s t
       step =
-          passes-called (limitFor (l .server)) (l .server) v kind.NonceGiven (nonceChecked e x (l .server .realm) s t)
+          passes-called (limitFor (l .server)) (l .server) v kind.NonceGiven (nonceChecked e x realm s t)
           (ap (λ (z : Await). fits kind.NonceGiven z) a)
 
-      by : (b : Bool) → longRealm (e .settings) (l .server .realm) ≡ b → Phase connecting cs g (move l (host (nonceGiven x)))
+      by : (b : Bool) → longRealm (e .settings) realm ≡ b → Phase connecting cs g (move l (host (nonceGiven x realm)))
       by true i =
-          answered connecting cs g l w begun v up dn f st n bd now (nonceGiven x) refl true why.BadAnswer d (rememberedWith x t)
+          answered connecting cs g l w begun v up dn f st n bd now (nonceGiven x realm) refl true why.BadAnswer d (rememberedWith x t)
           (step ∙ ap (λ (b : Bool). pick b (called (refuse why.BadAnswer e s) t)
           (pick (among x (remembered (e .peer .nonces) t)) (called (refuse why.NonceUsed e s) t) (called (after 0 d) (rememberedWith x t)))) i)
           (λ j. absurd (true≢false j))
       by false i =
-          answered connecting cs g l w begun v up dn f st n bd now (nonceGiven x) refl
+          answered connecting cs g l w begun v up dn f st n bd now (nonceGiven x realm) refl
           (among x (remembered (e .peer .nonces) t)) why.NonceUsed d (rememberedWith x t)
           (step ∙ ap (λ (b : Bool). pick b (called (refuse why.BadAnswer e s) t)
           (pick (among x (remembered (e .peer .nonces) t)) (called (refuse why.NonceUsed e s) t) (called (after 0 d) (rememberedWith x t)))) i)
-          (λ j. nonce-did cs id e s (l .server .realm) (stood connecting cs g l w begun v up dn f st n bd now) (q .1) t x
-          (l .server .realm)
+          (λ j. nonce-did cs id e s (stood connecting cs g l w begun v up dn f st n bd now) (q .1) t x
+          realm
           (peer-stands connecting cs g l w begun v up dn f st n bd now))
 
   given-credentials : (code : ℕ) (h : ConnectionId) (m : ℕ) (c : Option Credentials) → l .server .engine .awaits ≡ waits.Credentials
@@ -231,7 +232,7 @@ module _ (cs : Settings) (g : Past) (l : Link) (w : Awaits connecting cs l) (beg
       (ap (λ (z : Await). fits kind.CredentialsGiven z) a)
       ∙ ap (λ (z : Operation). credentialsWith z e c s) o)
       ∙ keeps-pick (l .server) (longUser c) (refuse why.BadAnswer e s) (after 0 d))
-      (λ j. credentials-did cs id e s (l .server .realm) (stood connecting cs g l w begun v up dn f st n bd now) (q .1) t code h m c
+      (λ j. credentials-did cs id e s (stood connecting cs g l w begun v up dn f st n bd now) (q .1) t code h m c
       (peer-stands connecting cs g l w begun v up dn f st n bd now) i u)
 
   pub connect-answered : (c : Call) → PlainCall c → Phase connecting cs g (move l (host c))
@@ -248,7 +249,7 @@ module _ (cs : Settings) (g : Past) (l : Link) (w : Awaits connecting cs l) (beg
       at-connect a bodyFailed pl = else-refused waits.Connect bodyFailed a refl
       at-connect a abortAcknowledged pl = else-refused waits.Connect abortAcknowledged a refl
       at-connect a (passwordGiven p) pl = else-refused waits.Connect (passwordGiven p) a refl
-      at-connect a (nonceGiven x) pl = else-refused waits.Connect (nonceGiven x) a refl
+      at-connect a (nonceGiven x realm) pl = else-refused waits.Connect (nonceGiven x realm) a refl
       at-connect a (credentialsGiven x) pl = else-refused waits.Connect (credentialsGiven x) a refl
 
       at-password : l .server .engine .awaits ≡ waits.Password → (c : Call) → Phase connecting cs g (move l (host c))
@@ -262,11 +263,11 @@ module _ (cs : Settings) (g : Past) (l : Link) (w : Awaits connecting cs l) (beg
       at-password a (bodyGiven d) = else-refused waits.Password (bodyGiven d) a refl
       at-password a bodyFailed = else-refused waits.Password bodyFailed a refl
       at-password a abortAcknowledged = else-refused waits.Password abortAcknowledged a refl
-      at-password a (nonceGiven x) = else-refused waits.Password (nonceGiven x) a refl
+      at-password a (nonceGiven x realm) = else-refused waits.Password (nonceGiven x realm) a refl
       at-password a (credentialsGiven x) = else-refused waits.Password (credentialsGiven x) a refl
 
       at-nonce : l .server .engine .awaits ≡ waits.Nonce → (c : Call) → Phase connecting cs g (move l (host c))
-      at-nonce a (nonceGiven x) = given-nonce x a
+      at-nonce a (nonceGiven x realm) = given-nonce x realm a
       at-nonce a (replyGiven code hs) = else-refused waits.Nonce (replyGiven code hs) a refl
       at-nonce a (bytesOffered i) = else-refused waits.Nonce (bytesOffered i) a refl
       at-nonce a streamEnded = else-refused waits.Nonce streamEnded a refl
@@ -294,7 +295,7 @@ module _ (cs : Settings) (g : Past) (l : Link) (w : Awaits connecting cs l) (beg
       by (host-credentials code h m a o i u) bodyFailed pl = else-refused waits.Credentials bodyFailed a refl
       by (host-credentials code h m a o i u) abortAcknowledged pl = else-refused waits.Credentials abortAcknowledged a refl
       by (host-credentials code h m a o i u) (passwordGiven p) pl = else-refused waits.Credentials (passwordGiven p) a refl
-      by (host-credentials code h m a o i u) (nonceGiven x) pl = else-refused waits.Credentials (nonceGiven x) a refl
+      by (host-credentials code h m a o i u) (nonceGiven x realm) pl = else-refused waits.Credentials (nonceGiven x realm) a refl
 
 -- ---- a Disconnect
 
@@ -313,7 +314,7 @@ module _ (cs : Settings) (g : Past) (l : Link) (w : Awaits disconnecting cs l) (
       (sends e (p .peer) code hs s) (p .tables)
       (reply-step disconnecting cs g l w begun v up dn f st n bd now code hs waits.Disconnect (q .0) refl)
       (λ i. let x = fair code hs i in
-      reply-did cs e s (l .server .realm) (stood disconnecting cs g l w begun v up dn f st n bd now) (p .peer) (p .tables) code hs
+      reply-did cs e s (stood disconnecting cs g l w begun v up dn f st n bd now) (p .peer) (p .tables) code hs
       (x .headers)
       (sym (header-bytes hs 0 (x .headers) oct (x .reads))) (x .is-code) (read-shaped hs 0 (x .headers) (x .reads))
       (left-stands cs (e .peer) t (first header-id.connectionId (lastHeaders e s))
@@ -333,5 +334,5 @@ module _ (cs : Settings) (g : Past) (l : Link) (w : Awaits disconnecting cs l) (
   disconnect-answered bodyFailed pl = else-stays bodyFailed refl
   disconnect-answered abortAcknowledged pl = else-stays abortAcknowledged refl
   disconnect-answered (passwordGiven p) pl = else-stays (passwordGiven p) refl
-  disconnect-answered (nonceGiven x) pl = else-stays (nonceGiven x) refl
+  disconnect-answered (nonceGiven x realm) pl = else-stays (nonceGiven x realm) refl
   disconnect-answered (credentialsGiven x) pl = else-stays (credentialsGiven x) refl

@@ -141,7 +141,6 @@ module _ (k : Kind) (cs : Settings) (g : Past) (l : Link) (y : List ℕ) (w : Aw
             (e .target);
         stores = l .server .stores;
         tables = l .server .tables;
-        realm = l .server .realm;
       }
 
   sent-down : Phase k cs (namedPast g l sendDown) (linkWith (l .client) (l .stores) (l .said) takenState told.WantsBytes (l .up) y)

@@ -230,7 +230,7 @@ module _ (k : Kind) (cs : Settings) (small : cs .«max_packet_length» ≤ 65535
   came : (m : ℕ) (x : Frames) → Half q (l .server .stores .packet) (l .up) (l .server .engine .begun) → Octets (l .up)
       → ((s : List ℕ) → take (length q) s ≡ q → length s ≡ length (l .server .stores .packet)
       → let d = serverReads (some packet) tookEngine q (tookStores s) (l .server .tables) in
-      Did k cs (heldId k (l .client .«connection_id»)) (stateAt d (l .server .tables) (l .server .realm)) (d .outcome))
+      Did k cs (heldId k (l .client .«connection_id»)) (stateAt d (l .server .tables)) (d .outcome))
       → Came q (l .server .stores .packet) (l .up) (l .server .engine .begun) 0 m x
       → let c = keeps (l .server) (serverOffers (l .server .engine) x (l .server .stores) (l .server .tables)) in
       Phase k cs g (serverDid l c (drop (c .took .taken) (l .up)) (l .down))
@@ -243,7 +243,6 @@ module _ (k : Kind) (cs : Settings) (small : cs .«max_packet_length» ≤ 65535
             (E .target);
         stores = tookStores s;
         tables = l .server .tables;
-        realm = l .server .realm;
       } in
       subst (λ (x : Frames). let c = keeps (l .server) (serverOffers E x (l .server .stores) (l .server .tables)) in
       Phase k cs g (serverDid l c (drop (c .took .taken) (l .up)) (l .down))) (sym e)
@@ -293,9 +292,9 @@ module _ (k : Kind) (cs : Settings) (small : cs .«max_packet_length» ≤ 65535
       subst (λ (x : Frames). let c = keeps (l .server) (serverOffers E x (l .server .stores) (l .server .tables)) in
       Phase k cs g (serverDid l c (drop (c .took .taken) (l .up)) (l .down))) (sym e)
       (subst₂ (λ (y : server.Done) (u : List ℕ). Phase k cs g
-      (linkWith (l .client) (l .stores) (l .said) (stateAt y (l .server .tables) (l .server .realm)) (toldAfter (l .told) (y .outcome)) u (l .down)))
+      (linkWith (l .client) (l .stores) (l .said) (stateAt y (l .server .tables)) (toldAfter (l .told) (y .outcome)) u (l .down)))
       (sym (packet-done s h)) (sym z)
-      (did-phase k cs g l w begun dn n bd (stateAt d (l .server .tables) (l .server .realm)) (d .outcome) (did s h le)))
+      (did-phase k cs g l w begun dn n bd (stateAt d (l .server .tables)) (d .outcome) (did s h le)))
 
   server-step : (i : List ℕ) → stepOf (l .server) (bytesOffered i)
       ≡ keeps (l .server) (serverOffers (l .server .engine) (framed (l .server .stores .packet) (l .server .engine .begun) 0 i) (l .server .stores)
@@ -309,7 +308,7 @@ module _ (k : Kind) (cs : Settings) (small : cs .«max_packet_length» ≤ 65535
   offer-by : Half q (l .server .stores .packet) (l .up) (l .server .engine .begun) → Octets (l .up)
       → ((s : List ℕ) → take (length q) s ≡ q → length s ≡ length (l .server .stores .packet)
       → let d = serverReads (some packet) tookEngine q (tookStores s) (l .server .tables) in
-      Did k cs (heldId k (l .client .«connection_id»)) (stateAt d (l .server .tables) (l .server .realm)) (d .outcome))
+      Did k cs (heldId k (l .client .«connection_id»)) (stateAt d (l .server .tables)) (d .outcome))
       → (m : ℕ) → Phase k cs g (move l (offerUp m))
   unfolding move
   offer-by half oct did m =
@@ -332,7 +331,7 @@ module _ (cs : Settings) (small : cs .«max_packet_length» ≤ 65535) (g : Past
       let z = withServerPacket (l .server .stores) s in
       let d = serverReads (some (record { opcode = opcodeFor connecting; final = true; bytes = q; headers = p .headers })) e q z
       (l .server .tables) in
-      Did connecting cs (l .client .«connection_id») (stateAt d (l .server .tables) (l .server .realm)) (d .outcome)
+      Did connecting cs (l .client .«connection_id») (stateAt d (l .server .tables)) (d .outcome)
   unfolding engineWith lastPacket lastHeaders
   connect-reads s h le =
       let e = tookEngine connecting cs small g l q w p begun v a idle dn f n bd in
@@ -344,9 +343,9 @@ module _ (cs : Settings) (small : cs .«max_packet_length» ≤ 65535) (g : Past
       ∙ ap (λ (o : Option Packet). isEnable (first header-id.singleResponseMode (headersOf o))) (p .reads)
       ∙ ap isEnable (none-first (p .headers) (p .plain)) in
       let m : connectLimit (take (length q) s) ≡ cs .«max_packet_length» = ap connectLimit h ∙ p .limit in
-      subst (λ (d : server.Done). Did connecting cs id (stateAt d t (l .server .realm)) (d .outcome))
+      subst (λ (d : server.Done). Did connecting cs id (stateAt d t) (d .outcome))
       (sym (connect-reads-as e q z t true q (p .headers) idle))
-      (packet-did cs id e z (l .server .realm) (took-stood connecting cs small g l q w p begun v a idle dn f n bd s le) quiet t
+      (packet-did cs id e z (took-stood connecting cs small g l q w p begun v a idle dn f n bd s le) quiet t
       (limited-stands cs id (l .server .engine .peer) t (connectLimit (take (length q) s)) (v .base .peer) (v .tables) (v .srm)
       (f .ids) m small))
 
@@ -369,7 +368,7 @@ module _ (cs : Settings) (small : cs .«max_packet_length» ≤ 65535) (g : Past
       let z = withServerPacket (l .server .stores) s in
       let d = serverReads (some (record { opcode = opcodeFor disconnecting; final = true; bytes = q; headers = p .headers })) e q z
       (l .server .tables) in
-      Did disconnecting cs Missing (stateAt d (l .server .tables) (l .server .realm)) (d .outcome)
+      Did disconnecting cs Missing (stateAt d (l .server .tables)) (d .outcome)
   unfolding engineWith
   disconnect-reads s h le = by (disconnect-reads-as e q z t true q (p .headers) idle (v .srm))
     where
@@ -391,13 +390,13 @@ module _ (cs : Settings) (small : cs .«max_packet_length» ≤ 65535) (g : Past
       y : PeerStands disconnecting cs Missing (l .server .engine .peer) t
       y = record { fits = v .base .peer; long = v .tables; srm = v .srm; settled = tt; ids = f .ids }
 
-      by : Leaves e z d → Did disconnecting cs Missing (stateAt d t (l .server .realm)) (d .outcome)
+      by : Leaves e z d → Did disconnecting cs Missing (stateAt d t) (d .outcome)
       by (turned i) =
-          subst (λ (d : server.Done). Did disconnecting cs Missing (stateAt d t (l .server .realm)) (d .outcome)) (sym i)
-          (refused-did cs e z (l .server .realm) x t 0x53 unavailable y)
+          subst (λ (d : server.Done). Did disconnecting cs Missing (stateAt d t) (d .outcome)) (sym i)
+          (refused-did cs e z x t 0x53 unavailable y)
       by (asked i) =
-          subst (λ (d : server.Done). Did disconnecting cs Missing (stateAt d t (l .server .realm)) (d .outcome)) (sym i)
-          (left-did cs e z (l .server .realm) x t y)
+          subst (λ (d : server.Done). Did disconnecting cs Missing (stateAt d t) (d .outcome)) (sym i)
+          (left-did cs e z x t y)
 
   pub offer-disconnect : Half q (l .server .stores .packet) (l .up) (l .server .engine .begun) → Octets (l .up) → (m : ℕ)
       → Phase disconnecting cs g (move l (offerUp m))

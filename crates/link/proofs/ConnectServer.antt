@@ -268,8 +268,8 @@ module _ (cs : Settings) (id : ConnectionId) (p : Peer) (t : List ℕ) (h : Peer
 -- ---- what a step leads to
 
 -- the state after it
-abbrev pub stateAt : Done → List ℕ → List ℕ → State
-stateAt d t r = record { engine = d .engine; stores = d .stores; tables = t; realm = r }
+abbrev pub stateAt : Done → List ℕ → State
+stateAt d t = record { engine = d .engine; stores = d .stores; tables = t }
 
 -- the engine with the last packet, and its stores
 pub record Stood (e : Engine) (z : Stores) : Type 0 where
@@ -277,11 +277,11 @@ pub record Stood (e : Engine) (z : Stores) : Type 0 where
   pub last : e .length ≤ 65535
   pub most : e .settings .«max_packet_length» ≤ 65535
 
-module _ (k : Kind) (cs : Settings) (id : ConnectionId) (e : Engine) (z : Stores) (r : List ℕ) (w : Stood e z) where
+module _ (k : Kind) (cs : Settings) (id : ConnectionId) (e : Engine) (z : Stores) (w : Stood e z) where
   serves-at : (p : Peer) (t : List ℕ) (o : Operation) (a : Await) (y : Stores) → PeerStands k cs id p t → Room (limitOf e) y
       → soundOperation (limitOf e) o ≡ true
       → Serves (p .«remote_max_packet_length»)
-      (record { engine = engineWith (e .settings) p o a 0 (e .length) (e .target); stores = y; tables = t; realm = r })
+      (record { engine = engineWith (e .settings) p o a 0 (e .length) (e .target); stores = y; tables = t })
   unfolding engineWith
   serves-at p t o a y h x c =
       record {
@@ -296,13 +296,13 @@ module _ (k : Kind) (cs : Settings) (id : ConnectionId) (e : Engine) (z : Stores
 
   pub asks-did : (p : Peer) (t : List ℕ) (o : Operation) (a : Await) (q : HostRequest) (y : Stores) → PeerStands k cs id p t
       → Room (limitOf e) y
-      → soundOperation (limitOf e) o ≡ true → Asked k (stateAt (asksHost e p o a q y) t r)
-      → Did k cs id (stateAt (asksHost e p o a q y) t r) (told.Request q)
+      → soundOperation (limitOf e) o ≡ true → Asked k (stateAt (asksHost e p o a q y) t)
+      → Did k cs id (stateAt (asksHost e p o a q y) t) (told.Request q)
   unfolding engineWith
   asks-did p t o a q y h x c i = asks q refl (serves-at p t o a y h x c) i (record { most = w .most; ids = h .ids }) (h .settled)
 
   pub replies-did : (p : Peer) (t y : List ℕ) → PeerStands k cs id p t → Replies k p t y
-      → Did k cs id (stateAt (repliesWith e p Nothing waits.Taken y z) t r) (told.Reply (length y))
+      → Did k cs id (stateAt (repliesWith e p Nothing waits.Taken y z) t) (told.Reply (length y))
   unfolding engineWith
   replies-did p t y h a =
       let x = room-reply (limitOf e) z (front y (z .reply)) (front-length y (z .reply) (omega (arith, w .room .reply, a .whole-packet .most)))
@@ -310,12 +310,12 @@ module _ (k : Kind) (cs : Settings) (id : ConnectionId) (e : Engine) (z : Stores
       replies y refl (serves-at p t Nothing waits.Taken (withReply z (front y (z .reply))) h x refl) refl refl refl
       (take-append-seam y (drop (length y) (z .reply))) a (record { most = w .most; ids = h .ids }) (h .settled)
 
-  ends-did : (p : Peer) (t : List ℕ) (x : End) → Did k cs id (stateAt (ends e p x z) t r) (told.End x)
+  ends-did : (p : Peer) (t : List ℕ) (x : End) → Did k cs id (stateAt (ends e p x z) t) (told.End x)
   unfolding engineWith
   ends-did p t x = stops x refl refl
 
   sent-did : (p : Peer) (t : List ℕ) (x : Option (List ℕ)) → PeerStands k cs id p t → ((y : List ℕ) → x ≡ some y → Replies k p t y)
-      → Did k cs id (stateAt (sent e p x z) t r) (sent e p x z .outcome)
+      → Did k cs id (stateAt (sent e p x z) t) (sent e p x z .outcome)
   sent-did p t none h a = ends-did p t end.ReplyTooLarge
   sent-did p t (some y) h a = replies-did p t y h (a y refl)
 
@@ -325,7 +325,7 @@ fails-internal = refl
 
 -- ---- replies to a Connect
 
-module _ (cs : Settings) (id : ConnectionId) (e : Engine) (z : Stores) (r : List ℕ) (w : Stood e z) where
+module _ (cs : Settings) (id : ConnectionId) (e : Engine) (z : Stores) (w : Stood e z) where
   -- a reply with Connect's fields
   fields-replies : (p : Peer) (t : List ℕ) (code : ℕ) (l : List Header) → isCode code ≡ true → AllShaped l → 7 + length (allBytes l) ≤ 65535
       → (isSuccess code ≡ true → Ids (idIn (first header-id.connectionId l)) p t)
@@ -347,11 +347,11 @@ module _ (cs : Settings) (id : ConnectionId) (e : Engine) (z : Stores) (r : List
   connect-did : (p : Peer) (t : List ℕ) (code : ℕ) (hs : List ℕ) (l : List Header) → hs ≡ allBytes l → PeerStands connecting cs id p t
       → isCode code ≡ true → AllShaped l
       → (isSuccess code ≡ true → Ids (idIn (first header-id.connectionId l)) p t)
-      → let d = sendsConnect e p code hs z in Did connecting cs id (stateAt d t r) (d .outcome)
+      → let d = sendsConnect e p code hs z in Did connecting cs id (stateAt d t) (d .outcome)
   unfolding sendsConnect
   connect-did p t code hs l eq h c s i =
       let fields = fieldsOf (e .settings .«max_packet_length») in
-      sent-did connecting cs id e z r w p t (sendBytes (p .«remote_max_packet_length») code fields hs) h
+      sent-did connecting cs id e z w p t (sendBytes (p .«remote_max_packet_length») code fields hs) h
       (λ y g. by y (sends-by (p .«remote_max_packet_length») code fields hs y g))
     where
       by : (y : List ℕ) → Sends code (fieldsOf (e .settings .«max_packet_length»)) hs y → Replies connecting p t y
@@ -365,7 +365,7 @@ module _ (cs : Settings) (id : ConnectionId) (e : Engine) (z : Stores) (r : List
       → PeerStands connecting cs id p t
       → isCode code ≡ true → AllShaped answer
       → (Ids (idIn (fronted (idGiven f) (first header-id.connectionId answer))) p t)
-      → let d = connectSends e p code f answer c z in Did connecting cs id (stateAt d t r) (d .outcome)
+      → let d = connectSends e p code f answer c z in Did connecting cs id (stateAt d t) (d .outcome)
   unfolding connectSends
   sends-did p t code f answer c h i s n =
       let srm = srmAsked e (surveyOf (some (lastHeaders e z))) in
@@ -389,28 +389,28 @@ module _ (cs : Settings) (id : ConnectionId) (e : Engine) (z : Stores) (r : List
         (first header-id.singleResponseMode (headersOf (requestOf (take (e .length) q))))) i ∙ quiet
 
     verifies-did : (p : Peer) (t : List ℕ) (c : Challenge) (x : Option Response) → PeerStands connecting cs id p t
-        → let d = verifies e p c x z in Did connecting cs id (stateAt d t r) (d .outcome)
+        → let d = verifies e p c x z in Did connecting cs id (stateAt d t) (d .outcome)
     unfolding engineWith
     verifies-did p t Absent x h =
-        asks-did connecting cs id e z r w p t Nothing waits.Nonce request.Nonce z h (w .room) refl
+        asks-did connecting cs id e z w p t Nothing waits.Nonce request.Nonce z h (w .room) refl
         (host-nonce refl refl, asked-as p t Nothing waits.Nonce z refl)
     verifies-did p t (Stored n) none h =
-        asks-did connecting cs id e z r w p t Nothing waits.Nonce request.Nonce z h (w .room) refl
+        asks-did connecting cs id e z w p t Nothing waits.Nonce request.Nonce z h (w .room) refl
         (host-nonce refl refl, asked-as p t Nothing waits.Nonce z refl)
     verifies-did p t (Stored n) (some x) h =
-        asks-did connecting cs id e z r w p t Nothing waits.Password (request.Password (userPlace e z)) z h (w .room) refl
+        asks-did connecting cs id e z w p t Nothing waits.Password (request.Password (userPlace e z)) z h (w .room) refl
         (host-password refl refl, asked-as p t Nothing waits.Password z refl)
 
     asks-connect : (p : Peer) (t : List ℕ) → PeerStands connecting cs id p t
-        → Did connecting cs id (stateAt (asksHost e p Nothing waits.Connect (request.Connect (e .length)) z) t r)
+        → Did connecting cs id (stateAt (asksHost e p Nothing waits.Connect (request.Connect (e .length)) z) t)
         (told.Request (request.Connect (e .length)))
     unfolding engineWith
     asks-connect p t h =
-        asks-did connecting cs id e z r w p t Nothing waits.Connect (request.Connect (e .length)) z h (w .room) refl
+        asks-did connecting cs id e z w p t Nothing waits.Connect (request.Connect (e .length)) z h (w .room) refl
         (host-connect refl refl, asked-as p t Nothing waits.Connect z refl)
 
     pub packet-did : (t : List ℕ) → PeerStands connecting cs id (limited (e .peer) (connectLimit (lastPacket e z))) t
-        → let d = connectPacket e z in Did connecting cs id (stateAt d t r) (d .outcome)
+        → let d = connectPacket e z in Did connecting cs id (stateAt d t) (d .outcome)
     unfolding connectPacket
     packet-did t h = go (e .settings .authentication) (isStopped p (lastHeaders e z))
       where
@@ -419,10 +419,10 @@ module _ (cs : Settings) (id : ConnectionId) (e : Engine) (z : Stores) (r : List
 
         go : (a s : Bool) → let d = pick a
             (pick s (repliesFields e (checkedPeer p false) 0x53 z) (verifies e p (p .challenge) (clientResponse e z) z))
-            (asksHost e p Nothing waits.Connect (request.Connect (e .length)) z) in Did connecting cs id (stateAt d t r) (d .outcome)
+            (asksHost e p Nothing waits.Connect (request.Connect (e .length)) z) in Did connecting cs id (stateAt d t) (d .outcome)
         go true true =
             let y = packetBytes (sentCode 0x53) (fieldsOf (e .settings .«max_packet_length»)) [] in
-            replies-did connecting cs id e z r w (checkedPeer p false) t y (checked-stands connecting cs id p t false h)
+            replies-did connecting cs id e z w (checkedPeer p false) t y (checked-stands connecting cs id p t false h)
             (none-replies (checkedPeer p false) t 0x53 (unavailable-code .0) (unavailable-code .1))
         go true false = verifies-did p t (p .challenge) (clientResponse e z) h
         go false s = asks-connect p t h
@@ -430,23 +430,23 @@ module _ (cs : Settings) (id : ConnectionId) (e : Engine) (z : Stores) (r : List
     -- ---- the host's answers
 
     pub password-did : (t : List ℕ) (x : Option (List ℕ)) → PeerStands connecting cs id (e .peer) t
-        → let d = passwordAnswer e x z in Did connecting cs id (stateAt d t r) (d .outcome)
+        → let d = passwordAnswer e x z in Did connecting cs id (stateAt d t) (d .outcome)
     unfolding passwordAnswer passwordAnswered engineWith
     password-did t x h = go (checks (e .peer .challenge) (clientResponse e z) (demandsUser (e .settings)) x)
       where
         go : (b : Bool) → let d = pick b
             (asksHost e (verifiedPeer (checkedPeer (e .peer) false)) Nothing waits.Connect (request.Connect (e .length)) z)
-            (asksHost e (checkedPeer (e .peer) true) Nothing waits.Nonce request.Nonce z) in Did connecting cs id (stateAt d t r) (d .outcome)
+            (asksHost e (checkedPeer (e .peer) true) Nothing waits.Nonce request.Nonce z) in Did connecting cs id (stateAt d t) (d .outcome)
         go true =
             asks-connect (verifiedPeer (checkedPeer (e .peer) false)) t
             (verified-stands connecting cs id (checkedPeer (e .peer) false) t (checked-stands connecting cs id (e .peer) t false h))
         go false =
-            asks-did connecting cs id e z r w (checkedPeer (e .peer) true) t Nothing waits.Nonce request.Nonce z
+            asks-did connecting cs id e z w (checkedPeer (e .peer) true) t Nothing waits.Nonce request.Nonce z
             (checked-stands connecting cs id (e .peer) t true h) (w .room) refl
             (host-nonce refl refl, asked-as (checkedPeer (e .peer) true) t Nothing waits.Nonce z refl)
 
     pub nonce-did : (t : List ℕ) (n : Octets16) (l : List ℕ) → PeerStands connecting cs id (e .peer) t
-        → let d = nonceAnswer e n l z in Did connecting cs id (stateAt d (rememberedWith n t) r) (d .outcome)
+        → let d = nonceAnswer e n l z in Did connecting cs id (stateAt d (rememberedWith n t)) (d .outcome)
     unfolding nonceAnswer isCode codes isSuccess
     nonce-did t n l h =
         let x = challengeHeader (octets16 n) (optionsOf (e .settings)) (realmOf (e .settings) l) in
@@ -457,7 +457,7 @@ module _ (cs : Settings) (id : ConnectionId) (e : Engine) (z : Stores) (r : List
     pub credentials-did : (t : List ℕ) (code : ℕ) (f : ConnectionId) (n : ℕ) (c : Option Credentials) → PeerStands connecting cs id (e .peer) t
         → isCode code ≡ true
         → (Ids (idIn (fronted (idGiven f) (first header-id.connectionId (listOf (readHeaders (take n (z .headers)) 0))))) (e .peer) t)
-        → let d = connectSends e (e .peer) code f (listOf (readHeaders (take n (z .headers)) 0)) c z in Did connecting cs id (stateAt d t r)
+        → let d = connectSends e (e .peer) code f (listOf (readHeaders (take n (z .headers)) 0)) c z in Did connecting cs id (stateAt d t)
         (d .outcome)
     credentials-did t code f n c h i s =
         sends-did (e .peer) t code f (listOf (readHeaders (take n (z .headers)) 0)) c h i (listed-shaped (take n (z .headers))) s
@@ -471,13 +471,13 @@ module _ (cs : Settings) (id : ConnectionId) (e : Engine) (z : Stores) (r : List
 
       challenged-did : (q : Linked) (f : ConnectionId) (c : Option PeerChallenge) → PeerStands connecting cs id (q .peer) (q .tables)
           → (Ids (idIn (fronted (idGiven f) (first header-id.connectionId (listOf (readHeaders hs 0))))) (q .peer) (q .tables))
-          → let d = connectChallenged e (q .peer) code f hs c z in Did connecting cs id (stateAt d (q .tables) r) (d .outcome)
+          → let d = connectChallenged e (q .peer) code f hs c z in Did connecting cs id (stateAt d (q .tables)) (d .outcome)
       unfolding engineWith
       challenged-did q f none g n = sends-did (q .peer) (q .tables) code f (listOf (readHeaders hs 0)) none g ok (listed-shaped hs) n
       challenged-did q f (some c) g n =
           let y = withHeaders z (front hs (z .headers)) in
           let o = ConnectingOp code f (length hs) in
-          asks-did connecting cs id e z r w (q .peer) (q .tables) o waits.Credentials (credentialsFor (lastPacket e z) c) y g
+          asks-did connecting cs id e z w (q .peer) (q .tables) o waits.Credentials (credentialsFor (lastPacket e z) c) y g
           (room-headers (limitOf e) z hs fit (w .room)) (le-leb _ _ fit) (
             host-credentials code f (length hs) refl refl ok
                 (subst (λ (x : List ℕ). Ids (idIn (fronted (idGiven f) (first header-id.connectionId (listOf (readHeaders x 0))))) (q .peer)
@@ -489,12 +489,12 @@ module _ (cs : Settings) (id : ConnectionId) (e : Engine) (z : Stores) (r : List
       opened-as : (x : Option Linked) (f : ConnectionId)
           → ((q : Linked) → x ≡ some q → PeerStands connecting cs id (q .peer) (q .tables)
           × (Ids (idIn (fronted (idGiven f) (first header-id.connectionId (listOf (readHeaders hs 0))))) (q .peer) (q .tables)))
-          → let d = connectOpened e t x code f hs z in Did connecting cs id (stateAt (d .done) (d .tables) r) (d .done .outcome)
+          → let d = connectOpened e t x code f hs z in Did connecting cs id (stateAt (d .done) (d .tables)) (d .done .outcome)
       opened-as none f n =
           connect-did (e .peer) t 0x53 [] [] (sym bytes-none) h (unavailable-code .0) tt (λ g. absurd (true≢false (sym g ∙ unavailable-code .1)))
       opened-as (some q) f n = challenged-did q f (answeredChallenge (lastHeaders e z)) (n q refl .0) (n q refl .1)
 
-      pub answer-did : let d = connectAnswer e code hs z t in Did connecting cs id (stateAt (d .done) (d .tables) r) (d .done .outcome)
+      pub answer-did : let d = connectAnswer e code hs z t in Did connecting cs id (stateAt (d .done) (d .tables)) (d .done .outcome)
       unfolding connectAnswer surveyOf
       answer-did = go (isSuccess code) refl
         where
@@ -518,7 +518,7 @@ module _ (cs : Settings) (id : ConnectionId) (e : Engine) (z : Stores) (r : List
 
           go : (b : Bool) → isSuccess code ≡ b
               → let d = pick b (connectOpened e t (openedFor (e .peer) t srm answer target) code (frontFor (e .peer) t answer target) hs z)
-              (record { done = sendsConnect e (e .peer) code hs z; tables = t }) in Did connecting cs id (stateAt (d .done) (d .tables) r)
+              (record { done = sendsConnect e (e .peer) code hs z; tables = t }) in Did connecting cs id (stateAt (d .done) (d .tables))
               (d .done .outcome)
           go true i =
               opened-as (openedFor (e .peer) t srm answer target) (frontFor (e .peer) t answer target)
@@ -530,7 +530,7 @@ module _ (cs : Settings) (id : ConnectionId) (e : Engine) (z : Stores) (r : List
 
 -- ---- a Disconnect
 
-module _ (cs : Settings) (e : Engine) (z : Stores) (r : List ℕ) (w : Stood e z) where
+module _ (cs : Settings) (e : Engine) (z : Stores) (w : Stood e z) where
   code-replies : (p : Peer) (t : List ℕ) (code : ℕ) (hs : List ℕ) (l : List Header) → hs ≡ allBytes l → isCode code ≡ true → AllShaped l
       → 3 + length hs ≤ 65535
       → Replies disconnecting p t (packetBytes (sentCode code) [] hs)
@@ -541,23 +541,23 @@ module _ (cs : Settings) (e : Engine) (z : Stores) (r : List ℕ) (w : Stood e z
       record { whole-packet = x .whole-packet; response = responseOf code y l; reads = x .reads; gives = tt }
 
   pub refused-did : (t : List ℕ) (code : ℕ) → isCode code ≡ true → PeerStands disconnecting cs Missing (e .peer) t
-      → let d = repliesCode e (e .peer) Nothing code z in Did disconnecting cs Missing (stateAt d t r) (d .outcome)
+      → let d = repliesCode e (e .peer) Nothing code z in Did disconnecting cs Missing (stateAt d t) (d .outcome)
   refused-did t code c h =
-      replies-did disconnecting cs Missing e z r w (e .peer) t (packetBytes (sentCode code) [] []) h
+      replies-did disconnecting cs Missing e z w (e .peer) t (packetBytes (sentCode code) [] []) h
       (code-replies (e .peer) t code [] [] (sym bytes-none) c tt (omega arith))
 
   pub left-did : (t : List ℕ) → PeerStands disconnecting cs Missing (e .peer) t
-      → let d = asksHost e (e .peer) Nothing waits.Disconnect (request.Disconnect (e .length)) z in Did disconnecting cs Missing (stateAt d t r)
+      → let d = asksHost e (e .peer) Nothing waits.Disconnect (request.Disconnect (e .length)) z in Did disconnecting cs Missing (stateAt d t)
       (d .outcome)
   unfolding engineWith
-  left-did t h = asks-did disconnecting cs Missing e z r w (e .peer) t Nothing waits.Disconnect (request.Disconnect (e .length)) z h
+  left-did t h = asks-did disconnecting cs Missing e z w (e .peer) t Nothing waits.Disconnect (request.Disconnect (e .length)) z h
       (w .room) refl (refl, refl)
 
   pub reply-did : (p : Peer) (t : List ℕ) (code : ℕ) (hs : List ℕ) (l : List Header) → hs ≡ allBytes l → isCode code ≡ true → AllShaped l
-      → PeerStands disconnecting cs Missing p t → let d = sends e p code hs z in Did disconnecting cs Missing (stateAt d t r) (d .outcome)
+      → PeerStands disconnecting cs Missing p t → let d = sends e p code hs z in Did disconnecting cs Missing (stateAt d t) (d .outcome)
   unfolding sends
   reply-did p t code hs l eq c s h =
-      sent-did disconnecting cs Missing e z r w p t (sendBytes (p .«remote_max_packet_length») code [] hs) h
+      sent-did disconnecting cs Missing e z w p t (sendBytes (p .«remote_max_packet_length») code [] hs) h
       (λ y g. by y (sends-by (p .«remote_max_packet_length») code [] hs y g))
     where
       by : (y : List ℕ) → Sends code [] hs y → Replies disconnecting p t y

@@ -95,7 +95,7 @@ client-started cs s = go (short s) refl
 
 fresh-ends : (st : ServerSettings) (cs : Settings) (realm : List ℕ) (v w : ServerStores) (u : List ℕ) (x : ServerResult) (s t : Stores)
     (r : CallResult) → st .«max_packet_length» ≤ 65535 → cs .«max_packet_length» ≤ 65535 → Accepted st realm v x w u → ClientAccepted cs s r t
-    → Fresh st cs (startedLink realm x w u r t)
+    → Fresh st cs (startedLink x w u r t)
 fresh-ends st cs realm v w u x s t r a b f g =
     let c = client-started cs s (ap (λ (m : Stepped). m .took .outcome) (sym (g .says)) ∙ g .accepted) in
     record {

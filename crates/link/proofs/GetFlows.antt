@@ -133,7 +133,7 @@ module _ (j : Fetch) (o : Origin) (h : GetHeard) (l : Link) (xs : List (List Hea
       (next (didLink l y behind .server)
       (record {
         stays =
-            stays-on o (l .server .tables) (l .server .realm) G (withGathered s z) (Getting (z .got) true false false) waits.Bytes k b
+            stays-on o (l .server .tables) G (withGathered s z) (Getting (z .got) true false false) waits.Bytes k b
             (simp (le-leb _ _ (w .kept-room), le-leb _ _ (w .body-within)));
         awaits = refl;
         told = refl;

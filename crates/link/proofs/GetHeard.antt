@@ -88,7 +88,7 @@ bodies-by (objectGiven hs has) b r s = refl
 bodies-by bodyFailed b r s = refl
 bodies-by abortAcknowledged b r s = refl
 bodies-by (passwordGiven p) b r s = refl
-bodies-by (nonceGiven n) b r s = refl
+bodies-by (nonceGiven n realm) b r s = refl
 bodies-by (credentialsGiven c) b r s = refl
 bodies-by (connectionsClosed l) b r s = refl
 
@@ -109,7 +109,7 @@ object-by (replyGiven code hs) b r s o u = refl
 object-by bodyFailed b r s o u = refl
 object-by abortAcknowledged b r s o u = refl
 object-by (passwordGiven p) b r s o u = refl
-object-by (nonceGiven n) b r s o u = refl
+object-by (nonceGiven n realm) b r s o u = refl
 object-by (credentialsGiven c) b r s o u = refl
 object-by (connectionsClosed l) b r s o u = refl
 
@@ -196,12 +196,12 @@ none-by (bodyGiven d) = (refl, refl, refl)
 none-by bodyFailed = (refl, refl, refl)
 none-by abortAcknowledged = (refl, refl, refl)
 none-by (passwordGiven p) = (refl, refl, refl)
-none-by (nonceGiven n) = (refl, refl, refl)
+none-by (nonceGiven n realm) = (refl, refl, refl)
 none-by (credentialsGiven c) = (refl, refl, refl)
 none-by (connectionsClosed l) = (refl, refl, refl)
 
 refused-silent : (h : GetHeard) (c : Call) (m : Called) → went (m .took .outcome) ≡ false
-    → heardCalls h (performed c (m .took) (m .stores) (m .tables) ∷ []) (h .last) bare false ≡ h
+    → heardCalls h (performed [] c (m .took) (m .stores) (m .tables) ∷ []) (h .last) bare false ≡ h
 refused-silent h c m e =
     let w = none-by c in
     (λ i. getHeard (h .asked ++ (refused-asks (m .took .outcome) (m .stores) e i ++ []))
@@ -262,8 +262,8 @@ untold-host l abortAcknowledged e =
     answer-untold l abortAcknowledged refl (quiet-host l abortAcknowledged e .still) (guarded-refused (l .server) kind.AbortAcknowledged e _)
 untold-host l (passwordGiven p) e =
     answer-untold l (passwordGiven p) refl (quiet-host l (passwordGiven p) e .still) (guarded-refused (l .server) kind.PasswordGiven e _)
-untold-host l (nonceGiven n) e =
-    answer-untold l (nonceGiven n) refl (quiet-host l (nonceGiven n) e .still) (called-refused (l .server) kind.NonceGiven e _)
+untold-host l (nonceGiven n realm) e =
+    answer-untold l (nonceGiven n realm) refl (quiet-host l (nonceGiven n realm) e .still) (called-refused (l .server) kind.NonceGiven e _)
 untold-host l (credentialsGiven c) e =
     answer-untold l (credentialsGiven c) refl (quiet-host l (credentialsGiven c) e .still) (guarded-refused (l .server) kind.CredentialsGiven e _)
 

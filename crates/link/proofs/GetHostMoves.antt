@@ -299,7 +299,7 @@ module _ (j : Fetch) (o : Origin) (h : GetHeard) (l : Link) (flag srm initial co
       (nextPacket (n - 3) (objectOf (length hs) confirm has) (front hs (s .headers)) (s .reply)) objectStores)) (v .serves .remote))
 
   abbrev objectHeard : Called → GetHeard
-  objectHeard m = heardCalls h (Rattle.model.specs.Runs.performed (objectGiven hs has) (m .took) (m .stores) (m .tables) ∷ []) (h .last) bare false
+  objectHeard m = heardCalls h (Rattle.model.specs.Runs.performed [] (objectGiven hs has) (m .took) (m .stores) (m .tables) ∷ []) (h .last) bare false
 
   pub object-given : GetJoint j o h l → GetJoint j o (getHeardAfter h l (host (objectGiven hs has))) (move l (host (objectGiven hs has)))
   unfolding move
@@ -354,8 +354,8 @@ module _ (j : Fetch) (o : Origin) (h : GetHeard) (l : Link) (t : Thing (boxOf o)
       let e = l .server .engine in
       let s = l .server .stores in
       let x = repliesCode e (e .peer) Nothing 0x50 s in
-      subst (λ (m : Stepped). GetJoint j o (heardCalls h (Rattle.model.specs.Runs.performed bodyFailed (m .took) (m .stores) (l .server .tables) ∷ [])
-      (h .last) bare false)
+      subst (λ (m : Stepped). GetJoint j o (heardCalls h
+      (Rattle.model.specs.Runs.performed [] bodyFailed (m .took) (m .stores) (l .server .tables) ∷ []) (h .last) bare false)
       (serverDid l (keeps (l .server) m) (drop (m .took .taken) (l .up)) (l .down)))
       (sym (passes (boxOf o) (l .server) (v .serves) kind.FromBody (after 0 x) (ap (λ (w : Await). fits kind.FromBody w) a)))
       (subst₂ (λ (z : GetHeard) (q : List ℕ). GetJoint j o z (didLink l x q)) (sym (silent h)) (sym up) g)
@@ -377,7 +377,7 @@ module _ (j : Fetch) (o : Origin) (h : GetHeard) (l : Link) (t : Thing (boxOf o)
         ∙ ap (λ (b : Bool). Sending (r .made .packet .outgoing) (r .made .packet .chunk) b false) is))
 
     abbrev bodyHeard : Called → GetHeard
-    bodyHeard m = heardCalls h (Rattle.model.specs.Runs.performed (bodyGiven x) (m .took) (m .stores) (m .tables) ∷ []) (h .last) bare false
+    bodyHeard m = heardCalls h (Rattle.model.specs.Runs.performed [] (bodyGiven x) (m .took) (m .stores) (m .tables) ∷ []) (h .last) bare false
 
     given-by : (length x ≤ r .made .packet .chunk .room → GetJoint j o (heardBody (boxOf o) t d x h)
         (didLink l (sendsPacket (l .server .engine) srm false (chunkGiven (r .made .packet .outgoing) (r .made .packet .chunk) x (r .made .reply))
@@ -458,7 +458,7 @@ module _ (j : Fetch) (o : Origin) (h : GetHeard) (l : Link) (t : Thing (boxOf o)
       let c : Down y 0x50 [] = code-down 0x50 refl in
       failed-by j o h l t out d zs true on v a r up story
       (pouring t out d zs ys vs on taker ad qu hold gr refl
-      (stays-on o (l .server .tables) (l .server .realm) e (withReply s (front y (s .reply))) Nothing waits.Taken (acts o (l .server) v)
+      (stays-on o (l .server .tables) e (withReply s (front y (s .reply))) Nothing waits.Taken (acts o (l .server) v)
       (base-reply e s y (v .serves .base) (c .whole .most)) refl)
       (last-waits y 0x50 [] (length y) c refl refl (reply-front y (s .reply)) (breaks refl refl)) story)
 
@@ -482,8 +482,8 @@ acknowledged j o h l sent due begun v a up dn on =
     let e = l .server .engine in
     let s = l .server .stores in
     let x = repliesCode e (e .peer) Nothing 0x20 s in
-    subst (λ (m : Stepped). GetJoint j o (heardCalls h (Rattle.model.specs.Runs.performed abortAcknowledged (m .took) (m .stores) (l .server .tables)
-    ∷ []) (h .last) bare false)
+    subst (λ (m : Stepped). GetJoint j o (heardCalls h
+    (Rattle.model.specs.Runs.performed [] abortAcknowledged (m .took) (m .stores) (l .server .tables) ∷ []) (h .last) bare false)
     (serverDid l (keeps (l .server) m) (drop (m .took .taken) (l .up)) (l .down)))
     (sym (passes (boxOf o) (l .server) (v .serves) kind.AbortAcknowledged (after 0 x) (ap (λ (w : Await). fits kind.AbortAcknowledged w) a)))
     (subst₂ (λ (z : GetHeard) (q : List ℕ). GetJoint j o z (didLink l x q)) (sym (silent h)) (sym up)

@@ -88,7 +88,7 @@ module _ (j : Fetch) (o : Origin) (h : GetHeard) (l : Link) (t : Thing (boxOf o)
       let v = made-down (boxOf o) t out d (zs ++ vs) hold m f w n true q in
       let y = sentOf (boxOf o) t out d (zs ++ vs) hold m f w n in
       pouring t out d zs ys vs on taker ad qu hold gr refl
-      (stays-on o (l .server .tables) (l .server .realm) e (withReply z (m .reply)) Nothing waits.Taken k
+      (stays-on o (l .server .tables) e (withReply z (m .reply)) Nothing waits.Taken k
       (base-made e z (m .reply) b (w .making .long)) refl)
       (last-waits y 0x20 (v .0) n (v .1) refl refl refl (all-gone refl refl (all-sent (boxOf o) t out d (zs ++ vs) hold m f w n q) (v .2))) story
   pour-by (next.Send n false) q =
@@ -99,10 +99,9 @@ module _ (j : Fetch) (o : Origin) (h : GetHeard) (l : Link) (t : Thing (boxOf o)
         engine = engineWith (e .settings) (e .peer) p waits.Taken 0 (e .length) (e .target);
         stores = withReply z (m .reply);
         tables = l .server .tables;
-        realm = l .server .realm;
       } in
       pouring t out d zs ys vs on taker ad qu hold gr refl
-      (stays-on o (l .server .tables) (l .server .realm) e (withReply z (m .reply)) p waits.Taken k (base-made e z (m .reply) b (w .making .long))
+      (stays-on o (l .server .tables) e (withReply z (m .reply)) p waits.Taken k (base-made e z (m .reply) b (w .making .long))
       pour-sound)
       (next-waits y (v .0) n (v .1) refl refl refl
       (some-sent (boxOf o) t out d (zs ++ vs) hold m f w n q s (ap (λ (b : Bool). Sending (m .packet .outgoing) (m .packet .chunk) b false) (sym on)) hd)
@@ -110,7 +109,7 @@ module _ (j : Fetch) (o : Origin) (h : GetHeard) (l : Link) (t : Thing (boxOf o)
   pour-by next.Read q =
       let p = Sending (m .packet .outgoing) (m .packet .chunk) true false in
       pouring t out d zs ys vs on taker ad qu hold gr refl
-      (stays-on o (l .server .tables) (l .server .realm) e (withReply z (m .reply)) p waits.Body k (base-made e z (m .reply) b (w .making .long))
+      (stays-on o (l .server .tables) e (withReply z (m .reply)) p waits.Body k (base-made e z (m .reply) b (w .making .long))
       pour-sound)
       (asks-body (hostRequest.Read (m .packet .chunk .room)) refl
       (record {
@@ -129,7 +128,7 @@ module _ (j : Fetch) (o : Origin) (h : GetHeard) (l : Link) (t : Thing (boxOf o)
       let y = packetBytes (sentCode 0x50) [] [] in
       let c : Down y 0x50 [] = code-down 0x50 refl in
       pouring t out d zs ys vs on taker ad qu hold gr refl
-      (stays-on o (l .server .tables) (l .server .realm) e (withReply z (front y (m .reply))) Nothing waits.Taken k
+      (stays-on o (l .server .tables) e (withReply z (front y (m .reply))) Nothing waits.Taken k
       (base-reply e (withReply z (m .reply)) y (base-made e z (m .reply) b (w .making .long)) (c .whole .most)) refl)
       (last-waits y 0x50 [] (length y) c refl refl (reply-front y (m .reply)) (breaks refl refl)) story
 
@@ -249,7 +248,7 @@ module _ (j : Fetch) (o : Origin) (h : GetHeard) (l : Link) (t : Thing (boxOf o)
       (draining t (out ++ (y ∷ [])) d zs ys vs y code x on
       (taker-as j h takenHeard (t .lead) zs (l .client) (l .stores) (l .said) refl taker) ad y′ queue-taken gr
       (record {
-        stays = stays-on o (l .server .tables) (l .server .realm) e z (e .operation) waits.Bytes (acts o (l .server) v) (v .serves .base) (v .serves .counts);
+        stays = stays-on o (l .server .tables) e z (e .operation) waits.Bytes (acts o (l .server) v) (v .serves .base) (v .serves .counts);
         awaits = refl;
         told = refl;
         none-begun = refl;
@@ -263,7 +262,6 @@ module _ (j : Fetch) (o : Origin) (h : GetHeard) (l : Link) (t : Thing (boxOf o)
                 (l .server .engine .length) (l .server .engine .target);
             stores = l .server .stores;
             tables = l .server .tables;
-            realm = l .server .realm;
           })
       last-as (all-gone c i al ho) = all-gone c i al ho
       last-as (breaks c i) = breaks c i

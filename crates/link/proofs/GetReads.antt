@@ -167,7 +167,6 @@ module _ (j : Fetch) (o : Origin) (h : GetHeard) (l : Link) (xs : List (List Hea
         engine = engineWith (E .settings) (E .peer) (E .operation) (E .awaits) (E .begun + n) (E .length) (E .target);
         stores = tookStores s;
         tables = l .server .tables;
-        realm = l .server .realm;
       } in
       subst (λ (x : Frames). let m = keeps (l .server) (offers E x (l .server .stores) (l .server .tables)) in
       GetJoint j o (heardCall m) (serverDid l m (drop (m .took .taken) (l .up)) (l .down))) (sym e)
@@ -209,7 +208,6 @@ module _ (j : Fetch) (o : Origin) (h : GetHeard) (l : Link) (xs : List (List Hea
         engine = engineWith (E .settings) (E .peer) (E .operation) (E .awaits) (E .begun + n) (E .length) (E .target);
         stores = tookStores s;
         tables = l .server .tables;
-        realm = l .server .realm;
       }) xs
       gathers-as v (none-yet e off i) = none-yet e off i
       gathers-as v (gathered g e w a) = gathered g e w a

@@ -234,7 +234,7 @@ body-answered j o h l now a given failed = answered
     answered (connectionsClosed x) = waiting (connectionsClosed x) refl
     answered abortAcknowledged = waiting abortAcknowledged refl
     answered (passwordGiven x) = waiting (passwordGiven x) refl
-    answered (nonceGiven n) = waiting (nonceGiven n) refl
+    answered (nonceGiven n realm) = waiting (nonceGiven n realm) refl
     answered (credentialsGiven c) = waiting (credentialsGiven c) refl
 
 -- ---- a move in each phase
@@ -371,7 +371,7 @@ get-move j o h l (at-host flag srm initial confirm sent g r due may b v a p t up
     answered bodyFailed pl = waiting bodyFailed refl
     answered abortAcknowledged pl = waiting abortAcknowledged refl
     answered (passwordGiven x) pl = waiting (passwordGiven x) refl
-    answered (nonceGiven n) pl = waiting (nonceGiven n) refl
+    answered (nonceGiven n realm) pl = waiting (nonceGiven n realm) refl
     answered (credentialsGiven c) pl = waiting (credentialsGiven c) refl
 
     by : (m : Move) → PlainMove m → GetNext j o (getHeardAfter h l m) (move l m)
@@ -426,7 +426,7 @@ get-move j o h l (acknowledging sent r due b v a t up dn on) m pl = by m
     answered replyTaken = waiting replyTaken refl
     answered (connectionsClosed x) = waiting (connectionsClosed x) refl
     answered (passwordGiven x) = waiting (passwordGiven x) refl
-    answered (nonceGiven n) = waiting (nonceGiven n) refl
+    answered (nonceGiven n realm) = waiting (nonceGiven n realm) refl
     answered (credentialsGiven c) = waiting (credentialsGiven c) refl
 
     by : (m : Move) → GetNext j o (getHeardAfter h l m) (move l m)

@@ -101,12 +101,12 @@ pub acts : (o : Origin) (s : State) → Stays o s → Acts o (s .tables) (s .eng
 acts o s v =
     record { settings = v .settings; peer = v .peer; tables = v .tables; long = v .serves .tables; srm = v .serves .srm; remote = v .serves .remote }
 
-pub stays-on : (o : Origin) (t r : List ℕ) (e : Engine) (z : Stores) (p : Operation) (a : Await) → Acts o t e → Base e z
+pub stays-on : (o : Origin) (t : List ℕ) (e : Engine) (z : Stores) (p : Operation) (a : Await) → Acts o t e → Base e z
     → soundOperation (limitOf e) p ≡ true
-    → Stays o (record { engine = engineWith (e .settings) (e .peer) p a 0 (e .length) (e .target); stores = z; tables = t; realm = r })
+    → Stays o (record { engine = engineWith (e .settings) (e .peer) p a 0 (e .length) (e .target); stores = z; tables = t })
 unfolding engineWith
-stays-on o t r e z p a k b w =
-    record { serves = serves-on (boxOf o) e z t r p a b (k .long) (k .srm) (k .remote) w; settings = k .settings; peer = k .peer; tables = k .tables }
+stays-on o t e z p a k b w =
+    record { serves = serves-on (boxOf o) e z t p a b (k .long) (k .srm) (k .remote) w; settings = k .settings; peer = k .peer; tables = k .tables }
 
 idle-sound : (n : ℕ) (p : Operation) → busy p ≡ false → soundOperation n p ≡ true
 idle-sound n Nothing i = refl
@@ -181,7 +181,7 @@ module _ (j : Fetch) (o : Origin) (h : GetHeard) (l : Link) (st : Stage) (flag :
   unfolding engineWith
   did-reply z p y code x b w y′ mean =
       replied st flag sent y code x (length y) due begun y′ mean
-      (stays-on o (l .server .tables) (l .server .realm) e (withReply z (front y (z .reply))) p waits.Taken k (base-reply e z y b (y′ .whole .most))
+      (stays-on o (l .server .tables) e (withReply z (front y (z .reply))) p waits.Taken k (base-reply e z y b (y′ .whole .most))
       w)
       refl refl (reply-front y (z .reply)) refl dn
 
@@ -233,7 +233,7 @@ module _ (j : Fetch) (o : Origin) (h : GetHeard) (l : Link) (st : Stage) (flag :
       (or-false (h .aborted) n)) in
       subst (λ (x : GetHeard). GetJoint j o x (didLink l d [])) (sym eq)
       (at-host flag on initial confirm sent (g .got) (hostRequest.Get (g .got .kept)) (due-ask q h′ refl) may begun
-      (stays-on o (l .server .tables) (l .server .realm) e (withGathered s g) (Getting (g .got) on confirm false) waits.Get k b
+      (stays-on o (l .server .tables) e (withGathered s g) (Getting (g .got) on confirm false) waits.Get k b
       (simp (le-leb _ _ (w .kept-room), le-leb _ _ (w .body-within))))
       refl refl refl refl dn (record { asked = refl; answer = refl; object = refl; parts = refl }))
     where
@@ -267,7 +267,7 @@ module _ (j : Fetch) (o : Origin) (h : GetHeard) (l : Link) (st : Stage) (flag :
         let y = sentOf (boxOf o) t out d zs held m f w n in
         replied st flag sent y 0x20 (v .0) n due begun (v .1)
         (whole t (out ++ (y ∷ [])) d zs wt refl refl (all-sent (boxOf o) t out d zs held m f w n q) (v .2) story)
-        (stays-on o (l .server .tables) (l .server .realm) e (withReply z (m .reply)) Nothing waits.Taken k
+        (stays-on o (l .server .tables) e (withReply z (m .reply)) Nothing waits.Taken k
         (base-made e z (m .reply) b (w .making .long)) refl)
         refl refl refl refl dn
     made-by (next.Send n false) q =
@@ -278,20 +278,19 @@ module _ (j : Fetch) (o : Origin) (h : GetHeard) (l : Link) (st : Stage) (flag :
           engine = engineWith (e .settings) (e .peer) p waits.Taken 0 (e .length) (e .target);
           stores = withReply z (m .reply);
           tables = l .server .tables;
-          realm = l .server .realm;
         } in
         replied st flag sent y 0x10 (v .0) n due begun (v .1)
         (more t (out ++ (y ∷ [])) d zs wt off
         (off-after j st (v .0) (t .lead) (Rattle.client_model.proofs.Putting.isNone out) low (lead-off (boxOf o) t off) (v .3 .asks)) refl
         (some-sent (boxOf o) t out d zs held m f w n q s
         (ap (λ (b : Bool). Sending (m .packet .outgoing) (m .packet .chunk) b false) (sym off)) hd) (v .2) story)
-        (stays-on o (l .server .tables) (l .server .realm) e (withReply z (m .reply)) p waits.Taken k (base-made e z (m .reply) b (w .making .long))
+        (stays-on o (l .server .tables) e (withReply z (m .reply)) p waits.Taken k (base-made e z (m .reply) b (w .making .long))
         sending-sound)
         refl refl refl refl dn
     made-by next.Read q =
         let p = Sending (m .packet .outgoing) (m .packet .chunk) false false in
         reading st flag sent t out d zs (hostRequest.Read (m .packet .chunk .room)) due wt off low begun
-        (stays-on o (l .server .tables) (l .server .realm) e (withReply z (m .reply)) p waits.Body k (base-made e z (m .reply) b (w .making .long))
+        (stays-on o (l .server .tables) e (withReply z (m .reply)) p waits.Body k (base-made e z (m .reply) b (w .making .long))
         sending-sound)
         refl
         (record {
@@ -619,7 +618,7 @@ module _ (j : Fetch) (o : Origin) (h : GetHeard) (l : Link) (st : Stage) (flag :
       subst Did (sym (server-abort G q (tookStores s) (l .server .tables) (packet op.Abort true x) refl))
       (subst (λ (y : GetHeard). GetJoint j o y (didLink l d [])) (sym (silent h))
       (acknowledging sent r (subst (λ (f : Bool). Due aborting f j sent h (l .client) (l .stores) (l .said)) (n .only) n) begun
-      (stays-on o (l .server .tables) (l .server .realm) G (tookStores s) Nothing waits.Acknowledgement (took-acts op.Abort true x)
+      (stays-on o (l .server .tables) G (tookStores s) Nothing waits.Acknowledgement (took-acts op.Abort true x)
       (took-base op.Abort true x s w le) refl)
       refl refl refl dn on))
 
@@ -676,7 +675,6 @@ module _ (j : Fetch) (o : Origin) (h : GetHeard) (l : Link) (st : Stage) (flag :
         stores =
             tookStores s;
         tables = l .server .tables;
-        realm = l .server .realm;
       } in
       subst (λ (x : Frames). let m = keeps (l .server) (offers E x (l .server .stores) (l .server .tables)) in
       GetJoint j o (heardCall m) (serverDid l m (drop (m .took .taken) (l .up)) (l .down))) (sym e)
@@ -723,7 +721,6 @@ module _ (j : Fetch) (o : Origin) (h : GetHeard) (l : Link) (st : Stage) (flag :
             stores =
                 tookStores s;
             tables = l .server .tables;
-            realm = l .server .realm;
           }
 
       gathers-as : (n : ℕ) (s : List ℕ) (ys : List (List Header)) → Gathers false (l .server) ys → Gathers false (later n s) ys
@@ -809,7 +806,6 @@ module _ (j : Fetch) (o : Origin) (h : GetHeard) (l : Link) (st : Stage) (flag :
         stores =
             l .server .stores;
         tables = l .server .tables;
-        realm = l .server .realm;
       }
 
   abbrev takenHeard : GetHeard
@@ -855,7 +851,7 @@ module _ (j : Fetch) (o : Origin) (h : GetHeard) (l : Link) (st : Stage) (flag :
       (record { stands = due .stands; answered = due .answered; awaits = due .awaits; said = due .said; aborted = due .aborted; only = due .only }) y′
       (means-taken mean)
       (record {
-        stays = stays-on o (l .server .tables) (l .server .realm) (l .server .engine) (l .server .stores) (l .server .engine .operation) waits.Bytes
+        stays = stays-on o (l .server .tables) (l .server .engine) (l .server .stores) (l .server .engine .operation) waits.Bytes
             (acts o (l .server) v) (v .serves .base) (v .serves .counts);
         awaits = refl;
         told = refl;

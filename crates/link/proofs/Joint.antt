@@ -320,7 +320,6 @@ pub record Same (g : Deal) (s : State) : Type 0 where
   pub settings : s .engine .settings ≡ g .server .engine .settings
   pub peer : s .engine .peer ≡ g .server .engine .peer
   pub tables : s .tables ≡ g .server .tables
-  pub realm : s .realm ≡ g .server .realm
 
 pub record Server (g : Deal) (s : State) : Type 0 where
   pub serves : Serves (boxOf g) s

@@ -25,11 +25,11 @@ use Rattle.server.specs.declared.Outcome.the-variants as told
 use Rattle.server.specs.declared.Settings.{Settings as ServerSettings}
 use Rattle.model.specs.Dispatch.{admits, rejects, rejection, knownIn, trails}
 use Rattle.model.specs.Refusals.{Known, learns, feedFrom, atStart}
-use Rattle.model.specs.Runs.{State, Started, Performed, next, OffersOctets, Ran, seen}
+use Rattle.model.specs.Runs.{State, Started, Performed, next, lentTo, OffersOctets, Ran, seen}
 use Rattle.model.specs.Theorem.{journalOf}
 use Rattle.model.proofs.Coupling.{CoupledAt, Held, OpenedAt}
 use Rattle.model.proofs.Dispatch.{rejection-is, admitted-is}
-use Rattle.model.proofs.Records.{Between, between-next, start-between}
+use Rattle.model.proofs.Records.{Between, between-on, between-next, start-between}
 use Rattle.client_model.specs.declared.Outcome.{Outcome}
 use Rattle.client_model.specs.declared.Outcome.the-variants as said
 use Rattle.link.specs.Link.{Link, Move, user, host, sendUp, sendDown, offerUp, offerDown, closeUp, closeDown, isAnswer, sendsDown, replyBytes, closesUp, serverCall, callAfter, upAfter, closeAfter, move, moves, performedBy, performedIn}
@@ -41,15 +41,15 @@ use Rattle.link.proofs.Parts.{Ties}
 -- the state after some calls
 abbrev after : State → List Performed → State
 after s [] = s
-after s (x ∷ xs) = after (next s x) xs
+after s (x ∷ xs) = after (next x) xs
 
 after-append : (s : State) (xs ys : List Performed) → after s (xs ++ ys) ≡ after (after s xs) ys
 after-append s [] ys = refl
-after-append s (x ∷ xs) ys = after-append (next s x) xs ys
+after-append s (x ∷ xs) ys = after-append (next x) xs ys
 
 ran-append : (s : State) (xs ys : List Performed) → Ran s xs → Ran (after s xs) ys → Ran s (xs ++ ys)
 ran-append s [] ys p q = q
-ran-append s (x ∷ xs) ys p q = (p .0, ran-append (next s x) xs ys (p .1) q)
+ran-append s (x ∷ xs) ys p q = (p .0, (p .1 .0, ran-append (next x) xs ys (p .1 .1) q))
 
 -- engine and journal stand together after them
 pub record Together (st : ServerSettings) (s : State) (j : Journal) : Type 0 where
@@ -60,7 +60,8 @@ run-between : (st : ServerSettings) (xs : List Performed) (w : Known) (s : State
     → Together st (after s xs) (journalAfter j (feedFrom w j (seen st s xs)))
 run-between st [] w s j b r = record { known = w; between = b }
 run-between st (x ∷ xs) w s j b r =
-    run-between st xs (learns w (x .call) (x .result .outcome)) (next s x) _ (between-next st w s j b x (r .0)) (r .1)
+    let c = between-on st w s j (x .written) (r .0) b in
+    run-between st xs (learns w (x .call) (x .result .outcome)) (next x) _ (between-next st w (lentTo s x) j c x (r .1 .0)) (r .1 .1)
 
 -- ---- the calls of a run of the link
 
@@ -81,7 +82,7 @@ answer-octets (bodyGiven d) e = tt
 answer-octets bodyFailed e = tt
 answer-octets abortAcknowledged e = tt
 answer-octets (passwordGiven p) e = tt
-answer-octets (nonceGiven n) e = tt
+answer-octets (nonceGiven n realm) e = tt
 answer-octets (credentialsGiven c) e = tt
 answer-octets (connectionsClosed l) e = tt
 
@@ -126,7 +127,7 @@ call-octets l o closeDown = tt
 -- it is what its contract says
 call-ran : (s : State) (c : Option Call) → CallOctets c → Ran s (performedBy s c)
 call-ran s none o = tt
-call-ran s (some c) o = (record { step = refl; octets = o }, tt)
+call-ran s (some c) o = (tt, (record { step = refl; octets = o }, tt))
 
 -- the server after a move is that after its call
 moved-server : (l : Link) (m : Move) → move l m .server ≡ after (l .server) (performedBy (l .server) (serverCall l m))
@@ -189,7 +190,7 @@ pub run-together : (st : ServerSettings) (l : Link) (ms : List Move) → Started
 run-together st l ms f o =
     let w = run-ran ms l o in
     subst (λ (s : State). Together st s (journalIn st l ms)) (sym (w .1))
-    (run-between st (performedIn l ms) atStart (l .server) (journalOf st) (start-between st (l .server) f) (w .0))
+    (run-between st (performedIn l ms) (atStart st) (l .server) (journalOf st) (start-between st (l .server) f) (w .0))
 
 -- ---- what is admitted
 

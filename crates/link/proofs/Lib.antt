@@ -4,7 +4,7 @@
 -- (`PutPart`); a Get, with Single Response Mode or without (`GetHeard` to `GetPart`); a Connect and a Disconnect (`ConnectJoint` to
 -- `ConnectRuns`); what every call of the client keeps (`ClientKeeps`); what whole runs ask of a Put and a Get (`Parts`), bytes on the stream (`Keeping`), every run
 -- (`Whole`), the journal beside it (`Journals`), the claims from those on one operation (`AllRuns`), the contracts of both ends (`Contracts`),
--- and the claims (`Claimed`).
+-- the claims (`Claimed`), and what the server's host may write into its packet store (`HostWrites`).
 pub mod Examples
 pub mod Moves
 pub mod Joint
@@ -52,3 +52,4 @@ pub mod Journals
 pub mod AllRuns
 pub mod Contracts
 pub mod Claimed
+pub mod HostWrites

@@ -100,7 +100,7 @@ answer-by (bodyGiven d) b x y = refl
 answer-by bodyFailed b x y = refl
 answer-by abortAcknowledged b x y = refl
 answer-by (passwordGiven p) b x y = refl
-answer-by (nonceGiven n) b x y = refl
+answer-by (nonceGiven n realm) b x y = refl
 answer-by (credentialsGiven c) b x y = refl
 answer-by (connectionsClosed l) b x y = refl
 
@@ -264,7 +264,7 @@ hostFits a (bodyGiven d) = fits kind.FromBody a
 hostFits a bodyFailed = fits kind.FromBody a
 hostFits a abortAcknowledged = fits kind.AbortAcknowledged a
 hostFits a (passwordGiven p) = fits kind.PasswordGiven a
-hostFits a (nonceGiven n) = fits kind.NonceGiven a
+hostFits a (nonceGiven n realm) = fits kind.NonceGiven a
 hostFits a (credentialsGiven c) = fits kind.CredentialsGiven a
 
 -- a call that leaves the server as it is, and of which nothing is heard
@@ -283,7 +283,7 @@ none-answered (bodyGiven d) rest = refl
 none-answered bodyFailed rest = refl
 none-answered abortAcknowledged rest = refl
 none-answered (passwordGiven p) rest = refl
-none-answered (nonceGiven n) rest = refl
+none-answered (nonceGiven n realm) rest = refl
 none-answered (credentialsGiven c) rest = refl
 none-answered (connectionsClosed l) rest = refl
 
@@ -363,7 +363,7 @@ quiet-host l (bodyGiven d) e = rests-answer l (bodyGiven d) refl (guarded-rests 
 quiet-host l bodyFailed e = rests-answer l bodyFailed refl (guarded-rests l kind.FromBody e _)
 quiet-host l abortAcknowledged e = rests-answer l abortAcknowledged refl (guarded-rests l kind.AbortAcknowledged e _)
 quiet-host l (passwordGiven p) e = rests-answer l (passwordGiven p) refl (guarded-rests l kind.PasswordGiven e _)
-quiet-host l (nonceGiven n) e = rests-answer l (nonceGiven n) refl (called-rests l kind.NonceGiven e _)
+quiet-host l (nonceGiven n realm) e = rests-answer l (nonceGiven n realm) refl (called-rests l kind.NonceGiven e _)
 quiet-host l (credentialsGiven c) e = rests-answer l (credentialsGiven c) refl (guarded-rests l kind.CredentialsGiven e _)
 
 pub quiet-offer-up : (l : Link) (n : ℕ) → fits kind.FromPeer (l .server .engine .awaits) ≡ false → Quiet l (offerUp n)

@@ -69,9 +69,9 @@ none-fits a abortAcknowledged at-nothing = refl
 none-fits a (passwordGiven p) at-bytes′ = refl
 none-fits a (passwordGiven p) at-taken = refl
 none-fits a (passwordGiven p) at-nothing = refl
-none-fits a (nonceGiven n) at-bytes′ = refl
-none-fits a (nonceGiven n) at-taken = refl
-none-fits a (nonceGiven n) at-nothing = refl
+none-fits a (nonceGiven n realm) at-bytes′ = refl
+none-fits a (nonceGiven n realm) at-taken = refl
+none-fits a (nonceGiven n realm) at-nothing = refl
 none-fits a (credentialsGiven c) at-bytes′ = refl
 none-fits a (credentialsGiven c) at-taken = refl
 none-fits a (credentialsGiven c) at-nothing = refl
@@ -236,7 +236,7 @@ joint-move g ab h l (at-host srm initial sent xs r w b hold v a t up dn hr ha ga
     answered bodyFailed pl = waiting bodyFailed refl
     answered abortAcknowledged pl = waiting abortAcknowledged refl
     answered (passwordGiven p) pl = waiting (passwordGiven p) refl
-    answered (nonceGiven n) pl = waiting (nonceGiven n) refl
+    answered (nonceGiven n realm) pl = waiting (nonceGiven n realm) refl
     answered (credentialsGiven c) pl = waiting (credentialsGiven c) refl
 
     by : (m : Move) → PlainMove m → After g ab h l m
@@ -270,7 +270,7 @@ joint-move g ab h l (at-abort srm sent r w b v a t up dn hr ha) m pl = by m pl
     answered (bodyGiven d) = waiting (bodyGiven d) refl
     answered bodyFailed = waiting bodyFailed refl
     answered (passwordGiven p) = waiting (passwordGiven p) refl
-    answered (nonceGiven n) = waiting (nonceGiven n) refl
+    answered (nonceGiven n realm) = waiting (nonceGiven n realm) refl
     answered (credentialsGiven c) = waiting (credentialsGiven c) refl
 
     by : (m : Move) → PlainMove m → After g ab h l m

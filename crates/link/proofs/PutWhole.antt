@@ -203,7 +203,7 @@ module _ (box : ℕ) (l : Link) (i : AtRest box l) (hs : List ℕ) (has : Bool) 
       let v = i .ready .serves in
       record {
         serves = record { base = v .base; begun = v .begun; counts = v .counts; tables = v .tables; srm = v .srm; remote = refl };
-        same = record { settings = refl; peer = refl; tables = refl; realm = refl };
+        same = record { settings = refl; peer = refl; tables = refl };
       }
 
   -- the Put has begun

@@ -178,7 +178,6 @@ didLink l d up =
       engine = d .engine;
       stores = d .stores;
       tables = l .server .tables;
-      realm = l .server .realm;
     })
     (toldAfter (l .told) (d .outcome)) up (l .down)
 
@@ -194,12 +193,12 @@ heardDid h d =
     }
 
 -- the server stands as before, with something open, and waits for something
-pub serves-on : (box : ℕ) (e : Engine) (z : Stores) (t r : List ℕ) (o : Operation) (a : Await) → Base e z → 320 ≤ length t
+pub serves-on : (box : ℕ) (e : Engine) (z : Stores) (t : List ℕ) (o : Operation) (a : Await) → Base e z → 320 ≤ length t
     → e .peer .«srm_enabled» ≡ false → e .peer .«remote_max_packet_length» ≡ box
     → soundOperation (limitOf e) o ≡ true
-    → Serves box (record { engine = engineWith (e .settings) (e .peer) o a 0 (e .length) (e .target); stores = z; tables = t; realm = r })
+    → Serves box (record { engine = engineWith (e .settings) (e .peer) o a 0 (e .length) (e .target); stores = z; tables = t })
 unfolding engineWith
-serves-on box e z t r o a b n m c w = record {
+serves-on box e z t o a b n m c w = record {
   base = record { room = b .room; peer = b .peer; last = b .last };
   begun = omega arith;
   counts = w;
@@ -341,8 +340,8 @@ granted-is false false enable false e f = refl
 
 module _ (g : Deal) (ab : Bool) (h : Heard) (l : Link) (begun : l .client .begun ≡ 0) (dn : l .down ≡ []) (v : Server g (l .server)) (e : Engine)
     (se : e .settings ≡ l .server .engine .settings) (pe : e .peer ≡ l .server .engine .peer) where
-  same-on : Same g (record { engine = e; stores = l .server .stores; tables = l .server .tables; realm = l .server .realm })
-  same-on = record { settings = se ∙ v .same .settings; peer = pe ∙ v .same .peer; tables = v .same .tables; realm = v .same .realm }
+  same-on : Same g (record { engine = e; stores = l .server .stores; tables = l .server .tables })
+  same-on = record { settings = se ∙ v .same .settings; peer = pe ∙ v .same .peer; tables = v .same .tables }
 
   -- the server stands as before, with something open, and waits for something
   server-on : (z : Stores) (o : Operation) (a : Await) → Base e z → soundOperation (limitOf e) o ≡ true
@@ -350,16 +349,15 @@ module _ (g : Deal) (ab : Bool) (h : Heard) (l : Link) (begun : l .client .begun
         engine = engineWith (e .settings) (e .peer) o a 0 (e .length) (e .target);
         stores = z;
         tables = l .server .tables;
-        realm = l .server .realm;
       })
   unfolding engineWith
   server-on z o a b w =
       record {
         serves =
-            serves-on (boxOf g) e z (l .server .tables) (l .server .realm) o a b (v .serves .tables)
+            serves-on (boxOf g) e z (l .server .tables) o a b (v .serves .tables)
             (ap (λ (p : Rattle.connection.specs.declared.peer.Peer.Peer). p .«srm_enabled») pe ∙ v .serves .srm)
             (ap (λ (p : Rattle.connection.specs.declared.peer.Peer.Peer). p .«remote_max_packet_length») pe ∙ v .serves .remote) w;
-        same = record { settings = same-on .settings; peer = same-on .peer; tables = same-on .tables; realm = same-on .realm };
+        same = record { settings = same-on .settings; peer = same-on .peer; tables = same-on .tables };
       }
 
   module _ (mode : Mode) (srm : Bool) (sent : List (List ℕ)) (xs : List (List Header)) (w : Client′ g mode srm sent ab h l)
@@ -381,7 +379,7 @@ module _ (g : Deal) (ab : Bool) (h : Heard) (l : Link) (begun : l .client .begun
     did-end z x up is left ha =
         subst (λ (y : Heard). Joint g ab y (didLink l (ends e (e .peer) x z) up)) (sym (silent h))
         (ended mode srm sent xs x w begun hold
-        (record { settings = same-on .settings; peer = same-on .peer; tables = same-on .tables; realm = same-on .realm }) refl refl is dn left
+        (record { settings = same-on .settings; peer = same-on .peer; tables = same-on .tables }) refl refl is dn left
         (ap (isAccepted (boxOf g)) ha))
 
   -- a refusal
@@ -848,7 +846,6 @@ module _ (g : Deal) (ab : Bool) (h : Heard) (l : Link) (mode : Mode) (srm : Bool
           engine = engineWith (E .settings) (E .peer) (E .operation) (E .awaits) (E .begun + n) (E .length) (E .target);
           stores = withPacket (l .server .stores) s;
           tables = l .server .tables;
-          realm = l .server .realm;
         } in
         subst (λ (x : Frames). let m = keeps (l .server) (offers E x (l .server .stores) (l .server .tables)) in
         Joint g ab (heardCall m) (serverDid l m (drop (m .took .taken) (l .up)) (l .down))) (sym e)
@@ -876,7 +873,7 @@ module _ (g : Deal) (ab : Bool) (h : Heard) (l : Link) (mode : Mode) (srm : Bool
                 srm = v .serves .srm;
                 remote = v .serves .remote;
               };
-          same = record { settings = v .same .settings; peer = v .same .peer; tables = v .same .tables; realm = v .same .realm };
+          same = record { settings = v .same .settings; peer = v .same .peer; tables = v .same .tables };
         })
         a refl (gathers-as ga) (record { rest = drop n rest; half = r; is = refl }) dn hr ha))
       where
@@ -886,7 +883,6 @@ module _ (g : Deal) (ab : Bool) (h : Heard) (l : Link) (mode : Mode) (srm : Bool
                   (l .server .engine .awaits) (l .server .engine .begun + n) (l .server .engine .length) (l .server .engine .target);
               stores = withPacket (l .server .stores) s;
               tables = l .server .tables;
-              realm = l .server .realm;
             }) xs
         gathers-as (none-yet e o i k) = none-yet e o i k
         gathers-as (gathered k e ag pass) = gathered k e ag pass
@@ -977,7 +973,6 @@ module _ (g : Deal) (ab : Bool) (h : Heard) (l : Link) (mode : Mode) (srm : Bool
         engine = engineWith (e .settings) (e .peer) (e .operation) waits.Bytes 0 (e .length) (e .target);
         stores = l .server .stores;
         tables = l .server .tables;
-        realm = l .server .realm;
       }
 
   abbrev takenHeard : Heard
@@ -1137,7 +1132,7 @@ module _ (g : Deal) (ab : Bool) (h : Heard) (l : Link) (srm initial : Bool) (sen
       (omega (arith, k, v .serves .remote, v .serves .base .peer .most)) in
       rw e (
         ended (awaits true initial) srm sent′ xs end.ReplyTooLarge cl begun hold
-            (record { settings = v .same .settings; peer = v .same .peer; tables = v .same .tables; realm = v .same .realm }) refl refl
+            (record { settings = v .same .settings; peer = v .same .peer; tables = v .same .tables }) refl refl
             reply-too-large dn (record-left refl hr gave)
             (ap (λ (t : Bool). isSuccess code && t) i ∙ and-false (isSuccess code)),
         refl,

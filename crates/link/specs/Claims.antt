@@ -61,7 +61,7 @@ PlainCall replyTaken = Unit {0}
 PlainCall bodyFailed = Unit {0}
 PlainCall abortAcknowledged = Unit {0}
 PlainCall (passwordGiven p) = Unit {0}
-PlainCall (nonceGiven n) = Unit {0}
+PlainCall (nonceGiven n realm) = Unit {0}
 PlainCall (credentialsGiven c) = Unit {0}
 PlainCall (connectionsClosed l) = Unit {0}
 

@@ -137,13 +137,13 @@ pub record ClientAccepted (cs : Settings) (s : Stores) (r : CallResult) (t : Sto
   pub accepted : r .outcome ≡ said.Ready
 
 -- The link of two ends that were started so.
-abbrev pub startedLink : List ℕ → ServerResult → ServerStores → List ℕ → CallResult → Stores → Link
-startedLink realm v t u r s = linkWith (r .client) s said.Ready (state realm v t u) told.WantsBytes [] []
+abbrev pub startedLink : ServerResult → ServerStores → List ℕ → CallResult → Stores → Link
+startedLink v t u r s = linkWith (r .client) s said.Ready (state v t u) told.WantsBytes [] []
 
 -- What the contracts of both ends come to: two accepted starts are fresh ends, and every run that the contracts allow from any link is the run of
 -- that link, of which the claims speak.
 pub record ContractsLink : Type 0 where
   pub starts : (st : ServerSettings) (cs : Settings) (realm : List ℕ) (v : ServerStores) (w : ServerStores) (u : List ℕ) (x : ServerResult)
       (s t : Stores) (r : CallResult) → st .«max_packet_length» ≤ maxPacket → cs .«max_packet_length» ≤ maxPacket
-      → Accepted st realm v x w u → ClientAccepted cs s r t → Fresh st cs (startedLink realm x w u r t)
+      → Accepted st realm v x w u → ClientAccepted cs s r t → Fresh st cs (startedLink x w u r t)
   pub runs : (l : Link) (ms : List Move) (xs : List Returned) → RanSo l ms xs → ledAll l ms xs ≡ moves l ms

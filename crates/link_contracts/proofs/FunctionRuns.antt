@@ -19,11 +19,13 @@ use Rattle.link.specs.Link.{Link, UserCall, connect, get, disconnect, put, body
 use Rattle.link.specs.Told.{goes, abortedIn}
 use Rattle.link.specs.Claims.{Fresh, namedAfter, isOpen, Until, journalIn, PutHolds, GetHolds}
 use Rattle.link.specs.Contracts.{Returned, sentCall, endCall, clientCall, ClientSays, ServerSays, MoveSays, led, RanSo, ledAll}
+use Rattle.link.specs.HostWrites.{WrittenMove, writingAt, movesAlone, SameLink}
 use Rattle.link.proofs.Contracts.{contracts-link}
 use Rattle.link.proofs.Claimed.{all-names, puts, gets}
+use Rattle.link.proofs.HostWrites.{same-move, same-written, same-link}
 use Rattle.link_contracts.specs.ClientFunctions.{ClientStart}
 use Rattle.link_contracts.specs.ServerFunctions.{ServerStart}
-use Rattle.link_contracts.specs.FunctionRuns.{sendingCall, endingCall, calledBy, ClientDid, ServerDid, MoveMade, RunMade, StartsMade, startedBy, FunctionsName, FunctionsPut, FunctionsGet, FunctionsLink}
+use Rattle.link_contracts.specs.FunctionRuns.{sendingCall, endingCall, calledBy, ClientDid, ServerDid, MoveMade, RunMade, StartsMade, startedBy, WrittenMade, ledWritten, FunctionsName, FunctionsPut, FunctionsGet, FunctionsLink}
 use Rattle.link_contracts.proofs.Functions.{client-steps, client-accepted, server-steps, server-accepted}
 
 -- ---- a move
@@ -93,6 +95,19 @@ run-leads l ms xs w = contracts-link .runs l ms xs (run-says ms l xs w)
 move-leads : (l : Link) (m : Move) (x : Returned) → MoveMade l m x → led l m x ≡ move l m
 move-leads l m x w = run-leads l (m ∷ []) (x ∷ []) (w, tt)
 
+-- a run in which the server's host writes
+run-written : (ms : List WrittenMove) (l k : Link) (xs : List Returned) → SameLink l k → WrittenMade k ms xs
+    → SameLink (moves l (movesAlone ms)) (ledWritten k ms xs)
+run-written [] l k [] h w = h
+run-written [] l k (x ∷ xs) h w = absurd w
+run-written (m ∷ ms) l k [] h w = absurd w
+run-written (m ∷ ms) l k (x ∷ xs) h w =
+    let j = writingAt k (m .written) in
+    run-written ms (move l (m .move)) (led j (m .move) x) xs
+    (subst (SameLink (move l (m .move))) (sym (move-leads j (m .move) x (w .1 .0)))
+    (same-move l j (m .move) (same-written l k (m .written) h (w .0))))
+    (w .1 .1)
+
 starts-fresh : (a : ServerStart) (b : ClientStart) → StartsMade a b → Fresh (a .settings) (b .settings) (startedBy a b)
 starts-fresh a b w =
     contracts-link .starts (a .settings) (b .settings) (a .realm) (a .stores) (a .left) (a .tables) (a .result) (b .stores) (b .left) (b .result)
@@ -135,4 +150,11 @@ functions-get a b before ms xs ys y hs w r v pb pl c go un ab =
     (λ g t u. gets (a .settings) (b .settings) l before ms hs (starts-fresh a b w) pb pl c g t u) go un ab
 
 pub functions-link : FunctionsLink
-functions-link = record { leads = run-leads; names = functions-name; puts = functions-put; gets = functions-get }
+functions-link =
+    record {
+      leads = run-leads;
+      writes = λ l ms xs w. run-written ms l l xs (same-link l) w;
+      names = functions-name;
+      puts = functions-put;
+      gets = functions-get;
+    }

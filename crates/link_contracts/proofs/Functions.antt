@@ -63,30 +63,30 @@ abbrev pub ServerSteps : CallOnServer → Type 0
 ServerSteps y = y .returned ≡ stepOf (y .state) (y .call)
 
 pub server-steps : (y : CallOnServer) → ServerMade y → ServerSteps y
-server-steps y (server.offersBytes l w) =
-    subst ServerSteps (w .is) (engine-tied.bytes-says l (w .lifetimes) (w .args) (w .result) (w .exit) (w .learnt) .step)
-server-steps y (server.endsStream t l w) =
-    subst ServerSteps (w .is) (engine-tied.stream-ended-says t l (w .lifetimes) (w .args) (w .result) (w .exit) (w .learnt) .step)
-server-steps y (server.takesReply t l w) =
-    subst ServerSteps (w .is) (engine-tied.reply-taken-says t l (w .lifetimes) (w .args) (w .result) (w .exit) (w .learnt) .step)
-server-steps y (server.givesReply l w) =
-    subst ServerSteps (w .is) (engine-tied.reply-says l (w .lifetimes) (w .args) (w .result) (w .exit) (w .learnt) .step)
-server-steps y (server.givesObject t l w) =
-    subst ServerSteps (w .is) (engine-tied.object-says t l (w .lifetimes) (w .args) (w .result) (w .exit) (w .learnt) .step)
-server-steps y (server.givesBody t l w) =
-    subst ServerSteps (w .is) (engine-tied.body-says t l (w .lifetimes) (w .args) (w .result) (w .exit) (w .learnt) .step)
-server-steps y (server.failsBody t l w) =
-    subst ServerSteps (w .is) (engine-tied.body-failed-says t l (w .lifetimes) (w .args) (w .result) (w .exit) (w .learnt) .step)
-server-steps y (server.acknowledges t l w) =
-    subst ServerSteps (w .is) (engine-tied.acknowledge-says t l (w .lifetimes) (w .args) (w .result) (w .exit) (w .learnt) .step)
-server-steps y (server.givesPassword t l w) =
-    subst ServerSteps (w .is) (engine-tied.password-says t l (w .lifetimes) (w .args) (w .result) (w .exit) (w .learnt) .step)
+server-steps y (server.offersBytes w) =
+    subst ServerSteps (w .is) (engine-tied.bytes-says (w .lifetimes) (w .args) (w .result) (w .exit) (w .learnt) .step)
+server-steps y (server.endsStream t w) =
+    subst ServerSteps (w .is) (engine-tied.stream-ended-says t (w .lifetimes) (w .args) (w .result) (w .exit) (w .learnt) .step)
+server-steps y (server.takesReply t w) =
+    subst ServerSteps (w .is) (engine-tied.reply-taken-says t (w .lifetimes) (w .args) (w .result) (w .exit) (w .learnt) .step)
+server-steps y (server.givesReply w) =
+    subst ServerSteps (w .is) (engine-tied.reply-says (w .lifetimes) (w .args) (w .result) (w .exit) (w .learnt) .step)
+server-steps y (server.givesObject t w) =
+    subst ServerSteps (w .is) (engine-tied.object-says t (w .lifetimes) (w .args) (w .result) (w .exit) (w .learnt) .step)
+server-steps y (server.givesBody t w) =
+    subst ServerSteps (w .is) (engine-tied.body-says t (w .lifetimes) (w .args) (w .result) (w .exit) (w .learnt) .step)
+server-steps y (server.failsBody t w) =
+    subst ServerSteps (w .is) (engine-tied.body-failed-says t (w .lifetimes) (w .args) (w .result) (w .exit) (w .learnt) .step)
+server-steps y (server.acknowledges t w) =
+    subst ServerSteps (w .is) (engine-tied.acknowledge-says t (w .lifetimes) (w .args) (w .result) (w .exit) (w .learnt) .step)
+server-steps y (server.givesPassword t w) =
+    subst ServerSteps (w .is) (engine-tied.password-says t (w .lifetimes) (w .args) (w .result) (w .exit) (w .learnt) .step)
 server-steps y (server.givesNonce w) =
     subst ServerSteps (w .is) (engine-tied.nonce-says (w .lifetimes) (w .args) (w .result) (w .exit) (w .learnt) .step)
-server-steps y (server.givesCredentials t l w) =
-    subst ServerSteps (w .is) (engine-tied.credentials-says t l (w .lifetimes) (w .args) (w .result) (w .exit) (w .learnt) .step)
-server-steps y (server.closes s l w) =
-    subst ServerSteps (w .is) (engine-tied.connections-closed-says s l (w .lifetimes) (w .args) (w .result) (w .exit) (w .learnt) .step)
+server-steps y (server.givesCredentials t w) =
+    subst ServerSteps (w .is) (engine-tied.credentials-says t (w .lifetimes) (w .args) (w .result) (w .exit) (w .learnt) .step)
+server-steps y (server.closes s w) =
+    subst ServerSteps (w .is) (engine-tied.connections-closed-says s (w .lifetimes) (w .args) (w .result) (w .exit) (w .learnt) .step)
 
 pub server-accepted : (y : ServerStart) → ServerStarts y → y .result .outcome ≡ told.WantsBytes
     → ServerAccepted (y .settings) (y .realm) (y .stores) (y .result) (y .left) (y .tables)

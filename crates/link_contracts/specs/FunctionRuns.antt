@@ -12,6 +12,7 @@ use Rattle.connection.specs.declared.peer.ConnectionId.the-variants.{Missing}
 use Rattle.server.specs.declared.Outcome.{Outcome as ServerOutcome}
 use Rattle.server.specs.declared.Outcome.the-variants as told
 use Rattle.model.specs.Step.{Called}
+use Rattle.model.specs.Runs.{Writes}
 use Rattle.client_model.specs.Guard.{awaiting}
 use Rattle.client_model.specs.Refusals as due
 use Rattle.client_model.specs.Refusals.{ClientCall}
@@ -23,6 +24,7 @@ use Rattle.link.specs.Link.{Link, UserCall, connect, get, disconnect, put, body
 use Rattle.link.specs.Told.{goes, abortedIn}
 use Rattle.link.specs.Claims.{Plain, connectedIn, namedAfter, isOpen, Until, journalIn, PutHolds, GetHolds}
 use Rattle.link.specs.Contracts.{Returned, led, ledAll, startedLink}
+use Rattle.link.specs.HostWrites.{WrittenMove, writingAt, movesAlone, SameLink}
 use Rattle.link_contracts.specs.ClientFunctions.{onClient, ClientMade, ClientStart, ClientStarts}
 use Rattle.link_contracts.specs.ServerFunctions.{onServer, ServerMade, ServerStart, ServerStarts}
 
@@ -107,7 +109,24 @@ pub record StartsMade (a : ServerStart) (b : ClientStart) : Type 0 where
 
 -- The link of two ends that were started so.
 abbrev pub startedBy : ServerStart → ClientStart → Link
-startedBy a b = startedLink (a .realm) (a .result) (a .left) (a .tables) (b .result) (b .left)
+startedBy a b = startedLink (a .result) (a .left) (a .tables) (b .result) (b .left)
+
+-- ---- a host that writes into its packet store
+
+-- The calls of a run were made by the functions, each in the link that the move before left and the server's host has written into.
+abbrev pub WrittenMade : Link → List WrittenMove → List Returned → Type 0
+WrittenMade l [] [] = Unit {0}
+WrittenMade l [] (x ∷ xs) = ⊥
+WrittenMade l (m ∷ ms) [] = ⊥
+WrittenMade l (m ∷ ms) (x ∷ xs) =
+    let k = writingAt l (m .written) in
+    Writes (l .server) (m .written) × (MoveMade k (m .move) x × WrittenMade (led k (m .move) x) ms xs)
+
+-- The link after such a run.
+abbrev pub ledWritten : Link → List WrittenMove → List Returned → Link
+ledWritten l [] xs = l
+ledWritten l (m ∷ ms) [] = l
+ledWritten l (m ∷ ms) (x ∷ xs) = ledWritten (led (writingAt l (m .written)) (m .move) x) ms xs
 
 -- ---- the claims
 
@@ -143,9 +162,12 @@ FunctionsGet =
     → connectedIn false l before ≡ true → goes k (get hs) ≡ true → Until n ms → abortedIn n ms ≡ false
     → GetHolds (b .settings) k n hs ms
 
--- The claims together. A run of the functions leads, from any link, to the links of `moves`, of which `PutHolds` and `GetHolds` speak.
+-- The claims together. A run of the functions leads, from any link, to the links of `moves`, of which `PutHolds` and `GetHolds` speak; and so
+-- does one in which the server's host writes into its packet store, but for bytes of that store which do not count.
 pub record FunctionsLink : Type 0 where
   pub leads : (l : Link) (ms : List Move) (xs : List Returned) → RunMade l ms xs → ledAll l ms xs ≡ moves l ms
+  pub writes : (l : Link) (ms : List WrittenMove) (xs : List Returned) → WrittenMade l ms xs
+      → SameLink (moves l (movesAlone ms)) (ledWritten l ms xs)
   pub names : FunctionsName
   pub puts : FunctionsPut
   pub gets : FunctionsGet

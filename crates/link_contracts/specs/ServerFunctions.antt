@@ -37,62 +37,62 @@ pub record CallOnServer : Type 0 where
 abbrev pub onServer : State → Call → Called → CallOnServer
 onServer s c m = record { state = s; call = c; returned = m }
 
--- The state before a call, by the engine, the four stores, the table store and the realm.
-abbrev pub stateWith : Engine → Stores → List ℕ → List ℕ → State
-stateWith e s t l = record { engine = e; stores = s; tables = t; realm = l }
+-- The state before a call, by the engine, the four stores and the table store.
+abbrev pub stateWith : Engine → Stores → List ℕ → State
+stateWith e s t = record { engine = e; stores = s; tables = t }
 
--- The call `y` was made by one of the engine's functions. A function that is not lent the table store, the realm or the four stores says nothing
--- of them: `t`, `l` and `s` are what the host keeps of those.
+-- The call `y` was made by one of the engine's functions. A function that is not lent the table store or the four stores says nothing of them:
+-- `t` and `s` are what the host keeps of those.
 pub data ServerMade (y : CallOnServer) : Type 0 where
-  offersBytes : (l : List ℕ) → FunctionCall engine-bytes-offered-reads.Learnt
+  offersBytes : FunctionCall engine-bytes-offered-reads.Learnt
       (λ κs a r x. let t = now (a .1 .1 .1 .0) in
-      onServer (stateWith (a .0) (lent stores (a .1 .1 .1 .1)) t l)
+      onServer (stateWith (a .0) (lent stores (a .1 .1 .1 .1)) t)
       (bytesOffered (coming (now (a .1 .1 .1 .1 .0)) (a .0 .begun) (a .1 .0) (now (a .1 .1 .0))))
       (called (stepped r (lent stores (x .1 .1 .1 .1))) t) ≡ y)
       → ServerMade y
-  endsStream : (t l : List ℕ) → FunctionCall engine-stream-ended-reads.Learnt
-      (λ κs a r x. onServer (stateWith (a .0) (lent stores (a .1)) t l)
+  endsStream : (t : List ℕ) → FunctionCall engine-stream-ended-reads.Learnt
+      (λ κs a r x. onServer (stateWith (a .0) (lent stores (a .1)) t)
       streamEnded (called (stepped r (lent stores (x .1))) t) ≡ y)
       → ServerMade y
-  takesReply : (t l : List ℕ) → FunctionCall engine-reply-taken-reads.Learnt
-      (λ κs a r x. onServer (stateWith (a .0) (lent stores (a .1)) t l)
+  takesReply : (t : List ℕ) → FunctionCall engine-reply-taken-reads.Learnt
+      (λ κs a r x. onServer (stateWith (a .0) (lent stores (a .1)) t)
       replyTaken (called (stepped r (lent stores (x .1))) t) ≡ y)
       → ServerMade y
-  givesReply : (l : List ℕ) → FunctionCall engine-reply-given-reads.Learnt
-      (λ κs a r x. onServer (stateWith (a .0) (lent stores (a .1 .1 .1 .1)) (now (a .1 .1 .1 .0)) l)
+  givesReply : FunctionCall engine-reply-given-reads.Learnt
+      (λ κs a r x. onServer (stateWith (a .0) (lent stores (a .1 .1 .1 .1)) (now (a .1 .1 .1 .0)))
       (replyGiven (a .1 .0) (now (a .1 .1 .0))) (called (stepped r (lent stores (x .1 .1 .1 .1))) (now (x .1 .1 .1 .0))) ≡ y)
       → ServerMade y
-  givesObject : (t l : List ℕ) → FunctionCall engine-object-given-reads.Learnt
-      (λ κs a r x. onServer (stateWith (a .0) (lent stores (a .1 .1 .1)) t l)
+  givesObject : (t : List ℕ) → FunctionCall engine-object-given-reads.Learnt
+      (λ κs a r x. onServer (stateWith (a .0) (lent stores (a .1 .1 .1)) t)
       (objectGiven (now (a .1 .0)) (a .1 .1 .0)) (called (stepped r (lent stores (x .1 .1 .1))) t) ≡ y)
       → ServerMade y
-  givesBody : (t l : List ℕ) → FunctionCall engine-body-given-reads.Learnt
-      (λ κs a r x. onServer (stateWith (a .0) (lent stores (a .1 .1)) t l)
+  givesBody : (t : List ℕ) → FunctionCall engine-body-given-reads.Learnt
+      (λ κs a r x. onServer (stateWith (a .0) (lent stores (a .1 .1)) t)
       (bodyGiven (now (a .1 .0))) (called (stepped r (lent stores (x .1 .1))) t) ≡ y)
       → ServerMade y
-  failsBody : (t l : List ℕ) → FunctionCall engine-body-failed-reads.Learnt
-      (λ κs a r x. onServer (stateWith (a .0) (lent stores (a .1)) t l)
+  failsBody : (t : List ℕ) → FunctionCall engine-body-failed-reads.Learnt
+      (λ κs a r x. onServer (stateWith (a .0) (lent stores (a .1)) t)
       bodyFailed (called (stepped r (lent stores (x .1))) t) ≡ y)
       → ServerMade y
-  acknowledges : (t l : List ℕ) → FunctionCall engine-abort-acknowledged-reads.Learnt
-      (λ κs a r x. onServer (stateWith (a .0) (lent stores (a .1)) t l)
+  acknowledges : (t : List ℕ) → FunctionCall engine-abort-acknowledged-reads.Learnt
+      (λ κs a r x. onServer (stateWith (a .0) (lent stores (a .1)) t)
       abortAcknowledged (called (stepped r (lent stores (x .1))) t) ≡ y)
       → ServerMade y
-  givesPassword : (t l : List ℕ) → FunctionCall engine-password-given-reads.Learnt
-      (λ κs a r x. onServer (stateWith (a .0) (lent stores (a .1 .1 .1)) t l)
+  givesPassword : (t : List ℕ) → FunctionCall engine-password-given-reads.Learnt
+      (λ κs a r x. onServer (stateWith (a .0) (lent stores (a .1 .1 .1)) t)
       (passwordGiven (given (a .1 .0) (now (a .1 .1 .0)))) (called (stepped r (lent stores (x .1 .1 .1))) t) ≡ y)
       → ServerMade y
   givesNonce : FunctionCall engine-nonce-given-reads.Learnt
-      (λ κs a r x. onServer (stateWith (a .0) (lent stores (a .1 .1 .1 .1)) (now (a .1 .1 .1 .0)) (now (a .1 .1 .0)))
-      (nonceGiven (a .1 .0)) (called (stepped r (lent stores (x .1 .1 .1 .1))) (now (x .1 .1 .1 .0))) ≡ y)
+      (λ κs a r x. onServer (stateWith (a .0) (lent stores (a .1 .1 .1 .1)) (now (a .1 .1 .1 .0)))
+      (nonceGiven (a .1 .0) (now (a .1 .1 .0))) (called (stepped r (lent stores (x .1 .1 .1 .1))) (now (x .1 .1 .1 .0))) ≡ y)
       → ServerMade y
-  givesCredentials : (t l : List ℕ) → FunctionCall engine-credentials-given-reads.Learnt
-      (λ κs a r x. onServer (stateWith (a .0) (lent stores (a .1 .1 .1 .1 .1)) t l)
+  givesCredentials : (t : List ℕ) → FunctionCall engine-credentials-given-reads.Learnt
+      (λ κs a r x. onServer (stateWith (a .0) (lent stores (a .1 .1 .1 .1 .1)) t)
       (credentialsGiven (credentialsOf (a .1 .0) (given (a .1 .1 .0) (now (a .1 .1 .1 .0))) (now (a .1 .1 .1 .1 .0))))
       (called (stepped r (lent stores (x .1 .1 .1 .1 .1))) t) ≡ y)
       → ServerMade y
-  closes : (s : Stores) (l : List ℕ) → FunctionCall engine-connections-closed-reads.Learnt
-      (λ κs a r x. onServer (stateWith (a .0) s (now (a .1 .1 .0)) l)
+  closes : (s : Stores) → FunctionCall engine-connections-closed-reads.Learnt
+      (λ κs a r x. onServer (stateWith (a .0) s (now (a .1 .1 .0)))
       (connectionsClosed (now (a .1 .0))) (called (stepped r s) (now (x .1 .1 .0))) ≡ y)
       → ServerMade y
 

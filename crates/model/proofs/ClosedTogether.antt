@@ -23,7 +23,7 @@ use Rattle.model.specs.Guard.{sound, shortTables, sameAwait}
 use Rattle.model.specs.Close.{Remaining, Closed, closedAll, closedPeer, closes, closeChecked}
 use Rattle.model.specs.Calls.{connectionsClosedStep}
 use Rattle.model.specs.Refusals.{verdictOf}
-use Rattle.model.specs.Runs.{State, stepOf, beside, stateOf, calledIn}
+use Rattle.model.specs.Runs.{State, beside, stateOf}
 use Rattle.model.specs.ClosedTogether.{openIn, ClosedTogether, ClosesTogether}
 use Rattle.model.proofs.Fit.{and-left, and-right, tables-room}
 use Rattle.model.proofs.Closing.{closed-ids, closed-count}
@@ -86,7 +86,7 @@ module _ (s : State) (l : List ℕ) (r : s .engine .peer .count ≤ length (s .t
   y = closedAll l (p .count) (s .tables)
 
   abbrev after : State
-  after = stateOf (s .realm) (beside s (closes (s .engine) l y))
+  after = stateOf (beside s (closes (s .engine) l y))
 
   opened : openIn after ≡ withoutAll l (openIn s)
   unfolding engineWith
@@ -99,7 +99,7 @@ module _ (s : State) (l : List ℕ) (r : s .engine .peer .count ≤ length (s .t
 
   unchanged : l ≡ [] → after ≡ s
   unfolding engineWith closedAll
-  unchanged q = ap (λ (m : List ℕ). stateOf (s .realm) (beside s (closes (s .engine) m (closedAll m (p .count) (s .tables))))) q
+  unchanged q = ap (λ (m : List ℕ). stateOf (beside s (closes (s .engine) m (closedAll m (p .count) (s .tables))))) q
 
   all-closed : ClosedTogether s l after
   unfolding engineWith
@@ -115,8 +115,8 @@ module _ (s : State) (l : List ℕ) (r : s .engine .peer .count ≤ length (s .t
       }
 
 pub closes-together : ClosesTogether
-closes-together s l x says c v =
-    let at : calledIn x ≡ beside s (connectionsClosedStep (s .engine) l (s .tables)) = says .step ∙ ap (stepOf s) c in
+closes-together s l x says v =
+    let at : x ≡ beside s (connectionsClosedStep (s .engine) l (s .tables)) = says .step in
     let w = went (s .engine) l (s .tables) (sym (ap (λ (m : Called). verdictOf (m .took .outcome)) at) ∙ v) in
-    subst (ClosedTogether s l) (sym (ap (stateOf (s .realm)) at ∙ ap (λ (m : Closed). stateOf (s .realm) (beside s m)) (w .is)))
+    subst (ClosedTogether s l) (sym (ap stateOf at ∙ ap (λ (m : Closed). stateOf (beside s m)) (w .is)))
     (all-closed s l (w .room))

@@ -22,14 +22,14 @@ use Rattle.server.specs.declared.Operation.{Operation}
 use Rattle.server.specs.declared.Settings.{Settings}
 use Rattle.model.specs.Step.{Stores}
 use Rattle.model.specs.Guard.{sameAwait}
-use Rattle.model.specs.Runs.{State, Performed, next, Ran, lacks, seen}
+use Rattle.model.specs.Runs.{State, Performed, next, lentTo, Ran, lacks, seen}
 use Rattle.model.specs.Refusals.{Waits, password, sameWait, expected, Known, atStart, learns, judged, verdict, fedBy, feedFrom}
 use Rattle.model.specs.Theorem.{journalOf}
 use Rattle.model.specs.Contracts.{state}
 use Rattle.model.specs.EightWrong.{ranTo, live, Counted, EightWrong, ContractsCount}
 use Rattle.model.proofs.Fit.{waitsOf}
 use Rattle.model.proofs.Coupling.{Fixed, CoupledAt, Coupled}
-use Rattle.model.proofs.Records.{Between, fedTo, between-next, start-between}
+use Rattle.model.proofs.Records.{Between, between-on, fedTo, between-next, start-between}
 use Rattle.model.proofs.Contracts.{accepted-started}
 
 -- ---- the window, by what is awaited
@@ -104,7 +104,7 @@ fed-password (bodyGiven d) goes b p e = (cc, refl)
 fed-password bodyFailed goes b p e = (cc, refl)
 fed-password abortAcknowledged goes b p e = (cc, refl)
 fed-password (passwordGiven q) goes b p e = (cc, refl)
-fed-password (nonceGiven n) goes b p e = (cc, refl)
+fed-password (nonceGiven n l) goes b p e = (cc, refl)
 fed-password (credentialsGiven d) goes b p e = (cc, refl)
 fed-password (connectionsClosed l) goes b p e = (cc, refl)
 
@@ -138,14 +138,16 @@ run-counted : (st : Settings) (xs : List Performed) (w : Known) (s : State) (j :
     → Ruled (j .standing .checks) → Counted (ranTo s xs .engine) (journalAfter j (feedFrom w j (seen st s xs)))
 run-counted st [] w s j b r k = counted s j (b .coupled) k
 run-counted st (y ∷ xs) w s j b r k =
-    let f = fedTo st w s j b y (r .0) in
-    run-counted st xs (learns w (y .call) (y .result .outcome)) (next s y) (journalStep j f .next) (between-next st w s j b y (r .0)) (r .1)
-    (step-ruled j k f (checks-few (lacks st (y .call) (s .stores) (s .tables)) w s j (b .knows .waits) (b .coupled) (y .call)
-    (getD (s .stores .reply) 0 0)))
+    let l = lentTo s y in
+    let c = between-on st w s j (y .written) (r .0) b in
+    let f = fedTo st w l j c y (r .1 .0) in
+    run-counted st xs (learns w (y .call) (y .result .outcome)) (next y) (journalStep j f .next) (between-next st w l j c y (r .1 .0)) (r .1 .1)
+    (step-ruled j k f (checks-few (lacks st (y .call) (l .stores) (l .tables)) w l j (c .knows .waits) (c .coupled) (y .call)
+    (getD (l .stores .reply) 0 0)))
 
 -- the count is that of the history from the start, which keeps the rule
 pub eight-wrong : EightWrong
-eight-wrong st s h xs r = run-counted st xs atStart s (journalOf st) (start-between st s h) r tt
+eight-wrong st s h xs r = run-counted st xs (atStart st) s (journalOf st) (start-between st s h) r tt
 
 pub contracts-count : ContractsCount
-contracts-count st l s t u r xs a h = eight-wrong st (state l r t u) (accepted-started st l s t u r a) xs h
+contracts-count st l s t u r xs a h = eight-wrong st (state r t u) (accepted-started st l s t u r a) xs h

@@ -207,7 +207,6 @@ is-sound e s h =
 pub record Seated (s : State) : Type 0 where
   pub sits : Sits (s .engine) (s .stores)
   pub tables : 320 ≤ length (s .tables)
-  pub realm : longRealm (s .engine .settings) (s .realm) ≡ false
 
 pub tables-room : (t : List ℕ) → shortTables t ≡ false → 320 ≤ length t
 unfolding shortTables

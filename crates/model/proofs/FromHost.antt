@@ -24,15 +24,16 @@ use Rattle.outgoing.specs.declared.object.Outgoing.{Outgoing}
 use Rattle.outgoing.specs.declared.object.Chunk.{Chunk}
 use Rattle.connection.specs.Reply.{front}
 use Rattle.table.specs.Nonces.{rememberedWith, remembered, among}
-use Rattle.model.specs.Step.{DoneTabled, called, Stores, withHeaders, Done, after, limitOf, sends}
+use Rattle.model.specs.Step.{DoneTabled, Called, called, Stores, withHeaders, Done, after, limitOf, sends}
 use Rattle.model.specs.Connect.{nonceAnswer, connectSends}
-use Rattle.model.specs.Guard.{refuse, sameAwait, fits, badHeaders, badReply, checked, longUser, soundOperation}
+use Rattle.model.specs.Guard.{refuse, sameAwait, fits, badHeaders, badReply, checked, longUser, longRealm, soundOperation}
 use Rattle.model.specs.Object.{sendsPacket, sendsNext, objectOf}
-use Rattle.model.specs.Calls.{replyAnswer, objectFor, bodyFor, credentialsWith}
+use Rattle.model.specs.Calls.{replyAnswer, objectFor, bodyFor, nonceChecked, credentialsWith}
 use Rattle.model.specs.Runs.{State, keeps}
 use Rattle.model.specs.Refusals.{roomIn, Known, noted, bad, used}
 use Rattle.journal.specs.Srm.{speaks, Mode, objectMode}
 use Rattle.model.specs.Replies.{connectSize, lastSize, answerSize, Late, lateBy}
+use Rattle.server.specs.declared.Settings.{Settings}
 use Rattle.server.specs.declared.Operation.{Operation}
 use Rattle.server.specs.declared.Operation.the-variants.{Nothing, Sending, Connecting}
 use Rattle.server.specs.declared.CallKind.the-variants as kind
@@ -321,40 +322,45 @@ module _ (w : Known) (s : State) (h : Seated s) (k : Knows w s) where
       (λ j late x y l. password-brief e st p)
       (λ j o x y l. speaks-spoken _ o (password-speaks e st p)))
 
-  -- a nonce is refused with 15 if the engine remembers it, which it does exactly if it is one of the last 32 that were taken; the realm is
-  -- not too long, since it was not at the start
-  module _ (n : Octets16) where
-    nonce-goes : e .awaits ≡ await.Nonce → Agree w s (nonceGiven n) goes (called (after 0 (nonceAnswer e n (s .realm) st)) (rememberedWith n ts))
-    nonce-goes at =
-        agree-tabled w s h k (nonceGiven n) (nonceAnswer e n (s .realm) st) 0 (rememberedWith n ts) (nonce-fine e st (h .sits .base) n (s .realm))
+  -- a nonce is refused with 8 if the realm is too long by the settings, then with 15 if the engine remembers it, which it does exactly if it is
+  -- one of the last 32 that were taken
+  module _ (n : Octets16) (l : List ℕ) where
+    nonce-goes : e .awaits ≡ await.Nonce → longRealm (e .settings) l ≡ false
+        → Agree w s (nonceGiven n l) goes (called (after 0 (nonceAnswer e n l st)) (rememberedWith n ts))
+    nonce-goes at f =
+        agree-tabled w s h k (nonceGiven n l) (nonceAnswer e n l st) 0 (rememberedWith n ts) (nonce-fine e st (h .sits .base) n l)
         (remembered-length n ts (nonces-room s h))
-        (remembered-more n (e .peer .nonces) ts (h .sits .base .peer .few) (nonces-room s h) ∙ ap (λ (l : List Octets16). take 32 (n ∷ l)) (k .nonces)
-        ∙ take-again 31 n (w .nonces))
+        (remembered-more n (e .peer .nonces) ts (h .sits .base .peer .few) (nonces-room s h)
+        ∙ ap (λ (ns : List Octets16). take 32 (n ∷ ns)) (k .nonces) ∙ take-again 31 n (w .nonces))
         (λ j x. none-taken (j .ended))
         (λ j x. let y = coupled-at w s h k await.Nonce j at x in
-        told-follows (entered-over (rememberedWith n ts) (nonceGiven n) j _ (y .held .fixed .ended)
+        told-follows (entered-over (rememberedWith n ts) (nonceGiven n l) j _ (y .held .fixed .ended)
         (nonce-told ts e st j op.Connect y (rememberedWith n ts)
-        (remembered-front n ts (nonces-room s h) (e .peer .count) (h .sits .base .peer .count)) n (s .realm))))
-        (λ j late x y l. brief-sized _ _ (nonce-brief e st n (s .realm) (h .realm)))
-        (λ j o x y l. speaks-spoken _ o (nonce-speaks e st n (s .realm)))
+        (remembered-front n ts (nonces-room s h) (e .peer .count) (h .sits .base .peer .count)) n l)))
+        (λ j late x y z. brief-sized _ _ (nonce-brief e st n l f))
+        (λ j o x y z. speaks-spoken _ o (nonce-speaks e st n l))
 
-    nonce-at : e .awaits ≡ await.Nonce → (b : Bool)
-        → Agree w s (nonceGiven n) (pick b (refused 15) goes)
-        (pick b (keeps s (refuse refusal.NonceUsed e st)) (called (after 0 (nonceAnswer e n (s .realm) st)) (rememberedWith n ts)))
-    nonce-at at true = agree-refused w s h k (nonceGiven n) refusal.NonceUsed
-    nonce-at at false = nonce-goes at
+    -- `a` says that the realm is too long, and `b` that the nonce is remembered
+    nonce-at : e .awaits ≡ await.Nonce → (a b : Bool) → longRealm (e .settings) l ≡ a
+        → Agree w s (nonceGiven n l) (pick a (refused 8) (pick b (refused 15) goes))
+        (pick a (keeps s (refuse refusal.BadAnswer e st)) (pick b (keeps s (refuse refusal.NonceUsed e st))
+        (called (after 0 (nonceAnswer e n l st)) (rememberedWith n ts))))
+    nonce-at at true b f = agree-refused w s h k (nonceGiven n l) refusal.BadAnswer
+    nonce-at at false true f = agree-refused w s h k (nonceGiven n l) refusal.NonceUsed
+    nonce-at at false false f = nonce-goes at f
 
-    pub nonce-agrees : Agrees w s (nonceGiven n)
+    abbrev nonce-step : Called
+    nonce-step = nonceChecked e n l st ts
+
+    pub nonce-agrees : Agrees w s (nonceGiven n l)
     unfolding bad used
     nonce-agrees =
-        agrees w s h k (nonceGiven n)
-        (λ r j x. subst (λ (b : Bool). Agree w s (nonceGiven n) (pick (among n (take 32 (w .nonces))) (refused 15) goes)
-        (pick b (keeps s (refuse refusal.BadAnswer e st)) (pick (among n (remembered (e .peer .nonces) ts)) (keeps s (refuse refusal.NonceUsed e st))
-        (called (after 0 (nonceAnswer e n (s .realm) st)) (rememberedWith n ts))))) (sym (h .realm))
-        (subst (λ (l : List Octets16). Agree w s (nonceGiven n) (pick (among n l) (refused 15) goes)
-        (pick (among n (remembered (e .peer .nonces) ts)) (keeps s (refuse refusal.NonceUsed e st))
-        (called (after 0 (nonceAnswer e n (s .realm) st)) (rememberedWith n ts)))) (k .nonces)
-        (nonce-at (same-await (e .awaits) await.Nonce r) (among n (remembered (e .peer .nonces) ts)))))
+        agrees w s h k (nonceGiven n l)
+        (λ r j x. subst (λ (y : Settings). Agree w s (nonceGiven n l) (pick (longRealm y l) (refused 8)
+        (pick (among n (take 32 (w .nonces))) (refused 15) goes)) nonce-step) (sym (k .settings))
+        (subst (λ (ns : List Octets16). Agree w s (nonceGiven n l) (pick (longRealm (e .settings) l) (refused 8)
+        (pick (among n ns) (refused 15) goes)) nonce-step) (k .nonces)
+        (nonce-at (same-await (e .awaits) await.Nonce r) (longRealm (e .settings) l) (among n (remembered (e .peer .nonces) ts)) refl)))
 
   -- the reply that credentials lead to has the size that the journal says
   credentials-brief : (c : Option Credentials) → e .awaits ≡ await.Credentials → (v : IsConnecting (e .operation)) (late : Late) → LateAt e st late

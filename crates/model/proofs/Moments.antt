@@ -54,7 +54,7 @@ kindOf (bodyGiven d) = kind.FromBody
 kindOf bodyFailed = kind.FromBody
 kindOf abortAcknowledged = kind.AbortAcknowledged
 kindOf (passwordGiven p) = kind.PasswordGiven
-kindOf (nonceGiven n) = kind.NonceGiven
+kindOf (nonceGiven n l) = kind.NonceGiven
 kindOf (credentialsGiven c) = kind.CredentialsGiven
 kindOf (connectionsClosed l) = kind.FromPeer
 
@@ -69,7 +69,7 @@ fitting (objectGiven hs b) w = true
 fitting bodyFailed w = true
 fitting abortAcknowledged w = true
 fitting (passwordGiven p) w = true
-fitting (nonceGiven n) w = true
+fitting (nonceGiven n l) w = true
 fitting (credentialsGiven c) w = true
 fitting (connectionsClosed l) w = true
 
@@ -104,7 +104,7 @@ moment (bodyGiven d) o a = each (Moment (bodyGiven d) o) refl refl refl refl ref
 moment bodyFailed o a = each (Moment bodyFailed o) refl refl refl refl refl refl refl refl refl refl refl refl refl a
 moment abortAcknowledged o a = each (Moment abortAcknowledged o) refl refl refl refl refl refl refl refl refl refl refl refl refl a
 moment (passwordGiven p) o a = each (Moment (passwordGiven p) o) refl refl refl refl refl refl refl refl refl refl refl refl refl a
-moment (nonceGiven n) o a = each (Moment (nonceGiven n) o) refl refl refl refl refl refl refl refl refl refl refl refl refl a
+moment (nonceGiven n l) o a = each (Moment (nonceGiven n l) o) refl refl refl refl refl refl refl refl refl refl refl refl refl a
 moment (connectionsClosed l) o a = each (Moment (connectionsClosed l) o) refl refl refl refl refl refl refl refl refl refl refl refl refl a
 moment (credentialsGiven c) o a = each (Moment (credentialsGiven c) o) refl refl refl refl refl refl refl refl refl refl refl refl refl a
 
@@ -136,13 +136,13 @@ goStep s (bodyGiven d) = bodyFor (s .engine .operation) (s .engine) d (s .stores
 goStep s bodyFailed = after 0 (repliesCode (s .engine) (s .engine .peer) Nothing 0x50 (s .stores))
 goStep s abortAcknowledged = after 0 (repliesCode (s .engine) (s .engine .peer) Nothing 0x20 (s .stores))
 goStep s (passwordGiven p) = after 0 (passwordAnswer (s .engine) p (s .stores))
-goStep s (nonceGiven n) = refuse refusal.WrongMoment (s .engine) (s .stores)
+goStep s (nonceGiven n l) = refuse refusal.WrongMoment (s .engine) (s .stores)
 goStep s (credentialsGiven c) = credentialsWith (s .engine .operation) (s .engine) c (s .stores)
 goStep s (connectionsClosed l) = refuse refusal.WrongMoment (s .engine) (s .stores)
 
 abbrev pub goFor : State → Call → Called
 goFor s (replyGiven code hs) = replyChecked (s .engine) code hs (s .stores) (s .tables)
-goFor s (nonceGiven n) = nonceChecked (s .engine) n (s .realm) (s .stores) (s .tables)
+goFor s (nonceGiven n l) = nonceChecked (s .engine) n l (s .stores) (s .tables)
 goFor s (bytesOffered i) = keeps s (goStep s (bytesOffered i))
 goFor s streamEnded = keeps s (goStep s streamEnded)
 goFor s replyTaken = keeps s (goStep s replyTaken)
@@ -203,7 +203,7 @@ step-is s (bodyGiven d) = kept s (bodyGiven d) (lacksIn s (bodyGiven d)) (atMome
 step-is s bodyFailed = kept s bodyFailed (lacksIn s bodyFailed) (atMoment s bodyFailed)
 step-is s abortAcknowledged = kept s abortAcknowledged (lacksIn s abortAcknowledged) (atMoment s abortAcknowledged)
 step-is s (passwordGiven p) = kept s (passwordGiven p) (lacksIn s (passwordGiven p)) (atMoment s (passwordGiven p))
-step-is s (nonceGiven n) = refl
+step-is s (nonceGiven n l) = refl
 step-is s (connectionsClosed l) =
     closing-is s l (shortTables (s .tables)) (sound (s .engine)) (sameAwait (s .engine .awaits) await.Bytes) (not (busy (s .engine .operation)))
 step-is s (credentialsGiven c) = kept s (credentialsGiven c) (lacksIn s (credentialsGiven c)) (atMoment s (credentialsGiven c))
@@ -220,17 +220,18 @@ fedAt s v c = fedBy v c (getD (s .stores .reply) 0 0)
 abbrev pub fedGoing : State → Call → Fed
 fedGoing s c = fedCall c (getD (s .stores .reply) 0 0)
 
--- what is known from the calls is what the engine waits for, and the nonces that it remembers
+-- what is known from the calls is what the engine was set to and waits for, and the nonces that it remembers
 pub record Knows (k : Known) (s : State) : Type 0 where
+  pub settings : k .settings ≡ s .engine .settings
   pub waits : k .waits ≡ waitsOf (s .engine .awaits) (s .engine .operation)
   pub nonces : remembered (s .engine .peer .nonces) (s .tables) ≡ take 32 (k .nonces)
 
 pub record Agree (w : Known) (s : State) (c : Call) (v : Verdict) (m : Called) : Type 0 where
   pub due : verdictOf (m .took .outcome) ≡ v
   pub settings : m .took .engine .settings ≡ s .engine .settings
-  pub seated : Seated (stateOf (s .realm) m)
-  pub knows : Knows (learns w c (m .took .outcome)) (stateOf (s .realm) m)
-  pub unmoved : (n : ℕ) → v ≡ refused n → stateOf (s .realm) m ≡ s
+  pub seated : Seated (stateOf m)
+  pub knows : Knows (learns w c (m .took .outcome)) (stateOf m)
+  pub unmoved : (n : ℕ) → v ≡ refused n → stateOf m ≡ s
   pub count : (j : Journal) → Coupled (s .tables) (s .engine) (s .stores) j → m .took .taken ≡ fedTakes j (fedAt s v c)
   pub journal : (j : Journal) → Coupled (s .tables) (s .engine) (s .stores) j
       → Follows (Kept (fedReads j (fedAt s v c))) (m .tables) (doneOf m) (journalFed j (fedAt s v c))
@@ -288,8 +289,9 @@ module _ (w : Known) (s : State) (h : Seated s) (k : Knows w s) (c : Call) where
       record {
         due = f .goes;
         settings = f .settings;
-        seated = record { sits = f .sits; tables = rw l (h .tables); realm = rw (f .settings) (h .realm) };
+        seated = record { sits = f .sits; tables = rw l (h .tables) };
         knows = record {
+          settings = k .settings ∙ sym (f .settings);
           waits = f .waits (w .waits);
           nonces = ap (λ (i : ℕ). remembered i u) (f .nonces) ∙ q ∙ ap (λ (v : Verdict). take 32 (noted c v (w .nonces))) (sym (f .goes));
         };
@@ -321,7 +323,7 @@ module _ (w : Known) (s : State) (h : Seated s) (k : Knows w s) (c : Call) where
   noted-refused bodyFailed n = refl
   noted-refused abortAcknowledged n = refl
   noted-refused (passwordGiven p) n = refl
-  noted-refused (nonceGiven m) n = refl
+  noted-refused (nonceGiven m l) n = refl
   noted-refused (credentialsGiven x) n = refl
   noted-refused (connectionsClosed l) n = refl
 
@@ -331,7 +333,7 @@ module _ (w : Known) (s : State) (h : Seated s) (k : Knows w s) (c : Call) where
         due = refl;
         settings = refl;
         seated = h;
-        knows = record { waits = k .waits; nonces = k .nonces ∙ ap (take 32) (sym (noted-refused c (refusalNumber r))) };
+        knows = record { settings = k .settings; waits = k .waits; nonces = k .nonces ∙ ap (take 32) (sym (noted-refused c (refusalNumber r))) };
         unmoved = λ m i. refl;
         count = λ j x. refl;
         journal = λ j x. told-follows (record { given = refl; after = x; ends = λ i. refl });
@@ -359,7 +361,7 @@ module _ (w : Known) (s : State) (h : Seated s) (k : Knows w s) (c : Call) where
       go bodyFailed = long
       go abortAcknowledged = long
       go (passwordGiven p) = long
-      go (nonceGiven n) = both
+      go (nonceGiven n l) = both
       go (credentialsGiven x) = long
       go (connectionsClosed l) = tables-long (s .tables) (h .tables)
 

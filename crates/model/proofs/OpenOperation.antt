@@ -14,7 +14,7 @@ use Rattle.model.specs.Step.{Stores}
 use Rattle.model.specs.Dispatch.{busy}
 use Rattle.model.specs.Guard.{sameAwait}
 use Rattle.model.specs.Refusals.{Known, atStart, learns, feedFrom}
-use Rattle.model.specs.Runs.{State, Performed, next, Ran, seen}
+use Rattle.model.specs.Runs.{State, Performed, next, lentTo, Ran, seen}
 use Rattle.model.specs.Theorem.{journalOf}
 use Rattle.model.specs.Contracts.{state}
 use Rattle.model.specs.EightWrong.{ranTo}
@@ -22,7 +22,7 @@ use Rattle.model.specs.OpenOperation.{knownAfter, isOpen, isOpenBy, Open
 use Rattle.model.proofs.Fit.{waitsOf}
 use Rattle.model.proofs.Coupling.{CoupledAt}
 use Rattle.model.proofs.Packets.{busy-same}
-use Rattle.model.proofs.Records.{Between, fedTo, between-next, start-between}
+use Rattle.model.proofs.Records.{Between, between-on, fedTo, between-next, start-between}
 use Rattle.model.proofs.Contracts.{accepted-started}
 
 -- ---- between two calls, by what is awaited
@@ -60,11 +60,13 @@ run-open st [] w s j b r =
     open-at (s .tables) (e .awaits) (e .operation) (e .settings) (e .peer) (e .begun) (e .length) (s .stores) j (b .coupled)
     ∙ ap (isOpenBy j) (sym (b .knows .waits))
 run-open st (y ∷ xs) w s j b r =
-    run-open st xs (learns w (y .call) (y .result .outcome)) (next s y) (journalStep j (fedTo st w s j b y (r .0)) .next)
-    (between-next st w s j b y (r .0)) (r .1)
+    let l = lentTo s y in
+    let c = between-on st w s j (y .written) (r .0) b in
+    run-open st xs (learns w (y .call) (y .result .outcome)) (next y) (journalStep j (fedTo st w l j c y (r .1 .0)) .next)
+    (between-next st w l j c y (r .1 .0)) (r .1 .1)
 
 pub opens-alike : OpensAlike
-opens-alike st s h xs r = run-open st xs atStart s (journalOf st) (start-between st s h) r
+opens-alike st s h xs r = run-open st xs (atStart st) s (journalOf st) (start-between st s h) r
 
 pub contracts-open : ContractsOpen
-contracts-open st l s t u r xs a h = opens-alike st (state l r t u) (accepted-started st l s t u r a) xs h
+contracts-open st l s t u r xs a h = opens-alike st (state r t u) (accepted-started st l s t u r a) xs h

@@ -15,9 +15,8 @@ use Rattle.journal.specs.PutForm.{Exactly}
 use Rattle.connection.specs.Peer.{peerWith}
 use Rattle.table.specs.Nonces.{remembered}
 use Rattle.model.specs.Step.{Called, engineWith}
-use Rattle.model.specs.Guard.{longRealm}
 use Rattle.model.specs.Calls.{started}
-use Rattle.model.specs.Runs.{State, Performed, calledIn, next, OffersOctets, Says, Ran, records, Started, lacks, seen}
+use Rattle.model.specs.Runs.{State, Performed, calledIn, next, writing, Writes, lentTo, OffersOctets, Says, Ran, records, Started, lacks, seen}
 use Rattle.model.specs.Refusals.{bytes, Known, atStart, learns, verdict, verdictOf, endOf, fedBy, dueFrom, feedFrom}
 use Rattle.model.specs.Replies.{Late, lateAfter, RepliesFrom}
 use Rattle.journal.specs.Srm.{Mode, modeAfter, duesFrom}
@@ -30,6 +29,7 @@ use Rattle.model.proofs.Fit.{room, waitsOf, none-begun, Sits, Seated, t
 use Rattle.model.proofs.Coupling.{Coupled}
 use Rattle.model.proofs.Sizes.{early, LateAt, early-late}
 use Rattle.model.proofs.Speaks.{ModeAt}
+use Rattle.model.proofs.Writing.{seated-on, coupled-on, late-on}
 use Rattle.model.proofs.Moments.{verdictAt, Knows, Agree, Agrees}
 use Rattle.model.proofs.FromPeer.{bytes-agree, end-agrees, taken-agrees}
 use Rattle.model.proofs.Closing.{closed-agrees}
@@ -48,7 +48,7 @@ step-agrees w s h k (bodyGiven d) o = body-agrees w s h k d
 step-agrees w s h k bodyFailed o = body-failed-agrees w s h k
 step-agrees w s h k abortAcknowledged o = acknowledge-agrees w s h k
 step-agrees w s h k (passwordGiven p) o = password-agrees w s h k p
-step-agrees w s h k (nonceGiven n) o = nonce-agrees w s h k n
+step-agrees w s h k (nonceGiven n l) o = nonce-agrees w s h k n l
 step-agrees w s h k (credentialsGiven c) o = credentials-agree w s h k c
 step-agrees w s h k (connectionsClosed l) o = closed-agrees w s h k l
 
@@ -59,7 +59,18 @@ pub record Between (st : Settings) (w : Known) (s : State) (j : Journal) : Type 
   pub knows : Knows w s
   pub coupled : Coupled (s .tables) (s .engine) (s .stores) j
 
-module _ (st : Settings) (w : Known) (s : State) (j : Journal) (b : Between st w s j) (x : Performed) (says : Says s x) where
+-- the host may have written into the packet store
+pub between-on : (st : Settings) (w : Known) (s : State) (j : Journal) (l : List ℕ) → Writes s l → Between st w s j → Between st w (writing s l) j
+between-on st w s j l h b =
+    record {
+      settings = b .settings;
+      seated = seated-on s l (b .seated);
+      knows = record { settings = b .knows .settings; waits = b .knows .waits; nonces = b .knows .nonces };
+      coupled = coupled-on s l h j (b .coupled);
+    }
+
+-- a call of a run, lent the state `s`
+module _ (st : Settings) (w : Known) (s : State) (j : Journal) (b : Between st w s j) (x : Performed) (says : Says s (x .call) (calledIn x)) where
   -- the verdict that is due, by what the host sees
   abbrev pub dueAt : Verdict
   dueAt = verdict (lacks st (x .call) (s .stores) (s .tables)) w j (x .call)
@@ -73,7 +84,7 @@ module _ (st : Settings) (w : Known) (s : State) (j : Journal) (b : Between st w
       (subst (λ (m : Called). Agree w s (x .call) (verdictAt w s j (x .call)) m) (sym (says .step))
       (step-agrees w s (b .seated) (b .knows) (x .call) (says .octets) j (b .coupled)))
 
-  pub between-next : Between st (learns w (x .call) (x .result .outcome)) (next s x) (journalStep j fedTo .next)
+  pub between-next : Between st (learns w (x .call) (x .result .outcome)) (next x) (journalStep j fedTo .next)
   unfolding journalStep
   between-next =
       let a = performed-agrees in
@@ -85,15 +96,19 @@ run-refused : (st : Settings) (xs : List Performed) (w : Known) (s : State) (j :
     → map (λ (x : Performed). verdictOf (x .result .outcome)) xs ≡ dueFrom w j (seen st s xs)
 run-refused st [] w s j b r = refl
 run-refused st (x ∷ xs) w s j b r =
-    ap₂ (λ (v : Verdict) (vs : List Verdict). v ∷ vs) (performed-agrees st w s j b x (r .0) .due)
-    (run-refused st xs (learns w (x .call) (x .result .outcome)) (next s x) _ (between-next st w s j b x (r .0)) (r .1))
+    let l = lentTo s x in
+    let c = between-on st w s j (x .written) (r .0) b in
+    ap₂ (λ (v : Verdict) (vs : List Verdict). v ∷ vs) (performed-agrees st w l j c x (r .1 .0) .due)
+    (run-refused st xs (learns w (x .call) (x .result .outcome)) (next x) _ (between-next st w l j c x (r .1 .0)) (r .1 .1))
 
 run-unmoved : (st : Settings) (xs : List Performed) (w : Known) (s : State) (j : Journal) → Between st w s j → Ran s xs → Unmoved s xs
 run-unmoved st [] w s j b r = tt
 run-unmoved st (x ∷ xs) w s j b r =
-    let a = performed-agrees st w s j b x (r .0) in (
+    let l = lentTo s x in
+    let c = between-on st w s j (x .written) (r .0) b in
+    let a = performed-agrees st w l j c x (r .1 .0) in (
       λ n i. a .unmoved n (sym (a .due) ∙ i),
-      run-unmoved st xs (learns w (x .call) (x .result .outcome)) (next s x) _ (between-next st w s j b x (r .0)) (r .1),
+      run-unmoved st xs (learns w (x .call) (x .result .outcome)) (next x) _ (between-next st w l j c x (r .1 .0)) (r .1 .1),
     )
 
 kept-both : (l m : List Marked) → Kept (l ++ m) → Kept l × Kept m
@@ -113,19 +128,21 @@ run-along : (st : Settings) (xs : List Performed) (w : Known) (s : State) (j : J
 unfolding journalStep
 run-along st [] w s j b r k = record { journal = refl; counts = refl; srm = λ m y. tt; ends = λ late y z. refl }
 run-along st (x ∷ xs) w s j b r k =
-    let a = performed-agrees st w s j b x (r .0) in
-    let f = fedTo st w s j b x (r .0) in
+    let l = lentTo s x in
+    let c = between-on st w s j (x .written) (r .0) b in
+    let a = performed-agrees st w l j c x (r .1 .0) in
+    let f = fedTo st w l j c x (r .1 .0) in
     let i = journalStep j f .next in
-    let both = kept-both (fedReads j f) (packets i (feedFrom (learns w (x .call) (x .result .outcome)) i (seen st (next s x) xs))) k in
-    let t = a .journal j (b .coupled) .told (both .0) in
-    let later = run-along st xs (learns w (x .call) (x .result .outcome)) (next s x) i (between-next st w s j b x (r .0)) (r .1) (both .1) in
+    let both = kept-both (fedReads j f) (packets i (feedFrom (learns w (x .call) (x .result .outcome)) i (seen st (next x) xs))) k in
+    let t = a .journal j (c .coupled) .told (both .0) in
+    let later = run-along st xs (learns w (x .call) (x .result .outcome)) (next x) i (between-next st w l j c x (r .1 .0)) (r .1 .1) (both .1) in
     record {
-      journal = ap₂ (λ (l m : List Record). l ++ m) (t .given) (later .journal);
-      counts = ap₂ (λ (n : ℕ) (l : List ℕ). n ∷ l) (a .count j (b .coupled)) (later .counts);
-      srm = λ m y. let spoken = a .spoken j m (b .coupled) y (both .0) in (spoken .obeys, later .srm (modeAfter m j f) (spoken .mode));
+      journal = ap₂ (λ (m n : List Record). m ++ n) (t .given) (later .journal);
+      counts = ap₂ (λ (n : ℕ) (ns : List ℕ). n ∷ ns) (a .count j (c .coupled)) (later .counts);
+      srm = λ m y. let spoken = a .spoken j m (c .coupled) y (both .0) in (spoken .obeys, later .srm (modeAfter m j f) (spoken .mode));
       ends = λ late y z.
-          let sized = a .sized j late (b .coupled) y (z .0) in
-          ap₂ (λ (n : Option ℕ) (l : List (Option ℕ)). n ∷ l) (t .ends (sized .small)) (later .ends (lateAfter late j f) (sized .waiting) (z .1));
+          let sized = a .sized j late (c .coupled) (late-on s (x .written) (r .0) late y) (z .0) in
+          ap₂ (λ (n : Option ℕ) (ns : List (Option ℕ)). n ∷ ns) (t .ends (sized .small)) (later .ends (lateAfter late j f) (sized .waiting) (z .1));
     }
 
 -- ---- from an accepted start
@@ -143,7 +160,6 @@ module _ (st : Settings) (s : State) (h : Started st s) where
               shape = refl;
             });
         tables = tables-room (s .tables) (h .tables);
-        realm = subst (λ (e : Engine). longRealm (e .settings) (s .realm) ≡ false) (sym (h .fresh)) (h .realm);
       }
 
   start-waits : bytes ≡ waitsOf (s .engine .awaits) (s .engine .operation)
@@ -160,13 +176,13 @@ module _ (st : Settings) (s : State) (h : Started st s) where
       subst (λ (e : Engine). Coupled (s .tables) e (s .stores) (journalOf st)) (sym (h .fresh))
       (record { fixed = record { settings = refl; past = []; standing = refl; window = refl; ended = refl }; begun = refl; opened = refl })
 
-  pub start-between : Between st atStart s (journalOf st)
+  pub start-between : Between st (atStart st) s (journalOf st)
   unfolding started engineWith
   start-between =
       record {
         settings = ap (λ (e : Engine). e .settings) (h .fresh);
         seated = start-seated;
-        knows = record { waits = start-waits; nonces = start-nonces };
+        knows = record { settings = sym (ap (λ (e : Engine). e .settings) (h .fresh)); waits = start-waits; nonces = start-nonces };
         coupled = start-coupled;
       }
 
@@ -181,10 +197,10 @@ module _ (st : Settings) (s : State) (h : Started st s) where
 pub records-theorem : RecordsTheorem
 records-theorem st s h xs r =
     let b = start-between st s h in
-    let along = run-along st xs atStart s (journalOf st) b r in
+    let along = run-along st xs (atStart st) s (journalOf st) b r in
     record {
-      refusals = run-refused st xs atStart s (journalOf st) b r;
-      unmoved = run-unmoved st xs atStart s (journalOf st) b r;
+      refusals = run-refused st xs (atStart st) s (journalOf st) b r;
+      unmoved = run-unmoved st xs (atStart st) s (journalOf st) b r;
       agrees = λ k. record {
         journal = along k .journal;
         forms = subst (Exactly (st .«max_object_size») (packets (journalOf st) (fed st s xs))) (sym (along k .journal))

@@ -13,7 +13,7 @@ use Rattle.model.specs.Request.{clientResponse}
 use Rattle.model.specs.Connect.{demandsUser, checks, passwordAnswered, passwordAnswer}
 use Rattle.model.specs.Guard.{sound, fits, guarded}
 use Rattle.model.specs.Calls.{passwordGivenStep, credentialsGivenStep}
-use Rattle.model.specs.Runs.{State, Performed, keeps, stepOf, stateOf, calledIn, next, Ran}
+use Rattle.model.specs.Runs.{State, Performed, keeps, stepOf, stateOf, calledIn, next, writing, lentTo, Ran}
 use Rattle.model.specs.Refusals.{Waits, bytes, taking, reply, object, acknowledgement, password as passwordWaits, nonce, credentials as credentialsWait, nothing, reading, asked, told, Known, atStart, learns}
 use Rattle.model.specs.Theorem.{journalOf}
 use Rattle.model.specs.Contracts.{state}
@@ -30,7 +30,7 @@ use Rattle.server.specs.declared.Outcome.the-variants as outcome
 use Rattle.server.specs.declared.Settings.{Settings}
 use Rattle.model.proofs.Fit.{waitsOf}
 use Rattle.model.proofs.Moments.{same-await}
-use Rattle.model.proofs.Records.{Between, between-next, start-between}
+use Rattle.model.proofs.Records.{Between, between-on, between-next, start-between}
 use Rattle.model.proofs.Contracts.{accepted-started}
 
 -- ---- a call
@@ -119,11 +119,17 @@ run-alike st [] [] w s j b a r q l c n = record { shown = refl; left = refl }
 run-alike st [] (y ∷ ys) w s j b a r q l c n = absurd l
 run-alike st (x ∷ xs) [] w s j b a r q l c n = absurd l
 run-alike st (x ∷ xs) (y ∷ ys) w s j b a r q l c n =
-    let e : calledIn x ≡ calledIn y = r .0 .step ∙ same-step (w .waits) s (b .knows .waits) a (x .call) (y .call) (l .0) (c .0) ∙ sym (q .0 .step) in
-    let back : next s y ≡ next s x = ap (stateOf (s .realm)) (sym e) in
-    let later = run-alike st xs ys (learns w (x .call) (x .result .outcome)) (next s x) _ (between-next st w s j b x (r .0))
-    (told-apart (w .waits) (x .result .outcome) a (n .0)) (r .1) (subst (λ (t : State). Ran t ys) back (q .1)) (l .1)
-    (subst (λ (t : State). ChecksAlike (next s x) t xs ys) back (c .1)) (n .1) in
+    let v = lentTo s x in
+    let also : lentTo s y ≡ v = ap (writing s) (sym (l .1 .0)) in
+    let d = between-on st w s j (x .written) (r .0) b in
+    let e : calledIn x ≡ calledIn y =
+    r .1 .0 .step
+    ∙ same-step (w .waits) v (d .knows .waits) a (x .call) (y .call) (l .0) (c .0 ∙ ap (checkMade (y .call)) also)
+    ∙ sym (q .1 .0 .step ∙ ap (λ (t : State). stepOf t (y .call)) also) in
+    let back : next y ≡ next x = ap stateOf (sym e) in
+    let later = run-alike st xs ys (learns w (x .call) (x .result .outcome)) (next x) _ (between-next st w v j d x (r .1 .0))
+    (told-apart (w .waits) (x .result .outcome) a (n .0)) (r .1 .1) (subst (λ (t : State). Ran t ys) back (q .1 .1)) (l .1 .1)
+    (subst (λ (t : State). ChecksAlike (next x) t xs ys) back (c .1)) (n .1) in
     record {
       shown = ap₂ (λ (m : Called) (ms : List Shown). shownIn m ∷ ms) e (later .shown);
       left = ap₂ (λ (m : Called) (ms : List Called). m ∷ ms) e (later .left);
@@ -131,11 +137,11 @@ run-alike st (x ∷ xs) (y ∷ ys) w s j b a r q l c n =
 
 -- passwords leave no trace
 pub secrecy : Secrecy
-secrecy st s h xs ys r q l c n = run-alike st xs ys atStart s (journalOf st) (start-between st s h) refl r q l c n
+secrecy st s h xs ys r q l c n = run-alike st xs ys (atStart st) s (journalOf st) (start-between st s h) refl r q l c n
 
 -- two starts with equal arguments leave the same
 pub contracts-keep-secrets : ContractsKeepSecrets
 contracts-keep-secrets st l s t v u r q xs ys a b ran also alike c n =
-    let same : state l q v u ≡ state l r t u = ap (λ (m : Stepped). stateOf l (called m u)) (b .says ∙ sym (a .says)) in
-    secrecy st (state l r t u) (accepted-started st l s t u r a) xs ys ran (subst (λ (x : State). Ran x ys) same also) alike
-    (subst (λ (x : State). ChecksAlike (state l r t u) x xs ys) same c) n
+    let same : state q v u ≡ state r t u = ap (λ (m : Stepped). stateOf (called m u)) (b .says ∙ sym (a .says)) in
+    secrecy st (state r t u) (accepted-started st l s t u r a) xs ys ran (subst (λ (x : State). Ran x ys) same also) alike
+    (subst (λ (x : State). ChecksAlike (state r t u) x xs ys) same c) n

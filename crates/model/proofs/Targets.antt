@@ -57,7 +57,7 @@ use Rattle.model.specs.Dispatch.{busy, isMarked, targetFor, packetTarget
 use Rattle.model.specs.Guard.{sound, refuse, sameAwait, fits, badHeaders, badReply, checked, longRealm, longUser}
 use Rattle.model.specs.Calls.{framedAs, withPacket, offers, started, objectFor, bodyFor, credentialsWith, replyAnswer}
 use Rattle.model.specs.Close.{Remaining, closedAll, refuseClosing, closes, closeChecked}
-use Rattle.model.specs.Runs.{State, keeps, beside, stepOf, stateOf, Performed, calledIn, next, OffersOctets, Says, Ran, Started, seen}
+use Rattle.model.specs.Runs.{State, keeps, beside, stepOf, stateOf, Performed, calledIn, next, writing, Writes, lentTo, OffersOctets, Says, Ran, Started, seen}
 use Rattle.model.specs.Refusals.{Known, atStart, verdictOf, learns, fedBy, feedFrom}
 use Rattle.model.specs.Theorem.{journalOf}
 use Rattle.model.specs.Contracts.{state}
@@ -76,7 +76,7 @@ use Rattle.model.proofs.Coupling.{Held, AskedBy, Fixed, connects, Coupl
 use Rattle.model.proofs.Packets.{busy-same}
 use Rattle.model.proofs.Answers.{headers-are, replied-to, stood, srm, target, connected-is}
 use Rattle.model.proofs.Moments.{same-await, or-second, fed-goes, goFor, refuses, lacksIn, atMoment, step-is}
-use Rattle.model.proofs.Records.{Between, fedTo, performed-agrees, between-next, start-between}
+use Rattle.model.proofs.Records.{Between, between-on, fedTo, performed-agrees, between-next, start-between}
 use Rattle.model.proofs.Contracts.{accepted-started}
 use Rattle.model.proofs.Carries.{connecting, asksMarked, isPlain, Carries, leaf, sends-carries, connect-sends-carries, nonce-carries, packet-carries, next-carries, goes-on-carries, password-carries, answer-carries, markedIn, read-carries}
 
@@ -120,14 +120,9 @@ pub record Targeted (s : State) (j : Journal) (n : Naming) : Type 0 where
   pub ids : Carried (s .tables) (j .standing .ids) (n .openings)
 
 -- a call names what is due, and leaves all as it should be
-pub record Names (l : List ℕ) (m : Called) (j : Journal) (n : Naming) : Type 0 where
+pub record Names (m : Called) (j : Journal) (n : Naming) : Type 0 where
   pub due : NamesDue (m .took .outcome) (m .took .engine .target) n
-  pub after : Targeted (stateOf l m) j n
-
-names-pick : (l : List ℕ) (b : Bool) (x y : Called) (j : Journal) (n : Naming) → (b ≡ true → Names l x j n) → (b ≡ false → Names l y j n)
-    → Names l (pick b x y) j n
-names-pick l true x y j n f g = f refl
-names-pick l false x y j n f g = g refl
+  pub after : Targeted (stateOf m) j n
 
 -- ---- ids that are closed one after the other
 
@@ -157,7 +152,7 @@ or-first : (a b : Bool) → (a || b) ≡ true → b ≡ false → a ≡ true
 or-first true b i k = refl
 or-first false b i k = absurd (true≢false (sym i ∙ k))
 
-module _ (l : List ℕ) (mk : Bool) (e : Engine) (st : Stores) (d : Done) (c : Carries mk e st d) (j : Journal) (n : Naming)
+module _ (mk : Bool) (e : Engine) (st : Stores) (d : Done) (c : Carries mk e st d) (j : Journal) (n : Naming)
     (g : targetBytes (e .target) ≡ n .under) (m : mk ≡ true → n .under ≡ none) (o : mk ≡ true → Octets (take (e .length) (st .packet))) where
   here : targetBytes (d .engine .target) ≡ n .under
   here = ap targetBytes (c .target) ∙ g
@@ -176,7 +171,7 @@ module _ (l : List ℕ) (mk : Bool) (e : Engine) (st : Stores) (d : Done) (c : C
   awaited : connecting (d .engine .awaits) ≡ true → mk ≡ true
   awaited i = or-first mk _ (c .plain) (no-and (connecting (d .engine .awaits)) (not (asksMarked (d .outcome))) i)
 
-  settled : (k : ℕ) (u : List ℕ) → Carried u (j .standing .ids) (n .openings) → Names l (called (after k d) u) j n
+  settled : (k : ℕ) (u : List ℕ) → Carried u (j .standing .ids) (n .openings) → Names (called (after k d) u) j n
   settled k u r =
       record {
         due = due-by (d .engine .awaits) (d .outcome) (c .plain);
@@ -197,18 +192,18 @@ module _ (s : State) (h : Seated s) (j : Journal) (x : Coupled (s .tables) (s .e
   coupled-at a i = subst (λ (y : Await). CoupledAt ts y (e .operation) (e .settings) (e .peer) (e .begun) (e .length) st j) i x
 
   -- a call that is refused, and one that hands all on
-  refused-names : (r : Refusal) → Names (s .realm) (refuses r s) j n
+  refused-names : (r : Refusal) → Names (refuses r s) j n
   refused-names r = record { due = tt; after = t }
 
-  rests : (k : ℕ) (d : Done) → Carries false e st d → Names (s .realm) (keeps s (after k d)) j n
+  rests : (k : ℕ) (d : Done) → Carries false e st d → Names (keeps s (after k d)) j n
   rests k d c =
-      settled (s .realm) false e st d c j n (t .target) (λ i. absurd (false≢true i)) (λ i. absurd (false≢true i)) k ts (t .ids)
+      settled false e st d c j n (t .target) (λ i. absurd (false≢true i)) (λ i. absurd (false≢true i)) k ts (t .ids)
 
-  checked-rests : (b : Bool) (d : Done) → Carries false e st d → Names (s .realm) (keeps s (checked b e st d)) j n
+  checked-rests : (b : Bool) (d : Done) → Carries false e st d → Names (keeps s (checked b e st d)) j n
   checked-rests true d c = refused-names refusal.BadAnswer
   checked-rests false d c = rests 0 d c
 
-  object-rests : (hs : List ℕ) (has : Bool) (o : Operation) → Names (s .realm) (keeps s (objectFor o e hs has st)) j n
+  object-rests : (hs : List ℕ) (has : Bool) (o : Operation) → Names (keeps s (objectFor o e hs has st)) j n
   object-rests hs has (Getting g srm confirm wait) = checked-rests (badHeaders hs) _ (next-carries false e st (withHeaders st _) refl _ _ _)
   object-rests hs has Nothing = refused-names refusal.WrongMoment
   object-rests hs has Trailing = refused-names refusal.WrongMoment
@@ -218,11 +213,11 @@ module _ (s : State) (h : Seated s) (j : Journal) (x : Coupled (s .tables) (s .e
   object-rests hs has (Connecting c f k) = refused-names refusal.WrongMoment
   object-rests hs has (Draining c) = refused-names refusal.WrongMoment
 
-  body-rests : (b : List ℕ) (o : Operation) → Names (s .realm) (keeps s (bodyFor o e b st)) j n
+  body-rests : (b : List ℕ) (o : Operation) → Names (keeps s (bodyFor o e b st)) j n
   body-rests b (Sending o c srm wait) = go (ltb (c .room) (length b))
     where
       go : (y : Bool)
-          → Names (s .realm) (keeps s (pick y (refuse refusal.WrongMoment e st)
+          → Names (keeps s (pick y (refuse refusal.WrongMoment e st)
           (after 0 (sendsPacket e srm wait (givenBody o c b (st .reply)) st)))) j n
       go true = refused-names refusal.WrongMoment
       go false = rests 0 _ (packet-carries false e st srm wait (givenBody o c b (st .reply)))
@@ -234,7 +229,7 @@ module _ (s : State) (h : Seated s) (j : Journal) (x : Coupled (s .tables) (s .e
   body-rests b (Connecting c f k) = refused-names refusal.WrongMoment
   body-rests b (Draining c) = refused-names refusal.WrongMoment
 
-  credentials-rest : (c : Option Credentials) (o : Operation) → Names (s .realm) (keeps s (credentialsWith o e c st)) j n
+  credentials-rest : (c : Option Credentials) (o : Operation) → Names (keeps s (credentialsWith o e c st)) j n
   credentials-rest c (Connecting code f k) = checked-rests (longUser c) _ (connect-sends-carries false e st (e .peer) code f _ c)
   credentials-rest c Nothing = refused-names refusal.WrongMoment
   credentials-rest c Trailing = refused-names refusal.WrongMoment
@@ -244,26 +239,26 @@ module _ (s : State) (h : Seated s) (j : Journal) (x : Coupled (s .tables) (s .e
   credentials-rest c (GatheringOp o g) = refused-names refusal.WrongMoment
   credentials-rest c (Draining code) = refused-names refusal.WrongMoment
 
-  taken-rests : (b : Bool) → Names (s .realm) (keeps s (after 0 (pick b (goesOn (e .operation) e st) (ends e (e .peer) why.OtherOperation st)))) j n
+  taken-rests : (b : Bool) → Names (keeps s (after 0 (pick b (goesOn (e .operation) e st) (ends e (e .peer) why.OtherOperation st)))) j n
   taken-rests true = rests 0 _ (goes-on-carries false e st (e .operation))
   taken-rests false = rests 0 _ (leaf false e st (e .peer) _ await.Nothing _ _ refl refl refl)
 
   -- a password is asked for by a Connect alone
   password-rests : (p : Option (List ℕ)) → fits kind.PasswordGiven (e .awaits) ≡ true
-      → Names (s .realm) (keeps s (after 0 (passwordAnswer e p st))) j n
+      → Names (keeps s (after 0 (passwordAnswer e p st))) j n
   password-rests p r =
       let i : connecting (e .awaits) ≡ true = ap connecting (same-await (e .awaits) await.Password r) in
-      settled (s .realm) true e st _ (password-carries true e st refl p) j n (t .target) (λ k. t .marked i) (λ k. t .octets i) 0 ts (t .ids)
+      settled true e st _ (password-carries true e st refl p) j n (t .target) (λ k. t .marked i) (λ k. t .octets i) 0 ts (t .ids)
 
   -- a nonce is remembered in front of the Targets
-  nonce-rests : (o : Octets16) (b y : Bool)
-      → Names (s .realm)
+  nonce-rests : (o : Octets16) (l : List ℕ) (b y : Bool)
+      → Names
       (pick b (called (refuse refusal.BadAnswer e st) ts) (pick y (called (refuse refusal.NonceUsed e st) ts)
-      (called (after 0 (nonceAnswer e o (s .realm) st)) (rememberedWith o ts)))) j n
-  nonce-rests o true y = refused-names refusal.BadAnswer
-  nonce-rests o false true = refused-names refusal.NonceUsed
-  nonce-rests o false false =
-      settled (s .realm) false e st _ (nonce-carries false e st o (s .realm)) j n (t .target) (λ i. absurd (false≢true i))
+      (called (after 0 (nonceAnswer e o l st)) (rememberedWith o ts)))) j n
+  nonce-rests o l true y = refused-names refusal.BadAnswer
+  nonce-rests o l false true = refused-names refusal.NonceUsed
+  nonce-rests o l false false =
+      settled false e st _ (nonce-carries false e st o l) j n (t .target) (λ i. absurd (false≢true i))
       (λ i. absurd (false≢true i)) 0
       (rememberedWith o ts) (λ y m. ap targetBytes (remembered-targets o ts (nonces-room s h) (placeOf y (j .standing .ids))) ∙ t .ids y m)
 
@@ -321,13 +316,13 @@ module _ (s : State) (h : Seated s) (j : Journal) (x : Coupled (s .tables) (s .e
   -- a call that goes, by the journal and the naming after it
   abbrev After : Call → Called → Type 0
   After c m =
-      Names (s .realm) m (journalStep j (fedBy (verdictOf (m .took .outcome)) c (getD (st .reply) 0 0)) .next)
+      Names m (journalStep j (fedBy (verdictOf (m .took .outcome)) c (getD (st .reply) 0 0)) .next)
       (namingStep j n (fedBy (verdictOf (m .took .outcome)) c (getD (st .reply) 0 0)))
 
   -- the ids of the journal are all that is asked of it
-  names-over : (m : Called) (k : Journal) (l : Naming) → k .standing .ids ≡ j .standing .ids → l ≡ n → Names (s .realm) m j n → Names (s .realm) m k l
+  names-over : (m : Called) (k : Journal) (l : Naming) → k .standing .ids ≡ j .standing .ids → l ≡ n → Names m j n → Names m k l
   names-over m k l i q w =
-      subst (λ (y : Naming). Names (s .realm) m k y) (sym q)
+      subst (λ (y : Naming). Names m k y) (sym q)
       (record {
         due = w .due;
         after = record {
@@ -385,7 +380,7 @@ module _ (s : State) (h : Seated s) (j : Journal) (x : Coupled (s .tables) (s .e
   resting bodyFailed = true
   resting abortAcknowledged = true
   resting (passwordGiven p) = true
-  resting (nonceGiven o) = true
+  resting (nonceGiven o l) = true
   resting (credentialsGiven c) = true
 
   ended-same : (b : Bool) → pick b n n ≡ n
@@ -407,10 +402,10 @@ module _ (s : State) (h : Seated s) (j : Journal) (x : Coupled (s .tables) (s .e
   fed-rests bodyFailed goes b i = (step-ids j bodyFailed refl, ended-same (j .ended))
   fed-rests abortAcknowledged goes b i = (step-ids j abortAcknowledged refl, ended-same (j .ended))
   fed-rests (passwordGiven p) goes b i = (step-ids j (passwordGiven p) refl, ended-same (j .ended))
-  fed-rests (nonceGiven o) goes b i = (step-ids j (nonceGiven o) refl, ended-same (j .ended))
+  fed-rests (nonceGiven o l) goes b i = (step-ids j (nonceGiven o l) refl, ended-same (j .ended))
   fed-rests (credentialsGiven c) goes b i = (step-ids j (credentialsGiven c) refl, ended-same (j .ended))
 
-  goes-rests : (c : Call) → resting c ≡ true → atMoment s c ≡ true → Names (s .realm) (goFor s c) j n
+  goes-rests : (c : Call) → resting c ≡ true → atMoment s c ≡ true → Names (goFor s c) j n
   goes-rests (bytesOffered y) i r = absurd (false≢true i)
   goes-rests (replyGiven code hs) i r = absurd (false≢true i)
   goes-rests (connectionsClosed l) i r = absurd (false≢true i)
@@ -421,7 +416,7 @@ module _ (s : State) (h : Seated s) (j : Journal) (x : Coupled (s .tables) (s .e
   goes-rests bodyFailed i r = rests 0 _ (leaf false e st (e .peer) _ await.Taken _ _ refl refl refl)
   goes-rests abortAcknowledged i r = rests 0 _ (leaf false e st (e .peer) _ await.Taken _ _ refl refl refl)
   goes-rests (passwordGiven p) i r = password-rests p (and-right (sound e) _ r)
-  goes-rests (nonceGiven o) i r = nonce-rests o (longRealm (e .settings) (s .realm)) (among o (remembered (e .peer .nonces) ts))
+  goes-rests (nonceGiven o l) i r = nonce-rests o l (longRealm (e .settings) l) (among o (remembered (e .peer .nonces) ts))
   goes-rests (credentialsGiven c) i r = credentials-rest c (e .operation)
 
   -- the step of a call is refused, or taken at its moment
@@ -439,7 +434,7 @@ module _ (s : State) (h : Seated s) (j : Journal) (x : Coupled (s .tables) (s .e
   rests-after : (c : Call) → resting c ≡ true → After c (stepOf s c)
   rests-after c i =
       let k = fed-rests c (verdictOf (stepOf s c .took .outcome)) (getD (st .reply) 0 0) i in
-      names-over (stepOf s c) _ _ (k .0) (k .1) (at-moment c (λ (m : Called). Names (s .realm) m j n) refused-names (goes-rests c i))
+      names-over (stepOf s c) _ _ (k .0) (k .1) (at-moment c (λ (m : Called). Names m j n) refused-names (goes-rests c i))
 
   refused-after : (c : Call) (r : Refusal) → After c (refuses r s)
   unfolding namingStep journalStep
@@ -469,12 +464,12 @@ module _ (s : State) (h : Seated s) (j : Journal) (x : Coupled (s .tables) (s .e
 
     -- a step on these bytes
     read-after : (r : Read) → readUp (take (e .begun) (st .packet)) i ≡ r → (m : Called) → verdictOf (m .took .outcome) ≡ goes
-        → Names (s .realm) m j (bytesName r j n) → After (bytesOffered i) m
+        → Names m j (bytesName r j n) → After (bytesOffered i) m
     read-after r q m v w =
-        subst (λ (u : Verdict). Names (s .realm) m (journalStep j (fedBy u (bytesOffered i) (getD (st .reply) 0 0)) .next)
+        subst (λ (u : Verdict). Names m (journalStep j (fedBy u (bytesOffered i) (getD (st .reply) 0 0)) .next)
         (namingStep j n (fedBy u (bytesOffered i) (getD (st .reply) 0 0))))
         (sym v)
-        (subst (λ (l : Naming). Names (s .realm) m (journalStep j (stepBy (bytesOffered i)) .next) l) (sym (named-read r q))
+        (subst (λ (l : Naming). Names m (journalStep j (stepBy (bytesOffered i)) .next) l) (sym (named-read r q))
         (record {
           due = w .due;
           after = record {
@@ -485,7 +480,7 @@ module _ (s : State) (h : Seated s) (j : Journal) (x : Coupled (s .tables) (s .e
           };
         }))
 
-    more-names : Names (s .realm) (keeps s (framedAs More e k (f .result .taken) z ts)) j n
+    more-names : Names (keeps s (framedAs More e k (f .result .taken) z ts)) j n
     unfolding engineWith
     more-names =
         record {
@@ -498,9 +493,9 @@ module _ (s : State) (h : Seated s) (j : Journal) (x : Coupled (s .tables) (s .e
           };
         }
 
-    short-names : Names (s .realm) (keeps s (framedAs Short e k (f .result .taken) z ts)) j n
+    short-names : Names (keeps s (framedAs Short e k (f .result .taken) z ts)) j n
     short-names =
-        settled (s .realm) false e z _ (leaf false e z (e .peer) _ await.Nothing _ _ refl refl refl) j n (t .target) (λ i. absurd (false≢true i))
+        settled false e z _ (leaf false e z (e .peer) _ await.Nothing _ _ refl refl refl) j n (t .target) (λ i. absurd (false≢true i))
         (λ i. absurd (false≢true i)) (f .result .taken) ts (t .ids)
 
     abbrev request : Option Packet
@@ -514,10 +509,10 @@ module _ (s : State) (h : Seated s) (j : Journal) (x : Coupled (s .tables) (s .e
     whole-carries = read-carries whole-engine z (take k (f .packet)) ts request
 
     whole-names : (q : List ℕ) → Frames-agree (st .packet) f (whole q)
-        → Names (s .realm) (keeps s (framedAs Whole e k (f .result .taken) z ts)) j (packetNames request j n)
+        → Names (keeps s (framedAs Whole e k (f .result .taken) z ts)) j (packetNames request j n)
     unfolding engineWith
     whole-names q g =
-        settled (s .realm) (markedIn request) whole-engine z (packetDone e k z ts) whole-carries j (packetNames request j n)
+        settled (markedIn request) whole-engine z (packetDone e k z ts) whole-carries j (packetNames request j n)
         (packet-under _ y request) (marked-under request) (λ c. subst Octets (g .1 .bytes) (g .1 .octets)) (f .result .taken) ts
         (subst (λ (l : List Opening). Carried ts (j .standing .ids) l) (sym (packet-openings request)) (t .ids))
 
@@ -531,7 +526,7 @@ module _ (s : State) (h : Seated s) (j : Journal) (x : Coupled (s .tables) (s .e
     bytes-go (whole q) u g =
         frame-after Whole (g .0)
         (read-after (whole q) u _ (whole-carries .goes)
-        (subst (λ (p : List ℕ). Names (s .realm) (keeps s (framedAs Whole e k (f .result .taken) z ts)) j (packetNames (requestOf p) j n))
+        (subst (λ (p : List ℕ). Names (keeps s (framedAs Whole e k (f .result .taken) z ts)) j (packetNames (requestOf p) j n))
         (sym (g .1 .bytes)) (whole-names q g)))
     bytes-go short u g = frame-after Short (g .0) (read-after short u _ refl short-names)
 
@@ -551,14 +546,14 @@ module _ (s : State) (h : Seated s) (j : Journal) (x : Coupled (s .tables) (s .e
     -- a reply, by the journal and the naming that it leads to
     reply-after : j .ended ≡ false → (d : DoneTabled) (ids : List ℕ) (l : Naming) → verdictOf (d .done .outcome) ≡ goes
         → replied (j .opened) j code hs .standing .ids ≡ ids → answerNames (j .last) j code hs n ≡ l
-        → ((k : Journal) → k .standing .ids ≡ ids → Names (s .realm) (called (after 0 (d .done)) (d .tables)) k l)
+        → ((k : Journal) → k .standing .ids ≡ ids → Names (called (after 0 (d .done)) (d .tables)) k l)
         → After c (called (after 0 (d .done)) (d .tables))
     unfolding namingStep journalStep
     reply-after i d ids l v q p w =
-        subst (λ (u : Verdict). Names (s .realm) (called (after 0 (d .done)) (d .tables))
+        subst (λ (u : Verdict). Names (called (after 0 (d .done)) (d .tables))
         (journalStep j (fedBy u c (getD (st .reply) 0 0)) .next) (namingStep j n (fedBy u c (getD (st .reply) 0 0))))
         (sym v)
-        (subst (λ (k : Naming). Names (s .realm) (called (after 0 (d .done)) (d .tables)) (journalStep j (stepBy c) .next) k)
+        (subst (λ (k : Naming). Names (called (after 0 (d .done)) (d .tables)) (journalStep j (stepBy c) .next) k)
         (sym (ap (λ (b : Bool). pick b n (answerNames (j .last) j code hs n)) i ∙ p))
         (w (journalStep j (stepBy c) .next) (ap (λ (k : Entry). k .next .standing .ids) (fed-goes j c i) ∙ q)))
 
@@ -568,7 +563,7 @@ module _ (s : State) (h : Seated s) (j : Journal) (x : Coupled (s .tables) (s .e
     plain-after i q p =
         let d = sends-carries false e st (e .peer) code hs in
         reply-after i (doneTabled (sends e (e .peer) code hs st) ts) (j .standing .ids) n (d .goes) q p
-        (λ k r. settled (s .realm) false e st _ d k n (t .target) (λ b. absurd (false≢true b)) (λ b. absurd (false≢true b)) 0 ts
+        (λ k r. settled false e st _ d k n (t .target) (λ b. absurd (false≢true b)) (λ b. absurd (false≢true b)) 0 ts
         (subst (λ (l : List ℕ). Carried ts l (n .openings)) (sym r) (t .ids)))
 
     -- ---- to a Connect
@@ -657,7 +652,7 @@ module _ (s : State) (h : Seated s) (j : Journal) (x : Coupled (s .tables) (s .e
           let u = under-stays (isSuccess code) (idOpened before named asked) in
           let i = ap connecting at in
           reply-after (w .held .fixed .ended) (connectAnswer e code hs st ts) _ _ (d .goes) connect-ids connect-naming
-          (λ k r. settled (s .realm) true e st _ d k _ (t .target ∙ sym u) (λ b. u ∙ t .marked i) (λ b. t .octets i) 0
+          (λ k r. settled true e st _ d k _ (t .target ∙ sym u) (λ b. u ∙ t .marked i) (λ b. t .octets i) 0
           (connectAnswer e code hs st ts .tables)
           (subst (λ (l : List ℕ). Carried (connectAnswer e code hs st ts .tables) l (pick (isSuccess code) opens n .openings)) (sym r) answered))
 
@@ -689,7 +684,7 @@ module _ (s : State) (h : Seated s) (j : Journal) (x : Coupled (s .tables) (s .e
           let d = sends-carries false e st (left .peer) code hs in
           reply-after (v .held .fixed .ended) (doneTabled (sends e (left .peer) code hs st) (left .tables)) _ n
           (d .goes) disconnect-ids disconnect-naming
-          (λ k r. settled (s .realm) false e st _ d k n (t .target) (λ b. absurd (false≢true b)) (λ b. absurd (false≢true b)) 0 (left .tables)
+          (λ k r. settled false e st _ d k n (t .target) (λ b. absurd (false≢true b)) (λ b. absurd (false≢true b)) 0 (left .tables)
           (subst (λ (l : List ℕ). Carried (left .tables) l (n .openings)) (sym r)
           (disconnected-carried (e .peer) ts (v .held .fixed .past) false (h .sits .base .peer) (h .tables) n
           (subst (λ (l : List ℕ). Carried ts l (n .openings)) (ids-are (v .held .fixed)) (t .ids)) parted)))
@@ -757,7 +752,7 @@ module _ (s : State) (h : Seated s) (j : Journal) (x : Coupled (s .tables) (s .e
     unfolding namingStep journalStep engineWith
     closed-after at =
         let y = coupled-at await.Bytes at in
-        subst (λ (m : Naming). Names (s .realm) (beside s (closes e l left-over)) (journalStep j (stepBy (connectionsClosed l)) .next) m)
+        subst (λ (m : Naming). Names (beside s (closes e l left-over)) (journalStep j (stepBy (connectionsClosed l)) .next) m)
         (sym (ended-same (j .ended)))
         (record {
           due = tt;
@@ -806,34 +801,47 @@ module _ (s : State) (h : Seated s) (j : Journal) (x : Coupled (s .tables) (s .e
   call-after bodyFailed o = rests-after bodyFailed refl
   call-after abortAcknowledged o = rests-after abortAcknowledged refl
   call-after (passwordGiven p) o = rests-after (passwordGiven p) refl
-  call-after (nonceGiven k) o = rests-after (nonceGiven k) refl
+  call-after (nonceGiven k l) o = rests-after (nonceGiven k l) refl
   call-after (credentialsGiven k) o = rests-after (credentialsGiven k) refl
 
 -- ---- a run
 
-module _ (st : Settings) (w : Known) (s : State) (j : Journal) (b : Between st w s j) (n : Naming) (y : Performed) (says : Says s y)
-    (t : Targeted s j n) where
+module _ (st : Settings) (w : Known) (s : State) (j : Journal) (b : Between st w s j) (n : Naming) (y : Performed)
+    (says : Says s (y .call) (calledIn y)) (t : Targeted s j n) where
   abbrev fedNow : Fed
   fedNow = fedTo st w s j b y says
 
-  performed-names : Names (s .realm) (calledIn y) (journalStep j fedNow .next) (namingStep j n fedNow)
+  performed-names : Names (calledIn y) (journalStep j fedNow .next) (namingStep j n fedNow)
   performed-names =
-      subst (λ (v : Verdict). Names (s .realm) (calledIn y) (journalStep j (fedBy v (y .call) (getD (s .stores .reply) 0 0)) .next)
+      subst (λ (v : Verdict). Names (calledIn y) (journalStep j (fedBy v (y .call) (getD (s .stores .reply) 0 0)) .next)
       (namingStep j n (fedBy v (y .call) (getD (s .stores .reply) 0 0))))
       (performed-agrees st w s j b y says .due)
-      (subst (λ (m : Called). Names (s .realm) m (journalStep j (fedBy (verdictOf (m .took .outcome)) (y .call) (getD (s .stores .reply) 0 0)) .next)
+      (subst (λ (m : Called). Names m (journalStep j (fedBy (verdictOf (m .took .outcome)) (y .call) (getD (s .stores .reply) 0 0)) .next)
       (namingStep j n (fedBy (verdictOf (m .took .outcome)) (y .call) (getD (s .stores .reply) 0 0)))) (sym (says .step))
       (call-after s (b .seated) j (b .coupled) n t (y .call) (says .octets)))
+
+-- nothing that is asked of the packet store is, while bytes are awaited
+targeted-on : (s : State) (l : List ℕ) → Writes s l → (j : Journal) (n : Naming) → Targeted s j n → Targeted (writing s l) j n
+targeted-on s [] h j n t = t
+targeted-on s (b ∷ l) h j n t =
+    record {
+      target = t .target;
+      marked = t .marked;
+      octets = λ i. absurd (false≢true (sym (ap connecting h) ∙ i));
+      ids = t .ids;
+    }
 
 run-named : (st : Settings) (xs : List Performed) (w : Known) (s : State) (j : Journal) (n : Naming) → Between st w s j → Ran s xs
     → Targeted s j n → AllNamed (namings j n (feedFrom w j (seen st s xs))) xs
 run-named st [] w s j n b r t = tt
 run-named st (y ∷ xs) w s j n b r t =
-    let p = performed-names st w s j b n y (r .0) t in
-    let f = fedTo st w s j b y (r .0) in (
+    let l = lentTo s y in
+    let c = between-on st w s j (y .written) (r .0) b in
+    let p = performed-names st w l j c n y (r .1 .0) (targeted-on s (y .written) (r .0) j n t) in
+    let f = fedTo st w l j c y (r .1 .0) in (
       p .due,
-      run-named st xs (learns w (y .call) (y .result .outcome)) (next s y) (journalStep j f .next) (namingStep j n f)
-          (between-next st w s j b y (r .0)) (r .1) (p .after),
+      run-named st xs (learns w (y .call) (y .result .outcome)) (next y) (journalStep j f .next) (namingStep j n f)
+          (between-next st w l j c y (r .1 .0)) (r .1 .1) (p .after),
     )
 
 start-targeted : (st : Settings) (s : State) → Started st s → Targeted s (journalOf st) unnamedYet
@@ -847,7 +855,7 @@ start-targeted st s h =
     }
 
 pub targets : Targets
-targets st s h xs r = run-named st xs atStart s (journalOf st) unnamedYet (start-between st s h) r (start-targeted st s h)
+targets st s h xs r = run-named st xs (atStart st) s (journalOf st) unnamedYet (start-between st s h) r (start-targeted st s h)
 
 pub contracts-name : ContractsName
-contracts-name st l s t u r xs a h = targets st (state l r t u) (accepted-started st l s t u r a) xs h
+contracts-name st l s t u r xs a h = targets st (state r t u) (accepted-started st l s t u r a) xs h

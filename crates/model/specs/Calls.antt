@@ -134,7 +134,7 @@ abortAcknowledgedStep e s = guarded kind.AbortAcknowledged e s (after 0 (replies
 unfoldable pub passwordGivenStep : Engine → Option (List ℕ) → Stores → Stepped
 passwordGivenStep e p s = guarded kind.PasswordGiven e s (after 0 (passwordAnswer e p s))
 
--- A nonce is refused if the realm grew, then if it is one of the last 32 that were taken; otherwise it is taken and remembered
+-- A nonce is refused if the realm is too long, then if it is one of the last 32 that were taken; otherwise it is taken and remembered
 -- (docs/PROTOCOL.md#nonces).
 abbrev pub nonceChecked : Engine → Octets16 → List ℕ → Stores → List ℕ → Called
 nonceChecked e n l s t =
@@ -142,7 +142,7 @@ nonceChecked e n l s t =
     (pick (among n (remembered (e .peer .nonces) t)) (called (refuse refusal.NonceUsed e s) t)
     (called (after 0 (nonceAnswer e n l s)) (rememberedWith n t)))
 
--- The nonce that the host gives. The realm's bytes `l` are lent as they were at the start.
+-- The nonce that the host gives, and the realm's bytes `l`, which may be others at each nonce.
 unfoldable pub nonceGivenStep : Engine → Octets16 → List ℕ → Stores → List ℕ → Called
 nonceGivenStep e n l s t = guardedCalled kind.NonceGiven e s t (nonceChecked e n l s t)
 

@@ -38,7 +38,6 @@ freshWith st =
             reply = replicate 65535 0;
           };
       tables = replicate tableLength 0;
-      realm = [];
     }
 
 -- A fresh engine with a Put limit and else the source's settings.
@@ -47,7 +46,7 @@ freshState limit = freshWith (defaultSettings limit)
 
 -- The state after a call, by the model's step.
 abbrev pub nextState : State → Call → State
-nextState s c = stateOf (s .realm) (stepOf s c)
+nextState s c = stateOf (stepOf s c)
 
 -- The records that calls hand over.
 abbrev pub recordsBy : State → List Call → List Record

@@ -7,7 +7,8 @@ use Rattle.journal.specs.Ids.{withoutAll, Reordered}
 use Rattle.journal.specs.Calls.{connectionsClosed, goes}
 use Rattle.connection.specs.Peer.{idsOf, clearedPeer}
 use Rattle.model.specs.Refusals.{verdictOf}
-use Rattle.model.specs.Runs.{State, Performed, next, Says}
+use Rattle.model.specs.Step.{Called}
+use Rattle.model.specs.Runs.{State, stateOf, Says}
 
 -- The open ids of a state.
 abbrev pub openIn : State → List ℕ
@@ -30,5 +31,4 @@ pub record ClosedTogether (s : State) (l : List ℕ) (n : State) : Type 0 where
 -- The claim, for every call that closes connections and is not refused.
 abbrev pub ClosesTogether : Type 0
 ClosesTogether =
-    (s : State) (l : List ℕ) (x : Performed) → Says s x → x .call ≡ connectionsClosed l → verdictOf (x .result .outcome) ≡ goes
-    → ClosedTogether s l (next s x)
+    (s : State) (l : List ℕ) (m : Called) → Says s (connectionsClosed l) m → verdictOf (m .took .outcome) ≡ goes → ClosedTogether s l (stateOf m)

@@ -11,11 +11,11 @@ use Rattle.server.specs.declared.Settings.{Settings}
 use Rattle.server.specs.declared.CallResult.{CallResult}
 use Rattle.server.specs.declared.Outcome.the-variants as outcome
 
--- The state after a start that returned `r` and left the stores `t` and the table store `u`, with the realm `l`.
-abbrev pub state : List ℕ → CallResult → Stores → List ℕ → State
-state l r t u = record { engine = r .engine; stores = t; tables = u; realm = l }
+-- The state after a start that returned `r` and left the stores `t` and the table store `u`.
+abbrev pub state : CallResult → Stores → List ℕ → State
+state r t u = record { engine = r .engine; stores = t; tables = u }
 
--- A start that was accepted, by what its contract says.
+-- A start that was accepted, by what its contract says; it was lent the realm `l`. Each call that gives a nonce is lent one of its own.
 pub record Accepted (st : Settings) (l : List ℕ) (s : Stores) (r : CallResult) (t : Stores) (u : List ℕ) : Type 0 where
   pub says : stepped r t ≡ startStep st l s u
   pub accepted : r .outcome ≡ outcome.WantsBytes
@@ -24,4 +24,4 @@ pub record Accepted (st : Settings) (l : List ℕ) (s : Stores) (r : CallResult)
 abbrev pub ContractsUphold : Type 0
 ContractsUphold =
     (st : Settings) (l : List ℕ) (s t : Stores) (u : List ℕ) (r : CallResult) (xs : List Performed)
-    → Accepted st l s r t u → Ran (state l r t u) xs → Upholds st (state l r t u) xs
+    → Accepted st l s r t u → Ran (state r t u) xs → Upholds st (state r t u) xs

@@ -23,7 +23,7 @@ use Rattle.model.specs.Contracts.{state, Accepted}
 -- The state after a run.
 abbrev pub ranTo : State → List Performed → State
 ranTo s [] = s
-ranTo s (x ∷ xs) = ranTo (next s x) xs
+ranTo s (x ∷ xs) = ranTo (next x) xs
 
 -- Whether the engine goes on: it has not ended, and does not end with the reply that waits.
 abbrev pub live : Engine → Bool
@@ -50,5 +50,5 @@ EightWrong =
 abbrev pub ContractsCount : Type 0
 ContractsCount =
     (st : Settings) (l : List ℕ) (s t : Stores) (u : List ℕ) (r : CallResult) (xs : List Performed) → Accepted st l s r t u
-    → Ran (state l r t u) xs
-    → Counted (ranTo (state l r t u) xs .engine) (journalAfter (journalOf st) (fed st (state l r t u) xs))
+    → Ran (state r t u) xs
+    → Counted (ranTo (state r t u) xs .engine) (journalAfter (journalOf st) (fed st (state r t u) xs))

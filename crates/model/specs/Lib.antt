@@ -5,7 +5,7 @@
 -- (`Replies`), the records theorem (`Theorem`), the same from the contract of a start (`Contracts`), the count of wrong passwords
 -- (`EightWrong`), the replies to a Get (`ObjectSent`), the proved cases (`Cases`), that passwords leave no trace (`Secrecy`), which ids are
 -- left when connections are closed together (`ClosedTogether`), the Targets that requests name (`Targets`), when an operation is open
--- (`OpenOperation`), and bytes that the host has put into the packet store itself (`BytesPlaced`).
+-- (`OpenOperation`), and what the host may write into the packet store itself (`HostWrites`).
 pub mod Step
 pub mod Request
 pub mod Operation
@@ -27,4 +27,4 @@ pub mod Secrecy
 pub mod ClosedTogether
 pub mod Targets
 pub mod OpenOperation
-pub mod BytesPlaced
+pub mod HostWrites

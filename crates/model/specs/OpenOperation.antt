@@ -38,12 +38,12 @@ isOpenBy j w = busyOpened (j .opened) || not (sameWait w bytes)
 abbrev pub OpensAlike : Type 0
 OpensAlike =
     (st : Settings) (s : State) → Started st s → (xs : List Performed) → Ran s xs
-    → isOpen (ranTo s xs .engine) ≡ isOpenBy (journalAfter (journalOf st) (fed st s xs)) (knownAfter atStart (seen st s xs) .waits)
+    → isOpen (ranTo s xs .engine) ≡ isOpenBy (journalAfter (journalOf st) (fed st s xs)) (knownAfter (atStart st) (seen st s xs) .waits)
 
 -- The claim from the contract of a start.
 abbrev pub ContractsOpen : Type 0
 ContractsOpen =
     (st : Settings) (l : List ℕ) (s t : Stores) (u : List ℕ) (r : CallResult) (xs : List Performed) → Accepted st l s r t u
-    → Ran (state l r t u) xs
-    → isOpen (ranTo (state l r t u) xs .engine)
-    ≡ isOpenBy (journalAfter (journalOf st) (fed st (state l r t u) xs)) (knownAfter atStart (seen st (state l r t u) xs) .waits)
+    → Ran (state r t u) xs
+    → isOpen (ranTo (state r t u) xs .engine)
+    ≡ isOpenBy (journalAfter (journalOf st) (fed st (state r t u) xs)) (knownAfter (atStart st) (seen st (state r t u) xs) .waits)

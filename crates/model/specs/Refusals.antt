@@ -1,10 +1,11 @@
 -- What a host sees of a call, and what follows from that alone: which calls are due to be refused, and with which number
 -- (docs/PROTOCOL.md#refusals), and what the journal is fed (docs/PROTOCOL.md#journal). A call is due to be refused by the lengths of the
--- stores that it is lent (10), by what waits since the last call that was not refused (9), by the answer itself (8), if it gives a nonce,
--- by the last 32 nonces of such calls that were not refused (15), and, if it closes connections, by the operation and the ids that the
--- journal has open (9, 19 to 21). Neither the engine's state nor a store is in the type of anything here. What this file shares with the
--- model, and so cannot tell wrong, are the tests of an answer: `badReply`, `badHeaders`, `longUser`, `among`, `allOpen` and `repeats`
--- (README, "What must be believed").
+-- stores that it is lent (10), by what waits since the last call that was not refused (9), by the answer itself and, if that brings a realm,
+-- by the settings (8), if it gives a nonce, by the last 32 nonces of such calls that were not refused (15), and, if it closes connections, by
+-- the operation and the ids that the journal has open (9, 19 to 21). Neither the engine's state nor a store is in the type of anything here.
+-- The stores of a run keep their lengths, so 10 never occurs in one: that it is given rightly is said by the contract of each call.
+-- What this file shares with the model, and so cannot tell wrong, are the tests of an answer: `badReply`, `badHeaders`, `longUser`,
+-- `longRealm`, `among`, `allOpen` and `repeats` (docs/CLAIM.md, "What must be believed").
 use Prim.Native.Nat.{ℕ}
 use mathlib.Core.List.{List, [], _∷_}
 use mathlib.Core.Bool.{Bool, true, false, _&&_, _||_, not}
@@ -19,8 +20,9 @@ use Rattle.table.specs.Nonces.{among}
 use Rattle.journal.specs.Calls.{Call, bytesOffered, streamEnded, replyTaken, replyGiven, objectGiven, bodyGiven, bodyFailed, abortAcknowledged, passwordGiven, nonceGiven, credentialsGiven, connectionsClosed, Verdict, goes, refused, Fed, noStep, stepBy, replySent}
 use Rattle.journal.specs.Ids.{allOpen, repeats}
 use Rattle.journal.specs.Journal.{Journal, busy, journalStep}
-use Rattle.model.specs.Guard.{badReply, badHeaders, longUser}
+use Rattle.model.specs.Guard.{badReply, badHeaders, longUser, longRealm}
 use Rattle.server.specs.Numbers.{refusalNumber, endNumber}
+use Rattle.server.specs.declared.Settings.{Settings}
 use Rattle.server.specs.declared.HostRequest.{HostRequest}
 use Rattle.server.specs.declared.HostRequest.the-variants as request
 use Rattle.server.specs.declared.Outcome.{Outcome}
@@ -125,42 +127,43 @@ expected (replyGiven code hs) w = sameWait w reply || sameWait w object
 expected (objectGiven hs b) w = sameWait w object
 expected abortAcknowledged w = sameWait w acknowledgement
 expected (passwordGiven p) w = sameWait w password
-expected (nonceGiven n) w = sameWait w nonce
+expected (nonceGiven n l) w = sameWait w nonce
 expected (credentialsGiven c) w = sameWait w credentials
 expected (bodyGiven d) w = sameWait w (reading 0) && leb (length d) (roomIn w)
 expected bodyFailed w = sameWait w (reading 0)
 expected (connectionsClosed l) w = sameWait w bytes
 
--- Whether an answer is none that may be given.
-unfoldable pub bad : Call → Bool
-bad (replyGiven code hs) = badReply code hs
-bad (objectGiven hs b) = badHeaders hs
-bad (credentialsGiven c) = longUser c
-bad (bytesOffered i) = false
-bad streamEnded = false
-bad replyTaken = false
-bad (bodyGiven d) = false
-bad bodyFailed = false
-bad abortAcknowledged = false
-bad (passwordGiven p) = false
-bad (nonceGiven n) = false
-bad (connectionsClosed l) = false
+-- Whether an answer is none that the host that set `st` may give.
+unfoldable pub bad : Settings → Call → Bool
+bad st (replyGiven code hs) = badReply code hs
+bad st (objectGiven hs b) = badHeaders hs
+bad st (credentialsGiven c) = longUser c
+bad st (nonceGiven n l) = longRealm st l
+bad st (bytesOffered i) = false
+bad st streamEnded = false
+bad st replyTaken = false
+bad st (bodyGiven d) = false
+bad st bodyFailed = false
+bad st abortAcknowledged = false
+bad st (passwordGiven p) = false
+bad st (connectionsClosed l) = false
 
 -- ---- what is known from the calls and their results alone
 
--- What waits, and the nonces of the answers that were not refused, the latest first.
+-- What the host set, what waits, and the nonces of the answers that were not refused, the latest first.
 pub record Known : Type 0 where
+  pub settings : Settings
   pub waits : Waits
   pub nonces : List Octets16
 
 -- At an accepted start bytes are awaited, and no nonce was given.
-abbrev pub atStart : Known
-atStart = record { waits = bytes; nonces = [] }
+abbrev pub atStart : Settings → Known
+atStart st = record { settings = st; waits = bytes; nonces = [] }
 
 -- The nonces after a call with this verdict.
 abbrev pub noted : Call → Verdict → List Octets16 → List Octets16
-noted (nonceGiven n) goes ns = n ∷ ns
-noted (nonceGiven n) (refused m) ns = ns
+noted (nonceGiven n l) goes ns = n ∷ ns
+noted (nonceGiven n l) (refused m) ns = ns
 noted (bytesOffered i) v ns = ns
 noted streamEnded v ns = ns
 noted replyTaken v ns = ns
@@ -175,11 +178,11 @@ noted (connectionsClosed l) v ns = ns
 
 -- What is known after a call, by what it returned.
 abbrev pub learns : Known → Call → Outcome → Known
-learns k c o = record { waits = told (k .waits) o; nonces = noted c (verdictOf o) (k .nonces) }
+learns k c o = record { settings = k .settings; waits = told (k .waits) o; nonces = noted c (verdictOf o) (k .nonces) }
 
 -- Whether a call gives a nonce that is one of the last 32 of `ns`; an older one may return (docs/PROTOCOL.md#nonces).
 unfoldable pub used : Call → List Octets16 → Bool
-used (nonceGiven n) ns = among n (take maxNonces ns)
+used (nonceGiven n l) ns = among n (take maxNonces ns)
 used (bytesOffered i) ns = false
 used streamEnded ns = false
 used replyTaken ns = false
@@ -206,7 +209,7 @@ allowed (bodyGiven d) j = true
 allowed bodyFailed j = true
 allowed abortAcknowledged j = true
 allowed (passwordGiven p) j = true
-allowed (nonceGiven n) j = true
+allowed (nonceGiven n l) j = true
 allowed (credentialsGiven c) j = true
 
 -- The verdict on ids that are to be closed, by those that are open: 19 comes before 20, and 20 before 21.
@@ -226,14 +229,14 @@ closing (bodyGiven d) j = goes
 closing bodyFailed j = goes
 closing abortAcknowledged j = goes
 closing (passwordGiven p) j = goes
-closing (nonceGiven n) j = goes
+closing (nonceGiven n l) j = goes
 closing (credentialsGiven c) j = goes
 
 -- ---- the verdict
 
--- The verdict on a call that is waited for, by the answer itself, by the nonces before it, and by the ids that are open.
+-- The verdict on a call that is waited for, by the settings and the answer itself, by the nonces before it, and by the ids that are open.
 abbrev pub judged : Call → Known → Journal → Verdict
-judged c k j = pick (bad c) (refused 8) (pick (used c (k .nonces)) (refused 15) (closing c j))
+judged c k j = pick (bad (k .settings) c) (refused 8) (pick (used c (k .nonces)) (refused 15) (closing c j))
 
 -- The verdict on a call: 10 comes before 9, and 9 before 8, 15 and 19 to 21.
 unfoldable pub verdict : Bool → Known → Journal → Call → Verdict
@@ -250,7 +253,7 @@ fedCall (bodyGiven d) b = stepBy (bodyGiven d)
 fedCall bodyFailed b = stepBy bodyFailed
 fedCall abortAcknowledged b = stepBy abortAcknowledged
 fedCall (passwordGiven p) b = stepBy (passwordGiven p)
-fedCall (nonceGiven n) b = stepBy (nonceGiven n)
+fedCall (nonceGiven n l) b = stepBy (nonceGiven n l)
 fedCall (credentialsGiven c) b = stepBy (credentialsGiven c)
 fedCall (connectionsClosed l) b = stepBy (connectionsClosed l)
 
@@ -279,10 +282,10 @@ abbrev pub feedFrom : Known → Journal → List Seen → List Fed
 feedFrom k j [] = []
 feedFrom k j (x ∷ xs) = fedOn k j x ∷ feedFrom (learns k (x .call) (x .outcome)) (journalStep j (fedOn k j x) .next) xs
 
--- The verdicts that are due from an accepted start, with the journal of a fresh engine.
-abbrev pub due : Journal → List Seen → List Verdict
-due j xs = dueFrom atStart j xs
+-- The verdicts that are due from an accepted start with the settings `st`, with the journal of a fresh engine.
+abbrev pub due : Settings → Journal → List Seen → List Verdict
+due st j xs = dueFrom (atStart st) j xs
 
 -- What the journal is fed from there.
-abbrev pub feed : Journal → List Seen → List Fed
-feed j xs = feedFrom atStart j xs
+abbrev pub feed : Settings → Journal → List Seen → List Fed
+feed st j xs = feedFrom (atStart st) j xs

@@ -95,7 +95,7 @@ lateAfter late j (stepBy (bodyGiven d)) = late
 lateAfter late j (stepBy bodyFailed) = late
 lateAfter late j (stepBy abortAcknowledged) = late
 lateAfter late j (stepBy (passwordGiven p)) = late
-lateAfter late j (stepBy (nonceGiven n)) = late
+lateAfter late j (stepBy (nonceGiven n l)) = late
 lateAfter late j (stepBy (credentialsGiven c)) = late
 lateAfter late j (stepBy (connectionsClosed l)) = late
 
@@ -113,7 +113,7 @@ replySize late j (stepBy (bodyGiven d)) = 0
 replySize late j (stepBy bodyFailed) = 0
 replySize late j (stepBy abortAcknowledged) = 0
 replySize late j (stepBy (passwordGiven p)) = 0
-replySize late j (stepBy (nonceGiven n)) = 0
+replySize late j (stepBy (nonceGiven n l)) = 0
 replySize late j (stepBy (connectionsClosed l)) = 0
 
 -- No reply is over 65,535 bytes.

@@ -1,6 +1,7 @@
--- Passwords leave no trace (docs/PROTOCOL.md#no-trace): of two runs from equal starts and stores, whose calls differ in passwords alone and
--- whose checks come out alike, the host and the peer see the same, call for call, and both leave the same. Of a run only the functions'
--- contracts are known. There is no premise on the bytes of a packet, on kept headers or on how long a password is.
+-- Passwords leave no trace (docs/PROTOCOL.md#no-trace): of two runs from equal starts and stores, whose calls differ in passwords alone, before
+-- which the host wrote the same bytes into the packet store, and whose checks come out alike, the host and the peer see the same, call for
+-- call, and both leave the same. Of a run only the functions' contracts are known. There is no premise on the bytes of a packet, on kept
+-- headers or on how long a password is.
 use Prim.Native.Nat.{ℕ}
 use mathlib.Core.Path.{_≡_}
 use mathlib.Core.List.{List, [], _∷_, map}
@@ -12,7 +13,7 @@ use Rattle.model.specs.Step.{Stores, Called}
 use Rattle.model.specs.Request.{clientResponse}
 use Rattle.model.specs.Connect.{demandsUser, checks}
 use Rattle.model.specs.Guard.{sameAwait}
-use Rattle.model.specs.Runs.{State, Performed, calledIn, next, Ran, Started}
+use Rattle.model.specs.Runs.{State, Performed, calledIn, next, lentTo, Ran, Started}
 use Rattle.model.specs.Cases.{replyIn}
 use Rattle.model.specs.Contracts.{state, Accepted}
 use Rattle.server.specs.declared.Settings.{Settings}
@@ -33,12 +34,12 @@ pub data Alike : Call → Call → Type 0 where
   credentials : (u : Option (List ℕ)) (p q : List ℕ)
       → Alike (credentialsGiven (some (record { user = u; password = p }))) (credentialsGiven (some (record { user = u; password = q })))
 
--- Two runs are alike, call for call.
+-- Two runs are alike, call for call, with the same bytes written by the host.
 abbrev pub AllAlike : List Performed → List Performed → Type 0
 AllAlike [] [] = Unit {0}
 AllAlike [] (y ∷ ys) = ⊥
 AllAlike (x ∷ xs) [] = ⊥
-AllAlike (x ∷ xs) (y ∷ ys) = Alike (x .call) (y .call) × AllAlike xs ys
+AllAlike (x ∷ xs) (y ∷ ys) = Alike (x .call) (y .call) × ((x .written ≡ y .written) × AllAlike xs ys)
 
 -- ---- the premises
 
@@ -55,7 +56,7 @@ checkMade (objectGiven hs b) s = false
 checkMade (bodyGiven d) s = false
 checkMade bodyFailed s = false
 checkMade abortAcknowledged s = false
-checkMade (nonceGiven n) s = false
+checkMade (nonceGiven n l) s = false
 checkMade (credentialsGiven c) s = false
 checkMade (connectionsClosed l) s = false
 
@@ -63,7 +64,7 @@ checkMade (connectionsClosed l) s = false
 abbrev pub ChecksAlike : State → State → List Performed → List Performed → Type 0
 ChecksAlike s t [] ys = Unit {0}
 ChecksAlike s t (x ∷ xs) [] = Unit {0}
-ChecksAlike s t (x ∷ xs) (y ∷ ys) = (checkMade (x .call) s ≡ checkMade (y .call) t) × ChecksAlike (next s x) (next t y) xs ys
+ChecksAlike s t (x ∷ xs) (y ∷ ys) = (checkMade (x .call) (lentTo s x) ≡ checkMade (y .call) (lentTo t y)) × ChecksAlike (next x) (next y) xs ys
 
 -- Whether the host is asked for credentials, which is done for a peer's challenge alone.
 abbrev pub forCredentials : HostRequest → Bool
@@ -125,5 +126,5 @@ Secrecy =
 abbrev pub ContractsKeepSecrets : Type 0
 ContractsKeepSecrets =
     (st : Settings) (l : List ℕ) (s t v : Stores) (u : List ℕ) (r q : CallResult) (xs ys : List Performed)
-    → Accepted st l s r t u → Accepted st l s q v u → Ran (state l r t u) xs → Ran (state l q v u) ys → AllAlike xs ys
-    → ChecksAlike (state l r t u) (state l q v u) xs ys → NoneAsked xs → NoTrace xs ys
+    → Accepted st l s r t u → Accepted st l s q v u → Ran (state r t u) xs → Ran (state q v u) ys → AllAlike xs ys
+    → ChecksAlike (state r t u) (state q v u) xs ys → NoneAsked xs → NoTrace xs ys

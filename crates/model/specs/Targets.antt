@@ -65,4 +65,4 @@ Targets =
 abbrev pub ContractsName : Type 0
 ContractsName =
     (st : Settings) (l : List ℕ) (s t : Stores) (u : List ℕ) (r : CallResult) (xs : List Performed) → Accepted st l s r t u
-    → Ran (state l r t u) xs → AllNamed (namings (journalOf st) unnamed (fed st (state l r t u) xs)) xs
+    → Ran (state r t u) xs → AllNamed (namings (journalOf st) unnamed (fed st (state r t u) xs)) xs

@@ -14,7 +14,7 @@ use Rattle.journal.specs.PutForm.{Exactly}
 use Rattle.model.specs.Refusals.{verdictOf, endOf, due, feed}
 use Rattle.model.specs.Replies.{Replies}
 use Rattle.journal.specs.Srm.{Due, silent, continues, speaks, continueReply, dues}
-use Rattle.model.specs.Runs.{State, Performed, next, Ran, records, Started, seen}
+use Rattle.model.specs.Runs.{State, Performed, next, lentTo, Ran, records, Started, seen}
 use Rattle.server.specs.declared.Settings.{Settings}
 use Rattle.server.specs.declared.Outcome.{Outcome}
 use Rattle.server.specs.declared.Outcome.the-variants as outcome
@@ -36,17 +36,17 @@ journalOf st = fresh (settingsOf st)
 
 -- What the journal is fed of a run from the state `s`.
 abbrev pub fed : Settings → State → List Performed → List Fed
-fed st s xs = feed (journalOf st) (seen st s xs)
+fed st s xs = feed st (journalOf st) (seen st s xs)
 
 -- The premise on kept headers: they stay within 65,535 bytes.
 abbrev pub Kept : List Marked → Type 0
 Kept [] = Unit {0}
 Kept (m ∷ ms) = (length (keptAfter m) ≤ 65535) × Kept ms
 
--- A refused call changes nothing.
+-- A refused call changes nothing of what it was lent.
 abbrev pub Unmoved : State → List Performed → Type 0
 Unmoved s [] = Unit {0}
-Unmoved s (x ∷ xs) = ((n : ℕ) → verdictOf (x .result .outcome) ≡ refused n → next s x ≡ s) × Unmoved (next s x) xs
+Unmoved s (x ∷ xs) = ((n : ℕ) → verdictOf (x .result .outcome) ≡ refused n → next x ≡ lentTo s x) × Unmoved (next x) xs
 
 -- The call returned that it wants bytes, so it made no reply and no request.
 abbrev pub wantsBytes : Outcome → Bool
@@ -83,7 +83,7 @@ pub record Agrees (st : Settings) (s : State) (xs : List Performed) : Type 0 whe
 -- What holds of a run `xs` of calls, from the state `s` of an accepted start with the settings `st`.
 pub record Upholds (st : Settings) (s : State) (xs : List Performed) : Type 0 where
   -- A call is refused exactly if it is due to be, with the number that is due; and then it changes nothing.
-  pub refusals : map (λ (x : Performed). verdictOf (x .result .outcome)) xs ≡ due (journalOf st) (seen st s xs)
+  pub refusals : map (λ (x : Performed). verdictOf (x .result .outcome)) xs ≡ due st (journalOf st) (seen st s xs)
   pub unmoved : Unmoved s xs
   pub agrees : Kept (packets (journalOf st) (fed st s xs)) → Agrees st s xs
   -- The engine ends in the calls in which the journal says so, and with its number, if replies stay within 65,535 bytes too.

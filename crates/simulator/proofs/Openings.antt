@@ -60,7 +60,7 @@ blank-room =
     }
 
 abbrev pub firstState : Bool → Stores → List ℕ → State
-firstState srm s t = record { engine = started (settingsFor srm); stores = s; tables = t; realm = [] }
+firstState srm s t = record { engine = started (settingsFor srm); stores = s; tables = t }
 
 pub begun-is : (srm : Bool) → begun srm ≡ firstState srm blank (blankStore 320)
 unfolding startStep longRealm
