@@ -1,4 +1,4 @@
-.PHONY: help try run test check backends serve interop faults oracle compare planted perf mutants rust rust-perf
+.PHONY: help try run test check backends serve interop faults oracle compare planted perf mutants bindings dist rust-perf
 
 # Bare `make` says what there is, and runs nothing. The times are those of two cores with nothing else to do; what is proved stays proved until
 # a file changes.
@@ -17,8 +17,9 @@ help:
 	@echo 'make planted   the sessions tell wrong readings of the papers apart                    the oracle             half an hour'
 	@echo 'make perf      throughput of port and original in one run                              the oracle, openssl    10 minutes, then 3'
 	@echo 'make mutants   the wrong programs that are not in the gate, NAME=crate for one crate   Rattle, python3        1 to 2 hours; goes on where it stopped'
-	@echo 'make rust      the engine for Rust and C: its archive, tests, sessions through both    Rattle, cargo, cc      12 minutes, then 4'
-	@echo 'make rust-perf throughput of both servers through one Rust API, after make rust        cargo                  1 minute'
+	@echo 'make bindings  engine, client, headers, blocks for Rust and C: archives, tests, misuse Rattle, cargo, cc      20 minutes, then 3'
+	@echo 'make dist      a folder to build against without Rattle: DIST=target/dist              Rattle                 15 minutes, then at once'
+	@echo 'make rust-perf throughput of both servers through one Rust API, after make bindings    cargo                  1 minute'
 
 # Plays the example session through the bench without proving anything, in four ways, and prints what it wrote.
 try:
@@ -91,10 +92,17 @@ perf: oracle
 mutants:
 	@tools/mutants $(NAME)
 
-# The engine for Rust and C: the archive of engine_c, the tests of rust/, the host in C, the stored sessions, and sessions through the
-# original's server and the proved one. Last line: 'N passed, 0 failed'. N=number of sessions (200,000), SEED=another seed.
-rust:
-	@N=$(or $(N),200000) SEED=$(or $(SEED),7) tools/rust
+# The engine, the client, header bytes and blocks for Rust and C: looks for what it needs, writes the archives of what has changed, and tests
+# them from Rust and C, from programs outside and from the distribution. Last line: 'N passed, 0 failed'. N=number of sessions through both
+# servers (200,000), CALLS=number of calls of the misuse test (10,000,000), SEED=another seed.
+bindings:
+	@N=$(or $(N),200000) CALLS=$(or $(CALLS),10000000) SEED=$(or $(SEED),7) tools/bindings
+
+# A folder with archives, headers, crates, examples and documents that a machine without Rattle can build against. DIST=folder, which is made anew.
+DIST ?= target/dist
+dist:
+	@tools/staticlib engine_c client_c headers_c archive_c digest_c
+	@tools/dist $(DIST)
 
 # Throughput of the original's server and the proved one, through the same Rust API.
 rust-perf:

@@ -1,5 +1,5 @@
 /* A host in C that accepts Puts: the client's bytes come from standard input, replies go to standard output, and for each record a line goes
- * to standard error. The example of docs/RUST.md; `make rust` runs it. */
+ * to standard error. The example of docs/RUST.md; tools/bindings-c runs it. */
 #include <stdio.h>
 #include <unistd.h>
 
@@ -56,10 +56,7 @@ static void answer(uint64_t kind)
 int main(void)
 {
     size_t from = 0, to = 0;
-    if (obex_engine_version() != OBEX_ENGINE_VERSION)
-        return 2;
-    words[OBEX_MAX_OBJECT_SIZE] = PUT_LIMIT;
-    words[OBEX_MAX_PACKET_LENGTH] = 65535;
+    obex_engine_defaults(words, PUT_LIMIT);
     obex_engine_start(words, none, 0, tables, OBEX_TABLES, STORES);
     for (;;) {
         uint64_t kind = words[OBEX_OUTCOME];

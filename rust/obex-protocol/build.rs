@@ -9,12 +9,14 @@ const DEFAULT_SOURCE: &str = "../../../shared/docs/src/src";
 fn main() {
     let here = PathBuf::from(env::var_os("CARGO_MANIFEST_DIR").unwrap());
     let copy = PathBuf::from(env::var_os("OUT_DIR").unwrap()).join("original");
-    let source = env::var_os("OBEX_SRC").map_or(here.join(DEFAULT_SOURCE), PathBuf::from);
+    let named = env::var_os("OBEX_SRC").map_or(here.join(DEFAULT_SOURCE), PathBuf::from);
+    // The folder of the sources, or the one above it.
+    let source = if named.join("server.rs").is_file() { named } else { named.join("src") };
     println!("cargo:rerun-if-env-changed=OBEX_SRC");
     println!("cargo:rerun-if-changed=build.rs");
     fs::create_dir_all(copy.join("engine")).unwrap();
     let mut glue = String::new();
-    for module in ["action", "auth", "error", "header", "md5", "opcode", "packet", "response", "server", "srm", "tlv"] {
+    for module in ["action", "auth", "error", "header", "md5", "opcode", "packet", "response", "server", "session", "srm", "tlv"] {
         let file = copy.join(format!("{module}.rs"));
         take(&source.join(format!("{module}.rs")), &file);
         glue += &format!("#[path = {file:?}]\npub mod {module};\n");
@@ -34,7 +36,7 @@ fn take(from: &Path, to: &Path) {
     println!("cargo:rerun-if-changed={}", from.display());
     if let Err(error) = fs::copy(from, to) {
         eprintln!("cannot read {}: {error}", from.display());
-        eprintln!("OBEX_SRC must name the folder with the original Rust (md5.rs, engine/ ...)");
+        eprintln!("Set OBEX_SRC to the folder that has server.rs and engine/server.rs");
         process::exit(1);
     }
 }

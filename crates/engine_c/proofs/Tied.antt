@@ -13,10 +13,11 @@ use Rattle.packet.specs.AuthWrite.{given}
 use Rattle.connection.specs.Pieces.{credentialsOf}
 use Rattle.journal.specs.Calls.{bytesOffered, streamEnded, replyTaken, replyGiven, objectGiven, bodyGiven, bodyFailed, abortAcknowledged, passwordGiven, nonceGiven, credentialsGiven, connectionsClosed}
 use Rattle.model.specs.Step.{Stores, stores, Stepped, stepped, called}
-use Rattle.model.specs.Calls.{startStep}
 use Rattle.model.specs.Runs.{Says, beside}
-use Rattle.engine_c.specs.Words.{settingsIn, resultOf}
+use Rattle.server.specs.declared.Outcome.the-variants as outcome
+use Rattle.engine_c.specs.Words.{resultOf}
 use Rattle.engine_c.specs.Theorem.{Kept, stateIn, returned}
+use Rattle.engine_c.proofs.Starting.{Starts, accepted}
 use Rattle.engine_c.proofs.obex_engine_start
 use Rattle.engine_c.proofs.obex_engine_start.Kinds as start-kinds
 use Rattle.engine_c.proofs.obex_engine_start.Reads as start-reads
@@ -61,14 +62,16 @@ use Rattle.engine_c.proofs.obex_engine_connections_closed.Reads as conn
 abbrev before : List ℕ → List ℕ → Stores → Kept
 before t w s = record { words = w; stores = s; tables = t }
 
+-- an accepted start is the engine's, as `AcceptedOn` has it, and the numbers were settings
 pub start-says : (κs : Lfts 7) (a : ArgsD obex_engine_start.signature κs) (r : ResD obex_engine_start.signature κs)
     (x : AtExit (endedOf 7 start-kinds.ps start-kinds.r) κs)
     → start-reads.Learnt κs a r x
     → let p = a .1 .1 .1 in
     let q = x .1 .1 .1 in
-    stepped (resultOf (now (x .0))) (stores (now (q .0)) (now (q .1 .0)) (now (q .1 .1 .0)) (now (q .1 .1 .1 .0)))
-    ≡ startStep (settingsIn (now (a .0))) (now (a .1 .0)) (stores (now (p .0)) (now (p .1 .0)) (now (p .1 .1 .0)) (now (p .1 .1 .1 .0))) (now (a .1 .1 .0))
-start-says κs a r x h = h
+    resultOf (now (x .0)) .outcome ≡ outcome.WantsBytes
+    → Starts (now (a .0)) (now (a .1 .0)) (stores (now (p .0)) (now (p .1 .0)) (now (p .1 .1 .0)) (now (p .1 .1 .1 .0))) (now (a .1 .1 .0))
+    (stepped (resultOf (now (x .0))) (stores (now (q .0)) (now (q .1 .0)) (now (q .1 .1 .0)) (now (q .1 .1 .1 .0))))
+start-says κs a r x h e = accepted _ _ _ _ _ h e
 
 pub bytes-offered-says : (κs : Lfts 7) (a : ArgsD obex_engine_bytes_offered.signature κs) (r : ResD obex_engine_bytes_offered.signature κs)
     (x : AtExit (endedOf 7 bytes-offered-kinds.ps bytes-offered-kinds.r) κs)

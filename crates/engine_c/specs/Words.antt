@@ -2,9 +2,9 @@
 -- of numbers is read as some state: a kind that nothing has is the last kind, and a field keeps the bits that its type has.
 use Prim.Native.Nat.{ℕ, _%_, _^_}
 use mathlib.Core.List.{List}
-use mathlib.Core.Bool.{Bool}
+use mathlib.Core.Bool.{Bool, true, false, _&&_, _||_, not}
 use lib.ListN.{getD}
-use lib.Dec.{eqb}
+use lib.Dec.{eqb, ltb}
 use Rattle.base.specs.Pick.{pick}
 use Rattle.packet.specs.declared.opcode.Opcode.{Opcode}
 use Rattle.packet.specs.declared.opcode.Opcode.the-variants as op
@@ -20,6 +20,7 @@ use Rattle.connection.specs.declared.peer.ConnectionId.{ConnectionId}
 use Rattle.connection.specs.declared.peer.ConnectionId.the-variants as front-id
 use Rattle.connection.specs.declared.peer.Peer.{Peer}
 use Rattle.server.specs.Numbers.{awaitOf}
+use Rattle.server.specs.declared.Await.the-variants as await
 use Rattle.server.specs.declared.Settings.{Settings}
 use Rattle.server.specs.declared.Operation.{Operation}
 use Rattle.server.specs.declared.Operation.the-variants as operation
@@ -34,11 +35,14 @@ use Rattle.server.specs.declared.Refusal.the-variants as refusal
 use Rattle.server.specs.declared.Outcome.{Outcome}
 use Rattle.server.specs.declared.Outcome.the-variants as outcome
 use Rattle.server.specs.declared.CallResult.{CallResult}
+use Rattle.model.specs.Step.{Stores, Stepped, engineWith}
+use Rattle.model.specs.Guard.{short, shortTables, refuse}
+use Rattle.model.specs.Calls.{started, startStep}
 use Rattle.engine_c.specs.declared.words.Numbers.{Numbers}
 
--- The version of the layout below. It is raised with each change of a place or a kind, and the Rust side compares it at the start.
+-- The version of the layout below. It is raised with each change of a place or a kind. A start asks for it.
 abbrev pub version : ℕ
-version = 1
+version = 2
 
 -- The number at a place.
 abbrev pub at : List ℕ → ℕ → ℕ
@@ -78,6 +82,19 @@ settingsBy n = settingsOf (n .kind) (n .a) (n .b) (n .c) (n .d) (n .e) (n .f) (n
 -- The settings in the host's numbers.
 abbrev pub settingsIn : List ℕ → Settings
 settingsIn w = settingsOf (at w 0) (at w 1) (at w 2) (at w 3) (at w 4) (at w 5) (at w 6) (at w 7) (at w 8) (at w 9)
+
+-- Seven numbers are flags: each is 0 or 1.
+unfoldable pub flagsFit : ℕ → ℕ → ℕ → ℕ → ℕ → ℕ → ℕ → Bool
+flagsFit a b c d e f g = ltb a 2 && (ltb b 2 && (ltb c 2 && (ltb d 2 && (ltb e 2 && (ltb f 2 && ltb g 2)))))
+
+-- Whether the host's numbers are settings: each has no more bits than its setting, a flag is 0 or 1, and number 10 is the version of this
+-- layout. `store` leaves 0 there, so a host writes its settings anew before each start.
+unfoldable pub settingsFit : List ℕ → Bool
+settingsFit w =
+    ltb (at w 0) (2 ^ 32)
+    && (ltb (at w 1) (2 ^ 16)
+    && (ltb (at w 2) (2 ^ 8)
+    && (flagsFit (at w 3) (at w 4) (at w 5) (at w 6) (at w 7) (at w 8) (at w 9) && eqb (at w 10) version)))
 
 -- ---- the peer: numbers 12 to 21
 
@@ -235,3 +252,30 @@ outcomeIn w =
 -- What a call left: the state, in number 43 how many bytes were taken, and the outcome.
 unfoldable pub resultOf : List ℕ → CallResult
 resultOf w = record { engine = engineOf w; taken = at w 43; outcome = outcomeOf (outcomeIn w) }
+
+-- ---- the start
+
+-- Whether an outcome is that of an accepted start: bytes are wanted.
+abbrev pub isWaiting : Outcome → Bool
+isWaiting outcome.WantsBytes = true
+isWaiting (outcome.Reply n) = false
+isWaiting (outcome.Request q) = false
+isWaiting (outcome.End x) = false
+isWaiting (outcome.Refused r) = false
+
+-- The state, ended.
+abbrev pub endedFrom : Engine → Engine
+endedFrom e = engineWith (e .settings) (e .peer) (e .operation) await.Nothing (e .begun) (e .length) (e .target)
+
+-- What a start gives: its result `r` if the numbers are settings, and else a refusal, unless `r` is one.
+abbrev pub judgedStart : Bool → CallResult → CallResult
+judgedStart fit r =
+    pick (fit || not (isWaiting (r .outcome))) r
+    (record { engine = endedFrom (r .engine); taken = 0; outcome = outcome.Refused refusal.BadAnswer })
+
+-- The start of a host's numbers `w` with the realm `l`, the stores `s` and the table store `t`. If the numbers are no settings, and every store is
+-- long enough, it is refused with 8; the state has then ended.
+abbrev pub startOn : List ℕ → List ℕ → Stores → List ℕ → Stepped
+startOn w l s t =
+    pick (settingsFit w || (shortTables t || short (settingsIn w .«max_object_size») s)) (startStep (settingsIn w) l s t)
+    (refuse refusal.BadAnswer (endedFrom (started (settingsIn w))) s)

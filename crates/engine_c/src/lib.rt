@@ -5,26 +5,30 @@ ghost use mathlib.Core.Path.{_≡_};
 ghost use Rattle.packet.specs.AuthWrite.{given};
 ghost use Rattle.connection.specs.Pieces.{credentialsOf};
 ghost use Rattle.model.specs.Step.{stepped, called, stores};
-ghost use Rattle.model.specs.Calls.{streamEndedStep, startStep, bytesOfferedStep, replyTakenStep, abortAcknowledgedStep, bodyFailedStep, bodyGivenStep, objectGivenStep, nonceGivenStep, passwordGivenStep, replyGivenStep, credentialsGivenStep, connectionsClosedStep};
+ghost use Rattle.model.specs.Calls.{streamEndedStep, bytesOfferedStep, replyTakenStep, abortAcknowledgedStep, bodyFailedStep, bodyGivenStep, objectGivenStep, nonceGivenStep, passwordGivenStep, replyGivenStep, credentialsGivenStep, connectionsClosedStep};
 ghost use Rattle.model.specs.Close.{closed};
 ghost use Rattle.model.specs.Runs.{Octets};
-ghost use Rattle.engine_c.specs.Words.{version, settingsIn, engineOf, resultOf};
+ghost use Rattle.engine_c.specs.Words.{version, engineOf, resultOf, startOn};
+use crate::words::VERSION;
+use crate::words::admit;
 use crate::words::engine_of;
+use crate::words::is_settings;
 use crate::words::settings_of;
 use crate::words::store;
 use digest::md5::Octets16;
 
 pub mod words;
 
-// Returns the version of the layout of `words`. A host compares it at the start with the version that it was written for.
+// Returns the version of the layout of `words`, which a host writes among the settings.
 #[no_mangle]
 pub extern "C" fn obex_engine_version() -> u64
     ensures { λ r. ⌜ r ≡ version ⌝ }
 {
-    1
+    VERSION
 }
 
-// Starts an engine with the settings in the first ten numbers, and with the bytes of `realm` if the settings say that there is one.
+// Starts an engine with the settings in the first ten numbers and the version of the layout in the next, and with the bytes of `realm` if the
+// settings say that there is one. Numbers that are no settings are refused: no flag is read as off, and no limit loses its upper bits.
 #[no_mangle]
 pub extern "C" fn obex_engine_start(
     words: &mut [u64; 64],
@@ -36,9 +40,10 @@ pub extern "C" fn obex_engine_start(
     reply: &mut [u8],
 )
     ensures { λ r. ⌜ stepped (resultOf (now (words .exit))) (stores (now (packet .exit)) (now (headers .exit)) (now (body .exit)) (now (reply .exit)))
-        ≡ startStep (settingsIn (now (words .entry))) (now (realm .entry))
+        ≡ startOn (now (words .entry)) (now (realm .entry))
         (stores (now (packet .entry)) (now (headers .entry)) (now (body .entry)) (now (reply .entry))) (now (tables .entry)) ⌝ }
 {
+    let fit = is_settings(words);
     let r = engine::calls::start(
         settings_of(words),
         realm,
@@ -48,7 +53,7 @@ pub extern "C" fn obex_engine_start(
         body,
         reply,
     );
-    store(r, words);
+    store(admit(fit, r), words);
 }
 
 // Offers the engine bytes from the client. The engine takes them up to the end of a packet and never past it.

@@ -5,6 +5,7 @@ ghost use Prim.Native.Nat.{_%_, _^_};
 ghost use Rattle.engine_c.specs.Words.{flag, opcodeOf, gatheredOf, idOf, challengeOf, outgoingOf, chunkOf, operationOf, operationIn};
 ghost use Rattle.server.specs.Numbers.{awaitOf};
 ghost use Rattle.engine_c.specs.Words.{settingsBy, settingsIn, peerBy, peerIn, targetOf, engineOf, foundOf, outcomeOf, resultOf, twelve};
+ghost use Rattle.engine_c.specs.Words.{flagsFit, settingsFit, isWaiting, judgedStart};
 use connection::peer::Challenge;
 use connection::peer::ConnectionId;
 use connection::peer::Peer;
@@ -21,11 +22,15 @@ use server::Engine;
 use server::HostRequest;
 use server::Operation;
 use server::Outcome;
+use server::Refusal;
 use server::Settings;
 use server::await_number;
 use server::end_number;
 use server::refusal_number;
 use table::targets::Target;
+
+// The version of the layout.
+pub const VERSION: u64 = 2;
 
 // A kind and the numbers that it holds.
 pub struct Numbers {
@@ -629,6 +634,94 @@ pub fn settings_of(w: &[u64; 64]) -> Settings
         read_only: is_set(w[7]),
         user_id_enforced: is_set(w[8]),
         refuse_trailing: is_set(w[9]),
+    }
+}
+
+// Tells whether seven numbers are flags: each is 0 or 1.
+fn are_flags(a: u64, b: u64, c: u64, d: u64, e: u64, f: u64, g: u64) -> bool
+    ensures { λ r. ⌜ r ≡ flagsFit a b c d e f g ⌝ }
+{
+    if a >= 2 {
+        return false;
+    }
+    if b >= 2 {
+        return false;
+    }
+    if c >= 2 {
+        return false;
+    }
+    if d >= 2 {
+        return false;
+    }
+    if e >= 2 {
+        return false;
+    }
+    if f >= 2 {
+        return false;
+    }
+    g < 2
+}
+
+// Tells whether the first eleven numbers are settings with the version of this layout.
+pub fn is_settings(w: &[u64; 64]) -> bool
+    ensures { λ r. ⌜ r ≡ settingsFit (now (w .entry)) ⌝ }
+{
+    if w[0] >= 4294967296 {
+        return false;
+    }
+    if w[1] >= 65536 {
+        return false;
+    }
+    if w[2] >= 256 {
+        return false;
+    }
+    if !are_flags(w[3], w[4], w[5], w[6], w[7], w[8], w[9]) {
+        return false;
+    }
+    w[10] == VERSION
+}
+
+// Tells whether an outcome is that of an accepted start.
+fn is_waiting(o: Outcome) -> bool
+    ensures { λ r. ⌜ r ≡ isWaiting o ⌝ }
+{
+    match o {
+        Outcome::WantsBytes => true,
+        Outcome::Reply { length: _ } => false,
+        Outcome::Request(_) => false,
+        Outcome::End(_) => false,
+        Outcome::Refused(_) => false,
+    }
+}
+
+// Returns what a start leaves if its numbers are no settings (`fit` is false): a refusal, unless its result `r` is one already.
+pub fn admit(fit: bool, r: CallResult) -> CallResult
+    ensures { λ z. ⌜ z ≡ judgedStart fit r ⌝ }
+{
+    if fit {
+        return r;
+    }
+    let outcome = r.outcome;
+    if !is_waiting(outcome) {
+        return r;
+    }
+    let e = r.engine;
+    let settings = e.settings;
+    let peer = e.peer;
+    let operation = e.operation;
+    let target = e.target;
+    CallResult {
+        engine: Engine {
+            settings,
+            peer,
+            operation,
+            awaits: Await::Nothing,
+            begun: e.begun,
+            length: e.length,
+            target,
+        },
+        taken: 0,
+        outcome: Outcome::Refused(Refusal::BadAnswer),
     }
 }
 

@@ -1,6 +1,7 @@
 //! Compares and times the original's `Server` and the one over the proved engine.
 //!
 //! conformance servers <SCRIPT      sessions of `oracle sessions`, played to both
+//! conformance files FOLDER <SCRIPT session files of the proved server, and the records that it handed over
 //! conformance replay STDIN STDOUT  stored transcripts, played to the engine's wrapper
 //! conformance time ROUNDS          processor time of both
 use std::io::{stdin, BufReader};
@@ -31,11 +32,12 @@ fn main() {
     let words: Vec<&str> = words.iter().map(String::as_str).collect();
     let same = match words[..] {
         ["servers"] => servers::run(BufReader::new(stdin().lock())),
+        ["files", folder] => servers::files(BufReader::new(stdin().lock()), folder.as_ref()),
         ["replay", stdin, stdout] => replay::run(stdin, stdout),
         ["time", rounds] => time::run(rounds.parse().unwrap()),
         ["calls"] => time::calls(),
         ["sockets", rounds] => time::sockets(rounds.parse().unwrap()),
-        _ => panic!("usage: servers | replay STDIN STDOUT | time ROUNDS"),
+        _ => panic!("usage: servers | files FOLDER | replay STDIN STDOUT | time ROUNDS"),
     };
     process::exit(if same { 0 } else { 1 });
 }

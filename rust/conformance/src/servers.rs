@@ -1,9 +1,16 @@
 //! Both servers over the same sessions, through the public API: `handle_next` to its error.
 use std::cell::{Cell, RefCell};
-use std::io::BufRead;
+use std::fs;
+use std::io::{self, BufRead, Write};
 use std::panic::{catch_unwind, AssertUnwindSafe};
+use std::path::Path;
 use std::rc::Rc;
 
+use obex_server::observer::{Observer, Record};
+use obex_server::session_file::SessionFile;
+use obex_server::{End, Settings};
+
+use crate::hex;
 use crate::host::{Host, Log, Options, Shared, Transport, World};
 use crate::script::{Script, Session};
 use crate::server::Authentication;
@@ -138,4 +145,88 @@ pub fn run<R: BufRead>(input: R) -> bool {
     println!("with a password {auth}, compared up to the eighth wrong one {stopped}");
     println!("compared {count} different {different}");
     different == 0
+}
+
+/// What an observer is told goes to a session file and to a list of records.
+struct Filing {
+    file: SessionFile<Shelf>,
+    records: Shelf,
+}
+
+/// Bytes that are written while a server owns the writer.
+#[derive(Clone, Default)]
+struct Shelf(Rc<RefCell<Vec<u8>>>);
+
+impl Write for Shelf {
+    fn write(&mut self, bytes: &[u8]) -> io::Result<usize> {
+        self.0.borrow_mut().write(bytes)
+    }
+
+    fn flush(&mut self) -> io::Result<()> {
+        Ok(())
+    }
+}
+
+/// A line as `tools/read-session` prints it.
+fn record_line(record: &Record) -> String {
+    let shown = |bytes: &[u8]| {
+        let mut text = Vec::new();
+        hex::push(&mut text, bytes);
+        if text.is_empty() { "-".to_string() } else { String::from_utf8(text).unwrap() }
+    };
+    format!("record {} {}\n", shown(record.headers), record.body.map_or("none".to_string(), shown))
+}
+
+impl Observer for Filing {
+    fn started(&mut self, settings: &Settings) {
+        self.file.started(settings);
+    }
+    fn bytes_taken(&mut self, bytes: &[u8]) {
+        self.file.bytes_taken(bytes);
+    }
+    fn reply_sent(&mut self, packet: &[u8]) {
+        self.file.reply_sent(packet);
+    }
+    fn password_checked(&mut self, user_id: Option<&[u8]>, right: bool) {
+        self.file.password_checked(user_id, right);
+    }
+    fn nonce_given(&mut self, nonce: [u8; 16]) {
+        self.file.nonce_given(nonce);
+    }
+    fn reply_given(&mut self, code: u8, headers: &[u8]) {
+        self.file.reply_given(code, headers);
+    }
+    fn object_given(&mut self) {
+        self.file.object_given();
+    }
+    fn record(&mut self, record: Record<'_>) {
+        self.records.write_all(record_line(&record).as_bytes()).unwrap();
+    }
+    fn ended(&mut self, end: End) {
+        self.file.ended(end);
+    }
+}
+
+/// Plays the sessions to the proved server and writes for each a session file, N.session, and the records
+/// that the server handed over, N.records. `tools/read-session` has to find the same ones in the file.
+pub fn files<R: BufRead>(input: R, folder: &Path) -> bool {
+    let mut script = Script::new(input);
+    let made = Rc::new(Cell::new(0u128));
+    NEXT.set(Some(Box::new(move || {
+        made.set(made.get() + 1);
+        made.get().to_be_bytes()
+    })));
+    for number in 0.. {
+        let Some(session) = script.next_session().unwrap_or_else(|_| panic!("bad script")) else {
+            println!("{number} session files");
+            return true;
+        };
+        let (file, records) = (Shelf::default(), Shelf::default());
+        let filing = Filing { file: SessionFile::new(file.clone()), records: records.clone() };
+        let prepare = |server: obex_server::server::Server<_, _>| server.with_nonces(next).with_observer(filing);
+        let _ = play!(obex_server::server::Server<_, _>, shared(session), prepare);
+        fs::write(folder.join(format!("{number}.session")), &*file.0.borrow()).unwrap();
+        fs::write(folder.join(format!("{number}.records")), &*records.0.borrow()).unwrap();
+    }
+    unreachable!()
 }

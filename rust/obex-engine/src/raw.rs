@@ -6,7 +6,7 @@
 pub type Words = [u64; 64];
 
 /// The version of the numbers' layout that `lib.rs` was written for.
-pub const VERSION: u64 = 1;
+pub const VERSION: u64 = 2;
 
 /// A slice passes as its pointer and then its length; a reference to an array as its pointer.
 /// Every call but one is lent the four stores.

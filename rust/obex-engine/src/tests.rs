@@ -1,5 +1,6 @@
 //! Refusals, settings, and numbers that no call leaves.
 use super::*;
+use crate::engine::{BEGUN, LENGTH};
 
 fn fresh() -> Engine {
     Engine::start(&Settings { max_object_size: 1024, ..Settings::default() }).unwrap()
@@ -128,5 +129,106 @@ fn any_numbers_are_taken() {
             // Numbers that fill their type stay as they were.
             assert_eq!(words[BEGUN..=LENGTH], engine.words[BEGUN..=LENGTH]);
         }
+    }
+}
+
+#[test]
+fn open_ids_are_those_that_can_be_closed() {
+    let mut engine = fresh();
+    assert_eq!(engine.open_ids().count(), 0);
+    for _ in 0..3 {
+        engine.bytes_offered(&[0x80, 0, 12, 0x10, 0, 0xFF, 0xFF, 0x46, 0, 5, 7, 7]).unwrap();
+        engine.reply_given(0x20, &[]).unwrap();
+        engine.reply_taken().unwrap();
+    }
+    let mut ids: Vec<u32> = engine.open_ids().collect();
+    ids.sort();
+    assert_eq!(ids, [1, 2, 3]);
+    engine.connections_closed(&[2]).unwrap();
+    let mut ids: Vec<u32> = engine.open_ids().collect();
+    ids.sort();
+    assert_eq!(ids, [1, 3]);
+    engine.connections_closed(&ids).unwrap();
+    assert_eq!(engine.open_ids().count(), 0);
+}
+
+#[test]
+fn wrong_passwords_are_counted() {
+    let settings = Settings { max_object_size: 0, authentication: Some(Authentication::default()), ..Settings::default() };
+    let mut engine = Engine::start(&settings).unwrap();
+    engine.bytes_offered(&[0x80, 0, 7, 0x10, 0, 0xFF, 0xFF]).unwrap();
+    for wrong in 0..8 {
+        assert_eq!(engine.wrong_passwords(), wrong);
+        engine.nonce_given([wrong as u8; 16]).unwrap();
+        engine.reply_taken().unwrap();
+        let answer = [&[0x80, 0, 28, 0x10, 0, 0xFF, 0xFF, 0x4E, 0, 21, 0, 16][..], &[0; 16]].concat();
+        engine.bytes_offered(&answer).unwrap();
+        assert_eq!(engine.event(), Event::Request(HostRequest::Password { user_id: None }));
+        engine.password_given(Some(b"1234")).unwrap();
+        assert_eq!(engine.event(), Event::Request(HostRequest::Nonce));
+    }
+    assert_eq!(engine.wrong_passwords(), 8);
+}
+
+#[test]
+fn refusals_and_ends_are_errors() {
+    fn told() -> Result<(), Box<dyn std::error::Error>> {
+        Ok(fresh().reply_taken()?)
+    }
+    assert_eq!(told().unwrap_err().to_string(), "the call is not the one that the engine waits for (refusal 9)");
+    for refused in [8, 9, 10, 15, 19, 20, 21].map(Refused::of) {
+        assert!(refused.to_string().ends_with(&format!("(refusal {})", refused.number())));
+    }
+    for end in [1, 2, 3, 4, 5, 6, 7].map(End::of) {
+        let error: Box<dyn std::error::Error> = end.into();
+        assert!(error.to_string().ends_with(&format!("(end {})", end.number())));
+    }
+}
+
+#[test]
+fn an_engine_is_shown_without_its_stores() {
+    let mut engine = fresh();
+    engine.bytes_offered(&[0x82, 0]).unwrap();
+    assert_eq!(
+        format!("{engine:?}"),
+        "Engine { awaits: \"WantsBytes\", is_at_rest: false, bytes_begun: 2, open_ids: [], wrong_passwords: 0, .. }"
+    );
+}
+
+/// The four settings that change what a client is answered, each set and not set.
+#[test]
+fn every_setting_is_heard() {
+    let after = |settings: &Settings, stream: &[u8]| {
+        let mut engine = Engine::start(settings).unwrap();
+        let (mut from, mut replies) = (0, Vec::<u8>::new());
+        loop {
+            match engine.event() {
+                Event::WantsBytes if from == stream.len() => return replies,
+                Event::WantsBytes => from += engine.bytes_offered(&stream[from..]).unwrap(),
+                Event::Reply(bytes) => {
+                    replies.extend(bytes);
+                    engine.reply_taken().unwrap();
+                }
+                Event::Request(HostRequest::Nonce) => engine.nonce_given([7; 16]).unwrap(),
+                Event::Request(HostRequest::Password { .. }) => engine.password_given(Some(b"1234")).unwrap(),
+                Event::Request(_) => engine.reply_given(0x20, &[]).unwrap(),
+                Event::End(end) => panic!("{end}"),
+            }
+        }
+    };
+    let small = Settings { max_object_size: 2, max_packet_length: 1_000, ..Settings::default() };
+    // A Put of three bytes that is not final, and a final packet that trails it.
+    let long = [0x02, 0, 9, 0x48, 0, 6, 1, 2, 3, 0x82, 0, 7, 0x49, 0, 4, 4];
+    assert_eq!(after(&small, &long), [0xCD, 0, 3, 0xA0, 0, 3]);
+    assert_eq!(after(&Settings { refuse_trailing: true, ..small.clone() }, &long), [0xCD, 0, 3, 0xCD, 0, 3]);
+    // A Connect that asks for Single Response Mode.
+    let connect = [0x80, 0, 9, 0x10, 0, 0xFF, 0xFF, 0x97, 1];
+    assert_eq!(after(&small, &connect), [0xA0, 0, 7, 0x10, 0, 3, 232]);
+    assert_eq!(after(&Settings { single_response_mode: true, ..small.clone() }, &connect), [0xA0, 0, 9, 0x10, 0, 3, 232, 0x97, 1]);
+    // A challenge with options and realm.
+    let both = |user_id_required, read_only| Authentication { user_id_required, read_only, realm: Some((3, b"r".to_vec())), user_id_enforced: false };
+    for (options, authentication) in [(1, both(true, false)), (2, both(false, true)), (3, both(true, true))] {
+        let replies = after(&Settings { authentication: Some(authentication), ..small.clone() }, &[0x80, 0, 7, 0x10, 0, 0xFF, 0xFF]);
+        assert_eq!(replies, [&[0xC1, 0, 35, 0x10, 0, 3, 232, 0x4D, 0, 28, 0, 16][..], &[7; 16], &[1, 1, options, 2, 2, 3, b'r']].concat());
     }
 }

@@ -1,4 +1,5 @@
 //! [`Server`], by the original's names.
+use std::fmt::{self, Debug, Formatter};
 use std::io::{self, Read, Write};
 
 use obex_engine::{Authentication as EngineAuthentication, End, Engine, Event, HostRequest, Refused, Settings};
@@ -9,14 +10,19 @@ use obex_protocol::opcode::Opcode;
 use obex_protocol::packet::{Request, Response, MAXIMUM_PACKET_LENGTH, MINIMUM_PACKET_LENGTH};
 pub use obex_protocol::server::{Authentication, Body, Handler, Object};
 
+use crate::observer::{Observer, Record};
+
 /// As the original's, so that sequenced packet sockets never truncate a message.
 const READ_BUFFER_LENGTH: usize = u16::MAX as usize + 1;
 
-/// Answers OBEX requests arriving over `T` and hands complete operations to `H`.
-pub struct Server<T, H> {
+/// Answers OBEX requests arriving over `T` and hands complete operations to `H`. What a [`Handler`] is
+/// not told, `O` is: see [`Server::with_observer`].
+pub struct Server<T, H, O = ()> {
     transport: T,
     handler: H,
+    observer: O,
     settings: Settings,
+    user_id_enforced: bool,
     /// Made at the first call that reads, so that no store is allocated before the settings are final.
     engine: Option<Engine>,
     /// What was read, and which part of it is not taken yet.
@@ -31,11 +37,14 @@ pub struct Server<T, H> {
 }
 
 impl<T: Read + Write, H: Handler> Server<T, H> {
+    /// Creates a server that talks over `transport` and hands requests to `handler`.
     pub fn new(transport: T, handler: H) -> Server<T, H> {
         Server {
             transport,
             handler,
+            observer: (),
             settings: Settings::default(),
+            user_id_enforced: false,
             engine: None,
             input: vec![0; READ_BUFFER_LENGTH].into_boxed_slice(),
             from: 0,
@@ -45,25 +54,48 @@ impl<T: Read + Write, H: Handler> Server<T, H> {
             nonces: generate_nonce,
         }
     }
+}
 
-    /// Where nonces come from: each must be new. Not in the original, which makes its own; so does
+impl<T: Read + Write, H: Handler, O: Observer> Server<T, H, O> {
+    /// Sets the observer, which is told of packets, records, wrong passwords and the end. Not in the original.
+    pub fn with_observer<P: Observer>(self, observer: P) -> Server<T, H, P> {
+        Server {
+            transport: self.transport,
+            handler: self.handler,
+            observer,
+            settings: self.settings,
+            user_id_enforced: self.user_id_enforced,
+            engine: self.engine,
+            input: self.input,
+            from: self.from,
+            to: self.to,
+            scratch: self.scratch,
+            broken: self.broken,
+            nonces: self.nonces,
+        }
+    }
+
+    /// Sets where nonces come from: each must be new. Not in the original, which makes its own; so does
     /// this, by the same function, where nothing else is set.
-    pub fn with_nonces(mut self, nonces: fn() -> [u8; 16]) -> Server<T, H> {
+    pub fn with_nonces(mut self, nonces: fn() -> [u8; 16]) -> Self {
         self.nonces = nonces;
         self
     }
 
-    pub fn with_max_packet_length(mut self, max_packet_length: u16) -> Server<T, H> {
+    /// Sets the largest packet that this side takes, at least 255.
+    pub fn with_max_packet_length(mut self, max_packet_length: u16) -> Self {
         self.settings.max_packet_length = max_packet_length.max(MINIMUM_PACKET_LENGTH);
         self
     }
 
-    pub fn with_single_response_mode(mut self, enabled: bool) -> Server<T, H> {
+    /// Sets whether Single Response Mode is granted to a client that asks for it.
+    pub fn with_single_response_mode(mut self, enabled: bool) -> Self {
         self.settings.single_response_mode = enabled;
         self
     }
 
-    pub fn with_authentication(mut self, authentication: Authentication) -> Server<T, H> {
+    /// Requires a password, which [`Handler::password`] gives.
+    pub fn with_authentication(mut self, authentication: Authentication) -> Self {
         self.settings.authentication = Some(EngineAuthentication {
             realm: authentication.realm.map(|realm| (realm.charset, realm.value)),
             user_id_required: authentication.user_id_required,
@@ -73,26 +105,75 @@ impl<T: Read + Write, H: Handler> Server<T, H> {
         self
     }
 
-    /// Above 4,294,967,295 it is taken as that.
-    pub fn with_max_object_size(mut self, max_object_size: usize) -> Server<T, H> {
+    /// Sets the largest Put body. Above 4,294,967,295 it is taken as that.
+    pub fn with_max_object_size(mut self, max_object_size: usize) -> Self {
         self.settings.max_object_size = max_object_size.try_into().unwrap_or(u32::MAX);
         self
     }
 
+    /// Sets whether packets that trail a Put that was too long are refused with it. If not, their bodies
+    /// reach the handler as a record of their own. An archive wants it on. Not in the original.
+    pub fn with_refuse_trailing(mut self, enabled: bool) -> Self {
+        self.settings.refuse_trailing = enabled;
+        self
+    }
+
+    /// Sets whether a response without a user id fails if [`Authentication`] requires one. Not in the original.
+    pub fn with_user_id_enforced(mut self, enabled: bool) -> Self {
+        self.user_id_enforced = enabled;
+        self
+    }
+
+    /// The settings with which the engine starts, or has started.
+    pub fn settings(&self) -> Settings {
+        let mut settings = self.settings.clone();
+        if let Some(authentication) = &mut settings.authentication {
+            authentication.user_id_enforced = self.user_id_enforced;
+        }
+        settings
+    }
+
+    /// Returns the handler.
     pub fn handler(&self) -> &H {
         &self.handler
     }
 
+    /// Returns the handler, to change it.
     pub fn handler_mut(&mut self) -> &mut H {
         &mut self.handler
     }
 
+    /// Returns the observer.
+    pub fn observer(&self) -> &O {
+        &self.observer
+    }
+
+    /// Returns the transport.
     pub fn get_ref(&self) -> &T {
         &self.transport
     }
 
+    /// Takes the server apart.
     pub fn into_parts(self) -> (T, H) {
         (self.transport, self.handler)
+    }
+
+    /// Returns the ids of the connections that are open; none before the first packet. Not in the original.
+    pub fn open_ids(&self) -> Vec<u32> {
+        self.engine.as_ref().map_or(Vec::new(), |engine| engine.open_ids().collect())
+    }
+
+    /// Closes these connections together, all or none, between two calls of [`Server::handle_next`]; the
+    /// client is not told. Not in the original.
+    pub fn connections_closed(&mut self, ids: &[u32]) -> std::result::Result<(), Refused> {
+        match &mut self.engine {
+            Some(engine) if !self.broken => {
+                engine.connections_closed(ids)?;
+                self.observer.connections_closed(ids);
+                Ok(())
+            }
+            _ => Err(Refused::WrongMoment),
+        }
     }
 
     /// Serves requests until the client closes the transport.
@@ -115,12 +196,20 @@ impl<T: Read + Write, H: Handler> Server<T, H> {
         self.broken = true;
         let mut engine = match self.engine.take() {
             Some(engine) => engine,
-            None => Engine::start(&self.settings).map_err(|_| Error::Protocol("the realm is over 254 bytes"))?,
+            None => self.start()?,
         };
         let result = self.operation(&mut engine);
         self.broken = result.is_err();
         self.engine = Some(engine);
         result
+    }
+
+    /// Starts the engine with the settings, which are final then.
+    fn start(&mut self) -> Result<Engine> {
+        let settings = self.settings();
+        let engine = Engine::start(&settings).map_err(|_| Error::Protocol("the realm is over 254 bytes"))?;
+        self.observer.started(&settings);
+        Ok(engine)
     }
 
     /// Up to the end of one operation.
@@ -139,16 +228,22 @@ impl<T: Read + Write, H: Handler> Server<T, H> {
                         engine.stream_ended().map_err(refused)?;
                         continue;
                     }
-                    self.from += engine.bytes_offered(&self.input[self.from..self.to]).map_err(refused)?;
+                    let taken = engine.bytes_offered(&self.input[self.from..self.to]).map_err(refused)?;
+                    tell(&mut self.observer, engine, &self.input[self.from..self.from + taken]);
+                    self.from += taken;
                     begun = true;
                 }
                 Event::Reply(bytes) => {
                     self.transport.write_all(bytes)?;
                     self.transport.flush()?;
+                    self.observer.reply_sent(bytes);
                     engine.reply_taken().map_err(refused)?;
                 }
                 Event::Request(_) => self.answer(engine, &mut object)?,
-                Event::End(end) => return Err(error(end, engine)),
+                Event::End(end) => {
+                    self.observer.ended(end);
+                    return Err(error(end, engine));
+                }
             }
         }
     }
@@ -175,7 +270,10 @@ impl<T: Read + Write, H: Handler> Server<T, H> {
             HostRequest::Connect { packet } => handler.connect(&parsed(packet)?),
             HostRequest::Disconnect { packet } => handler.disconnect(&parsed(packet)?),
             HostRequest::SetPath { packet, .. } => handler.set_path(&parsed(packet)?),
-            HostRequest::Put { headers, body } => handler.put(&gathered(Opcode::Put, headers)?, body.map(<[u8]>::to_vec)),
+            HostRequest::Put { headers, body } => {
+                self.observer.record(Record { headers, body, target: engine.target() });
+                handler.put(&gathered(Opcode::Put, headers)?, body.map(<[u8]>::to_vec))
+            }
             HostRequest::Action { headers } => handler.action(&gathered(Opcode::Action, headers)?),
             HostRequest::Session { headers } => handler.session(&gathered(Opcode::Session, headers)?),
             HostRequest::UserDefined { opcode, headers } => handler.user_defined(&gathered(Opcode::UserDefined(opcode), headers)?),
@@ -187,7 +285,9 @@ impl<T: Read + Write, H: Handler> Server<T, H> {
                         Body::Bytes(bytes) => Box::new(io::Cursor::new(bytes)) as Box<dyn Read>,
                         Body::Reader(reader) => reader,
                     });
-                    return engine.object_given(&self.scratch, object.is_some()).map_err(refused);
+                    engine.object_given(&self.scratch, object.is_some()).map_err(refused)?;
+                    self.observer.object_given();
+                    return Ok(());
                 }
                 Err(response) => response,
             },
@@ -199,7 +299,12 @@ impl<T: Read + Write, H: Handler> Server<T, H> {
             }
             HostRequest::Password { user_id } => {
                 let password = handler.password(user_id);
-                return engine.password_given(password.as_deref()).map_err(refused);
+                let user_id = user_id.map(<[u8]>::to_vec);
+                engine.password_given(password.as_deref()).map_err(refused)?;
+                // A wrong password is followed by another challenge.
+                let right = engine.event() != Event::Request(HostRequest::Nonce);
+                self.observer.password_checked(user_id.as_deref(), right);
+                return Ok(());
             }
             HostRequest::Nonce => return self.challenge(engine),
             HostRequest::Credentials { packet, .. } => {
@@ -219,15 +324,22 @@ impl<T: Read + Write, H: Handler> Server<T, H> {
         if self.scratch.len() > usize::from(MAXIMUM_PACKET_LENGTH) {
             return Err(Error::PacketTooLarge { length: 3 + self.scratch.len(), maximum: MAXIMUM_PACKET_LENGTH.into() });
         }
-        engine.reply_given(response.code.into(), &self.scratch).map_err(refused)
+        engine.reply_given(response.code.into(), &self.scratch).map_err(refused)?;
+        self.observer.reply_given(response.code.into(), &self.scratch);
+        Ok(())
     }
 
     /// Gives a nonce. One of the last 32 is refused, so among 33 different ones one is taken.
     fn challenge(&mut self, engine: &mut Engine) -> Result<()> {
         for _ in 0..33 {
-            match engine.nonce_given((self.nonces)()) {
+            let nonce = (self.nonces)();
+            match engine.nonce_given(nonce) {
                 Err(Refused::NonceUsed) => {}
-                result => return result.map_err(refused),
+                Err(other) => return Err(refused(other)),
+                Ok(()) => {
+                    self.observer.nonce_given(nonce);
+                    return Ok(());
+                }
             }
         }
         Err(Error::Protocol("the source of nonces gives the same ones again"))
@@ -247,6 +359,32 @@ impl<T: Read + Write, H: Handler> Server<T, H> {
                 Err(_) => return engine.body_failed().map_err(refused),
             }
         }
+    }
+}
+
+/// Shows the settings and the engine; the transport, handler and observer need not be Debug.
+impl<T, H, O> Debug for Server<T, H, O> {
+    fn fmt(&self, f: &mut Formatter<'_>) -> fmt::Result {
+        f.debug_struct("Server")
+            .field("settings", &self.settings)
+            .field("user_id_enforced", &self.user_id_enforced)
+            .field("engine", &self.engine)
+            .field("has_ended", &self.broken)
+            .finish_non_exhaustive()
+    }
+}
+
+/// Tells the observer of bytes that the engine took, and of the packet that they made whole. A Connect
+/// that was stopped after eight wrong passwords is the only packet that is replied to with 0x53 and
+/// Connect's fields without a request (docs/PROTOCOL.md#eight-wrong).
+fn tell(observer: &mut impl Observer, engine: &Engine, taken: &[u8]) {
+    observer.bytes_taken(taken);
+    if engine.bytes_begun() > 0 || engine.event() == Event::End(End::LengthTooSmall) {
+        return;
+    }
+    observer.packet_received(engine.last_packet());
+    if matches!(engine.event(), Event::Reply([0xD3, 0, 7, ..])) {
+        observer.connect_stopped();
     }
 }
 

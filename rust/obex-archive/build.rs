@@ -1,0 +1,4 @@
+//! Links libarchive_c.a; obex-link says where it is looked for.
+fn main() {
+    obex_link::archive("archive_c");
+}
