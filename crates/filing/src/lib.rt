@@ -1,0 +1,4 @@
+// What a receiver files, in which order, and what its log says.
+pub mod frame;
+pub mod plan;
+pub mod tries;
