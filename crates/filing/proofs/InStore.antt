@@ -85,7 +85,8 @@ pub rows-written : (s s₁ s₂ s₃ row p : List ℕ) (at n f number letters cl
 unfolding rowsOf
 rows-written s s₁ s₂ s₃ row p at n f number letters clock size fills room er e₁ e₂ e₃ =
     let i : f - 0 ≡ f = omega arith in
-    let ez : take {A = ℕ} (f - 0) (drop 0 (replicate 16 0)) ≡ take f (drop 0 (replicate 16 0)) = ap (λ (k : ℕ). take {A = ℕ} k (drop 0 (replicate 16 0))) i in
+    let ez : take {A = ℕ} (f - 0) (drop 0 (replicate 16 0)) ≡ take f (drop 0 (replicate 16 0)) =
+    ap (λ (k : ℕ). take {A = ℕ} k (drop 0 (replicate 16 0))) i in
     let q : take {A = ℕ} (f - 0) (drop 0 (replicate 16 0)) ≡ replicate f 0 = ez ∙ zeros-taken f 16 (omega (arith, fills)) in
     let lz : length (take {A = ℕ} (f - 0) (drop 0 (replicate 16 0))) ≡ f = ap length q ∙ length-replicate {A = ℕ} f 0 in
     let lr : length row ≡ 16 = ap length er in
@@ -96,7 +97,10 @@ rows-written s s₁ s₂ s₃ row p at n f number letters clock size fills room 
     ∙ ap₂ (λ (u v : List ℕ). paste u (at + 16 + n) v f) b ez
     ∙ rows-laid s row p at n f lr (sym size) (omega (arith, fills, room)) (omega (arith, fills))
     ∙ ap₂ (λ (r : List ℕ) (k : ℕ). paste s at (r ++ (p ++ replicate k 0)) (16 + (n + k))) er fills
-    ∙ ap (λ (k : ℕ). paste s at ((bytes32 letters ++ (bytes32 number ++ (bytes32 k ++ bytes32 clock))) ++ (p ++ replicate (filling k) 0)) (checkAt n)) m
+    ∙ ap (λ (k : ℕ). paste s at (row-of k ++ (p ++ replicate (filling k) 0)) (checkAt n)) m
+  where
+    row-of : ℕ → List ℕ
+    row-of k = bytes32 letters ++ (bytes32 number ++ (bytes32 k ++ bytes32 clock))
 
 -- the check `d` of what stands at `at`, as the code lays it
 pub check-laid : (s d : List ℕ) (at number n from f : ℕ) → f ≡ filling n → from ≡ chainAt at number → from ≤ at
@@ -203,7 +207,8 @@ module _ (s : List ℕ) (at number : ℕ) (c : Content) where
       omega (arith, four, length-append (c .payload) zeros, length-replicate {A = ℕ} (filling size) 0)
 
   -- the same as the code writes it, from the store `s` by `s₁` to `s₂`
-  pub frame-written : (s₁ s₂ : List ℕ) (f : ℕ) → length (c .kind) ≡ 4 → leb (at + frameLength size) (length s) ≡ true → size ≤ longest → f ≡ filling size
+  pub frame-written : (s₁ s₂ : List ℕ) (f : ℕ) → length (c .kind) ≡ 4 → leb (at + frameLength size) (length s) ≡ true
+      → size ≤ longest → f ≡ filling size
       → s₁ ≡ paste s at (rowsOf number c) (checkAt size)
       → s₂ ≡ paste s₁ (at + checkAt size) (digestOf (beforeAt s₁ at number ++ take (checkAt size) (drop at s₁))) 16
       → writing (Written (32 + size + f)) s₂ ≡ frameWritten s at number c
@@ -255,7 +260,8 @@ module _ (s : List ℕ) (at number n from to : ℕ) (size : n ≡ sizeIn (drop a
       let a : to - (at + 16 + n) ≡ checkAt n - (16 + n) = omega (arith, end) in
       let b : at + 16 + n ≡ at + (16 + n) = omega arith in
       let l : take (to - (at + 16 + n)) (drop (at + 16 + n) s) ≡ drop (16 + n) (take (checkAt n) x) =
-      ap₂ (λ (j k : ℕ). take j (drop k s)) a b ∙ ap (take (checkAt n - (16 + n))) (sym (drop-drop (16 + n) at s)) ∙ drop-front x (checkAt n) (16 + n) in
+      ap₂ (λ (j k : ℕ). take j (drop k s)) a b ∙ ap (take (checkAt n - (16 + n))) (sym (drop-drop (16 + n) at s))
+      ∙ drop-front x (checkAt n) (16 + n) in
       sym (ap allZero l ∙ ap (λ (k : ℕ). allZero (drop (16 + k) (take (checkAt k) x))) size)
 
   pub found-damaged : check-seen ≡ false → Damaged ≡ turnFor (frameFault (beforeAt s at number) number x) n

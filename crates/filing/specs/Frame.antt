@@ -59,6 +59,14 @@ chainAt at n = pick (eqb n 0) at (at - 16)
 unfoldable pub beforeAt : List ℕ → ℕ → ℕ → List ℕ
 beforeAt s at n = take (at - chainAt at n) (drop (chainAt at n) s)
 
+-- The store `s` with the rows of frame `n` at place `at`, except for the check.
+abbrev pub rowsLaid : List ℕ → ℕ → ℕ → Content → List ℕ
+rowsLaid s at n c = paste s at (rowsOf n c) (checkAt (length (c .payload)))
+
+-- The store `s` with the check of frame `n` at place `at`, whose rows stand there and whose payload has `size` bytes.
+abbrev pub checkLaid : List ℕ → ℕ → ℕ → ℕ → List ℕ
+checkLaid s at n size = paste s (at + checkAt size) (digestOf (beforeAt s at n ++ take (checkAt size) (drop at s))) 16
+
 -- Frame `n` behind the check `before`.
 unfoldable pub frameOf : List ℕ → ℕ → Content → List ℕ
 frameOf before n c = rowsOf n c ++ checkOf before n c

@@ -4,12 +4,10 @@ ghost use mathlib.Core.Path.{_≡_};
 ghost use Prim.Native.Nat.{_+_, _≤_};
 ghost use mathlib.Core.List.{_++_};
 ghost use lib.Dec.{leb};
-ghost use lib.ListN.{length, take, drop};
-ghost use lib.Seq.{paste};
-ghost use Rattle.base.specs.Bytes.{be32, bytes32};
-ghost use Rattle.digest.specs.Md5.{digestOf};
+ghost use lib.ListN.{length, drop};
+ghost use Rattle.base.specs.Bytes.{bytes32};
 ghost use Rattle.archive.specs.Writing.{writing};
-ghost use Rattle.filing.specs.Frame.{Content, filling, checkAt, frameLength, chainAt, beforeAt, rowsOf, frameWritten};
+ghost use Rattle.filing.specs.Frame.{filling, frameLength, chainAt, beforeAt, rowsLaid, checkLaid, frameWritten};
 ghost use Rattle.filing.specs.Reading.{sizeIn, frameFault, turnFor, turnAt};
 ghost use Rattle.filing.specs.Kinds.{kindNumber, contentIn};
 use archive::block::Wrote;
@@ -160,7 +158,7 @@ fn first_row(kind: u32, number: u32, n: usize, clock: u32) -> [u8; 16]
 // Writes the rows of a frame except for the check.
 fn write_rows(store: &mut [u8], at: usize, head: Head, payload: &[u8])
     requires { ⌜ at + frameLength (length (now payload)) ≤ length (now store) ⌝ }
-    ensures { λ r. ⌜ now (store .exit) ≡ paste (now (store .entry)) at (rowsOf (head .number) (contentIn head (now (payload .entry)))) (checkAt (length (now (payload .entry)))) ⌝ }
+    ensures { λ r. ⌜ now (store .exit) ≡ rowsLaid (now (store .entry)) at (head .number) (contentIn head (now (payload .entry))) ⌝ }
 {
     let n = payload.len();
     let kind = head.kind;
@@ -174,7 +172,7 @@ fn write_rows(store: &mut [u8], at: usize, head: Head, payload: &[u8])
 // Writes the check of frame `number`, whose rows stand at place `at`.
 fn write_check(store: &mut [u8], at: usize, number: u32, n: usize)
     requires { ⌜ at + frameLength n ≤ length (now store) ⌝ }
-    ensures { λ r. ⌜ now (store .exit) ≡ paste (now (store .entry)) (at + checkAt n) (digestOf (beforeAt (now (store .entry)) at number ++ take (checkAt n) (drop at (now (store .entry))))) 16 ⌝ }
+    ensures { λ r. ⌜ now (store .exit) ≡ checkLaid (now (store .entry)) at number n ⌝ }
 {
     let to = at + ROW + n + filling(n);
     let check = digest(&store[chain_at(at, number)..to]);

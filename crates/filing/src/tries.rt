@@ -1,5 +1,4 @@
-// The checks of passwords over all connections: whether another may be made, by the letters before it (docs/ARCHIVE.md, "Passwords over all
-// connections").
+// The checks of passwords over all connections: whether another may be made, by the letters before it (docs/PROTOCOL.md#eight-wrong).
 ghost use mathlib.Core.Path.{_≡_};
 ghost use Prim.Native.Nat.{_≤_};
 ghost use lib.ListN.{length};

@@ -98,8 +98,8 @@ returns c =
     let k = c .before in
     let h = chain k in
     let a = h .before .before .before .args in
-    found-damaged (a .log .now) (a .at) (a .number) (a .n) (h .chain-at .result) (to k) (h .before .before .before .pre .1) (h .chain-at .ensures .0)
-    (h .chain-at .ensures .1) (ends k) (sym (seen k) ∙ not-true (k .is-same .result) (c .if1 .taken))
+    found-damaged (a .log .now) (a .at) (a .number) (a .n) (h .chain-at .result) (to k) (h .before .before .before .pre .1)
+    (h .chain-at .ensures .0) (h .chain-at .ensures .1) (ends k) (sym (seen k) ∙ not-true (k .is-same .result) (c .if1 .taken))
 
 add-be32-at : tie.Need-add-be32-at
 add-be32-at c = search needs
@@ -112,8 +112,8 @@ returns-2 c =
     let k = c .before .before .before in
     let h = chain k in
     let a = h .before .before .before .args in
-    found-misplaced (a .log .now) (a .at) (a .number) (a .n) (h .chain-at .result) (to k) (h .before .before .before .pre .1) (h .chain-at .ensures .0)
-    (h .chain-at .ensures .1) (ends k) (right (c .before .before)) (λ e. c .if2 .taken (c .before .be32-at .ensures ∙ e))
+    found-misplaced (a .log .now) (a .at) (a .number) (a .n) (h .chain-at .result) (to k) (h .before .before .before .pre .1)
+    (h .chain-at .ensures .0) (h .chain-at .ensures .1) (ends k) (right (c .before .before)) (λ e. c .if2 .taken (c .before .be32-at .ensures ∙ e))
 
 sub-is-zero : tie.Need-sub-is-zero
 sub-is-zero c = search needs
@@ -133,8 +133,9 @@ returns-3 c =
     let k = b .before .before in
     let h = chain k in
     let a = h .before .before .before .args in
-    found-malformed (a .log .now) (a .at) (a .number) (a .n) (h .chain-at .result) (to k) (h .before .before .before .pre .1) (h .chain-at .ensures .0)
-    (h .chain-at .ensures .1) (ends k) (right (b .before)) (sym (b .be32-at .ensures) ∙ c .before .before .before .if2 .left)
+    found-malformed (a .log .now) (a .at) (a .number) (a .n) (h .chain-at .result) (to k) (h .before .before .before .pre .1)
+    (h .chain-at .ensures .0) (h .chain-at .ensures .1) (ends k) (right (b .before))
+    (sym (b .be32-at .ensures) ∙ c .before .before .before .if2 .left)
     (sym (c .before .is-zero .ensures) ∙ not-true (c .before .is-zero .result) (c .if3 .taken))
 
 returns-4 : tie.Need-returns-4
@@ -143,8 +144,9 @@ returns-4 c =
     let k = b .before .before in
     let h = chain k in
     let a = h .before .before .before .args in
-    found-frame (a .log .now) (a .at) (a .number) (a .n) (h .chain-at .result) (to k) (h .before .before .before .pre .1) (h .chain-at .ensures .0)
-    (h .chain-at .ensures .1) (ends k) (right (b .before)) (sym (b .be32-at .ensures) ∙ c .before .before .before .if2 .left)
+    found-frame (a .log .now) (a .at) (a .number) (a .n) (h .chain-at .result) (to k) (h .before .before .before .pre .1)
+    (h .chain-at .ensures .0) (h .chain-at .ensures .1) (ends k) (right (b .before))
+    (sym (b .be32-at .ensures) ∙ c .before .before .before .if2 .left)
     (sym (c .before .is-zero .ensures) ∙ not-false (c .before .is-zero .result) (c .if3 .left))
 
 pub judge-spec : {M : Type 1} → statement M
