@@ -1,9 +1,10 @@
 -- The checks of passwords over all connections of a receiver (docs/PROTOCOL.md#eight-wrong). The engine's window is that of one connection. A
 -- receiver keeps one letter for each check in a file that every process appends to, and judges by the last 64 letters before its own.
-use Prim.Native.Nat.{ℕ}
+use Prim.Native.Nat.{ℕ, _-_}
 use mathlib.Core.Bool.{Bool, not}
 use mathlib.Core.List.{List, [], _∷_}
 use lib.Dec.{eqb}
+use lib.ListN.{length, drop}
 use Rattle.base.specs.Pick.{pick}
 use Rattle.journal.specs.Checks.{Check, right, wrong, stop, tooMany}
 
@@ -32,6 +33,10 @@ historyOf (b ∷ l) = letterCheck b ∷ historyOf l
 -- A password may be checked: fewer than eight of the last 64 letters, the latest first, stand for wrong checks.
 unfoldable pub checkAllowed : List ℕ → Bool
 checkAllowed l = not (tooMany (historyOf l))
+
+-- The last 64 letters of a file, in its order. No more than these are looked at, so their order plays no part.
+abbrev pub lastLetters : List ℕ → List ℕ
+lastLetters l = drop (length l - 64) l
 
 -- A letter may become another: a check that is being made may come out in any way, and no other letter changes.
 pub data Becomes : ℕ → ℕ → Type 0 where

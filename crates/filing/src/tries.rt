@@ -1,9 +1,8 @@
 // The checks of passwords over all connections: whether another may be made, by the letters before it (docs/PROTOCOL.md#eight-wrong).
 ghost use mathlib.Core.Path.{_≡_};
-ghost use Prim.Native.Nat.{_≤_};
-ghost use lib.ListN.{length};
+ghost use Prim.Native.Nat.{_-_};
 ghost use Rattle.journal.specs.Checks.{isWrong, bit, wrongs};
-ghost use Rattle.filing.specs.Tries.{letterCheck, historyOf, checkAllowed};
+ghost use Rattle.filing.specs.Tries.{letterCheck, historyOf, lastLetters, checkAllowed};
 
 // The letter of a right password.
 const RIGHT: u8 = b'r';
@@ -11,7 +10,10 @@ const RIGHT: u8 = b'r';
 // The letter of a check that was stopped.
 const STOP: u8 = b's';
 
-// From so many wrong letters on, no password is checked.
+// How many letters count.
+const WINDOW: usize = 64;
+
+// From this number of wrong letters on, no password is checked.
 const MOST_WRONG: usize = 8;
 
 // Returns 1 for a letter that stands for a wrong check, as any does but two, and 0 for these.
@@ -40,10 +42,17 @@ fn wrong_letters(letters: &[u8]) -> usize
     count
 }
 
-// Tells whether a password may be checked behind these letters, 64 at most.
-pub fn is_check_allowed(letters: &[u8]) -> bool
-    requires { ⌜ length (now letters) ≤ 64 ⌝ }
-    ensures { λ r. ⌜ r ≡ checkAllowed (now (letters .entry)) ⌝ }
+// Returns where the last 64 of `n` letters begin.
+fn window_at(n: usize) -> usize
+    ensures { λ r. ⌜ r ≡ n - 64 ⌝ }
 {
-    wrong_letters(letters) < MOST_WRONG
+    if n < WINDOW { 0 } else { n - WINDOW }
+}
+
+// Tells whether a password may be checked behind these letters, of which the last 64 count.
+pub fn is_check_allowed(letters: &[u8]) -> bool
+    ensures { λ r. ⌜ r ≡ checkAllowed (lastLetters (now (letters .entry))) ⌝ }
+{
+    let from = window_at(letters.len());
+    wrong_letters(&letters[from..]) < MOST_WRONG
 }
