@@ -7,5 +7,6 @@ pub mod Pieces
 pub mod Framed
 pub mod InStore
 pub mod Told
+pub mod Named
 pub mod Letters
 pub mod Tried

@@ -16,6 +16,8 @@ use Rattle.filing.specs.Entries.{LogEntry, received, entryStep, namesSte
 use Rattle.filing.specs.Frame.{Content, frameLength, logBytes}
 use Rattle.filing.specs.Reading.{Log, log, sizeIn, checkIn, readFrom, readLog, turnOf, afterTurn}
 use Rattle.filing.specs.Kinds.{entriesIn, Encodes, OpenFrame, openingBytes, settingsIn}
+use Rattle.calendar.specs.Time.{allDigits}
+use Rattle.filing.specs.Names.{recordName, partName}
 use Rattle.filing.specs.Tries.{historyOf, checkAllowed, Settled}
 
 -- ---- filing
@@ -132,6 +134,17 @@ SettingsBack =
       demandsUser = o .enforcesUser && o .asksUser;
       refuses = o .refuses;
     }
+
+-- ---- names
+
+-- Two records of a session have two names, and those of a record being filed are others.
+pub record RecordNames : Type 0 where
+  pub one : (m n : ℕ) → m < 1000000 → n < 1000000 → recordName m ≡ recordName n → m ≡ n
+  pub other : (m n : ℕ) → partName m ≡ recordName n → ⊥
+
+-- The name of a record has no byte but digits, so that it holds no slash and does not begin with a dot.
+abbrev pub PlainNames : Type 0
+PlainNames = (n : ℕ) → allDigits (recordName n) ≡ true
 
 -- ---- the checks over all connections
 

@@ -1,4 +1,5 @@
 // What a receiver files, in which order, and what its log says.
 pub mod frame;
+pub mod names;
 pub mod plan;
 pub mod tries;
