@@ -62,7 +62,8 @@ returns c =
     let t = time-written (w .write-time .result) (a .clock) (w .write-time .last .1 .0) (w .write-time .ensures) in
     let e = name-laid (w .write-time .last .1 .0) (high .hex8 .result) (low .hex82 .result) _ _ _
     (ap length t ∙ length-time (a .clock))
-    (ap length (high .hex8 .ensures)) (ap length (low .hex82 .ensures)) (first .copy-into .ensures) (second .copy-into2 .ensures) (third .copy-into3 .ensures) in
+    (ap length (high .hex8 .ensures)) (ap length (low .hex82 .ensures))
+    (first .copy-into .ensures) (second .copy-into2 .ensures) (third .copy-into3 .ensures) in
     e ∙ ap (λ (x : List ℕ). x ++ (0x2D ∷ (high .hex8 .result ++ low .hex82 .result))) t
     ∙ ap₂ (λ (x y : List ℕ). timeOf (a .clock) ++ (0x2D ∷ (x ++ y))) (high .hex8 .ensures) (low .hex82 .ensures)
 
