@@ -11,9 +11,9 @@ use Rattle.archive.specs.Block.{same}
 use Rattle.journal.specs.Checks.{bit}
 use Rattle.journal.specs.Journal.{Settings}
 use Rattle.filing.specs.Entries.{LogEntry, received, sent, answered, object, checked, nonce, closed, ended}
-use Rattle.filing.specs.Kinds.{idBytes, idsIn, AllIds, contentFor, endIn, entryIn, entriesIn, FitsFrame, nothing, entry, beside, OpenFrame, openFlags, isSet, settingsIn}
+use Rattle.filing.specs.Kinds.{idBytes, idsIn, AllIds, contentFor, endIn, entryIn, entriesIn, FitsFrame, nothing, entry, beside, OpenFrame, openFlags, openRow, isSet, settingsIn}
 use Rattle.filing.proofs.Framed.{number-back}
-use Rattle.filing.specs.Claims.{EntriesBack, SettingsBack}
+use Rattle.filing.specs.Claims.{EntriesBack, RowOpens, SettingsBack}
 
 ids-back : (l : List ℕ) → AllIds l → idsIn (idBytes l) ≡ l
 unfolding idsIn
@@ -43,6 +43,10 @@ entries-back es cs (entry e t more {es = fs} {cs = ds} f r) =
 entries-back es cs (beside c {cs = ds} i r) = ap (λ (a : List LogEntry). a ++ entriesIn ds) i ∙ entries-back es ds r
 
 -- ---- the first frame
+
+pub row-opens : RowOpens
+unfolding openRow
+row-opens n f more = refl
 
 bit-most : (b : Bool) → bit b ≤ 1
 bit-most true = omega arith

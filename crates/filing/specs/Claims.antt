@@ -15,7 +15,9 @@ use Rattle.filing.specs.Plan.{planFor, stepsFrom, runs, codeFor}
 use Rattle.filing.specs.Entries.{LogEntry, received, entryStep, namesStep, Handed, logHanded, journalHanded, logRecords, firstEnd, logEnds, logOf, Joins}
 use Rattle.filing.specs.Frame.{Content, frameLength, logBytes}
 use Rattle.filing.specs.Reading.{Log, log, sizeIn, checkIn, readFrom, readLog, turnOf, afterTurn}
-use Rattle.filing.specs.Kinds.{entriesIn, Encodes, OpenFrame, openingBytes, settingsIn}
+use Rattle.filing.specs.Kinds.{entriesIn, Encodes, OpenFrame, openingBytes, opened, openRow, settingsIn}
+use Rattle.filing.specs.declared.payload.OpenNumbers.{OpenNumbers}
+use Rattle.filing.specs.declared.payload.OpenFlags.{OpenFlags}
 use Rattle.calendar.specs.Time.{allDigits}
 use Rattle.filing.specs.Names.{recordName, partName}
 use Rattle.filing.specs.Tries.{historyOf, checkAllowed, Settled}
@@ -121,6 +123,10 @@ TurnReads =
 -- The frames of a log stand for its entries.
 abbrev pub EntriesBack : Type 0
 EntriesBack = (es : List LogEntry) (cs : List Content) → Encodes es cs → entriesIn cs ≡ es
+
+-- The payload of the first frame is its first row and what follows that.
+abbrev pub RowOpens : Type 0
+RowOpens = (n : OpenNumbers) (f : OpenFlags) (more : List ℕ) → openRow n f ++ more ≡ openingBytes (opened n f more)
 
 -- The first frame tells the journal's settings.
 abbrev pub SettingsBack : Type 0

@@ -4,7 +4,7 @@ use mathlib.Core.Bool.{Bool, _&&_, _||_}
 use mathlib.Core.List.{List, [], _∷_, _++_}
 use mathlib.Core.Path.{_≡_}
 use lib.Dec.{eqb}
-use lib.ListN.{getD, drop}
+use lib.ListN.{getD, take, drop}
 use Rattle.base.specs.Pick.{pick}
 use Rattle.base.specs.Bytes.{be32, bytes16, bytes32}
 use Rattle.archive.specs.Block.{same}
@@ -13,6 +13,9 @@ use Rattle.journal.specs.Journal.{Settings, fresh}
 use Rattle.journal.specs.Naming.{unnamed}
 use Rattle.filing.specs.Entries.{LogEntry, received, sent, answered, object, checked, nonce, closed, ended, Handed, logHanded}
 use Rattle.filing.specs.Frame.{Content}
+use Rattle.filing.specs.declared.payload.CheckMade.{CheckMade}
+use Rattle.filing.specs.declared.payload.OpenNumbers.{OpenNumbers}
+use Rattle.filing.specs.declared.payload.OpenFlags.{OpenFlags}
 use Rattle.filing.specs.declared.frame.Head.{Head}
 use Rattle.filing.specs.declared.frame.Kind.{Kind}
 use Rattle.filing.specs.declared.frame.Kind.the-variants.{Open, Recv, Part, Sent, Answ, Objt, Pass, Nonc, Clos, File, Fail, Done}
@@ -70,6 +73,10 @@ contentFor (checked right) t more = record { kind = lettersOf Pass; clock = t; p
 contentFor (nonce n) t more = record { kind = lettersOf Nonc; clock = t; payload = n }
 contentFor (closed l) t more = record { kind = lettersOf Clos; clock = t; payload = idBytes l }
 contentFor ended t more = record { kind = lettersOf Done; clock = t; payload = pick (eqb (getD more 0 0) 2) 2 1 ∷ [] }
+
+-- The payload of a check of a password.
+unfoldable pub checkPair : CheckMade → List ℕ
+checkPair c = contentFor (checked (c .right)) 0 (bit (c .stopped) ∷ []) .payload
 
 -- The entry of a frame by its payload's first byte, if the frame is `done`: the stream ended in the first two cases alone.
 abbrev pub endIn : ℕ → List LogEntry
@@ -141,6 +148,30 @@ openFlags o =
 -- The payload of the first frame: `OBX1`, the limits, the flags and the rest.
 abbrev pub openingBytes : OpenFrame → List ℕ
 openingBytes o = bytes32 0x4F425831 ++ (bytes32 (o .limit) ++ (bytes16 (o .packet) ++ (openFlags o ∷ o .rest)))
+
+-- What the first frame says, by its numbers and flags in the code; `more` follows them.
+abbrev pub opened : OpenNumbers → OpenFlags → List ℕ → OpenFrame
+opened n f more =
+    record {
+      limit = n .limit;
+      packet = n .packet;
+      srm = f .srm;
+      authentication = f .authentication;
+      asksUser = f .«asks_user»;
+      readOnly = f .«read_only»;
+      enforcesUser = f .«enforces_user»;
+      refuses = f .refuses;
+      hasRealm = f .«has_realm»;
+      rest = n .charset ∷ n .realm ∷ 0 ∷ 0 ∷ 0 ∷ more;
+    }
+
+-- The flags in the code as one number.
+unfoldable pub flagsIn : OpenFlags → ℕ
+flagsIn f = openFlags (opened (record { limit = 0; packet = 0; charset = 0; realm = 0 }) f [])
+
+-- The first row of the first frame's payload.
+unfoldable pub openRow : OpenNumbers → OpenFlags → List ℕ
+openRow n f = take 16 (openingBytes (opened n f []))
 
 -- A flag is set: `n` is its number.
 abbrev pub isSet : ℕ → ℕ → Bool
