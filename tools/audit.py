@@ -1,7 +1,7 @@
 #!/usr/bin/env python3
 """audit.py: an auditor of a receiver's archive that uses nothing of this project. It reads the log of each session, computes from it which records
 must have been handed over, and compares them with what is filed. It follows docs/ARCHIVE.md, docs/PROTOCOL.md and the definitions
-of the journal, and no code, so that a mistake of the program `audit` shows as a difference. Python's own library is all that it needs; the file
+of the journal, and no code, so that a mistake of the code shows as a difference. Python's own library is all that it needs; the file
 may be copied into an archive.
 
 Usage: tools/audit.py [--packets-only] [--extract DIR] [--page FILE] [--pcapng FILE] SESSION ..
