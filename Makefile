@@ -1,4 +1,4 @@
-.PHONY: help try run test check backends serve interop faults oracle compare planted perf mutants bindings dist rust-perf
+.PHONY: help try run test check backends serve interop faults filing oracle compare planted perf mutants bindings dist rust-perf
 
 # Bare `make` says what there is, and runs nothing. The times are those of two cores with nothing else to do; what is proved stays proved until
 # a file changes.
@@ -12,6 +12,7 @@ help:
 	@echo 'make serve     a server of the files in a folder: DIR=./served PORT=6500               Rattle, python3        10 minutes, then at once'
 	@echo 'make faults    that server with slow and full disks, kills, many and silent clients    Rattle, cc, root       12 minutes, then 2'
 	@echo 'make interop   stock clients put and get files at that server                          Rattle, root, Debian   11 minutes, then 1'
+	@echo 'make filing    what a receiver files: log, note, damages, power cuts, pcapng            Rattle, tshark         3 minutes, then 1'
 	@echo 'make oracle    builds the original Rust with a driver, for comparison                  cargo, OBEX_SRC        2 minutes'
 	@echo 'make compare   port beside original: questions, then sessions: N=1000000 SEED=1        the oracle, Rattle     13 minutes, then 2'
 	@echo 'make planted   the sessions tell wrong readings of the papers apart                    the oracle             half an hour'
@@ -67,6 +68,11 @@ faults:
 interop:
 	@tools/progress check serve >&2
 	@tools/interop
+
+# The formats of docs/ARCHIVE.md, written, damaged and read by showlog and by the auditor. Last line: 'archive-test: N of N'.
+filing:
+	@tools/progress check showlog >&2
+	@tools/archive-test
 
 # The original with a driver, for comparison by running. Nothing of the gate needs it.
 oracle:

@@ -192,7 +192,7 @@ pub fn write(body: &[u8], blocks: &mut [u8]) -> Wrote
 // ---- one block
 
 // Tells whether `a` and `b` are the same bytes.
-fn is_same(a: &[u8], b: &[u8]) -> bool
+pub fn is_same(a: &[u8], b: &[u8]) -> bool
     requires { ⌜ length (now a) ≡ length (now b) ⌝ }
     ensures { λ r. ⌜ r ≡ same (now (a .entry)) (now (b .entry)) ⌝ }
 {
@@ -207,7 +207,7 @@ fn is_same(a: &[u8], b: &[u8]) -> bool
 }
 
 // Tells whether all bytes of `s` are zero.
-fn is_zero(s: &[u8]) -> bool
+pub fn is_zero(s: &[u8]) -> bool
     ensures { λ r. ⌜ r ≡ allZero (now (s .entry)) ⌝ }
 {
     let mut i = 0;
