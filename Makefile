@@ -11,7 +11,7 @@ help:
 	@echo 'make backends  every program compiled in three ways and interpreted, compared          Rattle, python3        3 minutes'
 	@echo 'make serve     a server of the files in a folder: DIR=./served PORT=6500               Rattle, python3        10 minutes, then at once'
 	@echo 'make faults    that server with slow and full disks, kills, many and silent clients    Rattle, cc, root       12 minutes, then 2'
-	@echo 'make interop   stock clients put and get files at that server                          Rattle, root, Debian   11 minutes, then 1'
+	@echo 'make interop   stock clients at that server, and transfer at stock servers             Rattle, root, Debian   13 minutes, then 1'
 	@echo 'make oracle    builds the original Rust with a driver, for comparison                  cargo, OBEX_SRC        2 minutes'
 	@echo 'make compare   port beside original: questions, then sessions: N=1000000 SEED=1        the oracle, Rattle     13 minutes, then 2'
 	@echo 'make planted   the sessions tell wrong readings of the papers apart                    the oracle             half an hour'
@@ -62,9 +62,9 @@ faults:
 	@tools/progress check serve >&2
 	@tools/faults
 
-# Stock clients against the server. Last line: 'interop: N of N'.
+# Stock clients against the server, and the client against four servers. Last line: 'interop: N of N'.
 interop:
-	@tools/progress check serve >&2
+	@tools/progress check serve transfer >&2
 	@tools/interop
 
 # The original with a driver, for comparison by running. Nothing of the gate needs it.
