@@ -84,7 +84,7 @@ planted: oracle
 
 # Throughput beside the original, OpenSSL and libopenobex.
 perf: oracle
-	@tools/progress check load serve digest_c archive_c >&2
+	@tools/progress check load load_link serve digest_c archive_c >&2
 	@tools/perf
 
 # The wrong programs that are not in the gate: the prover must refuse each. NAME=crate for one crate. Last line: 'N refused, 0 alive'.
