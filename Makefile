@@ -11,7 +11,7 @@ help:
 	@echo 'make backends  every program compiled in three ways and interpreted, compared          Rattle, python3        3 minutes'
 	@echo 'make serve     a server of the files in a folder: DIR=./served PORT=6500               Rattle, python3        10 minutes, then at once'
 	@echo 'make faults    that server with slow and full disks, kills, many and silent clients    Rattle, cc, root       12 minutes, then 2'
-	@echo 'make interop   stock clients put and get files at that server                          Rattle, root, Debian   11 minutes, then 1'
+	@echo 'make interop   stock clients at that server, and transfer at stock servers             Rattle, root, Debian   13 minutes, then 1'
 	@echo 'make filing    what a receiver files: log, note, damages, power cuts, pcapng            Rattle, tshark         3 minutes, then 1'
 	@echo 'make oracle    builds the original Rust with a driver, for comparison                  cargo, OBEX_SRC        2 minutes'
 	@echo 'make compare   port beside original: questions, then sessions: N=1000000 SEED=1        the oracle, Rattle     13 minutes, then 2'
@@ -37,8 +37,8 @@ run:
 	@target/bin/bench <crates/bench/sessions/record.in
 
 # The gate: every crate proved from nothing, every must-fail edit refused, every program run and compared. Its last line is 'N passed, 0 failed'.
-# Three crates at a time, since rt waits for all of them before it starts the next: on two cores a long check then leaves neither idle.
-test: export RT_JOBS ?= 3
+# Four crates at a time, since rt waits for all of them before it starts the next: on two cores a long check then leaves neither idle.
+test: export RT_JOBS ?= 4
 test:
 	@tools/progress ci
 
@@ -64,9 +64,9 @@ faults:
 	@tools/progress check serve >&2
 	@tools/faults
 
-# Stock clients against the server. Last line: 'interop: N of N'.
+# Stock clients against the server, and the client against four servers. Last line: 'interop: N of N'.
 interop:
-	@tools/progress check serve >&2
+	@tools/progress check serve transfer >&2
 	@tools/interop
 
 # The formats of docs/ARCHIVE.md, written, damaged and read by showlog and by the auditor. Last line: 'archive-test: N of N'.
@@ -91,7 +91,7 @@ planted: oracle
 
 # Throughput beside the original, OpenSSL and libopenobex.
 perf: oracle
-	@tools/progress check load serve digest_c archive_c >&2
+	@tools/progress check load load_link serve digest_c archive_c >&2
 	@tools/perf
 
 # The wrong programs that are not in the gate: the prover must refuse each. NAME=crate for one crate. Last line: 'N refused, 0 alive'.

@@ -1,5 +1,5 @@
 #!/usr/bin/env python3
-"""link_random.py: the claims Puts, Gets and Names (link/specs/Claims.antt) tried on random runs. Client (client_model/specs), outgoing objects
+"""link_random.py: the claims Puts, Gets and Names (link/specs/Claims.antt) and what is said besides (PutMore, GetMore) tried on random runs. Client (client_model/specs), outgoing objects
 (outgoing/specs), response reader (packet/specs/ResponsePacket), link and what a run tells (link/specs/Link, Told), server (model/specs) and journal
 (journal/specs) are written down from the text of the definitions, function by function; stores are byte strings with random garbage at the start.
 
@@ -735,7 +735,7 @@ class Link:
                 n = l.said[1]
                 if run and l.stores.request[0] == 0x82: run.final = True
                 l.up += l.stores.request[:n]
-                if n > (at_least_255(l.engine.st.max) if l.connected else MINP): l.extra.append('x: packet within the server\'s limit')
+                if n > (at_least_255(l.engine.st.max) if l.connected else MINP): l.extra.append('within')
                 l.client_did(request_sent_step(l.client, l.stores))
         elif k == 'offerDown':
             connecting = l.client.op[0] == 'Connecting'
@@ -743,7 +743,7 @@ class Link:
             l.down = l.down[taken:]
             if connecting and l.said[0] == 'Done' and is_success(l.said[1]): l.connected = True
             if o[0] == 'Part': l.parts_all = (l.parts_all[0] + l.stores.headers[:o[1]], join(l.parts_all[1], None if o[2] is None else l.stores.body[:o[2]]))
-            if run and o[0] == 'Part' and run.aborted: l.extra.append('x: a part after the Abort')
+            if run and o[0] == 'Part' and run.aborted: l.extra.append('late')
             if run and o[0] == 'Part': run.part(l.stores.headers[:o[1]], None if o[2] is None else l.stores.body[:o[2]])
         elif k == 'closeDown':
             if l.told[0] == 'End' and not l.down: l.client_did(c_ended_step(l.client, l.stores))
@@ -812,7 +812,15 @@ class Run:
             if ok != accepted: bad.append('success')
             if ok and r.records != want: bad.append('sure')
             if r.aborted and r.records != []: bad.append('aborted')
+            if r.records != [] and not r.premises: bad.append('only')
+            if said[0] == 'Done' and not r.final: bad.append('done')
+            if said[0] == 'Stopped' and r.final: bad.append('stopped')
+            if said[0] == 'Aborted' and (r.final or not r.aborted): bad.append('aborted')
         else:
+            if said[0] == 'Stopped': bad.append('never stopped')
+            if said[0] == 'Done' and r.aborted: bad.append('done')
+            if said[0] == 'Aborted' and not r.aborted: bad.append('aborted')
+            if r.get_admitted and not r.aborted and len(leading(r.id, False) + r.hs) <= MAXP and r.asked != [leading(r.id, False) + r.hs]: bad.append('asks')
             whole = r.object is not None and r.last_reply == 0xA0
             r.whole = whole
             if not r.aborted:
@@ -826,16 +834,15 @@ class Run:
         r.ok, r.accepted = ok, accepted
         x, code = l.extra, said[1] if said[0] in ('Done', 'Stopped', 'Aborted') else None
         if r.kind == 'Put':
-            if said[0] == 'Done' and not r.final or said[0] in ('Stopped', 'Aborted') and r.final or said[0] == 'Aborted' and not r.aborted: x.append('x: 25 exactly before the last packet')
             if r.admitted and not r.aborted and len(r.given) > st.limit and code not in (0x4D, None): x.append('x: 4D past the limit')
             if not r.admitted and (r.records or r.aborted is False and code not in (0x41, 0x4D)): x.append('x: not admitted')
         else:
-            if r.get_admitted and not r.aborted and len(leading(r.id, False) + r.hs) <= MAXP and len(r.asked) != 1: x.append('x: admitted Get asks')
             if not r.get_admitted and r.asked: x.append('x: Get not admitted asks')
             if r.object is not None and not r.aborted and said[0] == 'Done' and not whole and code != 0x50: x.append('x: object not whole is 50')
         tag = '' if r.kind == 'Put' or not r.aborted else '(aborted Get)'
         if said[0] in ('Done', 'Stopped', 'Aborted') and (r.last_reply != sent_code(said[1]) or said[1] == 0x10): bad.append('ends.code' + tag)
         if said[0] == 'End' and said[1] != 1: bad.append('ends.number' + tag)
+        if said[0] == 'End' and l.told not in (('End', 6), ('End', 7)): bad.append('ended')
         return bad
 
 # ---- runs: a move with the bookkeeping of which operation is open

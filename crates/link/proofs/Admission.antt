@@ -1,5 +1,5 @@
 -- What the journal admits is what the server lets pass: if the journal stands to the server as in the records theorem, the first packet of a Put
--- passes at the server exactly if the journal says so. Assumes nothing.
+-- or of a Get passes at the server exactly if the journal says so. Assumes nothing.
 use mathlib.Core.Path.{_≡_, refl, sym, ap, ap₂, subst, _∙_}
 use mathlib.Core.List.{List}
 use mathlib.Core.Bool.{Bool, true, false, _&&_, not}
@@ -8,9 +8,15 @@ use Prim.Native.Nat.{ℕ}
 use lib.ListN.{take}
 use Rattle.base.specs.Pick.{pick}
 use Rattle.packet.specs.Packet.{Request as Packet}
+use Rattle.packet.specs.FirstByte.{sameOpcode}
 use Rattle.packet.specs.HeaderIds as header-id
 use Rattle.packet.specs.Header.{first}
-use Rattle.journal.specs.Journal.{Journal, Opened, unauthorized, notOpen, trails as trailsIn}
+use Rattle.journal.specs.Journal.{Journal, Opened, unauthorized, notOpen, admitted, trails as trailsIn}
+use Rattle.journal.specs.Ids.{member}
+use Rattle.connection.specs.Peer.{idsOf}
+use Rattle.connection.specs.declared.peer.ConnectionId.{ConnectionId}
+use Rattle.connection.specs.declared.peer.ConnectionId.the-variants.{Id, Missing}
+use Rattle.outgoing.specs.Queue.{mustLead, insertEarly}
 use Rattle.journal.specs.PutForm.{isTrailing as trailing}
 use Rattle.incoming.specs.Survey.{surveyOf}
 use Rattle.server.specs.declared.Operation.{Operation}
@@ -24,7 +30,12 @@ use Rattle.model.specs.Runs.{State}
 use Rattle.model.proofs.Coupling.{OpenedAt, Held, CoupledAt, Coupled}
 use Rattle.model.proofs.Dispatch.{rejection-is, admitted-is}
 use Rattle.model.proofs.ServerPut.{isAdmits, isTrailing, putPasses}
+use Rattle.client_model.specs.Leading.{leadingHeaders}
+use Rattle.client_model.specs.declared.Client.{Client}
+use Rattle.client_model.proofs.Getting.{hasId, idSent}
 use Rattle.link.specs.Claims.{isAdmitted}
+use Rattle.link.specs.GetMore.{firstGet}
+use Rattle.link.proofs.GetJoint.{isAdmitted as isAdmittedGet}
 
 -- what trails a Put is refused by both or by none
 trailing-is : (limit : ℕ) (o : Operation) (h b : List ℕ) (x : Opened) → OpenedAt limit o h b x → trailing x ≡ isTrailing o
@@ -66,3 +77,31 @@ admission s j a w r =
     let e = s .engine in
     let v = subst (λ (x : Await). CoupledAt (s .tables) x (e .operation) (e .settings) (e .peer) (e .begun) (e .length) (s .stores) j) a w in
     held-admits (s .tables) e (s .stores) (take (e .begun) (s .stores .packet)) j v r
+
+-- ---- a Get
+
+-- the ConnectionID leads
+first-id : (id : ConnectionId) (srm : Bool) (ids : List ℕ)
+    → notOpen ids (first header-id.connectionId (leadingHeaders id srm)) ≡ (hasId id && not (member (idSent id) ids))
+unfolding leadingHeaders insertEarly mustLead first
+first-id Missing true ids = refl
+first-id Missing false ids = refl
+first-id (Id i) true ids = refl
+first-id (Id i) false ids = refl
+
+and-true : (t u : Bool) → (t && (u && true)) ≡ (t && u)
+and-true true true = refl
+and-true true false = refl
+and-true false u = refl
+
+pub get-admission : (s : State) (j : Journal) → s .engine .awaits ≡ waits.Bytes → Coupled (s .tables) (s .engine) (s .stores) j → (c : Client)
+    → admitted (j .settings) (j .standing) (firstGet c)
+    ≡ isAdmittedGet (record { settings = s .engine .settings; peer = s .engine .peer; tables = s .tables }) (c .«connection_id»)
+unfolding admitted unauthorized sameOpcode
+get-admission s j a w c =
+    let e = s .engine in
+    let v = subst (λ (x : Await). CoupledAt (s .tables) x (e .operation) (e .settings) (e .peer) (e .begun) (e .length) (s .stores) j) a w in
+    let f = v .fixed in
+    rw (f .settings, f .standing)
+    (ap₂ (λ (t u : Bool). not t && not u) (and-true (e .settings .authentication) (not (e .peer .authenticated)))
+    (first-id (c .«connection_id») (c .settings .«srm_wanted») (idsOf (e .peer) (s .tables))))

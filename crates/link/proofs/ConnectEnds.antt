@@ -73,8 +73,8 @@ use Rattle.link.specs.Link.{Link, linkWith, connect, disconnect, user, s
 use Rattle.link.specs.Told.{isRefused}
 use Rattle.link.specs.Told as shown
 use Rattle.link.specs.Claims.{namedIn, namedBy}
-use Rattle.link.proofs.Joint.{Serves, Ready}
-use Rattle.link.proofs.ConnectJoint.{Kind, connecting, disconnecting, operationOf, heldId, Past, namedPast, limitFor, Ids, Settled, Follows, Packs, isConnect, Gives, Replies, Awaits, NamesNow, NamesThen, Bound, Phase, turn, coming, Rest, Standing, Next, goes, over, gone}
+use Rattle.link.proofs.Joint.{Serves, Ready, AtRest}
+use Rattle.link.proofs.ConnectJoint.{Kind, connecting, disconnecting, operationOf, heldId, Past, namedPast, limitFor, Ids, Settled, Follows, Packs, isConnect, Gives, Replies, Awaits, NamesNow, NamesThen, Bound, Phase, turn, coming, Standing, Next, goes, over, gone}
 use Rattle.link.proofs.ConnectReplies.{connect-reads, disconnect-reads, fields-limit, packet-whole, packet-octets, fields-octets, octets-append, octets-none, id-octets}
 use Rattle.link.proofs.ConnectMoves.{client-passes, calls-sound, passes}
 
@@ -221,7 +221,7 @@ module _ (k : Kind) (cs : Settings) (g : Past) (l : Link) (y : List ℕ) (w : Aw
 
   -- nothing is open any more, whatever the client keeps
   rests : (x : List ℕ) → length x ≡ length (l .stores .packet) → (remote : ℕ) (id : ConnectionId) (o : Outcome) → 255 ≤ remote → remote ≤ 65535
-      → Rest (limitFor (l .server)) (linkWith (clientWith (l .client .settings) remote id Nothing await.Call false 0 (length y))
+      → AtRest (limitFor (l .server)) (linkWith (clientWith (l .client .settings) remote id Nothing await.Call false 0 (length y))
       (withPacket (l .stores) x) o (l .server) (l .told) (l .up) [])
   unfolding clientWith
   rests x le remote id o a b =
@@ -444,7 +444,7 @@ disconnect-packs cs id hs o b n =
       limit = tt;
     }
 
-pub rest-sound : (box : ℕ) (l : Link) → Rest box l → sound (l .client) ≡ true
+pub rest-sound : (box : ℕ) (l : Link) → AtRest box l → sound (l .client) ≡ true
 unfolding sound
 rest-sound box l i = simp (lt-ltb _ _ (i .begun), le-leb _ _ (i .latest), le-leb _ _ (i .least), i .counts)
 
@@ -468,7 +468,7 @@ request-long s e =
     let q = ltb (length (s .request)) 65535 in
     ltb-false (length (s .request)) 65535 (or-right b q (or-right h (b || q) (or-right p (h || (b || q)) e)))
 
-module _ (k : Kind) (cs : Settings) (g : Past) (l : Link) (i : Rest (limitFor (l .server)) l) (s : Standing cs g l) (q : List ℕ)
+module _ (k : Kind) (cs : Settings) (g : Past) (l : Link) (i : AtRest (limitFor (l .server)) l) (s : Standing cs g l) (q : List ℕ)
     (p : Packs k cs q)
     (h : Past) (n : NamesNow k (h .named) (l .client .«connection_id»)) (bd : Bound k cs (h .connected) (limitFor (l .server))) where
   held-ids : (k : Kind) → Ids (heldId k (l .client .«connection_id»)) (l .server .engine .peer) (l .server .tables)
@@ -496,7 +496,7 @@ module _ (k : Kind) (cs : Settings) (g : Past) (l : Link) (i : Rest (limitFor (l
       (record { most = s .most; ids = held-ids k }) n bd
 
 -- a Connect
-pub connect-begins : (cs : Settings) (g : Past) (l : Link) → cs .«max_packet_length» ≤ 65535 → Rest (limitFor (l .server)) l
+pub connect-begins : (cs : Settings) (g : Past) (l : Link) → cs .«max_packet_length» ≤ 65535 → AtRest (limitFor (l .server)) l
     → Standing cs g l → (hs : List ℕ) → Octets hs
     → shown.goes l (connect hs) ≡ true → Phase connecting cs g (move l (user (connect hs)))
 unfolding move connectStep
@@ -519,7 +519,7 @@ connect-begins cs g l small i s hs o go =
     (connect-packs cs hs small o (w .0) (ltb-false _ _ (w .1))) g (s .names) (s .limit))
 
 -- a Disconnect, which ends what was before
-pub disconnect-begins : (cs : Settings) (g : Past) (l : Link) → Rest (limitFor (l .server)) l → Standing cs g l → (hs : List ℕ)
+pub disconnect-begins : (cs : Settings) (g : Past) (l : Link) → AtRest (limitFor (l .server)) l → Standing cs g l → (hs : List ℕ)
     → Octets hs
     → shown.goes l (disconnect hs) ≡ true
     → Phase disconnecting cs (record { connected = false; named = Missing }) (move l (user (disconnect hs)))

@@ -32,7 +32,7 @@ use Rattle.server.specs.declared.Outcome.the-variants as told
 use Rattle.model.specs.Request.{lastHeaders}
 use Rattle.model.specs.Dispatch.{busy}
 use Rattle.model.specs.Runs.{State}
-use Rattle.client_model.specs.Guard.{short, soundOperation as soundClient}
+use Rattle.client_model.specs.Guard.{short}
 use Rattle.client_model.specs.declared.Settings.{Settings}
 use Rattle.client_model.specs.declared.Operation.{Operation}
 use Rattle.client_model.specs.declared.Operation.the-variants.{Connecting, Disconnecting}
@@ -42,7 +42,7 @@ use Rattle.client_model.proofs.Only.{NoSrm}
 use Rattle.link.specs.Link.{Link, Move}
 use Rattle.link.specs.Claims.{namedIn, namedBy}
 use Rattle.link.proofs.Moves.{isEnd}
-use Rattle.link.proofs.Joint.{Serves, Ready}
+use Rattle.link.proofs.Joint.{Serves, Ready, AtRest}
 
 -- ---- the two operations
 
@@ -233,20 +233,6 @@ pub data Phase (k : Kind) (cs : Settings) (g : Past) (l : Link) : Type 0 where
 
 -- ---- nothing is open
 
--- both ends are at rest, and nothing is on the stream; `box` is the longest packet that the server sends
-pub record Rest (box : ℕ) (l : Link) : Type 0 where
-  pub room : short (l .stores) ≡ false
-  pub begun : l .client .begun < 65535
-  pub latest : l .client .length ≤ 65535
-  pub least : 255 ≤ l .client .«remote_max_packet_length»
-  pub most : l .client .«remote_max_packet_length» ≤ 65535
-  pub counts : soundClient (l .client .operation) ≡ true
-  pub awaits : l .client .awaits ≡ await.Call
-  pub stays : l .client .aborting ≡ false
-  pub ready : Ready box l
-  pub idle : busy (l .server .engine .operation) ≡ false
-  pub down : l .down ≡ []
-
 -- what is known then
 pub record Standing (cs : Settings) (g : Past) (l : Link) : Type 0 where
   pub settings : l .client .settings ≡ cs
@@ -263,6 +249,6 @@ MayConnect disconnecting b = b ≡ false
 -- a move leads on, or to the end
 pub data Next (k : Kind) (cs : Settings) (g : Past) (l : Link) : Type 0 where
   goes : Phase k cs g l → Next k cs g l
-  over : Rest (limitFor (l .server)) l → ((b : Bool) → MayConnect k b → Standing cs (record { connected = b; named = g .named }) l)
+  over : AtRest (limitFor (l .server)) l → ((b : Bool) → MayConnect k b → Standing cs (record { connected = b; named = g .named }) l)
       → Next k cs g l
   gone : isEnd (l .said) ≡ true → Next k cs g l

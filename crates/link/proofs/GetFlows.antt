@@ -1,18 +1,17 @@
 -- The moves of a Get under Single Response Mode (SRM) by phases: the request goes up as a stream, to a server that gathers or has ended, and the
 -- object comes down as one. Each lemma takes what its phase holds and gives the phase that follows. Assumes nothing.
-use mathlib.Core.Path.{_≡_, refl, sym, ap, subst, subst₂, _∙_}
+use mathlib.Core.Path.{_≡_, refl, sym, ap, subst, _∙_}
 use mathlib.Core.List.{List, [], _∷_, _++_, append-nil, append-assoc}
-use mathlib.Core.Bool.{Bool, true, false, _&&_, _||_, not, true≢false, false≢true}
-use mathlib.Core.Option.{Option, none, some}
+use mathlib.Core.Bool.{Bool, true, false, _&&_, _||_, true≢false, false≢true}
+use mathlib.Core.Option.{some}
 use mathlib.Core.Logic.{inl, inr}
 use Prim.Native.Nat.{ℕ, _+_, _≤_, _<_}
 use native.Mathlib.Omega.{arith}
-use lib.ListN.{length, take, length-append}
+use lib.ListN.{length, length-append}
 use borrow.Author.Tests.{le-leb}
 use Rattle.packet.specs.Codes.{sentCode}
 use Rattle.packet.specs.HeaderIds as header-id
 use Rattle.packet.specs.Header.{Header, first}
-use Rattle.packet.specs.Packet.{Request as Packet}
 use Rattle.packet.specs.declared.opcode.Opcode.the-variants as op
 use Rattle.journal.specs.Journal.{isEnable}
 use Rattle.journal.specs.Record.{bare, keptByGet}
@@ -26,29 +25,25 @@ use Rattle.server.specs.declared.End.the-variants as end
 use Rattle.server.specs.declared.Engine.{Engine}
 use Rattle.server.specs.declared.HostRequest.the-variants as hostRequest
 use Rattle.server.specs.declared.Outcome.the-variants as told
-use Rattle.model.specs.Step.{Stores, withGathered, engineWith, Done, wants, asks, ends, limitOf}
+use Rattle.model.specs.Step.{Stores, withGathered, engineWith, Done, wants, asks, ends}
 use Rattle.model.specs.Runs.{State}
 use Rattle.model.proofs.Fit.{Base}
 use Rattle.model.proofs.ServerGet.{GetDid, full, asks-host, goes-on as getGoes, silent as getSilent}
-use Rattle.client_model.specs.Step.{Stores as ClientStores, clientWith}
-use Rattle.client_model.specs.Calls.{bytesOfferedStep}
-use Rattle.client_model.specs.declared.Client.{Client}
-use Rattle.client_model.specs.declared.Outcome.{Outcome}
+use Rattle.client_model.specs.Step.{clientWith}
 use Rattle.client_model.proofs.Conveyed.{Holding}
 use Rattle.client_model.proofs.Putting.{isNone, Plainly, holding-more}
 use Rattle.client_model.proofs.Getting.{Fetch, wants as asksSrm, wish, Waits, Up, Holds, keptAll, goes-up, madePacket, sentPacket, ends-first, waits-first, ends-kept, kept-within, abortBytes, abort-up}
-use Rattle.link.specs.Link.{Link, linkWith, user, abort, sendUp, offerUp, offerDown, move}
+use Rattle.link.specs.Link.{Link, linkWith, sendUp, offerUp, offerDown, move}
 use Rattle.link.specs.Told.{partBy, isAccepted}
 use Rattle.link.proofs.Joint.{Begun}
 use Rattle.link.proofs.Queues.{joinAll, AllWhole, Queue, queue-next, queue-more, whole-append}
 use Rattle.link.proofs.ServerMoves.{didLink}
-use Rattle.link.proofs.GetHeard.{GetHeard, getHeardAfter, silent, none-part-down}
+use Rattle.link.proofs.GetHeard.{GetHeard, getHeardAfter, silent}
 use Rattle.link.proofs.GetObject.{Down, Thing}
-use Rattle.link.proofs.GetJoint.{Origin, boxOf, Gathers, gathered, Early, Story, Stage, requesting, aborting, Answered, Due, isWaiting, isFirst, isOn, onAfter, stops, Means, whole, fails, Large, AllUp, AllDown, Prefix, Busy, sending, cancelling, Closes, last-one, cancels, Reader, Granting, Turning, Taker, awaiting-next, Last, all-gone, breaks, Source, Rest, GetJoint, under-way, ended, streaming, closing, lost, pouring, draining, GetNext, goes}
-use Rattle.link.proofs.GetClientMoves.{abortHeard}
+use Rattle.link.proofs.GetJoint.{Origin, boxOf, Gathers, gathered, Early, Story, Stage, requesting, aborting, Answered, Due, isWaiting, isFirst, isOn, onAfter, stops, Means, whole, fails, Large, AllUp, AllDown, Prefix, Busy, sending, cancelling, Closes, last-one, cancels, Reader, Granting, Turning, awaiting-next, Last, all-gone, breaks, Source, Rest, GetJoint, ended, streaming, closing, lost, pouring, draining, GetNext, goes}
 use Rattle.link.proofs.GetServerMoves.{heardDid, Acts, stays-on, wait-none, did-ask, did-end, offer-up}
 use Rattle.link.proofs.GetResponses.{offer-down, late-none}
-use Rattle.link.proofs.GetStreams.{send-last, send-more, abort-stream, send-cancel}
+use Rattle.link.proofs.GetStreams.{send-last, send-more, send-cancel}
 use Rattle.link.proofs.GetReads.{stream-up}
 use Rattle.link.proofs.GetPours.{taker-room}
 use Rattle.link.proofs.GetTakes.{take-down}

@@ -15,11 +15,11 @@ use Rattle.client_model.specs.declared.Client.{Client}
 use Rattle.client_model.specs.declared.Await.{Await}
 use Rattle.client_model.specs.declared.Await.the-variants as await
 use Rattle.client_model.specs.declared.Outcome.{Outcome}
-use Rattle.client_model.specs.declared.Outcome.the-variants as said
 use Rattle.client_model.proofs.Sending.{lead-small}
 use Rattle.client_model.proofs.Getting.{Fetch, nextBytes, abortBytes, sent-within}
 use Rattle.link.specs.Link.{Link, Move, user, host, sendUp, sendDown, offerUp, offerDown, closeUp, closeDown, move, moves}
 use Rattle.link.specs.Told.{aborts, abortedIn, partBy, partsIn}
+use Rattle.link.specs.Contracts.{requestBytes}
 use Rattle.link.specs.Claims.{Plain, Until}
 use Rattle.link.proofs.GetHeard.{GetHeard, getHeardAfter, getHeardIn, refused-part, none-part-down}
 use Rattle.link.proofs.GetJoint.{Origin, GetJoint, turn, handing, last-part, asking, stopping, under-way, at-host, reading, acknowledging, replied, coming, ended, Busy, sending, cancelling, Taker, awaiting-next, hands, streaming, closing, lost, pouring, draining, GetNext, goes, over}
@@ -130,19 +130,6 @@ late-run j o xs m zs h l now pl un ab =
 
 -- ---- a packet that waits
 
--- its bytes
-abbrev pub packetUp : Outcome → List ℕ → List ℕ
-packetUp (said.Send n) q = take n q
-packetUp said.Ready q = []
-packetUp said.WantsBytes q = []
-packetUp (said.Read n) q = []
-packetUp (said.Part k b) q = []
-packetUp (said.Done c n) q = []
-packetUp (said.Stopped c n) q = []
-packetUp (said.Aborted c n) q = []
-packetUp (said.End x) q = []
-packetUp (said.Refused r) q = []
-
 next-small : length nextBytes ≤ 255
 unfolding packetBytes
 next-small = omega arith
@@ -153,59 +140,59 @@ abort-small j = let k = lead-small (j .id) false in omega (arith, k)
 
 -- one of the request, or the Abort, under Single Response Mode
 busy-within : (j : Fetch) (h : GetHeard) (sent : List (List ℕ)) (c : Client) (s : Stores) (u : Outcome) → Busy j h sent c s u
-    → length (packetUp u (s .request)) ≤ j .remote
+    → length (requestBytes u (s .request)) ≤ j .remote
 busy-within j h sent c s u (sending k a ab) =
-    let e = ap (λ (o : Outcome). length (packetUp o (s .request))) (a .said) in
+    let e = ap (λ (o : Outcome). length (requestBytes o (s .request))) (a .said) in
     let f = ap (λ (q : List ℕ). length (take (a .size) q)) (a .request) in
     omega (arith, e, f, sent-within j true sent c u s a)
 busy-within j h sent c s u (cancelling n k p a q t ab) =
-    let e = ap (λ (o : Outcome). length (packetUp o (s .request))) q in
+    let e = ap (λ (o : Outcome). length (requestBytes o (s .request))) q in
     let f = ap (λ (x : List ℕ). length x) t in
     omega (arith, e, f, abort-small j, j .low)
 
 -- none waits while the client takes parts
 taker-within : (j : Fetch) (h : GetHeard) (lead : Bool) (zs : List (List Header)) (c : Client) (s : Stores) (u : Outcome) → Taker j h lead zs c s u
-    → length (packetUp u (s .request)) ≤ j .remote
+    → length (requestBytes u (s .request)) ≤ j .remote
 taker-within j h lead zs c s u (awaiting-next st flag sent due wt tu) =
-    let e = ap (λ (x : Outcome). length (packetUp x (s .request))) (due .said) in omega (arith, e)
+    let e = ap (λ (x : Outcome). length (requestBytes x (s .request))) (due .said) in omega (arith, e)
 taker-within j h lead zs c s u (hands code n x k p a q bg ab) =
-    let e = ap (λ (x : Outcome). length (packetUp x (s .request))) q in omega (arith, e)
+    let e = ap (λ (x : Outcome). length (requestBytes x (s .request))) q in omega (arith, e)
 
 -- it is within the limit of the server
-pub within : (j : Fetch) (o : Origin) (h : GetHeard) (l : Link) → GetJoint j o h l → length (packetUp (l .said) (l .stores .request)) ≤ j .remote
+pub within : (j : Fetch) (o : Origin) (h : GetHeard) (l : Link) → GetJoint j o h l → length (requestBytes (l .said) (l .stores .request)) ≤ j .remote
 within j o h l (turn sent xs hold k a b r g dn ea ab) =
-    let e = ap (λ (u : Outcome). length (packetUp u (l .stores .request))) (a .said) in
+    let e = ap (λ (u : Outcome). length (requestBytes u (l .stores .request))) (a .said) in
     let f = ap (λ (q : List ℕ). length (take (a .size) q)) (a .request) in
     omega (arith, e, f, sent-within j false sent (l .client) (l .said) (l .stores) a)
 within j o h l (handing t out d zs code n x off k p a q b r g dn hold w ab) =
-    let e = ap (λ (u : Outcome). length (packetUp u (l .stores .request))) q in omega (arith, e)
+    let e = ap (λ (u : Outcome). length (requestBytes u (l .stores .request))) q in omega (arith, e)
 within j o h l (last-part on code n x k p a q b r g dn fin) =
-    let e = ap (λ (u : Outcome). length (packetUp u (l .stores .request))) q in omega (arith, e)
+    let e = ap (λ (u : Outcome). length (requestBytes u (l .stores .request))) q in omega (arith, e)
 within j o h l (asking t out d zs code n off k p a q u b r g dn hold w ab) =
-    let e = ap (λ (x : Outcome). length (packetUp x (l .stores .request))) q in
+    let e = ap (λ (x : Outcome). length (requestBytes x (l .stores .request))) q in
     let f = ap (λ (x : List ℕ). length x) u in
     omega (arith, e, f, next-small, j .low)
 within j o h l (stopping n k p a q u b r dn on ab) =
-    let e = ap (λ (x : Outcome). length (packetUp x (l .stores .request))) q in
+    let e = ap (λ (x : Outcome). length (requestBytes x (l .stores .request))) q in
     let f = ap (λ (x : List ℕ). length x) u in
     omega (arith, e, f, abort-small j, j .low)
 within j o h l (under-way st flag sent q due b v c dn) =
-    let e = ap (λ (x : Outcome). length (packetUp x (l .stores .request))) (due .said) in omega (arith, e)
+    let e = ap (λ (x : Outcome). length (requestBytes x (l .stores .request))) (due .said) in omega (arith, e)
 within j o h l (at-host flag srm initial confirm sent g r due may b v a p t up dn on) =
-    let e = ap (λ (x : Outcome). length (packetUp x (l .stores .request))) (due .said) in omega (arith, e)
+    let e = ap (λ (x : Outcome). length (requestBytes x (l .stores .request))) (due .said) in omega (arith, e)
 within j o h l (reading st flag sent th out d zs r due wt off low b v a rd t up dn hold w) =
-    let e = ap (λ (x : Outcome). length (packetUp x (l .stores .request))) (due .said) in omega (arith, e)
+    let e = ap (λ (x : Outcome). length (requestBytes x (l .stores .request))) (due .said) in omega (arith, e)
 within j o h l (acknowledging sent r due b v a t up dn on) =
-    let e = ap (λ (x : Outcome). length (packetUp x (l .stores .request))) (due .said) in omega (arith, e)
+    let e = ap (λ (x : Outcome). length (requestBytes x (l .stores .request))) (due .said) in omega (arith, e)
 within j o h l (replied st flag sent y code x n due b y′ mean v a t r up dn) =
-    let e = ap (λ (x : Outcome). length (packetUp x (l .stores .request))) (due .said) in omega (arith, e)
+    let e = ap (λ (x : Outcome). length (requestBytes x (l .stores .request))) (due .said) in omega (arith, e)
 within j o h l (coming st flag sent y code x due y′ mean r half hl) =
-    let e = ap (λ (x : Outcome). length (packetUp x (l .stores .request))) (due .said) in omega (arith, e)
+    let e = ap (λ (x : Outcome). length (requestBytes x (l .stores .request))) (due .said) in omega (arith, e)
 within j o h l (ended st flag sent x due b a t lg dn on ob fa) =
-    let e = ap (λ (x : Outcome). length (packetUp x (l .stores .request))) (due .said) in omega (arith, e)
+    let e = ap (λ (x : Outcome). length (requestBytes x (l .stores .request))) (due .said) in omega (arith, e)
 within j o h l (streaming sent xs qs vs bu b pre hold au rd ga qu dn ea) = busy-within j h sent (l .client) (l .stores) (l .said) bu
 within j o h l (closing st flag sent xs qs vs q ws due b pre hold au cl rd ga qu dn ea) =
-    let e = ap (λ (x : Outcome). length (packetUp x (l .stores .request))) (due .said) in omega (arith, e)
+    let e = ap (λ (x : Outcome). length (requestBytes x (l .stores .request))) (due .said) in omega (arith, e)
 within j o h l (lost sent x bu b a t lg dn ea k) = busy-within j h sent (l .client) (l .stores) (l .said) bu
 within j o h l (pouring t out d zs ys vs on tk ad qu hold gr up v src w) = taker-within j h (t .lead) zs (l .client) (l .stores) (l .said) tk
 within j o h l (draining t out d zs ys vs y code x on tk ad y′ qu gr r la w hl) = taker-within j h (t .lead) zs (l .client) (l .stores) (l .said) tk

@@ -2,10 +2,9 @@
 -- follow one another to the client, which hands on one after the other, or reads and drops them once the user has aborted. Assumes nothing.
 use mathlib.Core.Path.{_≡_, refl, sym, ap, subst, subst₂, _∙_}
 use mathlib.Core.List.{List, [], _∷_, _++_, append-nil, append-assoc}
-use mathlib.Core.Bool.{Bool, true, false, _&&_, _||_, true≢false, false≢true}
+use mathlib.Core.Bool.{Bool, true, false, _&&_, _||_}
 use mathlib.Core.Option.{Option, none, some}
 use Prim.Native.Nat.{ℕ, _+_, _-_, _≤_}
-use native.Mathlib.Omega.{arith}
 use lib.ListN.{length, take, drop}
 use Rattle.base.specs.Pick.{pick}
 use Rattle.packet.specs.Codes.{codes, isCode, sentCode}
@@ -14,7 +13,6 @@ use Rattle.packet.specs.Header.{Header, first}
 use Rattle.packet.specs.Packet.{packetBytes}
 use Rattle.journal.specs.Journal.{isEnable}
 use Rattle.journal.specs.Record.{bare, joined}
-use Rattle.journal.specs.Calls.{replyTaken}
 use Rattle.journal.proofs.Laws.{joined-bare}
 use Rattle.outgoing.specs.Object.{Made, nextPacket}
 use Rattle.outgoing.specs.Packets.{Packets}
@@ -49,10 +47,10 @@ use Rattle.link.specs.Link.{Link, linkWith, sendDown, serverDid, replyBy
 use Rattle.link.specs.Told.{askedBy, went, firstOr}
 use Rattle.link.proofs.Moves.{orElse, or-false}
 use Rattle.link.proofs.ServerMoves.{passes, didLink, reply-front, base-reply, idle-goes, first-of, client-packet}
-use Rattle.link.proofs.Queues.{joinAll, Queue, queue-more}
+use Rattle.link.proofs.Queues.{Queue, queue-more}
 use Rattle.link.proofs.GetHeard.{GetHeard, getHeard, orJoined, heardCalls, getHeardAfter, or-none, or-joined-none}
 use Rattle.link.proofs.GetObject.{Down, code-down, Thing, thingHeaders, Sends, Makes′, next-made, sentOf, made-down, all-sent, some-sent}
-use Rattle.link.proofs.GetJoint.{Origin, boxOf, Stays, Story, Due, AllDown, Granting, Taker, awaiting-next, hands, Last, all-gone, breaks, Source, next-waits, last-waits, asks-body, GetJoint, pouring, draining}
+use Rattle.link.proofs.GetJoint.{Origin, boxOf, Stays, Story, AllDown, Granting, Taker, awaiting-next, hands, Last, all-gone, breaks, next-waits, last-waits, asks-body, GetJoint, pouring, draining}
 use Rattle.link.proofs.GetServerMoves.{Acts, acts, stays-on, base-made}
 
 -- ---- what is made

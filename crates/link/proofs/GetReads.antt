@@ -1,87 +1,46 @@
 -- The server while the packets of a Get's request follow one another under Single Response Mode (SRM): some bytes of the first come, or all of it,
 -- and the server gathers it. What becomes of the link is left to the caller. Assumes nothing.
-use mathlib.Core.Path.{_≡_, refl, sym, ap, ap₂, subst, subst₂, _∙_}
-use mathlib.Core.List.{List, [], _∷_, _++_, append-nil}
-use mathlib.Core.Bool.{Bool, true, false, _&&_, _||_, not, true≢false, false≢true}
+use mathlib.Core.Path.{_≡_, refl, sym, ap, subst, subst₂, _∙_}
+use mathlib.Core.List.{List, [], _∷_, _++_}
+use mathlib.Core.Bool.{Bool, true, false, _||_, true≢false}
 use mathlib.Core.Option.{Option, none, some}
-use mathlib.Core.Logic.{_⊎_, inl, inr}
-use Prim.Native.Nat.{ℕ, zero, suc, _+_, _-_, _≤_, _<_}
+use Prim.Native.Nat.{ℕ, _+_, _-_}
 use native.Mathlib.Omega.{arith}
 use lib.ListN.{length, take, drop}
-use lib.Seq.{drop-length}
-use borrow.Author.Tests.{le-leb}
-use Rattle.base.specs.Pick.{pick}
-use Rattle.packet.specs.Codes.{codes, isCode, isSuccess, sentCode}
-use Rattle.packet.specs.FirstByte.{sameOpcode}
-use Rattle.packet.specs.HeaderIds as header-id
-use Rattle.packet.specs.Header.{Header, encodingOf, bytesOf, allBytes, first}
-use Rattle.packet.specs.Modes as modes
-use Rattle.packet.proofs.HeaderWrites.{read-written}
-use Rattle.text.specs.Unicode.{Octets}
-use Rattle.client_model.specs.Leading.{leadingHeaders}
-use Rattle.connection.specs.declared.peer.ConnectionId.the-variants.{Missing}
-use Rattle.outgoing.specs.Queue.{mustLead, insertEarly}
-use Rattle.packet.specs.Packet.{Request as Packet, packetBytes, requestOf}
-use Rattle.packet.specs.declared.opcode.Opcode.{Opcode}
+use Rattle.packet.specs.Header.{Header}
+use Rattle.packet.specs.Packet.{Request as Packet, requestOf}
 use Rattle.packet.specs.declared.opcode.Opcode.the-variants as op
-use Rattle.journal.specs.Journal.{isEnable}
-use Rattle.journal.specs.Record.{Record, bare, joined}
+use Rattle.journal.specs.Record.{bare, joined}
 use Rattle.journal.specs.Calls.{bytesOffered}
-use Rattle.journal.proofs.Laws.{joined-bare}
 use Rattle.incoming.specs.Frame.{Frames, framed}
-use Rattle.incoming.specs.Gather.{Gathering, gathering as gatheringOf}
-use Rattle.incoming.specs.Survey.{surveyOf, present}
-use Rattle.incoming.specs.declared.survey.Survey.{Survey}
-use Rattle.incoming.specs.declared.gather.Gathered.{Gathered}
+use Rattle.incoming.specs.Gather.{Gathering}
+use Rattle.incoming.specs.Survey.{surveyOf}
 use Rattle.incoming.specs.declared.gather.Keep.the-variants as keep
-use Rattle.incoming.proofs.Gathers.{KeptAgrees, kept-begins, gather-lengths}
-use Rattle.incoming.proofs.Queued.{IsWhole, Half, Came, goes as stillGoes, comes, queued, none-come}
-use Rattle.outgoing.specs.Object.{Made, nextPacket}
-use Rattle.outgoing.specs.Packets.{Packets}
-use Rattle.outgoing.specs.declared.object.Next.{Next}
-use Rattle.outgoing.specs.declared.object.Next.the-variants as next
-use Rattle.journal.specs.Ids.{member}
-use Rattle.connection.specs.Peer.{idsOf}
-use Rattle.connection.specs.Reply.{front}
-use Rattle.connection.specs.declared.peer.Peer.{Peer}
-use Rattle.server.specs.declared.Settings.{Settings as ServerSettings}
+use Rattle.incoming.proofs.Queued.{Came, goes as stillGoes, comes, queued}
 use Rattle.server.specs.declared.Operation.{Operation}
-use Rattle.server.specs.declared.Operation.the-variants.{Nothing, Trailing, Putting, Getting, Sending, Gathering as GatheringOp, Connecting, Draining}
 use Rattle.server.specs.declared.Await.{Await}
-use Rattle.server.specs.declared.Await.the-variants as waits
 use Rattle.server.specs.declared.CallKind.the-variants as kind
-use Rattle.server.specs.declared.End.the-variants as end
 use Rattle.server.specs.declared.Engine.{Engine}
-use Rattle.server.specs.declared.HostRequest.the-variants as hostRequest
-use Rattle.server.specs.declared.Outcome.{Outcome}
 use Rattle.server.specs.declared.Outcome.the-variants as told
-use Rattle.model.specs.Step.{Stores, withReply, withGathered, engineWith, Done, wants, asks, ends, replies, repliesCode, continues, continueBytes, limitOf, Stepped, Called, after}
-use Rattle.model.specs.Operation.{nothingGathered, getPacket, gathers}
-use Rattle.model.specs.Object.{sendsMade, sendsPacket, sendsNext, goesOn}
-use Rattle.model.specs.Dispatch.{knownIn, rejection, confirms, dispatch, trails, trailed, inside, busy, readAs, packetTarget, arrived, packetDone}
-use Rattle.model.specs.Guard.{soundOperation, fits, sameAwait}
-use Rattle.model.specs.Calls.{withPacket, offers, bytesOfferedStep, replyTakenStep}
+use Rattle.model.specs.Step.{Stores, withGathered, engineWith, Done, limitOf, Called}
+use Rattle.model.specs.Operation.{getPacket, gathers}
+use Rattle.model.specs.Dispatch.{knownIn, inside, readAs, packetTarget, arrived, packetDone}
+use Rattle.model.specs.Guard.{fits}
+use Rattle.model.specs.Calls.{withPacket, offers, bytesOfferedStep}
 use Rattle.model.specs.Runs.{State, stepOf, keeps}
 use Rattle.model.proofs.Fit.{Room, Base}
-use Rattle.model.proofs.ServerPut.{Refuses, server-abort}
-use Rattle.model.proofs.ServerGet.{GetDid, full, asks-host, goes-on as getGoes, silent as getSilent, server-get, Asked, asked-none, next-get, get-read, server-object}
-use Rattle.client_model.proofs.Conveyed.{Holding}
-use Rattle.client_model.proofs.Leads.{lead-shaped}
-use Rattle.client_model.proofs.Only.{no-parameter}
-use Rattle.client_model.proofs.Putting.{isNone, counts-sound, holding-more}
-use Rattle.client_model.proofs.Getting.{wants as asksSrm, Fetch, allOf, wish, Up, Holds, keptAll, kept-more, ends-kept, ends-first, more-first, kept-within, get-begun, hasId, idSent, first-id, next-up, abort-up}
-use Rattle.link.specs.Link.{Link, linkWith, sendDown, offerUp, serverDid, replyBytes, sendsDown, callAfter, performedBy, move}
-use Rattle.link.specs.Told.{askedBy, Answer, isAccepted, firstOr}
-use Rattle.link.proofs.Moves.{orElse, or-false}
-use Rattle.link.proofs.ServerMoves.{passes, passes-tables, didLink, serves-on, reply-front, base-reply, idle-goes, first-of, client-packet, and-false}
-use Rattle.link.proofs.GetHeard.{GetHeard, getHeard, orJoined, heardCalls, getHeardAfter, silent, or-none, or-joined-none}
-use Rattle.link.proofs.GetObject.{Down, reply-down, lead-off, code-down, Thing, thingHeaders, Sends, Makes′, next-made, sentOf, made-down, all-sent, some-sent}
-use Rattle.link.proofs.GetJoint.{Origin, boxOf, isAdmitted, Stays, UnderWay, Gathers, none-yet, gathered, Early, Story, Once, Stage, requesting, receiving, aborting, Answered, Due, isWaiting, isRequesting, isOn, isFirst, onAfter, Carries, request, asks as nextAsks, stops, Means, goes-on, refuses, answers as hostAnswers, more, whole, fails, stopped, GetJoint, under-way, at-host, reading, acknowledging, replied, coming, ended}
+use Rattle.model.proofs.ServerGet.{GetDid, server-get, next-get, get-read}
+use Rattle.client_model.proofs.Getting.{Fetch, Up, keptAll, kept-more}
+use Rattle.link.specs.Link.{Link, linkWith, offerUp, serverDid, move}
+use Rattle.link.specs.Told.{askedBy}
+use Rattle.link.proofs.Moves.{orElse}
+use Rattle.link.proofs.ServerMoves.{passes-tables, didLink}
+use Rattle.link.proofs.GetHeard.{GetHeard, getHeard, orJoined, getHeardAfter, silent}
+use Rattle.link.proofs.GetJoint.{Origin, boxOf, Gathers, none-yet, gathered, more, whole, GetJoint}
 use lib.Seq.{drop-append-seam, drop-append-le}
-use Rattle.client_model.proofs.Putting.{Plainly}
 use Rattle.link.proofs.Joint.{Begun}
 use Rattle.link.proofs.GetJoint.{Reader}
-use Rattle.link.proofs.GetServerMoves.{heardDid, Acts, acts, gathered-room, wait-none}
+use Rattle.link.proofs.GetServerMoves.{heardDid, Acts, acts, gathered-room}
 
 module _ (j : Fetch) (o : Origin) (h : GetHeard) (l : Link) (xs : List (List Header)) (rd : Reader o (l .server) (l .told))
     (ga : Gathers true (l .server) xs) (q behind : List ℕ) (x : List Header) (last : Bool) (u : Up q op.Get last x)

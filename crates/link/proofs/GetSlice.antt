@@ -1,7 +1,7 @@
 -- The claim on a Get, with Single Response Mode or without, from every link in which nothing is open, aborted or not. Assumes nothing.
 use mathlib.Core.Path.{_≡_, refl, sym, ap, subst, _∙_}
 use mathlib.Core.List.{List, [], _∷_, _++_}
-use mathlib.Core.Bool.{true, false, _&&_, _||_}
+use mathlib.Core.Bool.{true, false, _||_}
 use mathlib.Core.Option.{some}
 use mathlib.Core.Logic.{_⊎_}
 use Prim.Native.Nat.{ℕ, _+_, _-_, _≤_}
@@ -11,6 +11,7 @@ use lib.ListN.{length}
 use lib.Seq.{paste, length-paste}
 use Rattle.text.specs.Unicode.{Octets}
 use Rattle.journal.specs.Record.{bare}
+use Rattle.journal.specs.Journal.{Journal, admitted}
 use Rattle.connection.specs.Peer.{atLeast255}
 use Rattle.connection.proofs.Front.{front-length}
 use Rattle.client_model.specs.Leading.{leading}
@@ -26,12 +27,14 @@ use Rattle.client_model.proofs.Getting.{Fetch, headersOf, Stands, Leads, get-le
 use Rattle.link.specs.Link.{Link, linkWith, get, Move, user, saidAfter, clientDid, move, moves}
 use Rattle.link.specs.Told.{goes, succeeded, abortedIn, askedIn, answerIn, objectIn, lastReplyIn, partsIn, isAccepted, isWhole, replyPart}
 use Rattle.link.specs.Claims.{Plain, Until, EndHolds, GetHolds}
+use Rattle.link.specs.Contracts.{requestBytes}
+use Rattle.link.specs.GetMore.{firstGet, GetMore}
 use Rattle.link.proofs.Joint.{AtRest}
 use Rattle.link.proofs.Opens.{long, not-short, Opens, opens}
 use Rattle.link.proofs.GetHeard.{GetHeard, noneHeard, getHeardIn, get-heard-whole}
 use Rattle.link.proofs.GetJoint.{Origin, isAdmitted, none-yet, Finished, GetJoint, turn, Rested}
 use Rattle.link.proofs.GetRuns.{get-run}
-use Rattle.link.proofs.GetMoments.{get-at, late-run, packetUp, within}
+use Rattle.link.proofs.GetMoments.{get-at, late-run, within}
 
 -- what a Get leaves of a server as it is
 abbrev pub originOf : Link → Origin
@@ -137,7 +140,7 @@ pub record GetSlice (box : ℕ) (before l : Link) (hs : List ℕ) (ms : List Mov
   pub late : (xs : List Move) (m : Move) (zs : List Move) → ms ≡ xs ++ (m ∷ zs) → abortedIn l xs ≡ true → partsIn (moves l xs) (m ∷ zs) ≡ bare
   -- every packet that is sent is within the limit that the server gave
   pub within : (xs : List Move) (m : Move) (zs : List Move) → ms ≡ xs ++ (m ∷ zs)
-      → length (packetUp (moves l xs .said) (moves l xs .stores .request)) ≤ before .client .«remote_max_packet_length»
+      → length (requestBytes (moves l xs .said) (moves l xs .stores .request)) ≤ before .client .«remote_max_packet_length»
 
 pub get-slice : (box : ℕ) (before : Link) (hs : List ℕ) (ms : List Move) (i : AtRest box before) (oct : Octets hs) (go : goes before (get hs) ≡ true)
     → let l = move before (user (get hs)) in Plain ms → Until l ms → GetSlice box before l hs ms × Rested
@@ -177,3 +180,22 @@ pub get-holds : (cs : Settings) (before : Link) (hs : List ℕ) (ms : List Move)
 get-holds cs before hs ms i oct go pl un ab =
     let w = get-slice (atLeast255 (cs .«max_packet_length»)) before hs ms i oct go pl un .0 in
     record { asked = w .asked; success = w .success ab; object = w .object ab; reply = w .reply ab; ends = w .ends }
+
+-- what more holds, if the server admits what the journal admits
+pub get-more : (cs : Settings) (j : Journal) (before : Link) (hs : List ℕ) (ms : List Move) → AtRest (atLeast255 (cs .«max_packet_length»)) before
+    → Octets hs → goes before (get hs) ≡ true
+    → let l = move before (user (get hs)) in Plain ms → Until l ms
+    → (admitted (j .settings) (j .standing) (firstGet (before .client)) ≡ true → isAdmitted (originOf before) (before .client .«connection_id») ≡ true)
+    → GetMore j before l hs ms
+get-more cs j before hs ms i oct go pl un adm =
+    let w = get-slice (atLeast255 (cs .«max_packet_length»)) before hs ms i oct go pl un .0 in
+    record {
+      asked = w .asked;
+      asks = λ b a k. w .asks b (adm a) k;
+      ends = w .ends;
+      done = w .done;
+      stopped = w .never;
+      aborted = w .stops;
+      late = w .late;
+      within = w .within;
+    }

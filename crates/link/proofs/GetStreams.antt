@@ -1,20 +1,11 @@
 -- The request of a Get under Single Response Mode (SRM): its packets follow one another onto the stream, the user may abort in between, and the
 -- server gathers one after the other without a word. What becomes of the link is left to the caller, as the server may have ended. Assumes nothing.
-use mathlib.Core.Path.{_≡_, refl, sym, ap, subst, subst₂, _∙_}
-use mathlib.Core.List.{List, [], _∷_, _++_, append-nil}
-use mathlib.Core.Bool.{Bool, true, false, _&&_, _||_, not, true≢false, false≢true}
-use mathlib.Core.Option.{Option, none, some}
-use Prim.Native.Nat.{ℕ, _+_, _≤_, _<_}
-use native.Mathlib.Omega.{arith}
-use lib.ListN.{length, take, drop}
-use lib.Seq.{drop-append-seam, drop-append-le}
-use Rattle.base.specs.Pick.{pick}
-use Rattle.packet.specs.Header.{Header}
-use Rattle.packet.specs.Packet.{Request as Packet, requestOf}
-use Rattle.packet.specs.declared.opcode.Opcode.the-variants as op
-use Rattle.journal.specs.Record.{bare, joined}
-use Rattle.incoming.specs.Frame.{Frames, framed}
-use Rattle.client_model.specs.Step.{Stores, clientWith, goes, Done, wants, sends, Stepped, after}
+use mathlib.Core.Path.{_≡_, refl, sym, ap, subst₂, _∙_}
+use mathlib.Core.List.{List, [], _∷_, _++_}
+use mathlib.Core.Bool.{true, false}
+use Prim.Native.Nat.{ℕ, _+_}
+use lib.ListN.{length, take}
+use Rattle.client_model.specs.Step.{clientWith, goes, Done, sends, Stepped, after}
 use Rattle.client_model.specs.Numbers.{sameAwait}
 use Rattle.client_model.specs.Request.{requestsNext, sendsAbort}
 use Rattle.client_model.specs.Guard.{soundOperation, awaiting}
@@ -33,7 +24,7 @@ use Rattle.link.specs.Link.{Link, linkWith, user, sendUp, abort, saidAft
 use Rattle.link.proofs.ClientMoves.{passes}
 use Rattle.link.proofs.ServerMoves.{reply-front}
 use Rattle.link.proofs.GetHeard.{GetHeard, getHeardAfter, silent}
-use Rattle.link.proofs.GetJoint.{Origin, Stage, requesting, aborting, Due, Busy, cancelling, GetJoint}
+use Rattle.link.proofs.GetJoint.{Origin, requesting, aborting, Due, Busy, cancelling, GetJoint}
 use Rattle.link.proofs.GetClientMoves.{sentLink, sent-link, sent-stands, sends-stands, abort-short, abort-move, abort-sends, abortHeard}
 
 -- ---- a packet of the request goes onto the stream

@@ -1,10 +1,10 @@
 -- The client while the packets of an object follow one another under Single Response Mode (SRM): a packet that has come whole is handed on as a
 -- part, or dropped once the user has aborted; a part is taken; the user aborts. Assumes nothing.
 use mathlib.Core.Path.{_≡_, refl, sym, ap, subst, subst₂, _∙_}
-use mathlib.Core.List.{List, [], _∷_, _++_, append-nil}
-use mathlib.Core.Bool.{Bool, true, false, _&&_, _||_, not, true≢false, false≢true}
-use mathlib.Core.Option.{Option, none, some}
-use Prim.Native.Nat.{ℕ, _+_, _≤_}
+use mathlib.Core.List.{List, [], _∷_, _++_}
+use mathlib.Core.Bool.{Bool, true, false, _&&_, _||_, true≢false, false≢true}
+use mathlib.Core.Option.{Option}
+use Prim.Native.Nat.{ℕ, _+_}
 use native.Mathlib.Omega.{arith}
 use lib.ListN.{length, take, drop}
 use lib.Seq.{drop-append-seam, drop-append-le}
@@ -13,13 +13,12 @@ use Rattle.packet.specs.Header.{Header}
 use Rattle.packet.specs.ResponsePacket.{ResponsePacket, responsePacket}
 use Rattle.journal.specs.Record.{Record, bare, joined, carriedBy}
 use Rattle.incoming.specs.Frame.{Frames, framed}
-use Rattle.incoming.proofs.Gathers.{PutAgrees}
-use Rattle.incoming.proofs.Queued.{Half, Came, goes as stillGoes, comes, queued}
-use Rattle.client_model.specs.Step.{Stores, stores, withPacket, clientWith, begunWith, arrived, goes, Done, wants, Stepped, after}
+use Rattle.incoming.proofs.Queued.{Came, goes as stillGoes, comes, queued}
+use Rattle.client_model.specs.Step.{Stores, stores, withPacket, clientWith, begunWith, arrived, goes, Done, wants, Stepped}
 use Rattle.client_model.specs.Numbers.{sameAwait}
-use Rattle.client_model.specs.Answer.{grants, gathers, partBody, parts, received, responded, isConnecting, readAs, responseDone}
+use Rattle.client_model.specs.Answer.{gathers, partBody, parts, received, responded, isConnecting, readAs, responseDone}
 use Rattle.client_model.specs.Guard.{soundOperation, awaiting}
-use Rattle.client_model.specs.Calls.{offers, bytesOfferedStep, partTakenStep}
+use Rattle.client_model.specs.Calls.{offers, bytesOfferedStep}
 use Rattle.client_model.specs.declared.Settings.{Settings}
 use Rattle.client_model.specs.declared.Operation.{Operation}
 use Rattle.client_model.specs.declared.Operation.the-variants.{Receiving}
@@ -29,11 +28,11 @@ use Rattle.client_model.specs.declared.Client.{Client}
 use Rattle.client_model.specs.declared.Outcome.{Outcome}
 use Rattle.client_model.specs.declared.Outcome.the-variants as said
 use Rattle.client_model.proofs.Getting.{Fetch, Stands, stands-sound, part-gathers, wants as asksSrm}
-use Rattle.link.specs.Link.{Link, linkWith, user, abort, partTaken, offerDown, saidAfter, clientDid, move}
-use Rattle.link.specs.Told.{partSaid, partBy}
+use Rattle.link.specs.Link.{Link, linkWith, user, abort, partTaken, saidAfter, clientDid, move}
+use Rattle.link.specs.Told.{partSaid}
 use Rattle.link.proofs.Joint.{Begun}
 use Rattle.link.proofs.ClientMoves.{passes, packet-kept}
-use Rattle.link.proofs.ServerMoves.{carried-more, client-packet}
+use Rattle.link.proofs.ServerMoves.{carried-more}
 use Rattle.link.proofs.Queues.{joinAll}
 use Rattle.link.proofs.GetHeard.{GetHeard, heardCalls, getHeardAfter, silent}
 use Rattle.link.proofs.GetObject.{Down, down-short, Thing}

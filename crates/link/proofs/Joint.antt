@@ -99,21 +99,6 @@ pub record AtRest (box : ℕ) (l : Link) : Type 0 where
   pub idle : busy (l .server .engine .operation) ≡ false
   pub down : l .down ≡ []
 
--- the same of a client that does not ask for SRM
-pub record Idle (box : ℕ) (l : Link) : Type 0 where
-  pub room : short (l .stores) ≡ false
-  pub begun : l .client .begun < 65535
-  pub latest : l .client .length ≤ 65535
-  pub least : 255 ≤ l .client .«remote_max_packet_length»
-  pub most : l .client .«remote_max_packet_length» ≤ 65535
-  pub counts : soundClient (l .client .operation) ≡ true
-  pub awaits : l .client .awaits ≡ await.Call
-  pub wanted : l .client .settings .«srm_wanted» ≡ false
-  pub stays : l .client .aborting ≡ false
-  pub ready : Ready box l
-  pub idle : busy (l .server .engine .operation) ≡ false
-  pub down : l .down ≡ []
-
 -- the client has ended, or nothing is open
 abbrev pub Rests : ℕ → Link → Type 0
 Rests box l = (isEnd (l .said) ≡ true) ⊎ AtRest box l

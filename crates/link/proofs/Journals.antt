@@ -1,39 +1,29 @@
--- The journal of the server's calls, along a run of the link: it stands as the server does, so that a Put which it admits the server admits too.
+-- The journal of the server's calls, along a run of the link: it stands as the server does, so that both admit the same Puts and Gets.
 -- Each call of the run is the model's step, and the bytes that come up are bytes, so the records theorem's coupling goes along. Assumes nothing.
 use mathlib.Core.Path.{_≡_, refl, sym, ap, subst, _∙_}
 use mathlib.Core.List.{List, [], _∷_, _++_}
-use mathlib.Core.Bool.{Bool, true, false, _&&_, not, false≢true}
+use mathlib.Core.Bool.{Bool, true, false, false≢true}
 use mathlib.Core.Option.{Option, none, some}
 use Prim.Native.Nat.{ℕ, zero, suc}
 use native.Mathlib.Omega.{arith}
 use lib.ListN.{take}
 use Rattle.base.specs.Pick.{pick}
 use Rattle.text.specs.Unicode.{Octets}
-use Rattle.packet.specs.Header.{first}
-use Rattle.packet.specs.Packet.{Request}
-use Rattle.packet.specs.declared.opcode.Opcode.{Opcode}
 use Rattle.journal.specs.Calls.{Call, bytesOffered, streamEnded, replyTaken, replyGiven, objectGiven, bodyGiven, bodyFailed, abortAcknowledged, passwordGiven, nonceGiven, credentialsGiven, connectionsClosed}
-use Rattle.journal.specs.Journal.{Journal, journalAfter, unauthorized, notOpen, admitted, trails as trailsPut}
-use Rattle.journal.specs.PutForm.{isTrailing}
-use Rattle.incoming.specs.Survey.{surveyOf}
-use Rattle.server.specs.declared.Await.{Await}
+use Rattle.journal.specs.Journal.{Journal, journalAfter}
 use Rattle.server.specs.declared.Await.the-variants as waits
-use Rattle.server.specs.declared.Operation.{Operation}
-use Rattle.server.specs.declared.Operation.the-variants.{Trailing}
 use Rattle.server.specs.declared.Outcome.{Outcome as ServerOutcome}
 use Rattle.server.specs.declared.Outcome.the-variants as told
 use Rattle.server.specs.declared.Settings.{Settings as ServerSettings}
-use Rattle.model.specs.Dispatch.{admits, rejects, rejection, knownIn, trails}
 use Rattle.model.specs.Refusals.{Known, learns, feedFrom, atStart}
 use Rattle.model.specs.Runs.{State, Started, Performed, next, lentTo, OffersOctets, Ran, seen}
 use Rattle.model.specs.Theorem.{journalOf}
-use Rattle.model.proofs.Coupling.{CoupledAt, Held, OpenedAt}
-use Rattle.model.proofs.Dispatch.{rejection-is, admitted-is}
 use Rattle.model.proofs.Records.{Between, between-on, between-next, start-between}
 use Rattle.client_model.specs.declared.Outcome.{Outcome}
 use Rattle.client_model.specs.declared.Outcome.the-variants as said
 use Rattle.link.specs.Link.{Link, Move, user, host, sendUp, sendDown, offerUp, offerDown, closeUp, closeDown, isAnswer, sendsDown, replyBytes, closesUp, serverCall, callAfter, upAfter, closeAfter, move, moves, performedBy, performedIn}
 use Rattle.link.specs.Claims.{journalIn}
+use Rattle.link.proofs.Admission.{admission, get-admission}
 use Rattle.link.proofs.Parts.{Ties}
 
 -- ---- along a list of calls
@@ -194,61 +184,10 @@ run-together st l ms f o =
 
 -- ---- what is admitted
 
-and-left : (a b : Bool) → (a && b) ≡ true → a ≡ true
-and-left true b e = refl
-and-left false b e = e
-
-and-right : (a b : Bool) → (a && b) ≡ true → b ≡ true
-and-right true b e = e
-and-right false b e = absurd (false≢true e)
-
-not-both : (a b : Bool) → not (a && b) ≡ true → a ≡ true → b ≡ false
-not-both true true e i = absurd (false≢true e)
-not-both true false e i = refl
-not-both false b e i = absurd (false≢true i)
-
-module _ (st : ServerSettings) (s : State) (j : Journal) (w : Together st s j) (a : s .engine .awaits ≡ waits.Bytes) where
-  held : Held (s .tables) (s .engine .settings) (s .engine .peer) (s .engine .operation) (s .stores) (take (s .engine .begun) (s .stores .packet)) j
-  held =
-      subst (λ (x : Await). CoupledAt (s .tables) x (s .engine .operation) (s .engine .settings) (s .engine .peer) (s .engine .begun)
-      (s .engine .length) (s .stores) j) a
-      (w .between .coupled)
-
-  -- a request that passes is not turned away
-  passes : (r : Request) → admitted (j .settings) (j .standing) r ≡ true
-      → let v = surveyOf (some (r .headers)) in rejection (s .engine) (r .opcode) v (knownIn (s .engine) (s .tables) v) ≡ admits
-  passes r e =
-      rejection-is (s .tables) (s .engine) (s .stores) j (held .fixed) r
-      ∙ by (unauthorized (j .settings) (j .standing) (r .opcode)) (notOpen (j .standing .ids) (first 0xCB (r .headers)))
-      (sym (admitted-is (s .tables) (s .engine) (s .stores) j (held .fixed) r) ∙ e)
-    where
-      by : (x y : Bool) → (not x && not y) ≡ true → pick x (rejects 0x41) (pick y (rejects 0x53) admits) ≡ admits
-      by true y i = absurd (false≢true i)
-      by false true i = absurd (false≢true i)
-      by false false i = refl
-
-  -- what trails a Put is the same for both
-  trails-open : s .engine .operation ≡ Trailing → isTrailing (j .opened) ≡ true
-  trails-open e = ap isTrailing (subst
-      (λ (o : Operation). OpenedAt (s .engine .settings .«max_object_size») o (s .stores .headers) (s .stores .body) (j .opened)) e (held .opened))
-
-  same-trails : (r : Request) → trails r ≡ trailsPut r
-  unfolding trails trailsPut
-  same-trails r = refl
-
-  pub together-ties : Ties st j s
-  together-ties =
-      record {
-        settings = w .between .settings;
-        admits =
-            λ r o e. record {
-              admitted =
-                  subst (λ (x : Opcode). let v = surveyOf (some (r .headers)) in rejection (s .engine) x v
-                  (knownIn (s .engine) (s .tables) v) ≡ admits) o
-                  (passes r (and-left (admitted (j .settings) (j .standing) r) (not (isTrailing (j .opened) && trailsPut r)) e));
-              begins =
-                  λ i. same-trails r
-                  ∙ not-both (isTrailing (j .opened)) (trailsPut r)
-                  (and-right (admitted (j .settings) (j .standing) r) (not (isTrailing (j .opened) && trailsPut r)) e) (trails-open i);
-            };
-      }
+pub together-ties : (st : ServerSettings) (s : State) (j : Journal) → Together st s j → s .engine .awaits ≡ waits.Bytes → Ties st j s
+together-ties st s j w a =
+    record {
+      settings = w .between .settings;
+      puts = admission s j a (w .between .coupled);
+      gets = get-admission s j a (w .between .coupled);
+    }

@@ -1,8 +1,8 @@
 -- Moves that change nothing, and what a run tells, move by move: a call that does not fit what its end awaits is refused and leaves the link
 -- as it is; a move that has nothing to carry leaves it too. Assumes nothing.
-use mathlib.Core.Path.{_≡_, refl, sym, ap, subst, _∙_}
+use mathlib.Core.Path.{_≡_, refl, sym, ap, _∙_}
 use mathlib.Core.List.{List, [], _∷_, _++_, append-nil, append-assoc}
-use mathlib.Core.Bool.{Bool, true, false, _&&_, _||_, not, false≢true, true≢false}
+use mathlib.Core.Bool.{Bool, true, false, _&&_, _||_, not, true≢false}
 use mathlib.Core.Option.{Option, none, some}
 use Prim.Native.Nat.{ℕ, zero, suc}
 use lib.ListN.{take, drop}
@@ -10,20 +10,18 @@ use Rattle.base.specs.Pick.{pick}
 use Rattle.journal.specs.Record.{Record}
 use Rattle.journal.specs.Calls.{Call, bytesOffered, streamEnded, replyTaken, replyGiven, objectGiven, bodyGiven, bodyFailed, abortAcknowledged, passwordGiven, nonceGiven, credentialsGiven, connectionsClosed}
 use Rattle.server.specs.declared.Await.{Await as ServerAwait}
-use Rattle.server.specs.declared.Await.the-variants as waits
 use Rattle.server.specs.declared.Refusal.{Refusal}
 use Rattle.server.specs.declared.Refusal.the-variants as why
 use Rattle.server.specs.declared.CallKind.{CallKind}
 use Rattle.server.specs.declared.CallKind.the-variants as kind
-use Rattle.server.specs.declared.HostRequest.{HostRequest}
 use Rattle.server.specs.declared.Outcome.{Outcome as ServerOutcome}
 use Rattle.server.specs.declared.Outcome.the-variants as told
-use Rattle.model.specs.Step.{Stores as ServerStores, Called, called, Stepped as ServerStepped, engineWith}
+use Rattle.model.specs.Step.{Called, called, Stepped as ServerStepped, engineWith}
 use Rattle.model.specs.Step.{limitOf}
 use Rattle.model.specs.Guard.{short as shortServer, shortTables, sound as soundServer, refuse as refuseServer, fits, guarded as guardedServer, guardedTables, guardedCalled}
 use Rattle.model.specs.Calls.{replyGivenStep, objectGivenStep, bodyGivenStep as serverBodyStep, bodyFailedStep, abortAcknowledgedStep, passwordGivenStep, nonceGivenStep, credentialsGivenStep, bytesOfferedStep as serverBytesStep}
-use Rattle.model.specs.Runs.{State, stepOf, stateOf, keeps, Performed, performed, handed, records}
-use Rattle.client_model.specs.Step.{Stores, Stepped}
+use Rattle.model.specs.Runs.{State, stepOf, keeps, Performed, handed, records}
+use Rattle.client_model.specs.Step.{Stepped}
 use Rattle.client_model.specs.declared.Refusal.the-variants as refusal
 use Rattle.client_model.specs.Guard.{short, sound, awaiting, refuse, guarded, abortFits}
 use Rattle.client_model.specs.Calls.{connectStep, requestStep, disconnectStep, abortStep, bodyGivenStep, partTakenStep, bytesOfferedStep}
@@ -43,7 +41,7 @@ use Rattle.client_model.specs.declared.Refusal.{Refusal as Refusal′}
 use Rattle.client_model.specs.Refusals as calls
 use Rattle.client_model.specs.Refusals.{ClientCall, clientStep, verdictOf}
 use Rattle.client_model.proofs.Unmoved.{unmoved}
-use Rattle.link.specs.Link.{linkWith, Link, UserCall, connect, get, disconnect, put, body, abort, partTaken, Move, user, host, sendUp, sendDown, offerUp, offerDown, closeUp, closeDown, saidAfter, toldAfter, clientDid, serverDid, userStep, isAnswer, sendsDown, replyBytes, closesUp, serverCall, callAfter, upAfter, offered, closeAfter, move, moves, performedBy, performedIn}
+use Rattle.link.specs.Link.{linkWith, Link, UserCall, connect, get, disconnect, put, body, abort, partTaken, Move, user, host, sendUp, sendDown, offerUp, offerDown, closeUp, closeDown, saidAfter, clientDid, serverDid, userStep, isAnswer, closesUp, serverCall, callAfter, upAfter, closeAfter, move, moves, performedBy, performedIn}
 use Rattle.link.specs.Told.{isRefused, goes, givenBy, givenIn, isFinalPut, sendsFinal, finalIn, went, Answer, answerBy, answers, answerIn, recordsIn, replyBy, lastReply, lastReplyIn}
 
 -- ---- what a run tells, so far

@@ -1,7 +1,7 @@
 -- Two ends that have just started are at rest: nothing is open, and nothing is on the stream. Assumes nothing.
 use mathlib.Core.Path.{_≡_, refl, sym, subst}
 use mathlib.Core.Bool.{true, false}
-use Prim.Native.Nat.{ℕ, _≤_, _<_}
+use Prim.Native.Nat.{_≤_, _<_}
 use native.Mathlib.Omega.{arith}
 use lib.ListN.{length}
 use Rattle.connection.specs.Peer.{peerWith}
@@ -22,7 +22,7 @@ use Rattle.client_model.specs.declared.Await.the-variants as await
 use Rattle.client_model.specs.declared.Client.{Client}
 use Rattle.link.specs.Link.{Link}
 use Rattle.link.specs.Claims.{Fresh}
-use Rattle.link.proofs.Joint.{AtRest, Idle}
+use Rattle.link.proofs.Joint.{AtRest}
 
 -- two ends that have just started are at rest
 pub fresh-rest : (st : ServerSettings) (cs : Settings) (l : Link) → Fresh st cs l → AtRest 255 l
@@ -65,42 +65,3 @@ fresh-rest st cs l f =
       idle = subst (λ (x : Engine). busy (x .operation) ≡ false) (sym e) refl;
       down = f .down;
     }
-
--- a client that does not ask for Single Response Mode
-pub rest-idle : (box : ℕ) (l : Link) → AtRest box l → l .client .settings .«srm_wanted» ≡ false → Idle box l
-rest-idle box l r w =
-    record {
-      room = r .room;
-      begun = r .begun;
-      latest = r .latest;
-      least = r .least;
-      most = r .most;
-      counts = r .counts;
-      awaits = r .awaits;
-      wanted = w;
-      stays = r .stays;
-      ready = r .ready;
-      idle = r .idle;
-      down = r .down;
-    }
-
-pub idle-rest : (box : ℕ) (l : Link) → Idle box l → AtRest box l
-idle-rest box l r =
-    record {
-      room = r .room;
-      begun = r .begun;
-      latest = r .latest;
-      least = r .least;
-      most = r .most;
-      counts = r .counts;
-      awaits = r .awaits;
-      stays = r .stays;
-      ready = r .ready;
-      idle = r .idle;
-      down = r .down;
-    }
-
-pub fresh-idle : (st : ServerSettings) (cs : Settings) (l : Link) → Fresh st cs l → cs .«srm_wanted» ≡ false → Idle 255 l
-unfolding started clientWith
-fresh-idle st cs l f w =
-    rest-idle 255 l (fresh-rest st cs l f) (subst (λ (x : Client). x .settings .«srm_wanted» ≡ false) (sym (f .client)) w)

@@ -7,7 +7,6 @@ use mathlib.Core.Bool.{Bool, true, false, _&&_, _||_, not, true≢false, false�
 use mathlib.Core.Option.{Option, none, some}
 use Prim.Native.Nat.{ℕ, _^_, _≤_, _<_}
 use native.Mathlib.Omega.{arith}
-use lib.ListN.{length}
 use lib.Dec.{eqb}
 use Rattle.base.specs.Pick.{pick}
 use Rattle.text.specs.Unicode.{Octets}
@@ -17,20 +16,16 @@ use Rattle.connection.specs.Peer.{peerWith}
 use Rattle.connection.specs.declared.peer.ConnectionId.{ConnectionId}
 use Rattle.connection.specs.declared.peer.ConnectionId.the-variants.{Missing}
 use Rattle.connection.specs.declared.peer.Peer.{Peer}
-use Rattle.connection.proofs.Standings.{PeerFits}
-use Rattle.server.specs.declared.Await.the-variants as waits
 use Rattle.server.specs.declared.Engine.{Engine}
 use Rattle.server.specs.declared.Outcome.{Outcome as ServerOutcome}
 use Rattle.server.specs.declared.Outcome.the-variants as told
 use Rattle.server.specs.declared.Settings.{Settings as ServerSettings}
 use Rattle.model.specs.Step.{engineWith}
 use Rattle.model.specs.Dispatch.{busy}
-use Rattle.model.specs.Guard.{soundOperation as soundServer}
 use Rattle.model.specs.Calls.{started as serverStarted}
-use Rattle.model.proofs.Fit.{Room, room, tables-room}
 use Rattle.client_model.specs.Numbers.{sameAwait}
 use Rattle.client_model.specs.Step.{clientWith, ends, after}
-use Rattle.client_model.specs.Guard.{short, sound, awaiting, refuse, guarded, soundOperation, mayAbort}
+use Rattle.client_model.specs.Guard.{short, sound, awaiting, refuse, guarded, mayAbort}
 use Rattle.client_model.specs.Answer.{isConnecting}
 use Rattle.client_model.specs.Calls.{streamEndedStep, started}
 use Rattle.client_model.specs.declared.Settings.{Settings}
@@ -48,12 +43,12 @@ use Rattle.link.specs.Told.{succeeded}
 use Rattle.link.specs.Told as shown
 use Rattle.link.specs.Claims.{PlainUser, PlainMove, Plain, Fresh, connectedBy, connectedIn, namedIn, namedBy, namedAfter}
 use Rattle.link.proofs.Moves.{Quiet, user-refused, quiet-user, quiet-refused, quiet-offer-down, quiet-none-up, isSend, quiet-send-up, isReply, quiet-send-down, isEnd, quiet-close-up, hasEnded, quiet-close-down}
-use Rattle.link.proofs.Joint.{Ready}
-use Rattle.link.proofs.ConnectJoint.{connecting, disconnecting, Past, namedPast, limitFor, openAt, Ids, Phase, Rest, Standing, Next, goes, over, gone}
+use Rattle.link.proofs.Joint.{Ready, AtRest}
+use Rattle.link.proofs.ConnectJoint.{connecting, disconnecting, Past, namedPast, limitFor, openAt, Ids, Phase, Standing, Next, goes, over, gone}
 use Rattle.link.proofs.ConnectEnds.{connect-begins, disconnect-begins}
 use Rattle.link.proofs.ConnectRuns.{silent-named, user-named, host-quiet, connect-move, phase-goes, phase-octets}
 use Rattle.link.proofs.ClientKeeps.{Tidy, tidy-moved}
-use Rattle.link.proofs.Parts.{Busy, Kept, SendsOctets, After, still, rests, Part, FreeRun}
+use Rattle.link.proofs.Parts.{Busy, Kept, SendsOctets, At, After, still, rests, Part}
 use Rattle.link.proofs.Parts as parts
 use Rattle.link.proofs.Keeping.{octets-moved}
 
@@ -158,17 +153,12 @@ pub data Many : UserCall → Type 0 where
   puts : {hs : List ℕ} {has : Bool} → Many (put hs has)
   gets : {hs : List ℕ} → Many (get hs)
 
--- nothing is open, in the words of a Put and a Get
-pub record Ground (cs : Settings) (At : ℕ → Link → Type 0) : Type 0 where
-  pub rest : (box : ℕ) (l : Link) → At box l → Rest box l
-  pub at : (box : ℕ) (l : Link) → Rest box l → l .client .settings ≡ cs → At box l
-
-module _ (cs : Settings) (small : cs .«max_packet_length» ≤ 65535) (At : ℕ → Link → Type 0) (Inside : UserCall → ℕ → Link → Link → Type 0)
-    (Free : Link → Move → Type 0) (ground : Ground cs At) (part : (u : UserCall) → Many u → Part At (Inside u) Free u) where
+module _ (cs : Settings) (small : cs .«max_packet_length» ≤ 65535) (Inside : UserCall → ℕ → Link → Link → Type 0)
+    (part : (u : UserCall) → Many u → Part cs (Inside u) u) where
   -- ---- the moments of a run
 
   pub data Moment (g : Past) (l : Link) : Type 0 where
-    resting : Rest (limitFor (l .server)) l → Standing cs g l → Moment g l
+    resting : AtRest (limitFor (l .server)) l → Standing cs g l → Moment g l
     inside : (u : UserCall) → Many u → (box : ℕ) (before : Link) → Inside u box before l → limitFor (before .server) ≡ box → Standing cs g before
         → Moment g l
     connects : Phase connecting cs g l → Moment g l
@@ -185,17 +175,17 @@ module _ (cs : Settings) (small : cs .«max_packet_length» ≤ 65535) (At : ℕ
 
   -- ---- nothing is open
 
-  rest-call : (l : Link) → Rest (limitFor (l .server)) l → awaiting (l .client) await.Call ≡ true
+  rest-call : (l : Link) → AtRest (limitFor (l .server)) l → awaiting (l .client) await.Call ≡ true
   rest-call l i = ap (λ (a : Await). sameAwait a await.Call) (i .awaits)
 
-  rest-send : (l : Link) → Tidy (l .client) (l .said) → Rest (limitFor (l .server)) l → isSend (l .said) ≡ false
+  rest-send : (l : Link) → Tidy (l .client) (l .said) → AtRest (limitFor (l .server)) l → isSend (l .said) ≡ false
   rest-send l t i = by (isSend (l .said)) refl
     where
       by : (b : Bool) → isSend (l .said) ≡ b → isSend (l .said) ≡ false
       by true e = absurd (false≢true (sym (ap (λ (a : Await). sameAwait a await.Call) (t .sent e)) ∙ rest-call l i))
       by false e = e
 
-  rest-end : (l : Link) → Tidy (l .client) (l .said) → Rest (limitFor (l .server)) l → isEnd (l .said) ≡ false
+  rest-end : (l : Link) → Tidy (l .client) (l .said) → AtRest (limitFor (l .server)) l → isEnd (l .said) ≡ false
   rest-end l t i = by (isEnd (l .said)) refl
     where
       by : (b : Bool) → isEnd (l .said) ≡ b → isEnd (l .said) ≡ false
@@ -210,63 +200,63 @@ module _ (cs : Settings) (small : cs .«max_packet_length» ≤ 65535) (At : ℕ
   no-abort (Receiving srm last code) = refl
   no-abort Aborting = refl
 
-  module _ (g : Past) (l : Link) (t : Tidy (l .client) (l .said)) (i : Rest (limitFor (l .server)) l) (s : Standing cs g l) where
+  module _ (g : Past) (l : Link) (t : Tidy (l .client) (l .said)) (i : AtRest (limitFor (l .server)) l) (s : Standing cs g l) where
     quietly : (m : Move) → Quiet l m → pastAfter g l m ≡ g → Moment (pastAfter g l m) (move l m)
     quietly m q e = moment-as g (pastAfter g l m) (move l m) e (subst (Moment g) (sym (q .still)) (resting i s))
 
     user-past : (u : UserCall) → shown.goes l u ≡ false → pastAfter g l (user u) ≡ g
     user-past u e = λ j. record { connected = user-connected (g .connected) l u e j; named = refused-named (g .named) l u e j }
 
-    begun : (u : UserCall) → Many u → PlainUser u → Free l (user u) → shown.goes l u ≡ true → Moment g (move l (user u))
-    begun u m pl fr e =
+    begun : (u : UserCall) → Many u → PlainUser u → shown.goes l u ≡ true → Moment g (move l (user u))
+    begun u m pl e =
         inside u m (limitFor (l .server)) l
-        (part u m .begins (limitFor (l .server)) l (ground .at (limitFor (l .server)) l i (s .settings)) pl fr e) refl s
+        (part u m .begins (limitFor (l .server)) l (i, s .settings) pl e) refl s
 
     -- a call of the user, by whether it goes
-    calls : (u : UserCall) → PlainUser u → Free l (user u) → (b : Bool) → shown.goes l u ≡ b → Moment (pastAfter g l (user u)) (move l (user u))
-    calls u pl fr false e = quietly (user u) (quiet-refused l u e) (user-past u e)
-    calls (connect hs) pl fr true e = connects (connect-begins cs g l small i s hs pl e)
-    calls (disconnect hs) pl fr true e =
+    calls : (u : UserCall) → PlainUser u → (b : Bool) → shown.goes l u ≡ b → Moment (pastAfter g l (user u)) (move l (user u))
+    calls u pl false e = quietly (user u) (quiet-refused l u e) (user-past u e)
+    calls (connect hs) pl true e = connects (connect-begins cs g l small i s hs pl e)
+    calls (disconnect hs) pl true e =
         let c : connectedBy (g .connected) l (user (disconnect hs)) ≡ false = ap (λ (b : Bool). g .connected && not b) e ∙ and-false (g .connected) in
         let n : namedBy (g .named) l (user (disconnect hs)) ≡ Missing = ap (λ (b : Bool). pick b Missing (g .named)) e in
         disconnects (subst (λ (h : Past). Phase disconnecting cs h (move l (user (disconnect hs))))
         (λ j. record { connected = sym c j; named = sym n j }) (disconnect-begins cs g l i s hs pl e)) c
-    calls (put hs has) pl fr true e = begun (put hs has) puts pl fr e
-    calls (get hs) pl fr true e = begun (get hs) gets pl fr e
-    calls (body d) pl fr true e =
+    calls (put hs has) pl true e = begun (put hs has) puts pl e
+    calls (get hs) pl true e = begun (get hs) gets pl e
+    calls (body d) pl true e =
         absurd (false≢true (sym (user-refused l (body d) (ap (λ (a : Await). sameAwait a await.Body) (i .awaits))) ∙ e))
-    calls abort pl fr true e =
+    calls abort pl true e =
         absurd (false≢true (sym (user-refused l abort
         (ap (λ (a : Await). not (l .client .aborting) && mayAbort (l .client .operation) a) (i .awaits)
         ∙ ap (λ (b : Bool). not (l .client .aborting) && b) (no-abort (l .client .operation)) ∙ and-false (not (l .client .aborting)))) ∙ e))
-    calls partTaken pl fr true e =
+    calls partTaken pl true e =
         absurd (false≢true (sym (user-refused l partTaken (ap (λ (a : Await). sameAwait a await.Taken) (i .awaits))) ∙ e))
 
-    pub rest-move : (m : Move) → PlainMove m → Free l m → Moment (pastAfter g l m) (move l m)
-    rest-move (user u) pl fr = calls u pl fr (shown.goes l u) refl
-    rest-move (host c) pl fr = quietly (host c) (host-quiet l c (i .ready .awaits)) refl
-    rest-move sendUp pl fr = quietly sendUp (quiet-send-up l (rest-send l t i)) refl
-    rest-move sendDown pl fr =
+    pub rest-move : (m : Move) → PlainMove m → Moment (pastAfter g l m) (move l m)
+    rest-move (user u) pl = calls u pl (shown.goes l u) refl
+    rest-move (host c) pl = quietly (host c) (host-quiet l c (i .ready .awaits)) refl
+    rest-move sendUp pl = quietly sendUp (quiet-send-up l (rest-send l t i)) refl
+    rest-move sendDown pl =
         quietly sendDown (quiet-send-down l (ap isReply (i .ready .told)))
         (λ j. record { connected = g .connected; named = silent-named (g .named) l (ap isReply (i .ready .told)) j })
-    rest-move (offerUp n) pl fr = quietly (offerUp n) (quiet-none-up l n (i .ready .told) (i .ready .up)) refl
-    rest-move (offerDown n) pl fr =
+    rest-move (offerUp n) pl = quietly (offerUp n) (quiet-none-up l n (i .ready .told) (i .ready .up)) refl
+    rest-move (offerDown n) pl =
         quietly (offerDown n) (quiet-offer-down l n (ap (λ (a : Await). sameAwait a await.Bytes) (i .awaits)))
         (λ j. record {
           connected = offered-connected (g .connected) l n
               (ap (λ (b : Bool). b && succeeded (move l (offerDown n) .said)) (ap isConnecting (t .call (rest-call l i)))) j;
           named = g .named;
         })
-    rest-move closeUp pl fr = quietly closeUp (quiet-close-up l (rest-end l t i)) refl
-    rest-move closeDown pl fr = quietly closeDown (quiet-close-down l (ap hasEnded (i .ready .told))) refl
+    rest-move closeUp pl = quietly closeUp (quiet-close-up l (rest-end l t i)) refl
+    rest-move closeDown pl = quietly closeDown (quiet-close-down l (ap hasEnded (i .ready .told))) refl
 
   -- ---- inside a Put or a Get
 
-  stands-after : (g : Past) (before l : Link) (box : ℕ) → limitFor (before .server) ≡ box → Standing cs g before → Kept before l → Rest box l
-      → Rest (limitFor (l .server)) l × Standing cs g l
+  stands-after : (g : Past) (before l : Link) (box : ℕ) → limitFor (before .server) ≡ box → Standing cs g before → Kept before l → AtRest box l
+      → AtRest (limitFor (l .server)) l × Standing cs g l
   stands-after g before l box e s k i =
       let r : limitFor (l .server) ≡ box = i .ready .serves .remote in (
-        subst (λ (n : ℕ). Rest n l) (sym r) i,
+        subst (λ (n : ℕ). AtRest n l) (sym r) i,
         record {
           settings = k .client ∙ s .settings;
           most = subst (λ (x : ServerSettings). x .«max_packet_length» ≤ 65535) (sym (k .server)) (s .most);
@@ -280,13 +270,13 @@ module _ (cs : Settings) (small : cs .«max_packet_length» ≤ 65535) (At : ℕ
       )
 
   inside-move : (g : Past) (l : Link) (u : UserCall) (y : Many u) (box : ℕ) (before : Link) → Inside u box before l
-      → limitFor (before .server) ≡ box → Standing cs g before → (m : Move) → PlainMove m → Free l m → Moment (pastAfter g l m) (move l m)
-  inside-move g l u y box before w e s m pl fr =
-      moment-as g (pastAfter g l m) (move l m) (busy-past g l m (part u y .busy box before l w)) (by (part u y .goes-on box before l w m pl fr))
+      → limitFor (before .server) ≡ box → Standing cs g before → (m : Move) → PlainMove m → Moment (pastAfter g l m) (move l m)
+  inside-move g l u y box before w e s m pl =
+      moment-as g (pastAfter g l m) (move l m) (busy-past g l m (part u y .busy box before l w)) (by (part u y .goes-on box before l w m pl))
     where
-      by : After At (Inside u) box before (move l m) → Moment g (move l m)
+      by : After cs (Inside u) box before (move l m) → Moment g (move l m)
       by (still x) = inside u y box before x e s
-      by (rests x k) = let r = stands-after g before (move l m) box e s k (ground .rest box (move l m) x) in resting (r .0) (r .1)
+      by (rests x k) = let r = stands-after g before (move l m) box e s k (x .0) in resting (r .0) (r .1)
       by (parts.gone x) = finished x
 
   -- ---- in a Connect or a Disconnect
@@ -395,13 +385,13 @@ module _ (cs : Settings) (small : cs .«max_packet_length» ≤ 65535) (At : ℕ
 
   -- ---- any move
 
-  moment-move : (g : Past) (l : Link) → Tidy (l .client) (l .said) → Moment g l → (m : Move) → PlainMove m → Free l m
+  moment-move : (g : Past) (l : Link) → Tidy (l .client) (l .said) → Moment g l → (m : Move) → PlainMove m
       → Moment (pastAfter g l m) (move l m)
-  moment-move g l t (resting i s) m pl fr = rest-move g l t i s m pl fr
-  moment-move g l t (inside u y box before w e s) m pl fr = inside-move g l u y box before w e s m pl fr
-  moment-move g l t (connects w) m pl fr = connect-on g l w m (connect-move connecting cs small g l w m pl)
-  moment-move g l t (disconnects w c) m pl fr = disconnect-on g l w c m (connect-move disconnecting cs small g l w m pl)
-  moment-move g l t (finished e) m pl fr = finished (gone-move l t e m)
+  moment-move g l t (resting i s) m pl = rest-move g l t i s m pl
+  moment-move g l t (inside u y box before w e s) m pl = inside-move g l u y box before w e s m pl
+  moment-move g l t (connects w) m pl = connect-on g l w m (connect-move connecting cs small g l w m pl)
+  moment-move g l t (disconnects w c) m pl = disconnect-on g l w c m (connect-move disconnecting cs small g l w m pl)
+  moment-move g l t (finished e) m pl = finished (gone-move l t e m)
 
   -- a packet that waits is of bytes
   moment-octets : (g : Past) (l : Link) → Tidy (l .client) (l .said) → Moment g l → SendsOctets l
@@ -411,78 +401,37 @@ module _ (cs : Settings) (small : cs .«max_packet_length» ≤ 65535) (At : ℕ
   moment-octets g l t (disconnects x c) n e = phase-octets disconnecting cs g l x n e
   moment-octets g l t (finished x) n e = absurd (true≢false (sym x ∙ ap isEnd e))
 
-  pub whole-move : (g : Past) (l : Link) → Whole g l → (m : Move) → PlainMove m → Free l m → Whole (pastAfter g l m) (move l m)
-  whole-move g l w m pl fr =
+  pub whole-move : (g : Past) (l : Link) → Whole g l → (m : Move) → PlainMove m → Whole (pastAfter g l m) (move l m)
+  whole-move g l w m pl =
       record {
         tidy = tidy-moved l (w .tidy) m;
         octets = octets-moved l (w .octets) (moment-octets g l (w .tidy) (w .moment)) m;
-        moment = moment-move g l (w .tidy) (w .moment) m pl fr;
+        moment = moment-move g l (w .tidy) (w .moment) m pl;
       }
 
-  pub whole-run : (ms : List Move) (g : Past) (l : Link) → Whole g l → Plain ms → FreeRun Free l ms → Whole (pastIn g l ms) (moves l ms)
-  whole-run [] g l w pl fr = w
-  whole-run (m ∷ ms) g l w pl fr = whole-run ms (pastAfter g l m) (move l m) (whole-move g l w m (pl .0) (fr .0)) (pl .1) (fr .1)
+  pub whole-run : (ms : List Move) (g : Past) (l : Link) → Whole g l → Plain ms → Whole (pastIn g l ms) (moves l ms)
+  whole-run [] g l w pl = w
+  whole-run (m ∷ ms) g l w pl = whole-run ms (pastAfter g l m) (move l m) (whole-move g l w m (pl .0)) (pl .1)
 
   -- ---- whenever an operation may be called, nothing is open
 
-  pub rested : (g : Past) (l : Link) → Whole g l → awaiting (l .client) await.Call ≡ true → Rest (limitFor (l .server)) l × Standing cs g l
+  pub rested : (g : Past) (l : Link) → Whole g l → awaiting (l .client) await.Call ≡ true → AtRest (limitFor (l .server)) l × Standing cs g l
   rested g l w c = by (w .moment)
     where
-      by : Moment g l → Rest (limitFor (l .server)) l × Standing cs g l
+      by : Moment g l → AtRest (limitFor (l .server)) l × Standing cs g l
       by (resting i s) = (i, s)
       by (inside u y box before x e s) = absurd (false≢true (sym (part u y .busy box before l x .awaits) ∙ c))
       by (connects x) = absurd (false≢true (sym (phase-goes connecting cs g l x .awaits) ∙ c))
       by (disconnects x d) = absurd (false≢true (sym (phase-goes disconnecting cs g l x .awaits) ∙ c))
       by (finished e) = absurd (false≢true (sym (ap (λ (a : Await). sameAwait a await.Call) (w .tidy .end e)) ∙ c))
 
-  pub at-rest : (box : ℕ) (g : Past) (l : Link) → Whole g l → awaiting (l .client) await.Call ≡ true → limitFor (l .server) ≡ box → At box l
-  at-rest box g l w c e = let r = rested g l w c in ground .at box l (subst (λ (n : ℕ). Rest n l) e (r .0)) (r .1 .settings)
+  pub at-rest : (box : ℕ) (g : Past) (l : Link) → Whole g l → awaiting (l .client) await.Call ≡ true → limitFor (l .server) ≡ box → At cs box l
+  at-rest box g l w c e = let r = rested g l w c in (subst (λ (n : ℕ). AtRest n l) e (r .0), r .1 .settings)
 
 -- ---- two ends that have just started
 
 abbrev pub nothingPast : Past
 nothingPast = record { connected = false; named = Missing }
-
-pub fresh-rest : (st : ServerSettings) (cs : Settings) (l : Link) → Fresh st cs l → Rest 255 l
-unfolding started clientWith serverStarted engineWith peerWith
-fresh-rest st cs l f =
-    let c = f .client in
-    let e = f .server .fresh in
-    let r = room (st .«max_object_size») (l .server .stores) (f .server .room) in
-    record {
-      room = f .room;
-      begun = subst (λ (x : Client). x .begun < 65535) (sym c) (omega arith);
-      latest = subst (λ (x : Client). x .length ≤ 65535) (sym c) (omega arith);
-      least = subst (λ (x : Client). 255 ≤ x .«remote_max_packet_length») (sym c) (omega arith);
-      most = subst (λ (x : Client). x .«remote_max_packet_length» ≤ 65535) (sym c) (omega arith);
-      counts = subst (λ (x : Client). soundOperation (x .operation) ≡ true) (sym c) refl;
-      awaits = subst (λ (x : Client). x .awaits ≡ await.Call) (sym c) refl;
-      stays = subst (λ (x : Client). x .aborting ≡ false) (sym c) refl;
-      ready =
-          record {
-            serves =
-                record {
-                  base =
-                      record {
-                        room = subst (λ (x : Engine). Room (x .settings .«max_object_size») (l .server .stores)) (sym e) r;
-                        peer = subst (λ (x : Engine). PeerFits (x .peer .nonces) (x .peer)) (sym e)
-                            (record { count = omega arith; least = omega arith; most = omega arith; nonces = refl; few = omega arith });
-                        last = subst (λ (x : Engine). x .length ≤ 65535) (sym e) (omega arith);
-                      };
-                  begun = subst (λ (x : Engine). x .begun < 65535) (sym e) (omega arith);
-                  counts = subst (λ (x : Engine). soundServer (x .settings .«max_object_size») (x .operation) ≡ true) (sym e) refl;
-                  tables = tables-room (l .server .tables) (f .server .tables);
-                  srm = subst (λ (x : Engine). x .peer .«srm_enabled» ≡ false) (sym e) refl;
-                  remote = subst (λ (x : Engine). x .peer .«remote_max_packet_length» ≡ 255) (sym e) refl;
-                };
-            awaits = subst (λ (x : Engine). x .awaits ≡ waits.Bytes) (sym e) refl;
-            told = f .told;
-            none-begun = subst (λ (x : Engine). x .begun ≡ 0) (sym e) refl;
-            up = f .up;
-          };
-      idle = subst (λ (x : Engine). busy (x .operation) ≡ false) (sym e) refl;
-      down = f .down;
-    }
 
 pub fresh-standing : (st : ServerSettings) (cs : Settings) (l : Link) → Fresh st cs l → Standing cs nothingPast l
 unfolding started clientWith serverStarted engineWith peerWith

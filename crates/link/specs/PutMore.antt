@@ -14,10 +14,11 @@ use Rattle.server.specs.declared.End.the-variants as server-end
 use Rattle.server.specs.declared.Outcome.the-variants as told
 use Rattle.client_model.specs.Leading.{leading}
 use Rattle.client_model.specs.declared.End.{End}
+use Rattle.client_model.specs.declared.Settings.{Settings}
 use Rattle.client_model.specs.declared.Outcome.the-variants as said
-use Rattle.link.specs.Link.{Link, Move, moves}
-use Rattle.link.specs.Told.{isOver, givenIn, abortedIn, finalIn, recordsIn}
-use Rattle.link.specs.Claims.{firstPut, isAdmitted, recordOf}
+use Rattle.link.specs.Link.{Link, put, Move, user, move, moves}
+use Rattle.link.specs.Told.{isOver, goes, givenIn, abortedIn, finalIn, recordsIn}
+use Rattle.link.specs.Claims.{Plain, Fresh, connectedIn, Until, firstPut, isAdmitted, journalIn, recordOf}
 
 -- What holds of a Put with the headers `hs`, with a body or without, that was called in the link `before` and led to `l`, by the run `ms`. The
 -- journal is that of the server's calls up to then.
@@ -39,3 +40,11 @@ pub record PutMore (st : ServerSettings) (j : Journal) (before l : Link) (hs : L
   -- Each packet that waits to be sent is within the limit that the client has for the server.
   pub within : (xs ys : List Move) → ms ≡ xs ++ ys → isOver (moves l xs .said) ≡ false → (n : ℕ) → moves l xs .said ≡ said.Send n
       → length (take n (moves l xs .stores .request)) ≤ before .client .«remote_max_packet_length»
+
+-- The claim, after any run of two fresh ends with an accepted Connect: a Put, passed on to its end.
+abbrev pub PutsMore : Type 0
+PutsMore =
+    (st : ServerSettings) (cs : Settings) (l : Link) (before ms : List Move) (hs : List ℕ) (has : Bool) → Fresh st cs l
+    → Plain before → Plain (user (put hs has) ∷ ms) → connectedIn false l before ≡ true
+    → goes (moves l before) (put hs has) ≡ true → Until (move (moves l before) (user (put hs has))) ms
+    → PutMore st (journalIn st l before) (moves l before) (move (moves l before) (user (put hs has))) hs has ms

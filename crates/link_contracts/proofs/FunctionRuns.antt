@@ -18,14 +18,16 @@ use Rattle.client_model.specs.declared.Outcome.the-variants as said
 use Rattle.link.specs.Link.{Link, UserCall, connect, get, disconnect, put, body, abort, partTaken, Move, user, host, sendUp, sendDown, offerUp, offerDown, closeUp, closeDown, serverCall, move, moves}
 use Rattle.link.specs.Told.{goes, abortedIn}
 use Rattle.link.specs.Claims.{Fresh, namedAfter, isOpen, Until, journalIn, PutHolds, GetHolds}
+use Rattle.link.specs.PutMore.{PutMore}
+use Rattle.link.specs.GetMore.{GetMore}
 use Rattle.link.specs.Contracts.{Returned, sentCall, endCall, clientCall, ClientSays, ServerSays, MoveSays, led, RanSo, ledAll}
 use Rattle.link.specs.HostWrites.{WrittenMove, writingAt, movesAlone, SameLink}
 use Rattle.link.proofs.Contracts.{contracts-link}
-use Rattle.link.proofs.Claimed.{all-names, puts, gets}
+use Rattle.link.proofs.Claimed.{all-names, puts, gets, puts-more, gets-more}
 use Rattle.link.proofs.HostWrites.{same-move, same-written, same-link}
 use Rattle.link_contracts.specs.ClientFunctions.{ClientStart}
 use Rattle.link_contracts.specs.ServerFunctions.{ServerStart}
-use Rattle.link_contracts.specs.FunctionRuns.{sendingCall, endingCall, calledBy, ClientDid, ServerDid, MoveMade, RunMade, StartsMade, startedBy, WrittenMade, ledWritten, FunctionsName, FunctionsPut, FunctionsGet, FunctionsLink}
+use Rattle.link_contracts.specs.FunctionRuns.{sendingCall, endingCall, calledBy, ClientDid, ServerDid, MoveMade, RunMade, StartsMade, startedBy, WrittenMade, ledWritten, FunctionsName, FunctionsPut, FunctionsGet, FunctionsPutMore, FunctionsGetMore, FunctionsLink}
 use Rattle.link_contracts.proofs.Functions.{client-steps, client-accepted, server-steps, server-accepted}
 
 -- ---- a move
@@ -149,6 +151,22 @@ functions-get a b before ms xs ys y hs w r v pb pl c go un ab =
     l before xs (get hs) y r (v .0)
     (λ g t u. gets (a .settings) (b .settings) l before ms hs (starts-fresh a b w) pb pl c g t u) go un ab
 
+functions-put-more : FunctionsPutMore
+functions-put-more a b before ms xs ys y hs has w r v pb pl c go un =
+    let l = startedBy a b in
+    as-led
+    (λ (k n : Link). goes k (put hs has) ≡ true → Until n ms → PutMore (a .settings) (journalIn (a .settings) l before) k n hs has ms)
+    l before xs (put hs has) y r (v .0)
+    (λ g t. puts-more (a .settings) (b .settings) l before ms hs has (starts-fresh a b w) pb pl c g t) go un
+
+functions-get-more : FunctionsGetMore
+functions-get-more a b before ms xs ys y hs w r v pb pl c go un =
+    let l = startedBy a b in
+    as-led
+    (λ (k n : Link). goes k (get hs) ≡ true → Until n ms → GetMore (journalIn (a .settings) l before) k n hs ms)
+    l before xs (get hs) y r (v .0)
+    (λ g t. gets-more (a .settings) (b .settings) l before ms hs (starts-fresh a b w) pb pl c g t) go un
+
 pub functions-link : FunctionsLink
 functions-link =
     record {
@@ -157,4 +175,6 @@ functions-link =
       names = functions-name;
       puts = functions-put;
       gets = functions-get;
+      puts-more = functions-put-more;
+      gets-more = functions-get-more;
     }

@@ -23,6 +23,8 @@ use Rattle.client_model.specs.declared.Outcome.the-variants as said
 use Rattle.link.specs.Link.{Link, UserCall, connect, get, disconnect, put, body, abort, partTaken, Move, user, host, sendUp, sendDown, offerUp, offerDown, closeUp, closeDown, serverCall, moves}
 use Rattle.link.specs.Told.{goes, abortedIn}
 use Rattle.link.specs.Claims.{Plain, connectedIn, namedAfter, isOpen, Until, journalIn, PutHolds, GetHolds}
+use Rattle.link.specs.PutMore.{PutMore}
+use Rattle.link.specs.GetMore.{GetMore}
 use Rattle.link.specs.Contracts.{Returned, led, ledAll, startedLink}
 use Rattle.link.specs.HostWrites.{WrittenMove, writingAt, movesAlone, SameLink}
 use Rattle.link_contracts.specs.ClientFunctions.{onClient, ClientMade, ClientStart, ClientStarts}
@@ -162,8 +164,29 @@ FunctionsGet =
     → connectedIn false l before ≡ true → goes k (get hs) ≡ true → Until n ms → abortedIn n ms ≡ false
     → GetHolds (b .settings) k n hs ms
 
--- The claims together. A run of the functions leads, from any link, to the links of `moves`, of which `PutHolds` and `GetHolds` speak; and so
--- does one in which the server's host writes into its packet store, but for bytes of that store which do not count.
+-- `PutsMore` of such a run.
+abbrev pub FunctionsPutMore : Type 0
+FunctionsPutMore =
+    (a : ServerStart) (b : ClientStart) (before ms : List Move) (xs ys : List Returned) (y : Returned) (hs : List ℕ) (has : Bool)
+    → let l = startedBy a b in
+    let k = ledAll l before xs in
+    let n = led k (user (put hs has)) y in
+    StartsMade a b → RunMade l before xs → RunMade k (user (put hs has) ∷ ms) (y ∷ ys) → Plain before → Plain (user (put hs has) ∷ ms)
+    → connectedIn false l before ≡ true
+    → goes k (put hs has) ≡ true → Until n ms → PutMore (a .settings) (journalIn (a .settings) l before) k n hs has ms
+
+-- `GetsMore` of such a run.
+abbrev pub FunctionsGetMore : Type 0
+FunctionsGetMore =
+    (a : ServerStart) (b : ClientStart) (before ms : List Move) (xs ys : List Returned) (y : Returned) (hs : List ℕ)
+    → let l = startedBy a b in
+    let k = ledAll l before xs in
+    let n = led k (user (get hs)) y in
+    StartsMade a b → RunMade l before xs → RunMade k (user (get hs) ∷ ms) (y ∷ ys) → Plain before → Plain (user (get hs) ∷ ms)
+    → connectedIn false l before ≡ true → goes k (get hs) ≡ true → Until n ms → GetMore (journalIn (a .settings) l before) k n hs ms
+
+-- The claims together. A run of the functions leads, from any link, to the links of `moves`, of which `PutHolds`, `GetHolds`, `PutMore` and
+-- `GetMore` speak; and so does one in which the server's host writes into its packet store, but for bytes of that store which do not count.
 pub record FunctionsLink : Type 0 where
   pub leads : (l : Link) (ms : List Move) (xs : List Returned) → RunMade l ms xs → ledAll l ms xs ≡ moves l ms
   pub writes : (l : Link) (ms : List WrittenMove) (xs : List Returned) → WrittenMade l ms xs
@@ -171,3 +194,5 @@ pub record FunctionsLink : Type 0 where
   pub names : FunctionsName
   pub puts : FunctionsPut
   pub gets : FunctionsGet
+  pub puts-more : FunctionsPutMore
+  pub gets-more : FunctionsGetMore

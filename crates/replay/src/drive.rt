@@ -279,7 +279,10 @@ fn any_call(
     match call {
         Call::Bytes => offer(e, input, tables, packet, headers, body, reply),
         Call::Start(o) => {
-            counting(calls::start(o.settings, realm, tables, packet, headers, body, reply), o.counter)
+            counting(
+                calls::start(o.settings, realm, tables, packet, headers, body, reply),
+                o.counter,
+            )
         }
         _ => host_call(e, call, a, b, realm, tables, packet, headers, body, reply),
     }

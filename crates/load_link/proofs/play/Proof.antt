@@ -1,0 +1,112 @@
+-- `load_link::play` counts its turns down. The stores are arrays, so that their lengths are known. Assumes nothing.
+use borrow.Author.Needs.{needs}
+use native.Mathlib.Omega.{arith}
+use Rattle.load_link.proofs.play.Statement.{statement}
+use Rattle.load_link.proofs.play.Tie as tie
+
+abbrev Inv-loop : tie.InvT-loop
+Inv-loop limit zeros c-packet₀ c-headers₀ c-body₀ request₀ tables₀ packet₀ headers₀ body₀ reply₀ q₀ client₀ server₀ left₀
+    c-packet c-headers c-body request tables packet headers body reply q client server left =
+    Unit {0}
+
+abbrev μ-loop : tie.MeasureT-loop
+μ-loop limit zeros c-packet₀ c-headers₀ c-body₀ request₀ tables₀ packet₀ headers₀ body₀ reply₀ q₀ client₀ server₀ left₀
+    c-packet c-headers c-body request tables packet headers body reply q client server left =
+    left
+
+client-with-requires : tie.Need-client-with-requires Inv-loop μ-loop
+client-with-requires c κs = search needs
+
+start-requires : tie.Need-start-requires Inv-loop μ-loop
+start-requires c κs = search needs
+
+server-with-requires : tie.Need-server-with-requires Inv-loop μ-loop
+server-with-requires c κs = search needs
+
+slice-aggregate-start : tie.Need-slice-aggregate-start Inv-loop μ-loop
+slice-aggregate-start c = search needs
+
+start-requires-2 : tie.Need-start-requires-2 Inv-loop μ-loop
+start-requires-2 c κs = search needs
+
+loop-holds : tie.Need-loop-holds Inv-loop μ-loop
+loop-holds c = tt
+
+turn-of-requires : tie.Need-turn-of-requires Inv-loop μ-loop
+turn-of-requires c κs = search needs
+
+is-over-requires : tie.Need-is-over-requires Inv-loop μ-loop
+is-over-requires c κs = search needs
+
+returns : tie.Need-returns Inv-loop μ-loop
+returns c = search needs
+
+noted-requires : tie.Need-noted-requires Inv-loop μ-loop
+noted-requires c κs = search needs
+
+front-requires : tie.Need-front-requires Inv-loop μ-loop
+front-requires c κs = search needs
+
+client-turn-requires : tie.Need-client-turn-requires Inv-loop μ-loop
+client-turn-requires c κs = search needs
+
+front-requires-2 : tie.Need-front-requires-2 Inv-loop μ-loop
+front-requires-2 c κs = search needs
+
+server-turn-requires : tie.Need-server-turn-requires Inv-loop μ-loop
+server-turn-requires c κs = search needs
+
+sent-requires : tie.Need-sent-requires Inv-loop μ-loop
+sent-requires c κs = search needs
+
+sub-left : tie.Need-sub-left Inv-loop μ-loop
+sub-left c =
+    let sent = c .before .before .before .before .before in
+    let served = sent .before .before .before .before in
+    let offered = served .before .before .before .before in
+    let called = offered .before .before .before .before in
+    let given = called .before .before .before .before in
+    let noted = given .before .before .before in
+    omega (arith, noted .before .before .loop-test .taken)
+
+loop-less : tie.Need-loop-less Inv-loop μ-loop
+loop-less c =
+    let sent = c .before .before .before .before .before in
+    let served = sent .before .before .before .before in
+    let offered = served .before .before .before .before in
+    let called = offered .before .before .before .before in
+    let given = called .before .before .before .before in
+    let noted = given .before .before .before in
+    omega (arith, noted .before .before .loop-test .taken)
+
+loop-again : tie.Need-loop-again Inv-loop μ-loop
+loop-again c = tt
+
+returns-2 : tie.Need-returns-2 Inv-loop μ-loop
+returns-2 c = search needs
+
+pub play-spec : {M : Type 1} → statement M
+play-spec =
+    tie.close
+    (tie.spec
+    Inv-loop
+    μ-loop
+    client-with-requires
+    start-requires
+    server-with-requires
+    slice-aggregate-start
+    start-requires-2
+    loop-holds
+    turn-of-requires
+    is-over-requires
+    returns
+    noted-requires
+    front-requires
+    client-turn-requires
+    front-requires-2
+    server-turn-requires
+    sent-requires
+    sub-left
+    loop-less
+    loop-again
+    returns-2)
