@@ -99,10 +99,15 @@ pub fn run<R: BufRead>(input: R) -> bool {
     let text: Vec<String> = input.lines().map(|line| line.unwrap()).collect();
     let text = text.join("\n") + "\n";
     let (mut first, mut second) = (Script::new(text.as_bytes()), Script::new(text.as_bytes()));
-    let (mut count, mut different, mut auth, mut stopped) = (0, 0, 0, 0);
+    let (mut count, mut different, mut auth, mut stopped, mut passed_over) = (0, 0, 0, 0, 0);
     loop {
         let (Ok(a), Ok(b)) = (first.next_session(), second.next_session()) else { panic!("bad script") };
         let (Some(a), Some(b)) = (a, b) else { break };
+        // No server can be told where ids are counted from; such a session keeps to 64 ids only if it can.
+        if a.settings.counter.is_some() {
+            passed_over += 1;
+            continue;
+        }
         let name = a.settings_words.clone();
         auth += usize::from(a.settings.authentication.is_some());
         let (original, replies) = play!(obex_protocol::server::Server<_, _>, shared(a), |s| s);
@@ -142,7 +147,7 @@ pub fn run<R: BufRead>(input: R) -> bool {
             }
         }
     }
-    println!("with a password {auth}, compared up to the eighth wrong one {stopped}");
+    println!("with a password {auth}, compared up to the eighth wrong one {stopped}, passed over since they set the id counter {passed_over}");
     println!("compared {count} different {different}");
     different == 0
 }
