@@ -1,7 +1,10 @@
 // Plays a session to a server over libopenobex many times, from memory and packet by packet, as `load` plays it to the engine: a transport of its own
 // hands each packet over and takes each reply. For tools/perf-peers.
 //
-// Usage: openobex_load COUNT <SESSION        Prints how many replies, bytes of replies, records and bytes of records came of it.
+// Usage: openobex_load COUNT [LONGEST] <SESSION
+//
+// Prints how many replies, bytes of replies, records and bytes of records came of it. No reply is longer than LONGEST, 65,535 unless given: the
+// library allots each reply its longest length.
 #include <openobex/obex.h>
 #include <stdint.h>
 #include <stdio.h>
@@ -94,11 +97,11 @@ static void event(obex_t *h, obex_object_t *o, int mode, int ev, int cmd, int rs
     }
 }
 
-static void play(void) {
+static void play(uint16_t longest) {
     obex_ctrans_t transport = {.connect = nothing, .disconnect = nothing, .listen = nothing, .write = sent, .handleinput = feed};
     obex_t *h = OBEX_Init(OBEX_TRANS_CUSTOM, event, 0);
     if (!h || OBEX_RegisterCTransport(h, &transport) < 0 || OBEX_ServerRegister(h, NULL, 0) < 0) exit(1);
-    OBEX_SetTransportMTU(h, 65535, 65535);
+    OBEX_SetTransportMTU(h, 65535, longest);
     for (at = 0; at < length;)
         if (OBEX_HandleInput(h, 0) < 0) exit(1);
     OBEX_Cleanup(h);
@@ -109,7 +112,8 @@ int main(int argc, char **argv) {
     ssize_t n;
     while ((n = read(0, session + length, sizeof session - length)) > 0) length += (size_t)n;
     for (size_t i = 0; i < OBJECT; i++) object[i] = (uint8_t)(i % 251);
-    for (long i = 0; i < count; i++) play();
+    uint16_t longest = argc > 2 ? (uint16_t)atoi(argv[2]) : 65535;
+    for (long i = 0; i < count; i++) play(longest);
     printf("replies %lu bytes %lu records %lu stored %lu\n", replies, bytes, records, stored);
     return 0;
 }
