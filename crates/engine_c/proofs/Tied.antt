@@ -71,7 +71,7 @@ pub start-says : (κs : Lfts 7) (a : ArgsD obex_engine_start.signature κs) (r :
     resultOf (now (x .0)) .outcome ≡ outcome.WantsBytes
     → Starts (now (a .0)) (now (a .1 .0)) (stores (now (p .0)) (now (p .1 .0)) (now (p .1 .1 .0)) (now (p .1 .1 .1 .0))) (now (a .1 .1 .0))
     (stepped (resultOf (now (x .0))) (stores (now (q .0)) (now (q .1 .0)) (now (q .1 .1 .0)) (now (q .1 .1 .1 .0))))
-start-says κs a r x h e = accepted _ _ _ _ _ h e
+start-says κs a r x h e = accepted _ _ _ _ _ (h .0) e
 
 pub bytes-offered-says : (κs : Lfts 7) (a : ArgsD obex_engine_bytes_offered.signature κs) (r : ResD obex_engine_bytes_offered.signature κs)
     (x : AtExit (endedOf 7 bytes-offered-kinds.ps bytes-offered-kinds.r) κs)
@@ -80,7 +80,7 @@ pub bytes-offered-says : (κs : Lfts 7) (a : ArgsD obex_engine_bytes_offered.sig
     let q = x .1 .1 .1 in
     Says (stateIn (before (now (a .1 .1 .0)) (now (a .0)) (stores (now (p .0)) (now (p .1 .0)) (now (p .1 .1 .0)) (now (p .1 .1 .1 .0)))))
     (bytesOffered (now (a .1 .0))) (returned (now (x .0)) (stores (now (q .0)) (now (q .1 .0)) (now (q .1 .1 .0)) (now (q .1 .1 .1 .0))) (now (a .1 .1 .0)))
-bytes-offered-says κs a r x h = record { step = ap (λ (m : Stepped). called m (now (a .1 .1 .0))) (h .0); octets = h .1 }
+bytes-offered-says κs a r x h = record { step = ap (λ (m : Stepped). called m (now (a .1 .1 .0))) (h .0); octets = h .1 .1 }
 
 pub stream-ended-says : (t : List ℕ) (κs : Lfts 5) (a : ArgsD obex_engine_stream_ended.signature κs) (r : ResD obex_engine_stream_ended.signature κs)
     (x : AtExit (endedOf 5 stream-ended-kinds.ps stream-ended-kinds.r) κs)
@@ -89,7 +89,7 @@ pub stream-ended-says : (t : List ℕ) (κs : Lfts 5) (a : ArgsD obex_engine_str
     let q = x .1 in
     Says (stateIn (before t (now (a .0)) (stores (now (p .0)) (now (p .1 .0)) (now (p .1 .1 .0)) (now (p .1 .1 .1 .0)))))
     streamEnded (returned (now (x .0)) (stores (now (q .0)) (now (q .1 .0)) (now (q .1 .1 .0)) (now (q .1 .1 .1 .0))) t)
-stream-ended-says t κs a r x h = record { step = ap (λ (m : Stepped). called m t) h; octets = tt }
+stream-ended-says t κs a r x h = record { step = ap (λ (m : Stepped). called m t) (h .0); octets = tt }
 
 pub reply-taken-says : (t : List ℕ) (κs : Lfts 5) (a : ArgsD obex_engine_reply_taken.signature κs) (r : ResD obex_engine_reply_taken.signature κs)
     (x : AtExit (endedOf 5 reply-taken-kinds.ps reply-taken-kinds.r) κs)
@@ -98,7 +98,7 @@ pub reply-taken-says : (t : List ℕ) (κs : Lfts 5) (a : ArgsD obex_engine_repl
     let q = x .1 in
     Says (stateIn (before t (now (a .0)) (stores (now (p .0)) (now (p .1 .0)) (now (p .1 .1 .0)) (now (p .1 .1 .1 .0)))))
     replyTaken (returned (now (x .0)) (stores (now (q .0)) (now (q .1 .0)) (now (q .1 .1 .0)) (now (q .1 .1 .1 .0))) t)
-reply-taken-says t κs a r x h = record { step = ap (λ (m : Stepped). called m t) h; octets = tt }
+reply-taken-says t κs a r x h = record { step = ap (λ (m : Stepped). called m t) (h .0); octets = tt }
 
 pub reply-given-says : (κs : Lfts 7) (a : ArgsD obex_engine_reply_given.signature κs) (r : ResD obex_engine_reply_given.signature κs)
     (x : AtExit (endedOf 7 reply-given-kinds.ps reply-given-kinds.r) κs)
@@ -107,7 +107,7 @@ pub reply-given-says : (κs : Lfts 7) (a : ArgsD obex_engine_reply_given.signatu
     let q = x .1 .1 .1 .1 in
     Says (stateIn (before (now (a .1 .1 .1 .0)) (now (a .0)) (stores (now (p .0)) (now (p .1 .0)) (now (p .1 .1 .0)) (now (p .1 .1 .1 .0)))))
     (replyGiven (a .1 .0) (now (a .1 .1 .0))) (returned (now (x .0)) (stores (now (q .0)) (now (q .1 .0)) (now (q .1 .1 .0)) (now (q .1 .1 .1 .0))) (now (x .1 .1 .1 .0)))
-reply-given-says κs a r x h = record { step = h; octets = tt }
+reply-given-says κs a r x h = record { step = h .0; octets = tt }
 
 pub object-given-says : (t : List ℕ) (κs : Lfts 6) (a : ArgsD obex_engine_object_given.signature κs) (r : ResD obex_engine_object_given.signature κs)
     (x : AtExit (endedOf 6 object-given-kinds.ps object-given-kinds.r) κs)
@@ -116,7 +116,7 @@ pub object-given-says : (t : List ℕ) (κs : Lfts 6) (a : ArgsD obex_engine_obj
     let q = x .1 .1 .1 in
     Says (stateIn (before t (now (a .0)) (stores (now (p .0)) (now (p .1 .0)) (now (p .1 .1 .0)) (now (p .1 .1 .1 .0)))))
     (objectGiven (now (a .1 .0)) (a .1 .1 .0)) (returned (now (x .0)) (stores (now (q .0)) (now (q .1 .0)) (now (q .1 .1 .0)) (now (q .1 .1 .1 .0))) t)
-object-given-says t κs a r x h = record { step = ap (λ (m : Stepped). called m t) h; octets = tt }
+object-given-says t κs a r x h = record { step = ap (λ (m : Stepped). called m t) (h .0); octets = tt }
 
 pub body-given-says : (t : List ℕ) (κs : Lfts 6) (a : ArgsD obex_engine_body_given.signature κs) (r : ResD obex_engine_body_given.signature κs)
     (x : AtExit (endedOf 6 body-given-kinds.ps body-given-kinds.r) κs)
@@ -125,7 +125,7 @@ pub body-given-says : (t : List ℕ) (κs : Lfts 6) (a : ArgsD obex_engine_body_
     let q = x .1 .1 in
     Says (stateIn (before t (now (a .0)) (stores (now (p .0)) (now (p .1 .0)) (now (p .1 .1 .0)) (now (p .1 .1 .1 .0)))))
     (bodyGiven (now (a .1 .0))) (returned (now (x .0)) (stores (now (q .0)) (now (q .1 .0)) (now (q .1 .1 .0)) (now (q .1 .1 .1 .0))) t)
-body-given-says t κs a r x h = record { step = ap (λ (m : Stepped). called m t) h; octets = tt }
+body-given-says t κs a r x h = record { step = ap (λ (m : Stepped). called m t) (h .0); octets = tt }
 
 pub body-failed-says : (t : List ℕ) (κs : Lfts 5) (a : ArgsD obex_engine_body_failed.signature κs) (r : ResD obex_engine_body_failed.signature κs)
     (x : AtExit (endedOf 5 body-failed-kinds.ps body-failed-kinds.r) κs)
@@ -134,7 +134,7 @@ pub body-failed-says : (t : List ℕ) (κs : Lfts 5) (a : ArgsD obex_engine_body
     let q = x .1 in
     Says (stateIn (before t (now (a .0)) (stores (now (p .0)) (now (p .1 .0)) (now (p .1 .1 .0)) (now (p .1 .1 .1 .0)))))
     bodyFailed (returned (now (x .0)) (stores (now (q .0)) (now (q .1 .0)) (now (q .1 .1 .0)) (now (q .1 .1 .1 .0))) t)
-body-failed-says t κs a r x h = record { step = ap (λ (m : Stepped). called m t) h; octets = tt }
+body-failed-says t κs a r x h = record { step = ap (λ (m : Stepped). called m t) (h .0); octets = tt }
 
 pub abort-acknowledged-says : (t : List ℕ) (κs : Lfts 5) (a : ArgsD obex_engine_abort_acknowledged.signature κs) (r : ResD obex_engine_abort_acknowledged.signature κs)
     (x : AtExit (endedOf 5 abort-acknowledged-kinds.ps abort-acknowledged-kinds.r) κs)
@@ -143,7 +143,7 @@ pub abort-acknowledged-says : (t : List ℕ) (κs : Lfts 5) (a : ArgsD obex_engi
     let q = x .1 in
     Says (stateIn (before t (now (a .0)) (stores (now (p .0)) (now (p .1 .0)) (now (p .1 .1 .0)) (now (p .1 .1 .1 .0)))))
     abortAcknowledged (returned (now (x .0)) (stores (now (q .0)) (now (q .1 .0)) (now (q .1 .1 .0)) (now (q .1 .1 .1 .0))) t)
-abort-acknowledged-says t κs a r x h = record { step = ap (λ (m : Stepped). called m t) h; octets = tt }
+abort-acknowledged-says t κs a r x h = record { step = ap (λ (m : Stepped). called m t) (h .0); octets = tt }
 
 pub password-given-says : (t : List ℕ) (κs : Lfts 6) (a : ArgsD obex_engine_password_given.signature κs) (r : ResD obex_engine_password_given.signature κs)
     (x : AtExit (endedOf 6 password-given-kinds.ps password-given-kinds.r) κs)
@@ -152,7 +152,7 @@ pub password-given-says : (t : List ℕ) (κs : Lfts 6) (a : ArgsD obex_engine_p
     let q = x .1 .1 .1 in
     Says (stateIn (before t (now (a .0)) (stores (now (p .0)) (now (p .1 .0)) (now (p .1 .1 .0)) (now (p .1 .1 .1 .0)))))
     (passwordGiven (given (a .1 .0) (now (a .1 .1 .0)))) (returned (now (x .0)) (stores (now (q .0)) (now (q .1 .0)) (now (q .1 .1 .0)) (now (q .1 .1 .1 .0))) t)
-password-given-says t κs a r x h = record { step = ap (λ (m : Stepped). called m t) h; octets = tt }
+password-given-says t κs a r x h = record { step = ap (λ (m : Stepped). called m t) (h .0); octets = tt }
 
 pub nonce-given-says : (κs : Lfts 7) (a : ArgsD obex_engine_nonce_given.signature κs) (r : ResD obex_engine_nonce_given.signature κs)
     (x : AtExit (endedOf 7 nonce-given-kinds.ps nonce-given-kinds.r) κs)
@@ -161,7 +161,7 @@ pub nonce-given-says : (κs : Lfts 7) (a : ArgsD obex_engine_nonce_given.signatu
     let q = x .1 .1 .1 .1 .1 in
     Says (stateIn (before (now (a .1 .1 .1 .1 .0)) (now (a .0)) (stores (now (p .0)) (now (p .1 .0)) (now (p .1 .1 .0)) (now (p .1 .1 .1 .0)))))
     (nonceGiven (record { first = a .1 .0; second = a .1 .1 .0 }) (now (a .1 .1 .1 .0))) (returned (now (x .0)) (stores (now (q .0)) (now (q .1 .0)) (now (q .1 .1 .0)) (now (q .1 .1 .1 .0))) (now (x .1 .1 .1 .1 .0)))
-nonce-given-says κs a r x h = record { step = h; octets = tt }
+nonce-given-says κs a r x h = record { step = h .0; octets = tt }
 
 pub credentials-given-says : (t : List ℕ) (κs : Lfts 7) (a : ArgsD obex_engine_credentials_given.signature κs) (r : ResD obex_engine_credentials_given.signature κs)
     (x : AtExit (endedOf 7 credentials-given-kinds.ps credentials-given-kinds.r) κs)
@@ -170,7 +170,7 @@ pub credentials-given-says : (t : List ℕ) (κs : Lfts 7) (a : ArgsD obex_engin
     let q = x .1 .1 .1 .1 .1 in
     Says (stateIn (before t (now (a .0)) (stores (now (p .0)) (now (p .1 .0)) (now (p .1 .1 .0)) (now (p .1 .1 .1 .0)))))
     (credentialsGiven (credentialsOf (a .1 .0) (given (a .1 .1 .0) (now (a .1 .1 .1 .0))) (now (a .1 .1 .1 .1 .0)))) (returned (now (x .0)) (stores (now (q .0)) (now (q .1 .0)) (now (q .1 .1 .0)) (now (q .1 .1 .1 .0))) t)
-credentials-given-says t κs a r x h = record { step = ap (λ (m : Stepped). called m t) h; octets = tt }
+credentials-given-says t κs a r x h = record { step = ap (λ (m : Stepped). called m t) (h .0); octets = tt }
 
 -- the call is lent the table store alone, so its line holds for every four stores that the host keeps beside it
 pub connections-closed-says : (s : Stores) (κs : Lfts 3) (a : ArgsD obex_engine_connections_closed.signature κs)
@@ -178,4 +178,4 @@ pub connections-closed-says : (s : Stores) (κs : Lfts 3) (a : ArgsD obex_engine
     → connections-closed-reads.Learnt κs a r x
     → let k = before (now (a .1 .1 .0)) (now (a .0)) s in
     Says (stateIn k) (connectionsClosed (now (a .1 .0))) (returned (now (x .0)) s (now (x .1 .1 .0)))
-connections-closed-says s κs a r x h = record { step = ap (beside (stateIn (before (now (a .1 .1 .0)) (now (a .0)) s))) h; octets = tt }
+connections-closed-says s κs a r x h = record { step = ap (beside (stateIn (before (now (a .1 .1 .0)) (now (a .0)) s))) (h .0); octets = tt }

@@ -1,11 +1,13 @@
--- How the state and the result of a call stand in the 64 numbers that a host outside Rattle keeps (docs/RUST.md has the table). Every list
--- of numbers is read as some state: a kind that nothing has is the last kind, and a field keeps the bits that its type has.
+-- How the state and the result of a call stand in the 64 numbers that a host outside Rattle keeps (docs/RUST.md has the table). `resultOf`
+-- reads the numbers: every list is read as some state, a kind that nothing has as the last kind, and a field of the state keeps the bits that
+-- its type has. `wordsOf` is what a call leaves, all 64 of them. `startOn` is the start, which refuses numbers that are no settings.
 use Prim.Native.Nat.{ℕ, _%_, _^_}
-use mathlib.Core.List.{List}
+use mathlib.Core.List.{List, [], _∷_}
 use mathlib.Core.Bool.{Bool, true, false, _&&_, _||_, not}
 use lib.ListN.{getD}
 use lib.Dec.{eqb, ltb}
 use Rattle.base.specs.Pick.{pick}
+use Rattle.digest.specs.declared.md5.Octets16.{Octets16}
 use Rattle.packet.specs.declared.opcode.Opcode.{Opcode}
 use Rattle.packet.specs.declared.opcode.Opcode.the-variants as op
 use Rattle.packet.specs.declared.tlv.Found.{Found}
@@ -19,7 +21,7 @@ use Rattle.connection.specs.declared.peer.Challenge.the-variants.{Stored, Absen
 use Rattle.connection.specs.declared.peer.ConnectionId.{ConnectionId}
 use Rattle.connection.specs.declared.peer.ConnectionId.the-variants as front-id
 use Rattle.connection.specs.declared.peer.Peer.{Peer}
-use Rattle.server.specs.Numbers.{awaitOf}
+use Rattle.server.specs.Numbers.{awaitOf, awaitNumber, endNumber, refusalNumber}
 use Rattle.server.specs.declared.Await.the-variants as await
 use Rattle.server.specs.declared.Settings.{Settings}
 use Rattle.server.specs.declared.Operation.{Operation}
@@ -27,6 +29,7 @@ use Rattle.server.specs.declared.Operation.the-variants as operation
 use Rattle.server.specs.declared.Engine.{Engine}
 use Rattle.server.specs.declared.Body.{Body}
 use Rattle.server.specs.declared.Body.the-variants as body
+use Rattle.server.specs.declared.HostRequest.{HostRequest}
 use Rattle.server.specs.declared.HostRequest.the-variants as request
 use Rattle.server.specs.declared.End.{End}
 use Rattle.server.specs.declared.End.the-variants as end
@@ -52,10 +55,19 @@ at w i = getD w i 0
 abbrev pub flag : ℕ → Bool
 flag n = eqb n 1
 
+-- The number of a flag.
+abbrev pub flagNumber : Bool → ℕ
+flagNumber true = 1
+flagNumber false = 0
+
 -- A kind and eleven numbers.
 abbrev pub twelve : ℕ → ℕ → ℕ → ℕ → ℕ → ℕ → ℕ → ℕ → ℕ → ℕ → ℕ → ℕ → Numbers
 twelve kind a b c d e f g h i j k =
     record { kind = kind; a = a; b = b; c = c; d = d; e = e; f = f; g = g; h = h; i = i; j = j; k = k }
+
+-- A kind and up to three numbers.
+abbrev pub numbers : ℕ → ℕ → ℕ → ℕ → Numbers
+numbers kind a b c = twelve kind a b c 0 0 0 0 0 0 0 0
 
 -- ---- the settings: numbers 0 to 9
 
@@ -78,6 +90,13 @@ settingsOf object packet charset has srm auth user only enforced trailing =
 -- The settings of the first ten of twelve numbers, as `settings_numbers` of the code makes them.
 abbrev pub settingsBy : Numbers → Settings
 settingsBy n = settingsOf (n .kind) (n .a) (n .b) (n .c) (n .d) (n .e) (n .f) (n .g) (n .h) (n .i)
+
+-- The numbers of the settings.
+abbrev pub settingsNumbers : Settings → Numbers
+settingsNumbers s =
+    twelve (s .«max_object_size») (s .«max_packet_length») (s .charset) (flagNumber (s .«has_realm»)) (flagNumber (s .«srm_supported»))
+    (flagNumber (s .authentication)) (flagNumber (s .«user_id_required»)) (flagNumber (s .«read_only»)) (flagNumber (s .«user_id_enforced»))
+    (flagNumber (s .«refuse_trailing»)) 0 0
 
 -- The settings in the host's numbers.
 abbrev pub settingsIn : List ℕ → Settings
@@ -102,6 +121,11 @@ settingsFit w =
 abbrev pub challengeOf : ℕ → ℕ → ℕ → Challenge
 challengeOf n a b = pick (eqb n 1) (Stored (record { first = a; second = b })) Absent
 
+-- The numbers of a challenge.
+abbrev pub challengeNumbers : Challenge → Numbers
+challengeNumbers (Stored n) = numbers 1 (n .first) (n .second) 0
+challengeNumbers Absent = numbers 0 0 0 0
+
 -- The peer of ten numbers, in the order of the table in docs/RUST.md.
 abbrev pub peerOf : ℕ → ℕ → ℕ → ℕ → ℕ → ℕ → ℕ → ℕ → ℕ → ℕ → Peer
 peerOf count nonces window next remote srm auth stored a b =
@@ -120,6 +144,13 @@ peerOf count nonces window next remote srm auth stored a b =
 abbrev pub peerBy : Numbers → Peer
 peerBy n = peerOf (n .kind) (n .a) (n .b) (n .c) (n .d) (n .e) (n .f) (n .g) (n .h) (n .i)
 
+-- The numbers of the peer.
+abbrev pub peerNumbers : Peer → Numbers
+peerNumbers p =
+    let n = challengeNumbers (p .challenge) in
+    twelve (p .count) (p .nonces) (p .window) (p .«next_connection_id») (p .«remote_max_packet_length») (flagNumber (p .«srm_enabled»))
+    (flagNumber (p .authenticated)) (n .kind) (n .a) (n .b) 0 0
+
 -- The peer in the host's numbers.
 abbrev pub peerIn : List ℕ → Peer
 peerIn w = peerOf (at w 12) (at w 13) (at w 14) (at w 15) (at w 16) (at w 17) (at w 18) (at w 19) (at w 20) (at w 21)
@@ -137,6 +168,18 @@ opcodeOf n x =
     (pick (eqb n 5) op.Action
     (pick (eqb n 6) op.Session
     (pick (eqb n 7) op.Abort (op.UserDefined (x % 2 ^ 8)))))))))
+
+-- The numbers of an opcode: its kind, and what a user-defined one holds.
+abbrev pub opcodeNumbers : Opcode → Numbers
+opcodeNumbers op.Connect = numbers 0 0 0 0
+opcodeNumbers op.Disconnect = numbers 1 0 0 0
+opcodeNumbers op.Put = numbers 2 0 0 0
+opcodeNumbers op.Get = numbers 3 0 0 0
+opcodeNumbers op.SetPath = numbers 4 0 0 0
+opcodeNumbers op.Action = numbers 5 0 0 0
+opcodeNumbers op.Session = numbers 6 0 0 0
+opcodeNumbers op.Abort = numbers 7 0 0 0
+opcodeNumbers (op.UserDefined x) = numbers 8 x 0 0
 
 -- What was gathered: `kept` bytes of headers and `n` of a body, whether a body header came, whether one passed the limit, and whether a
 -- header did not fit.
@@ -168,6 +211,34 @@ operationOf n =
     (pick (eqb (n .kind) 6) (operation.Draining (n .a % 2 ^ 8))
     (pick (eqb (n .kind) 7) operation.Trailing operation.Nothing))))))
 
+-- The numbers of what was gathered, with a kind and three numbers more.
+abbrev pub gatheredNumbers : ℕ → Gathered → ℕ → ℕ → ℕ → Numbers
+gatheredNumbers kind got f g h =
+    twelve kind (got .kept) (got .body) (flagNumber (got .came)) (flagNumber (got .over)) (flagNumber (got .full)) f g h 0 0 0
+
+-- The numbers of an object that is being sent.
+abbrev pub sendingNumbers : Outgoing → Chunk → Bool → Bool → Numbers
+sendingNumbers o c srm wait =
+    twelve 3 (o .total) (o .sent) (flagNumber (o .lead)) (flagNumber (o .«has_body»)) (flagNumber (o .«has_pending»)) (o .pending) (c .at)
+    (c .got) (c .room) (flagNumber srm) (flagNumber wait)
+
+-- The numbers of a Connect that waits for credentials.
+abbrev pub connectingNumbers : ℕ → ConnectionId → ℕ → Numbers
+connectingNumbers code (front-id.Id x) n = twelve 5 code 1 x n 0 0 0 0 0 0 0
+connectingNumbers code front-id.Missing n = twelve 5 code 0 0 n 0 0 0 0 0 0 0
+
+-- The numbers of an operation.
+abbrev pub operationNumbers : Operation → Numbers
+operationNumbers operation.Nothing = numbers 0 0 0 0
+operationNumbers operation.Trailing = numbers 7 0 0 0
+operationNumbers (operation.Putting got srm) = gatheredNumbers 1 got (flagNumber srm) 0 0
+operationNumbers (operation.Getting got srm confirm wait) =
+    gatheredNumbers 2 got (flagNumber srm) (flagNumber confirm) (flagNumber wait)
+operationNumbers (operation.Sending o c srm wait) = sendingNumbers o c srm wait
+operationNumbers (operation.Gathering o got) = gatheredNumbers 4 got (opcodeNumbers o .kind) (opcodeNumbers o .a) 0
+operationNumbers (operation.Connecting code front n) = connectingNumbers code front n
+operationNumbers (operation.Draining code) = numbers 6 code 0 0
+
 -- The operation's kind and values in the host's numbers.
 abbrev pub operationIn : List ℕ → Numbers
 operationIn w =
@@ -178,6 +249,10 @@ operationIn w =
 -- The Target is in numbers 36 to 38: its length, over 16 for the mark, and its sixteen bytes in two halves.
 abbrev pub targetOf : ℕ → ℕ → ℕ → Target
 targetOf n a b = record { length = n; bytes = record { first = a; second = b } }
+
+-- The numbers of a Target.
+abbrev pub targetNumbers : Target → Numbers
+targetNumbers t = numbers (t .length) (t .bytes .first) (t .bytes .second) 0
 
 -- The state in the host's numbers.
 unfoldable pub engineOf : List ℕ → Engine
@@ -227,8 +302,8 @@ unfoldable pub outcomeOf : Numbers → Outcome
 outcomeOf n =
     pick (eqb (n .kind) 0) outcome.WantsBytes
     (pick (eqb (n .kind) 1) (outcome.Reply (n .a))
-    (pick (eqb (n .kind) 2) (outcome.End (endOf (n .a % 2 ^ 8)))
-    (pick (eqb (n .kind) 3) (outcome.Refused (refusalOf (n .a % 2 ^ 8)))
+    (pick (eqb (n .kind) 2) (outcome.End (endOf (n .a)))
+    (pick (eqb (n .kind) 3) (outcome.Refused (refusalOf (n .a)))
     (pick (eqb (n .kind) 4) (outcome.Request (request.Connect (n .a)))
     (pick (eqb (n .kind) 5) (outcome.Request (request.Disconnect (n .a)))
     (pick (eqb (n .kind) 6) (outcome.Request (request.SetPath (n .a) (flag (n .b)) (flag (n .c))))
@@ -237,12 +312,52 @@ outcomeOf n =
     (pick (eqb (n .kind) 9) (outcome.Request (request.Get (n .a)))
     (pick (eqb (n .kind) 10) (outcome.Request (request.Action (n .a)))
     (pick (eqb (n .kind) 11) (outcome.Request (request.Session (n .a)))
-    (pick (eqb (n .kind) 12) (outcome.Request (request.UserDefined (n .b % 2 ^ 8) (n .a)))
+    (pick (eqb (n .kind) 12) (outcome.Request (request.UserDefined (n .b) (n .a)))
     (pick (eqb (n .kind) 13) (outcome.Request (request.Password (foundOf (n .a) (n .b) (n .c))))
     (pick (eqb (n .kind) 14) (outcome.Request request.Nonce)
     (pick (eqb (n .kind) 15)
     (outcome.Request (request.Credentials (record { first = n .a; second = n .b }) (flag (n .c)) (flag (n .d)) (foundOf (n .e) (n .f) (n .g))))
     (outcome.Request (request.Read (n .a))))))))))))))))))
+
+-- The numbers of a place in the packet store, with a kind.
+abbrev pub foundNumbers : ℕ → Found → Numbers
+foundNumbers kind (place.At start end) = numbers kind 1 start end
+foundNumbers kind place.Missing = numbers kind 0 0 0
+
+-- The numbers of a Put that is handed over.
+abbrev pub putNumbers : ℕ → Body → Numbers
+putNumbers kept (body.Bytes n) = numbers 8 kept 1 n
+putNumbers kept body.Missing = numbers 8 kept 0 0
+
+-- The numbers of a request for credentials.
+abbrev pub credentialsNumbers : Octets16 → Bool → Bool → Found → Numbers
+credentialsNumbers nonce required only realm =
+    let n = foundNumbers 0 realm in
+    twelve 15 (nonce .first) (nonce .second) (flagNumber required) (flagNumber only) (n .a) (n .b) (n .c) 0 0 0 0
+
+-- The numbers of a request to the host.
+abbrev pub requestNumbers : HostRequest → Numbers
+requestNumbers (request.Connect n) = numbers 4 n 0 0
+requestNumbers (request.Disconnect n) = numbers 5 n 0 0
+requestNumbers (request.SetPath n backup no-create) = numbers 6 n (flagNumber backup) (flagNumber no-create)
+requestNumbers (request.Abort n) = numbers 7 n 0 0
+requestNumbers (request.Put kept b) = putNumbers kept b
+requestNumbers (request.Get kept) = numbers 9 kept 0 0
+requestNumbers (request.Action kept) = numbers 10 kept 0 0
+requestNumbers (request.Session kept) = numbers 11 kept 0 0
+requestNumbers (request.UserDefined opcode kept) = numbers 12 kept opcode 0
+requestNumbers (request.Password user) = foundNumbers 13 user
+requestNumbers request.Nonce = numbers 14 0 0 0
+requestNumbers (request.Credentials nonce required only realm) = credentialsNumbers nonce required only realm
+requestNumbers (request.Read room) = numbers 16 room 0 0
+
+-- The numbers of an outcome.
+abbrev pub outcomeNumbers : Outcome → Numbers
+outcomeNumbers outcome.WantsBytes = numbers 0 0 0 0
+outcomeNumbers (outcome.Reply n) = numbers 1 n 0 0
+outcomeNumbers (outcome.Request q) = requestNumbers q
+outcomeNumbers (outcome.End x) = numbers 2 (endNumber x) 0 0
+outcomeNumbers (outcome.Refused x) = numbers 3 (refusalNumber x) 0 0
 
 -- The outcome's kind and values in the host's numbers.
 abbrev pub outcomeIn : List ℕ → Numbers
@@ -252,6 +367,81 @@ outcomeIn w =
 -- What a call left: the state, in number 43 how many bytes were taken, and the outcome.
 unfoldable pub resultOf : List ℕ → CallResult
 resultOf w = record { engine = engineOf w; taken = at w 43; outcome = outcomeOf (outcomeIn w) }
+
+-- All 64 numbers that a call leaves. The version is not among them: a start asks for settings that were written anew.
+unfoldable pub wordsOf : CallResult → List ℕ
+wordsOf r =
+    let e = r .engine in
+    let s = settingsNumbers (e .settings) in
+    let p = peerNumbers (e .peer) in
+    let o = operationNumbers (e .operation) in
+    let g = targetNumbers (e .target) in
+    let t = outcomeNumbers (r .outcome) in
+    s .kind
+    ∷ s .a
+    ∷ s .b
+    ∷ s .c
+    ∷ s .d
+    ∷ s .e
+    ∷ s .f
+    ∷ s .g
+    ∷ s .h
+    ∷ s .i
+    ∷ 0
+    ∷ 0
+    ∷ p .kind
+    ∷ p .a
+    ∷ p .b
+    ∷ p .c
+    ∷ p .d
+    ∷ p .e
+    ∷ p .f
+    ∷ p .g
+    ∷ p .h
+    ∷ p .i
+    ∷ 0
+    ∷ 0
+    ∷ o .kind
+    ∷ o .a
+    ∷ o .b
+    ∷ o .c
+    ∷ o .d
+    ∷ o .e
+    ∷ o .f
+    ∷ o .g
+    ∷ o .h
+    ∷ o .i
+    ∷ o .j
+    ∷ o .k
+    ∷ g .kind
+    ∷ g .a
+    ∷ g .b
+    ∷ 0
+    ∷ awaitNumber (e .awaits)
+    ∷ e .begun
+    ∷ e .length
+    ∷ r .taken
+    ∷ t .kind
+    ∷ t .a
+    ∷ t .b
+    ∷ t .c
+    ∷ t .d
+    ∷ t .e
+    ∷ t .f
+    ∷ t .g
+    ∷ t .h
+    ∷ t .i
+    ∷ t .j
+    ∷ t .k
+    ∷ 0
+    ∷ 0
+    ∷ 0
+    ∷ 0
+    ∷ 0
+    ∷ 0
+    ∷ 0
+    ∷ 0
+    ∷ []
 
 -- ---- the start
 

@@ -1,6 +1,7 @@
 // The engine for Rust and C. The host keeps the state as 64 numbers and lends them (`words`; specs/Words says what they mean). Each call
 // reads the state there, does what the engine's call of that name does with the stores that it is lent, and leaves there the state, how
-// many bytes were taken, and the outcome. Whatever the numbers are, they are some state, so no call requires anything.
+// many bytes were taken, and the outcome, and nothing else: the numbers afterwards are those of the result, all 64. Whatever the numbers
+// are, they are some state, so no call requires anything.
 ghost use mathlib.Core.Path.{_≡_};
 ghost use Rattle.packet.specs.AuthWrite.{given};
 ghost use Rattle.connection.specs.Pieces.{credentialsOf};
@@ -8,7 +9,7 @@ ghost use Rattle.model.specs.Step.{stepped, called, stores};
 ghost use Rattle.model.specs.Calls.{streamEndedStep, bytesOfferedStep, replyTakenStep, abortAcknowledgedStep, bodyFailedStep, bodyGivenStep, objectGivenStep, nonceGivenStep, passwordGivenStep, replyGivenStep, credentialsGivenStep, connectionsClosedStep};
 ghost use Rattle.model.specs.Close.{closed};
 ghost use Rattle.model.specs.Runs.{Octets};
-ghost use Rattle.engine_c.specs.Words.{version, engineOf, resultOf, startOn};
+ghost use Rattle.engine_c.specs.Words.{version, engineOf, resultOf, wordsOf, startOn};
 use crate::words::VERSION;
 use crate::words::admit;
 use crate::words::engine_of;
@@ -39,9 +40,11 @@ pub extern "C" fn obex_engine_start(
     body: &mut [u8],
     reply: &mut [u8],
 )
-    ensures { λ r. ⌜ stepped (resultOf (now (words .exit))) (stores (now (packet .exit)) (now (headers .exit)) (now (body .exit)) (now (reply .exit)))
+    ensures step { λ r. ⌜ stepped (resultOf (now (words .exit)))
+        (stores (now (packet .exit)) (now (headers .exit)) (now (body .exit)) (now (reply .exit)))
         ≡ startOn (now (words .entry)) (now (realm .entry))
         (stores (now (packet .entry)) (now (headers .entry)) (now (body .entry)) (now (reply .entry))) (now (tables .entry)) ⌝ }
+    ensures numbers { λ r. ⌜ now (words .exit) ≡ wordsOf (resultOf (now (words .exit))) ⌝ }
 {
     let fit = is_settings(words);
     let r = engine::calls::start(
@@ -67,9 +70,11 @@ pub extern "C" fn obex_engine_bytes_offered(
     body: &mut [u8],
     reply: &mut [u8],
 )
-    ensures step { λ r. ⌜ stepped (resultOf (now (words .exit))) (stores (now (packet .exit)) (now (headers .exit)) (now (body .exit)) (now (reply .exit)))
+    ensures step { λ r. ⌜ stepped (resultOf (now (words .exit)))
+        (stores (now (packet .exit)) (now (headers .exit)) (now (body .exit)) (now (reply .exit)))
         ≡ bytesOfferedStep (engineOf (now (words .entry))) (now (input .entry))
         (stores (now (packet .entry)) (now (headers .entry)) (now (body .entry)) (now (reply .entry))) (now (tables .entry)) ⌝ }
+    ensures numbers { λ r. ⌜ now (words .exit) ≡ wordsOf (resultOf (now (words .exit))) ⌝ }
     ensures octets { λ r. ⌜ Octets (now (input .entry)) ⌝ }
 {
     let r = engine::calls::bytes_offered(
@@ -94,9 +99,11 @@ pub extern "C" fn obex_engine_stream_ended(
     body: &mut [u8],
     reply: &mut [u8],
 )
-    ensures { λ r. ⌜ stepped (resultOf (now (words .exit))) (stores (now (packet .exit)) (now (headers .exit)) (now (body .exit)) (now (reply .exit)))
+    ensures step { λ r. ⌜ stepped (resultOf (now (words .exit)))
+        (stores (now (packet .exit)) (now (headers .exit)) (now (body .exit)) (now (reply .exit)))
         ≡ streamEndedStep (engineOf (now (words .entry)))
         (stores (now (packet .entry)) (now (headers .entry)) (now (body .entry)) (now (reply .entry))) ⌝ }
+    ensures numbers { λ r. ⌜ now (words .exit) ≡ wordsOf (resultOf (now (words .exit))) ⌝ }
 {
     let r = engine::calls::stream_ended(engine_of(words), packet, headers, body, reply);
     store(r, words);
@@ -111,9 +118,11 @@ pub extern "C" fn obex_engine_reply_taken(
     body: &mut [u8],
     reply: &mut [u8],
 )
-    ensures { λ r. ⌜ stepped (resultOf (now (words .exit))) (stores (now (packet .exit)) (now (headers .exit)) (now (body .exit)) (now (reply .exit)))
+    ensures step { λ r. ⌜ stepped (resultOf (now (words .exit)))
+        (stores (now (packet .exit)) (now (headers .exit)) (now (body .exit)) (now (reply .exit)))
         ≡ replyTakenStep (engineOf (now (words .entry)))
         (stores (now (packet .entry)) (now (headers .entry)) (now (body .entry)) (now (reply .entry))) ⌝ }
+    ensures numbers { λ r. ⌜ now (words .exit) ≡ wordsOf (resultOf (now (words .exit))) ⌝ }
 {
     let r = engine::calls::reply_taken(engine_of(words), packet, headers, body, reply);
     store(r, words);
@@ -131,10 +140,12 @@ pub extern "C" fn obex_engine_reply_given(
     body: &mut [u8],
     reply: &mut [u8],
 )
-    ensures { λ r. ⌜ called (stepped (resultOf (now (words .exit))) (stores (now (packet .exit)) (now (headers .exit)) (now (body .exit)) (now (reply .exit))))
+    ensures step { λ r. ⌜ called (stepped (resultOf (now (words .exit)))
+        (stores (now (packet .exit)) (now (headers .exit)) (now (body .exit)) (now (reply .exit))))
         (now (tables .exit))
         ≡ replyGivenStep (engineOf (now (words .entry))) code (now («header_bytes» .entry))
         (stores (now (packet .entry)) (now (headers .entry)) (now (body .entry)) (now (reply .entry))) (now (tables .entry)) ⌝ }
+    ensures numbers { λ r. ⌜ now (words .exit) ≡ wordsOf (resultOf (now (words .exit))) ⌝ }
 {
     let r = engine::calls::reply_given(
         engine_of(words),
@@ -160,9 +171,11 @@ pub extern "C" fn obex_engine_object_given(
     body: &mut [u8],
     reply: &mut [u8],
 )
-    ensures { λ r. ⌜ stepped (resultOf (now (words .exit))) (stores (now (packet .exit)) (now (headers .exit)) (now (body .exit)) (now (reply .exit)))
+    ensures step { λ r. ⌜ stepped (resultOf (now (words .exit)))
+        (stores (now (packet .exit)) (now (headers .exit)) (now (body .exit)) (now (reply .exit)))
         ≡ objectGivenStep (engineOf (now (words .entry))) (now («header_bytes» .entry)) «has_body»
         (stores (now (packet .entry)) (now (headers .entry)) (now (body .entry)) (now (reply .entry))) ⌝ }
+    ensures numbers { λ r. ⌜ now (words .exit) ≡ wordsOf (resultOf (now (words .exit))) ⌝ }
 {
     let r = engine::calls::object_given(
         engine_of(words),
@@ -186,9 +199,11 @@ pub extern "C" fn obex_engine_body_given(
     body: &mut [u8],
     reply: &mut [u8],
 )
-    ensures { λ r. ⌜ stepped (resultOf (now (words .exit))) (stores (now (packet .exit)) (now (headers .exit)) (now (body .exit)) (now (reply .exit)))
+    ensures step { λ r. ⌜ stepped (resultOf (now (words .exit)))
+        (stores (now (packet .exit)) (now (headers .exit)) (now (body .exit)) (now (reply .exit)))
         ≡ bodyGivenStep (engineOf (now (words .entry))) (now (d .entry))
         (stores (now (packet .entry)) (now (headers .entry)) (now (body .entry)) (now (reply .entry))) ⌝ }
+    ensures numbers { λ r. ⌜ now (words .exit) ≡ wordsOf (resultOf (now (words .exit))) ⌝ }
 {
     let r = engine::calls::body_given(engine_of(words), d, packet, headers, body, reply);
     store(r, words);
@@ -203,9 +218,11 @@ pub extern "C" fn obex_engine_body_failed(
     body: &mut [u8],
     reply: &mut [u8],
 )
-    ensures { λ r. ⌜ stepped (resultOf (now (words .exit))) (stores (now (packet .exit)) (now (headers .exit)) (now (body .exit)) (now (reply .exit)))
+    ensures step { λ r. ⌜ stepped (resultOf (now (words .exit)))
+        (stores (now (packet .exit)) (now (headers .exit)) (now (body .exit)) (now (reply .exit)))
         ≡ bodyFailedStep (engineOf (now (words .entry)))
         (stores (now (packet .entry)) (now (headers .entry)) (now (body .entry)) (now (reply .entry))) ⌝ }
+    ensures numbers { λ r. ⌜ now (words .exit) ≡ wordsOf (resultOf (now (words .exit))) ⌝ }
 {
     let r = engine::calls::body_failed(engine_of(words), packet, headers, body, reply);
     store(r, words);
@@ -220,9 +237,11 @@ pub extern "C" fn obex_engine_abort_acknowledged(
     body: &mut [u8],
     reply: &mut [u8],
 )
-    ensures { λ r. ⌜ stepped (resultOf (now (words .exit))) (stores (now (packet .exit)) (now (headers .exit)) (now (body .exit)) (now (reply .exit)))
+    ensures step { λ r. ⌜ stepped (resultOf (now (words .exit)))
+        (stores (now (packet .exit)) (now (headers .exit)) (now (body .exit)) (now (reply .exit)))
         ≡ abortAcknowledgedStep (engineOf (now (words .entry)))
         (stores (now (packet .entry)) (now (headers .entry)) (now (body .entry)) (now (reply .entry))) ⌝ }
+    ensures numbers { λ r. ⌜ now (words .exit) ≡ wordsOf (resultOf (now (words .exit))) ⌝ }
 {
     let r = engine::calls::abort_acknowledged(engine_of(words), packet, headers, body, reply);
     store(r, words);
@@ -239,9 +258,11 @@ pub extern "C" fn obex_engine_password_given(
     body: &mut [u8],
     reply: &mut [u8],
 )
-    ensures { λ r. ⌜ stepped (resultOf (now (words .exit))) (stores (now (packet .exit)) (now (headers .exit)) (now (body .exit)) (now (reply .exit)))
+    ensures step { λ r. ⌜ stepped (resultOf (now (words .exit)))
+        (stores (now (packet .exit)) (now (headers .exit)) (now (body .exit)) (now (reply .exit)))
         ≡ passwordGivenStep (engineOf (now (words .entry))) (given «has_password» (now (password .entry)))
         (stores (now (packet .entry)) (now (headers .entry)) (now (body .entry)) (now (reply .entry))) ⌝ }
+    ensures numbers { λ r. ⌜ now (words .exit) ≡ wordsOf (resultOf (now (words .exit))) ⌝ }
 {
     let r = engine::calls::password_given(
         engine_of(words),
@@ -268,10 +289,12 @@ pub extern "C" fn obex_engine_nonce_given(
     body: &mut [u8],
     reply: &mut [u8],
 )
-    ensures { λ r. ⌜ called (stepped (resultOf (now (words .exit))) (stores (now (packet .exit)) (now (headers .exit)) (now (body .exit)) (now (reply .exit))))
+    ensures step { λ r. ⌜ called (stepped (resultOf (now (words .exit)))
+        (stores (now (packet .exit)) (now (headers .exit)) (now (body .exit)) (now (reply .exit))))
         (now (tables .exit))
         ≡ nonceGivenStep (engineOf (now (words .entry))) (record { first = first; second = second }) (now (realm .entry))
         (stores (now (packet .entry)) (now (headers .entry)) (now (body .entry)) (now (reply .entry))) (now (tables .entry)) ⌝ }
+    ensures numbers { λ r. ⌜ now (words .exit) ≡ wordsOf (resultOf (now (words .exit))) ⌝ }
 {
     let r = engine::calls::nonce_given(
         engine_of(words),
@@ -299,9 +322,11 @@ pub extern "C" fn obex_engine_credentials_given(
     body: &mut [u8],
     reply: &mut [u8],
 )
-    ensures { λ r. ⌜ stepped (resultOf (now (words .exit))) (stores (now (packet .exit)) (now (headers .exit)) (now (body .exit)) (now (reply .exit)))
+    ensures step { λ r. ⌜ stepped (resultOf (now (words .exit)))
+        (stores (now (packet .exit)) (now (headers .exit)) (now (body .exit)) (now (reply .exit)))
         ≡ credentialsGivenStep (engineOf (now (words .entry))) (credentialsOf «has_credentials» (given «has_user» (now (user .entry))) (now (password .entry)))
         (stores (now (packet .entry)) (now (headers .entry)) (now (body .entry)) (now (reply .entry))) ⌝ }
+    ensures numbers { λ r. ⌜ now (words .exit) ≡ wordsOf (resultOf (now (words .exit))) ⌝ }
 {
     let r = engine::calls::credentials_given(
         engine_of(words),
@@ -324,8 +349,9 @@ pub extern "C" fn obex_engine_connections_closed(
     ids: &[u32],
     tables: &mut [u64],
 )
-    ensures { λ r. ⌜ closed (resultOf (now (words .exit))) (now (tables .exit))
+    ensures step { λ r. ⌜ closed (resultOf (now (words .exit))) (now (tables .exit))
         ≡ connectionsClosedStep (engineOf (now (words .entry))) (now (ids .entry)) (now (tables .entry)) ⌝ }
+    ensures numbers { λ r. ⌜ now (words .exit) ≡ wordsOf (resultOf (now (words .exit))) ⌝ }
 {
     let r = engine::calls::connections_closed(engine_of(words), ids, tables);
     store(r, words);

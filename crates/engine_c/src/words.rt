@@ -1,10 +1,13 @@
 // The state and the result of a call as numbers, and back: what a host outside Rattle keeps between calls. specs/Words says what the
-// numbers mean. Decoding what `store` wrote gives the result back, whatever it was; the other direction is not claimed and not needed.
+// numbers mean. `store` leaves the numbers that `wordsOf` says, and reading them gives the result back.
 ghost use mathlib.Core.Path.{_≡_};
 ghost use Prim.Native.Nat.{_%_, _^_};
 ghost use Rattle.engine_c.specs.Words.{flag, opcodeOf, gatheredOf, idOf, challengeOf, outgoingOf, chunkOf, operationOf, operationIn};
-ghost use Rattle.server.specs.Numbers.{awaitOf};
-ghost use Rattle.engine_c.specs.Words.{settingsBy, settingsIn, peerBy, peerIn, targetOf, engineOf, foundOf, outcomeOf, resultOf, twelve};
+ghost use Rattle.server.specs.Numbers.{awaitOf, awaitNumber};
+ghost use Rattle.engine_c.specs.Words.{settingsBy, settingsIn, peerBy, peerIn, targetOf, engineOf, resultOf, numbers, flagNumber};
+ghost use Rattle.engine_c.specs.Words.{opcodeNumbers, gatheredNumbers, sendingNumbers, connectingNumbers, operationNumbers};
+ghost use Rattle.engine_c.specs.Words.{settingsNumbers, challengeNumbers, peerNumbers, targetNumbers, foundNumbers, putNumbers};
+ghost use Rattle.engine_c.specs.Words.{credentialsNumbers, requestNumbers, outcomeNumbers, wordsOf};
 ghost use Rattle.engine_c.specs.Words.{flagsFit, settingsFit, isWaiting, judgedStart};
 use connection::peer::Challenge;
 use connection::peer::ConnectionId;
@@ -52,7 +55,7 @@ pub struct Numbers {
 
 // Returns the number of a flag.
 fn flag_number(b: bool) -> u64
-    ensures { λ r. ⌜ flag r ≡ b ⌝ }
+    ensures { λ r. ⌜ r ≡ flagNumber b ⌝ }
 {
     if b {
         return 1;
@@ -76,21 +79,21 @@ fn wide(n: usize) -> u64
 
 // Returns `n` as a number of the host's, whose low 8 bits give `n` back.
 fn wide8(n: u8) -> u64
-    ensures { λ r. ⌜ r % 2 ^ 8 ≡ n ⌝ }
+    ensures { λ r. ⌜ (r ≡ n) × (n % 2 ^ 8 ≡ n) ⌝ }
 {
     n as u64
 }
 
 // Returns `n` as a number of the host's, whose low 16 bits give `n` back.
 fn wide16(n: u16) -> u64
-    ensures { λ r. ⌜ r % 2 ^ 16 ≡ n ⌝ }
+    ensures { λ r. ⌜ (r ≡ n) × (n % 2 ^ 16 ≡ n) ⌝ }
 {
     n as u64
 }
 
 // Returns `n` as a number of the host's, whose low 32 bits give `n` back.
 fn wide32(n: u32) -> u64
-    ensures { λ r. ⌜ r % 2 ^ 32 ≡ n ⌝ }
+    ensures { λ r. ⌜ (r ≡ n) × (n % 2 ^ 32 ≡ n) ⌝ }
 {
     n as u64
 }
@@ -106,7 +109,7 @@ fn size(n: u64) -> usize
 
 // Returns a kind with up to three numbers.
 fn few(kind: u64, a: u64, b: u64, c: u64) -> Numbers
-    ensures { λ r. ⌜ r ≡ twelve kind a b c 0 0 0 0 0 0 0 0 ⌝ }
+    ensures { λ r. ⌜ r ≡ numbers kind a b c ⌝ }
 {
     Numbers {
         kind,
@@ -126,7 +129,8 @@ fn few(kind: u64, a: u64, b: u64, c: u64) -> Numbers
 
 // Returns an opcode as a kind and what a user-defined one holds.
 fn opcode_numbers(o: Opcode) -> Numbers
-    ensures { λ r. ⌜ opcodeOf (r .kind) (r .a) ≡ o ⌝ }
+    ensures numbers { λ r. ⌜ r ≡ opcodeNumbers o ⌝ }
+    ensures back { λ r. ⌜ opcodeOf (opcodeNumbers o .kind) (opcodeNumbers o .a) ≡ o ⌝ }
 {
     match o {
         Opcode::Connect => few(0, 0, 0, 0),
@@ -143,8 +147,7 @@ fn opcode_numbers(o: Opcode) -> Numbers
 
 // Returns a kind with what was gathered and three numbers more.
 fn gathered_numbers(kind: u64, got: Gathered, f: u64, g: u64, h: u64) -> Numbers
-    ensures got { λ r. ⌜ gatheredOf (r .a) (r .b) (r .c) (r .d) (r .e) ≡ got ⌝ }
-    ensures more { λ r. ⌜ (r .kind ≡ kind) × ((r .f ≡ f) × ((r .g ≡ g) × (r .h ≡ h))) ⌝ }
+    ensures { λ r. ⌜ r ≡ gatheredNumbers kind got f g h ⌝ }
 {
     Numbers {
         kind,
@@ -164,7 +167,8 @@ fn gathered_numbers(kind: u64, got: Gathered, f: u64, g: u64, h: u64) -> Numbers
 
 // Returns the numbers of an object that is being sent.
 fn sending_numbers(o: Outgoing, c: Chunk, srm: bool, wait: bool) -> Numbers
-    ensures { λ r. ⌜ operationOf r ≡ Operation.Sending o c srm wait ⌝ }
+    ensures numbers { λ r. ⌜ r ≡ sendingNumbers o c srm wait ⌝ }
+    ensures narrow { λ r. ⌜ o .pending % 2 ^ 8 ≡ o .pending ⌝ }
 {
     Numbers {
         kind: 3,
@@ -184,7 +188,8 @@ fn sending_numbers(o: Outgoing, c: Chunk, srm: bool, wait: bool) -> Numbers
 
 // Returns the numbers of a Connect that waits for credentials.
 fn connecting_numbers(code: u8, front: ConnectionId, length: usize) -> Numbers
-    ensures { λ r. ⌜ operationOf r ≡ Operation.Connecting code front length ⌝ }
+    ensures numbers { λ r. ⌜ r ≡ connectingNumbers code front length ⌝ }
+    ensures back { λ r. ⌜ operationOf (connectingNumbers code front length) ≡ Operation.Connecting code front length ⌝ }
 {
     let mut r = few(5, wide8(code), 0, 0);
     r.d = wide(length);
@@ -200,7 +205,8 @@ fn connecting_numbers(code: u8, front: ConnectionId, length: usize) -> Numbers
 
 // Returns the numbers of the open operation.
 fn operation_numbers(o: Operation) -> Numbers
-    ensures { λ r. ⌜ operationOf r ≡ o ⌝ }
+    ensures numbers { λ r. ⌜ r ≡ operationNumbers o ⌝ }
+    ensures back { λ r. ⌜ operationOf (operationNumbers o) ≡ o ⌝ }
 {
     match o {
         Operation::Nothing => few(0, 0, 0, 0),
@@ -245,7 +251,8 @@ fn operation_numbers(o: Operation) -> Numbers
 
 // Returns the numbers of the settings.
 fn settings_numbers(s: Settings) -> Numbers
-    ensures { λ r. ⌜ settingsBy r ≡ s ⌝ }
+    ensures numbers { λ r. ⌜ r ≡ settingsNumbers s ⌝ }
+    ensures back { λ r. ⌜ settingsBy (settingsNumbers s) ≡ s ⌝ }
 {
     Numbers {
         kind: wide32(s.max_object_size),
@@ -265,7 +272,7 @@ fn settings_numbers(s: Settings) -> Numbers
 
 // Returns the numbers of a challenge.
 fn challenge_numbers(c: Challenge) -> Numbers
-    ensures { λ r. ⌜ challengeOf (r .kind) (r .a) (r .b) ≡ c ⌝ }
+    ensures { λ r. ⌜ r ≡ challengeNumbers c ⌝ }
 {
     match c {
         Challenge::Stored(n) => few(1, n.first, n.second, 0),
@@ -275,7 +282,8 @@ fn challenge_numbers(c: Challenge) -> Numbers
 
 // Returns the numbers of the peer.
 fn peer_numbers(p: Peer) -> Numbers
-    ensures { λ r. ⌜ peerBy r ≡ p ⌝ }
+    ensures numbers { λ r. ⌜ r ≡ peerNumbers p ⌝ }
+    ensures back { λ r. ⌜ peerBy (peerNumbers p) ≡ p ⌝ }
 {
     let challenge = p.challenge;
     let n = challenge_numbers(challenge);
@@ -297,7 +305,7 @@ fn peer_numbers(p: Peer) -> Numbers
 
 // Returns the numbers of a Target.
 fn target_numbers(t: Target) -> Numbers
-    ensures { λ r. ⌜ targetOf (r .kind) (r .a) (r .b) ≡ t ⌝ }
+    ensures { λ r. ⌜ r ≡ targetNumbers t ⌝ }
 {
     few(wide(t.length), t.bytes.first, t.bytes.second, 0)
 }
@@ -306,7 +314,7 @@ fn target_numbers(t: Target) -> Numbers
 
 // Returns `kind` with a place in the packet store, or with none.
 fn found_numbers(kind: u64, f: Found) -> Numbers
-    ensures { λ r. ⌜ (r .kind ≡ kind) × (foundOf (r .a) (r .b) (r .c) ≡ f) ⌝ }
+    ensures { λ r. ⌜ r ≡ foundNumbers kind f ⌝ }
 {
     match f {
         Found::At { start, end } => few(kind, 1, wide(start), wide(end)),
@@ -316,7 +324,7 @@ fn found_numbers(kind: u64, f: Found) -> Numbers
 
 // Returns the numbers of a Put that is handed over.
 fn put_numbers(kept: usize, body: Body) -> Numbers
-    ensures { λ r. ⌜ outcomeOf r ≡ Outcome.Request (HostRequest.Put kept body) ⌝ }
+    ensures { λ r. ⌜ r ≡ putNumbers kept body ⌝ }
 {
     match body {
         Body::Bytes(n) => few(8, wide(kept), 1, wide(n)),
@@ -331,7 +339,7 @@ fn credentials_numbers(
     read_only: bool,
     realm: Found,
 ) -> Numbers
-    ensures { λ r. ⌜ outcomeOf r ≡ Outcome.Request (HostRequest.Credentials nonce «user_id_required» «read_only» realm) ⌝ }
+    ensures { λ r. ⌜ r ≡ credentialsNumbers nonce «user_id_required» «read_only» realm ⌝ }
 {
     let n = found_numbers(0, realm);
     Numbers {
@@ -352,7 +360,7 @@ fn credentials_numbers(
 
 // Returns the numbers of a request to the host.
 fn request_numbers(q: HostRequest) -> Numbers
-    ensures { λ r. ⌜ outcomeOf r ≡ Outcome.Request q ⌝ }
+    ensures { λ r. ⌜ r ≡ requestNumbers q ⌝ }
 {
     match q {
         HostRequest::Connect { length } => few(4, wide(length), 0, 0),
@@ -382,7 +390,7 @@ fn request_numbers(q: HostRequest) -> Numbers
 
 // Returns the numbers of an outcome.
 fn outcome_numbers(o: Outcome) -> Numbers
-    ensures { λ r. ⌜ outcomeOf r ≡ o ⌝ }
+    ensures { λ r. ⌜ r ≡ outcomeNumbers o ⌝ }
 {
     match o {
         Outcome::WantsBytes => few(0, 0, 0, 0),
@@ -395,14 +403,15 @@ fn outcome_numbers(o: Outcome) -> Numbers
 
 // Returns the number of what the engine waits for, as a number of the host's.
 fn awaits_number(a: Await) -> u64
-    ensures { λ r. ⌜ awaitOf r ≡ a ⌝ }
+    ensures { λ r. ⌜ r ≡ awaitNumber a ⌝ }
 {
     await_number(a) as u64
 }
 
 // Leaves the result `r` in the numbers that the host keeps.
 pub fn store(r: CallResult, words: &mut [u64; 64])
-    ensures { λ _. ⌜ resultOf (now (words .exit)) ≡ r ⌝ }
+    ensures written { λ _. ⌜ now (words .exit) ≡ wordsOf r ⌝ }
+    ensures read { λ _. ⌜ resultOf (now (words .exit)) ≡ r ⌝ }
 {
     let e = r.engine;
     let operation = e.operation;

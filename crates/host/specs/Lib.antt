@@ -2,3 +2,4 @@
 pub mod Answers
 pub mod Rest
 pub mod Feed
+pub mod Names

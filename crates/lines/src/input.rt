@@ -1,7 +1,10 @@
 // Reading: what stands in a store of the standard input, what is kept of it, and its lines one after the other.
 ghost use mathlib.Core.Path.{_≡_};
+ghost use mathlib.Core.Bool.{true};
 ghost use Prim.Native.Nat.{_≤_};
 ghost use lib.ListN.{length};
+ghost use Rattle.lines.specs.Word.{filled};
+ghost use Rattle.lines.specs.Input.{keptFront, beforeFirst, hasCut, hasLine, lineAfter, bytesOf};
 use crate::output::least;
 use crate::word::find;
 use libc::STDIN_FILENO;
@@ -33,7 +36,8 @@ pub fn read(s: &mut [u8]) -> usize
 // Moves what stands from `from` up to `to` to the front of `s`, and returns how many bytes that are.
 pub fn keep(s: &mut [u8], from: usize, to: usize) -> usize
     requires { ⌜ (from ≤ to) × (to ≤ length (now s)) ⌝ }
-    ensures { λ r. ⌜ r ≤ length (now (s .exit)) ⌝ }
+    ensures within { λ r. ⌜ r ≤ length (now (s .exit)) ⌝ }
+    ensures kept { λ r. ⌜ filled (now (s .exit)) r ≡ keptFront (now (s .entry)) from to ⌝ }
 {
     let mut i = 0;
     while i < to - from {
@@ -45,7 +49,7 @@ pub fn keep(s: &mut [u8], from: usize, to: usize) -> usize
 
 // Returns what stands before the first line.
 pub fn before_first() -> Line
-    ensures { λ r. ⌜ r .have ≡ 0 ⌝ }
+    ensures { λ r. ⌜ r ≡ beforeFirst ⌝ }
 {
     Line {
         start: 0,
@@ -105,15 +109,27 @@ fn read_on(s: &mut [u8], from: usize, to: usize, was_cut: bool) -> Line
     }
 }
 
+// Tells whether the start of the line that follows `before` was dropped.
+fn has_cut(before: Line) -> bool
+    ensures { λ r. ⌜ r ≡ hasCut before ⌝ }
+{
+    if before.is_there {
+        return false;
+    }
+    before.is_cut
+}
+
 // Returns what follows `before` in the standard input that is read into `s`: the next line, if all of it is in the store, or else what was
 // read of it. A program takes such steps until the input is over. It counts them down from a number that no run uses up, since a proved loop
 // has to end and nothing says that the input does.
 pub fn next_line(s: &mut [u8], before: Line) -> Line
-    ensures { λ r. ⌜ (r .start ≤ r .end) × ((r .end ≤ r .next) × ((r .next ≤ r .have) × (r .have ≤ length (now (s .exit))))) ⌝ }
+    ensures bounds { λ r. ⌜ (r .start ≤ r .end) × ((r .end ≤ r .next) × ((r .next ≤ r .have) × (r .have ≤ length (now (s .exit))))) ⌝ }
+    ensures whole { λ r. ⌜ (hasLine (now (s .entry)) before ≡ true
+        → (r ≡ lineAfter (now (s .entry)) before) × (now (s .exit) ≡ now (s .entry))) ⌝ }
 {
     let have = least(before.have, s.len());
     let start = least(before.next, have);
-    let is_cut = before.is_cut && !before.is_there;
+    let is_cut = has_cut(before);
     let end = find(&s[0..have], start, b'\n');
     if end < have {
         return Line {
@@ -131,7 +147,8 @@ pub fn next_line(s: &mut [u8], before: Line) -> Line
 
 // Returns the bytes of `line` in the store that it was read into.
 pub fn bytes_of(s: &[u8], line: Line) -> &[u8]
-    ensures { λ r. ⌜ length (now r) ≤ length (now (s .entry)) ⌝ }
+    ensures within { λ r. ⌜ length (now r) ≤ length (now (s .entry)) ⌝ }
+    ensures bytes { λ r. ⌜ now r ≡ bytesOf (now (s .entry)) line ⌝ }
 {
     let end = least(line.end, s.len());
     let start = least(line.start, end);

@@ -1,7 +1,9 @@
 // Words of a line: places, numbers, and bytes in hexadecimal.
 ghost use mathlib.Core.Path.{_≡_};
-ghost use Prim.Native.Nat.{_≤_, _<_};
+ghost use Prim.Native.Nat.{_≤_, _<_, _-_};
 ghost use lib.ListN.{length, getD};
+ghost use Rattle.lines.specs.Word.{filled, firstFrom, placeAfter, pieceAt, pieceOf, lineFeed, space, lineNumber, valueOf, withDigit, numberOf};
+ghost use Rattle.lines.specs.Word.{copiedOn, repeated, pushed, scanned, scannedGroup, scannedOne, unhexed};
 use base::wide;
 use check::same;
 
@@ -21,7 +23,8 @@ pub struct Place {
 // Returns the first place of `byte` in `s` from `from` on, or the end of `s`.
 pub fn find(s: &[u8], from: usize, byte: u8) -> usize
     requires { ⌜ from ≤ length (now s) ⌝ }
-    ensures { λ r. ⌜ (from ≤ r) × (r ≤ length (now (s .entry))) ⌝ }
+    ensures bounds { λ r. ⌜ (from ≤ r) × (r ≤ length (now (s .entry))) ⌝ }
+    ensures place { λ r. ⌜ r ≡ firstFrom (now (s .entry)) from byte ⌝ }
 {
     let mut i = from;
     while i < s.len() {
@@ -36,7 +39,8 @@ pub fn find(s: &[u8], from: usize, byte: u8) -> usize
 // Returns the place after `end`, or `end` if that is the end of `s`.
 pub fn after(s: &[u8], end: usize) -> usize
     requires { ⌜ end ≤ length (now s) ⌝ }
-    ensures { λ r. ⌜ (end ≤ r) × (r ≤ length (now (s .entry))) ⌝ }
+    ensures bounds { λ r. ⌜ (end ≤ r) × (r ≤ length (now (s .entry))) ⌝ }
+    ensures place { λ r. ⌜ r ≡ placeAfter (now (s .entry)) end ⌝ }
 {
     if end < s.len() { end + 1 } else { end }
 }
@@ -44,7 +48,8 @@ pub fn after(s: &[u8], end: usize) -> usize
 // Returns where the piece with the number `k` stands in `text`, if `byte` stands between two pieces. They are counted from 0; if there are
 // fewer, the place is empty.
 pub fn piece_at(text: &[u8], k: usize, byte: u8) -> Place
-    ensures { λ r. ⌜ (r .start ≤ r .end) × (r .end ≤ length (now (text .entry))) ⌝ }
+    ensures bounds { λ r. ⌜ (r .start ≤ r .end) × (r .end ≤ length (now (text .entry))) ⌝ }
+    ensures place { λ r. ⌜ r ≡ pieceAt (now (text .entry)) k byte ⌝ }
 {
     let mut start = 0;
     let mut i = 0;
@@ -60,14 +65,16 @@ pub fn piece_at(text: &[u8], k: usize, byte: u8) -> Place
 
 // Returns where the line with the number `k` stands in `text`. The lines are counted from 0; if there are fewer, the place is empty.
 pub fn line_at(text: &[u8], k: usize) -> Place
-    ensures { λ r. ⌜ (r .start ≤ r .end) × (r .end ≤ length (now (text .entry))) ⌝ }
+    ensures bounds { λ r. ⌜ (r .start ≤ r .end) × (r .end ≤ length (now (text .entry))) ⌝ }
+    ensures place { λ r. ⌜ r ≡ pieceAt (now (text .entry)) k lineFeed ⌝ }
 {
     piece_at(text, k, b'\n')
 }
 
 // Returns the word with the number `k` of a line. The words are counted from 0; if there are fewer, there are no bytes.
 pub fn word_of(line: &[u8], k: usize) -> &[u8]
-    ensures { λ r. ⌜ length (now r) ≤ length (now (line .entry)) ⌝ }
+    ensures within { λ r. ⌜ length (now r) ≤ length (now (line .entry)) ⌝ }
+    ensures bytes { λ r. ⌜ now r ≡ pieceOf (now (line .entry)) k space ⌝ }
 {
     let place = piece_at(line, k, b' ');
     let start = place.start;
@@ -78,7 +85,8 @@ pub fn word_of(line: &[u8], k: usize) -> &[u8]
 // Returns the number of the line of `text` that is `w`, counted from 0, or the number of all the lines if none is. A word that names a case
 // is looked up in one text, so that a function that tells the cases apart has a number to tell them by.
 pub fn line_number(text: &[u8], w: &[u8]) -> usize
-    ensures { λ r. ⌜ r ≤ length (now (text .entry)) ⌝ }
+    ensures within { λ r. ⌜ r ≤ length (now (text .entry)) ⌝ }
+    ensures number { λ r. ⌜ r ≡ lineNumber (now (text .entry)) (now (w .entry)) ⌝ }
 {
     let mut at = 0;
     let mut k = 0;
@@ -102,7 +110,8 @@ pub fn byte_at(s: &[u8], at: usize) -> u8
 
 // Returns what the digit `c` stands for, or 0 for any other sign.
 pub fn value(c: u8) -> u8
-    ensures { λ r. ⌜ r < 16 ⌝ }
+    ensures small { λ r. ⌜ r < 16 ⌝ }
+    ensures value { λ r. ⌜ r ≡ valueOf c ⌝ }
 {
     if c < 48 {
         return 0;
@@ -119,7 +128,8 @@ pub fn value(c: u8) -> u8
 // Returns `n` with the digit `c` behind it, up to the tenth digit.
 fn more(n: usize, c: u8) -> usize
     requires { ⌜ n < 20000000000 ⌝ }
-    ensures { λ r. ⌜ r < 20000000000 ⌝ }
+    ensures small { λ r. ⌜ r < 20000000000 ⌝ }
+    ensures number { λ r. ⌜ r ≡ withDigit n c ⌝ }
 {
     if 1000000000 <= n {
         return n;
@@ -129,7 +139,8 @@ fn more(n: usize, c: u8) -> usize
 
 // Returns the word `s` as a decimal number, as far as ten digits go.
 pub fn number(s: &[u8]) -> usize
-    ensures { λ r. ⌜ r < 20000000000 ⌝ }
+    ensures small { λ r. ⌜ r < 20000000000 ⌝ }
+    ensures number { λ r. ⌜ r ≡ numberOf (now (s .entry)) ⌝ }
 {
     let mut n = 0;
     let mut i = 0;
@@ -141,7 +152,9 @@ pub fn number(s: &[u8]) -> usize
 }
 
 // Copies what stands from `from` up to `to` to `at`, as far as there is room, and returns the place behind the copy.
-fn again(out: &mut [u8], from: usize, to: usize, at: usize) -> usize {
+fn again(out: &mut [u8], from: usize, to: usize, at: usize) -> usize
+    ensures { λ r. ⌜ filled (now (out .exit)) r ≡ copiedOn (to - from) (now (out .entry)) from at ⌝ }
+{
     let mut i = from;
     let mut n = at;
     while i < to {
@@ -159,7 +172,9 @@ fn again(out: &mut [u8], from: usize, to: usize, at: usize) -> usize {
 }
 
 // Repeats what stands from `from` up to `to`, so that it stands there `count` times as far as there is room, and returns where that ends.
-fn repeat(out: &mut [u8], from: usize, to: usize, count: usize) -> usize {
+fn repeat(out: &mut [u8], from: usize, to: usize, count: usize) -> usize
+    ensures { λ r. ⌜ filled (now (out .exit)) r ≡ repeated (now (out .entry)) from to count ⌝ }
+{
     if count == 0 {
         return from;
     }
@@ -177,7 +192,9 @@ fn repeat(out: &mut [u8], from: usize, to: usize, count: usize) -> usize {
 }
 
 // Stores the byte `b` at `n` if there is room, and returns how many bytes there are then.
-fn push(out: &mut [u8], n: usize, b: u8) -> usize {
+fn push(out: &mut [u8], n: usize, b: u8) -> usize
+    ensures { λ r. ⌜ filled (now (out .exit)) r ≡ pushed (now (out .entry)) n b ⌝ }
+{
     if n < out.len() {
         out[n] = b;
         return n + 1;
@@ -188,7 +205,8 @@ fn push(out: &mut [u8], n: usize, b: u8) -> usize {
 // Reads the count at the end of a group, and repeats the group's bytes as often as it says.
 fn group(s: &[u8], p: Scan, out: &mut [u8]) -> Scan
     requires { ⌜ p .at < length (now s) ⌝ }
-    ensures { λ r. ⌜ (p .at < r .at) × (r .at ≤ length (now (s .entry))) ⌝ }
+    ensures bounds { λ r. ⌜ (p .at < r .at) × (r .at ≤ length (now (s .entry))) ⌝ }
+    ensures scanned { λ r. ⌜ scanned r (now (out .exit)) ≡ scannedGroup (now (s .entry)) p (now (out .entry)) ⌝ }
 {
     let start = p.at + 1;
     let end = find(s, start, b')');
@@ -204,7 +222,8 @@ fn group(s: &[u8], p: Scan, out: &mut [u8]) -> Scan
 // behind it.
 fn scan_one(s: &[u8], p: Scan, out: &mut [u8]) -> Scan
     requires { ⌜ p .at < length (now s) ⌝ }
-    ensures { λ r. ⌜ (p .at < r .at) × (r .at ≤ length (now (s .entry))) ⌝ }
+    ensures bounds { λ r. ⌜ (p .at < r .at) × (r .at ≤ length (now (s .entry))) ⌝ }
+    ensures scanned { λ r. ⌜ scanned r (now (out .exit)) ≡ scannedOne (now (s .entry)) p (now (out .entry)) ⌝ }
 {
     let at = p.at;
     let c = s[at];
@@ -237,7 +256,8 @@ fn scan_one(s: &[u8], p: Scan, out: &mut [u8]) -> Scan
 // Writes the bytes of a word in hexadecimal to `out`, and returns how many there are. The word has pairs of digits and groups (HEX*COUNT).
 // A dash stands for no bytes.
 pub fn unhex(s: &[u8], out: &mut [u8]) -> usize
-    ensures { λ r. ⌜ r ≤ length (now (out .exit)) ⌝ }
+    ensures within { λ r. ⌜ r ≤ length (now (out .exit)) ⌝ }
+    ensures bytes { λ r. ⌜ filled (now (out .exit)) r ≡ unhexed (now (s .entry)) (now (out .entry)) ⌝ }
 {
     let mut p = Scan {
         at: 0,

@@ -1,5 +1,7 @@
 -- `engine_c::obex_engine_credentials_given` meets its contract: the state that the numbers hold goes to the engine's call, and `store` leaves its
--- result in them. Assumes nothing.
+-- result in them, and nothing else. Assumes nothing.
+use mathlib.Core.Path.{sym, ap, _∙_}
+use Rattle.engine_c.specs.Words.{wordsOf}
 use borrow.Author.Needs.{needs}
 use Rattle.engine_c.proofs.obex_engine_credentials_given.Statement.{statement}
 use Rattle.engine_c.proofs.obex_engine_credentials_given.Tie as tie
@@ -26,11 +28,13 @@ same-length-4 : tie.Need-same-length-4
 same-length-4 c = search needs
 
 returns : tie.Need-returns
-returns c =
-    rw (
-      c .store .ensures,
-      ← c .before .before .before .before .before .before .before .before .before .before .before .before .before .before .before .engine-of .ensures,
-    ) (c .before .before .before .before .before .before .before .before .before .before .credentials-given .ensures)
+returns c = (
+  rw (
+    c .store .ensures .1,
+    ← c .before .before .before .before .before .before .before .before .before .before .before .before .before .before .before .engine-of .ensures,
+  ) (c .before .before .before .before .before .before .before .before .before .before .credentials-given .ensures),
+  (c .store .ensures .0 ∙ ap wordsOf (sym (c .store .ensures .1))),
+)
 
 pub obex-engine-credentials-given-spec : {M : Type 1} → statement M
 obex-engine-credentials-given-spec =

@@ -1,5 +1,7 @@
 -- `engine_c::obex_engine_start` meets its contract: the settings that the numbers hold go to the engine's call, `admit` refuses numbers that are
--- none (`Starting`), and `store` leaves the result in them. Assumes nothing.
+-- none (`Starting`), and `store` leaves the result in them, and nothing else. Assumes nothing.
+use mathlib.Core.Path.{sym, ap, _∙_}
+use Rattle.engine_c.specs.Words.{wordsOf}
 use Rattle.engine_c.proofs.Starting.{judged-start}
 use borrow.Author.Needs.{needs}
 use Rattle.engine_c.proofs.obex_engine_start.Statement.{statement}
@@ -37,10 +39,12 @@ returns c =
     let admitting = c .before .before in
     let lent = admitting .before .before .before .before in
     let called = lent .before .before .before .before .before in
-    let reading = called .before .before .before .before .before in
-    rw (c .store .ensures)
-    (judged-start _ _ _ _ _ _ _ _ _ (reading .before .before .is-settings .ensures) (reading .settings-of .ensures) (called .start .ensures)
-    (admitting .admit .ensures))
+    let reading = called .before .before .before .before .before in (
+      rw (c .store .ensures .1)
+          (judged-start _ _ _ _ _ _ _ _ _ (reading .before .before .is-settings .ensures) (reading .settings-of .ensures) (called .start .ensures)
+          (admitting .admit .ensures)),
+      c .store .ensures .0 ∙ ap wordsOf (sym (c .store .ensures .1)),
+    )
 
 pub obex-engine-start-spec : {M : Type 1} → statement M
 obex-engine-start-spec =

@@ -1,5 +1,4 @@
--- `engine_c::words::awaits_number` meets its contract. What the engine waits for is told by its number (model: proofs/Moments). Assumes nothing.
-use Rattle.model.proofs.Moments.{await-back}
+-- `engine_c::words::awaits_number` meets its contract. It is the number that `await_number` gives. Assumes nothing.
 use borrow.Author.Needs.{needs}
 use Rattle.engine_c.proofs.words.awaits_number.Statement.{statement}
 use Rattle.engine_c.proofs.words.awaits_number.Tie as tie
@@ -11,7 +10,7 @@ cast-result : tie.Need-cast-result
 cast-result c = search needs
 
 returns : tie.Need-returns
-returns c = rw (c .await-number .ensures) (await-back _)
+returns c = c .await-number .ensures
 
 pub awaits-number-spec : {M : Type 1} → statement M
 awaits-number-spec = tie.close (tie.spec await-number-requires cast-result returns)

@@ -1,5 +1,5 @@
--- `engine_c::words::connecting_numbers` meets its contract. The numbers are those that `operationOf` reads, and narrow ones are read back by
--- their bits. Assumes nothing.
+-- `engine_c::words::connecting_numbers` meets its contract. The numbers are those that the definition says, and narrow ones come back by their
+-- bits. Assumes nothing.
 use Rattle.engine_c.specs.Words.{operationOf}
 use borrow.Author.Needs.{needs}
 use Rattle.engine_c.proofs.words.connecting_numbers.Statement.{statement}
@@ -25,24 +25,32 @@ enum-told c = search needs
 
 returns : tie.Need-returns
 unfolding operationOf
-returns c =
-    simp (
-      c .before .before .front .given .1,
-      c .wide32 .ensures,
-      c .before .before .before .before .wide .ensures,
-      c .before .before .before .before .before .few .ensures,
-      c .before .before .before .before .before .before .wide8 .ensures,
-    )
+returns c = (
+  simp (
+    c .before .before .front .given .1,
+    c .wide32 .ensures .0,
+    c .before .before .before .before .wide .ensures,
+    c .before .before .before .before .before .few .ensures,
+    c .before .before .before .before .before .before .wide8 .ensures .0,
+  ),
+  simp (
+    c .before .before .front .given .1,
+    c .wide32 .ensures .1,
+    c .before .before .before .before .before .before .wide8 .ensures .1,
+  ),
+)
 
 returns-2 : tie.Need-returns-2
 unfolding operationOf
-returns-2 c =
-    simp (
-      c .enum-told .given .1,
-      c .before .before .wide .ensures,
-      c .before .before .before .few .ensures,
-      c .before .before .before .before .wide8 .ensures,
-    )
+returns-2 c = (
+  simp (
+    c .enum-told .given .1,
+    c .before .before .wide .ensures,
+    c .before .before .before .few .ensures,
+    c .before .before .before .before .wide8 .ensures .0,
+  ),
+  simp (c .enum-told .given .1, c .before .before .before .before .wide8 .ensures .1),
+)
 
 pub connecting-numbers-spec : {M : Type 1} → statement M
 connecting-numbers-spec =

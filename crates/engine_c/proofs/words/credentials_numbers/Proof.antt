@@ -1,5 +1,4 @@
--- `engine_c::words::credentials_numbers` meets its contract. The numbers are those that `outcomeOf` reads. Assumes nothing.
-use Rattle.engine_c.specs.Words.{outcomeOf}
+-- `engine_c::words::credentials_numbers` meets its contract. The numbers are those that the definition says. Assumes nothing.
 use borrow.Author.Needs.{needs}
 use Rattle.engine_c.proofs.words.credentials_numbers.Statement.{statement}
 use Rattle.engine_c.proofs.words.credentials_numbers.Tie as tie
@@ -14,8 +13,7 @@ flag-number-requires-2 : tie.Need-flag-number-requires-2
 flag-number-requires-2 c κs = search needs
 
 returns : tie.Need-returns
-unfolding outcomeOf
-returns c = simp (c .flag-number2 .ensures, c .before .flag-number .ensures, c .before .before .found-numbers .ensures .1)
+returns c = simp (c .flag-number2 .ensures, c .before .flag-number .ensures, c .before .before .found-numbers .ensures)
 
 pub credentials-numbers-spec : {M : Type 1} → statement M
 credentials-numbers-spec =

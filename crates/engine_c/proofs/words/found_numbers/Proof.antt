@@ -22,13 +22,11 @@ few-requires-2 : tie.Need-few-requires-2
 few-requires-2 c κs = search needs
 
 returns : tie.Need-returns
-returns c = (
-  simp (c .few .ensures, c .before .wide2 .ensures, c .before .before .wide .ensures, c .before .before .before .before .f .given .1),
-  simp (c .few .ensures, c .before .wide2 .ensures, c .before .before .wide .ensures, c .before .before .before .before .f .given .1),
-)
+returns c =
+    simp (c .few .ensures, c .before .wide2 .ensures, c .before .before .wide .ensures, c .before .before .before .before .f .given .1)
 
 returns-2 : tie.Need-returns-2
-returns-2 c = (simp (c .few2 .ensures, c .before .enum-told .given .1), simp (c .few2 .ensures, c .before .enum-told .given .1))
+returns-2 c = simp (c .few2 .ensures, c .before .enum-told .given .1)
 
 pub found-numbers-spec : {M : Type 1} → statement M
 found-numbers-spec =

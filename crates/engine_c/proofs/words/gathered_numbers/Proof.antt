@@ -1,4 +1,4 @@
--- `engine_c::words::gathered_numbers` meets its contract. Each field is left as a number that is read back. Assumes nothing.
+-- `engine_c::words::gathered_numbers` meets its contract. Each field is left as the number that the definition says. Assumes nothing.
 use borrow.Author.Needs.{needs}
 use Rattle.engine_c.proofs.words.gathered_numbers.Statement.{statement}
 use Rattle.engine_c.proofs.words.gathered_numbers.Tie as tie
@@ -19,16 +19,14 @@ flag-number-requires-3 : tie.Need-flag-number-requires-3
 flag-number-requires-3 c κs = search needs
 
 returns : tie.Need-returns
-returns c = (
-  simp (
-    c .before .before .before .before .wide .ensures,
-    c .before .before .before .wide2 .ensures,
-    c .before .before .flag-number .ensures,
-    c .before .flag-number2 .ensures,
-    c .flag-number3 .ensures,
-  ),
-  (search needs),
-)
+returns c =
+    simp (
+      c .before .before .before .before .wide .ensures,
+      c .before .before .before .wide2 .ensures,
+      c .before .before .flag-number .ensures,
+      c .before .flag-number2 .ensures,
+      c .flag-number3 .ensures,
+    )
 
 pub gathered-numbers-spec : {M : Type 1} → statement M
 gathered-numbers-spec =

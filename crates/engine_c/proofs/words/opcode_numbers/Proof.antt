@@ -1,4 +1,5 @@
--- `engine_c::words::opcode_numbers` meets its contract. Each kind gets the number that `opcodeOf` reads back. Assumes nothing.
+-- `engine_c::words::opcode_numbers` meets its contract. Each kind gets the numbers that the definition says, and a byte is its own low bits.
+-- Assumes nothing.
 use Rattle.engine_c.specs.Words.{opcodeOf}
 use borrow.Author.Needs.{needs}
 use Rattle.engine_c.proofs.words.opcode_numbers.Statement.{statement}
@@ -63,39 +64,43 @@ few-requires-9 c κs = search needs
 
 returns : tie.Need-returns
 unfolding opcodeOf
-returns c = simp (c .before .enum-told .given .1, c .few .ensures)
+returns c = (simp (c .few .ensures, c .before .enum-told .given .1), simp (c .before .enum-told .given .1))
 
 returns-2 : tie.Need-returns-2
 unfolding opcodeOf
-returns-2 c = simp (c .before .enum-told2 .given .1, c .few2 .ensures)
+returns-2 c = (simp (c .few2 .ensures, c .before .enum-told2 .given .1), simp (c .before .enum-told2 .given .1))
 
 returns-3 : tie.Need-returns-3
 unfolding opcodeOf
-returns-3 c = simp (c .before .enum-told3 .given .1, c .few3 .ensures)
+returns-3 c = (simp (c .few3 .ensures, c .before .enum-told3 .given .1), simp (c .before .enum-told3 .given .1))
 
 returns-4 : tie.Need-returns-4
 unfolding opcodeOf
-returns-4 c = simp (c .before .enum-told4 .given .1, c .few4 .ensures)
+returns-4 c = (simp (c .few4 .ensures, c .before .enum-told4 .given .1), simp (c .before .enum-told4 .given .1))
 
 returns-5 : tie.Need-returns-5
 unfolding opcodeOf
-returns-5 c = simp (c .before .enum-told5 .given .1, c .few5 .ensures)
+returns-5 c = (simp (c .few5 .ensures, c .before .enum-told5 .given .1), simp (c .before .enum-told5 .given .1))
 
 returns-6 : tie.Need-returns-6
 unfolding opcodeOf
-returns-6 c = simp (c .before .enum-told6 .given .1, c .few6 .ensures)
+returns-6 c = (simp (c .few6 .ensures, c .before .enum-told6 .given .1), simp (c .before .enum-told6 .given .1))
 
 returns-7 : tie.Need-returns-7
 unfolding opcodeOf
-returns-7 c = simp (c .before .enum-told7 .given .1, c .few7 .ensures)
+returns-7 c = (simp (c .few7 .ensures, c .before .enum-told7 .given .1), simp (c .before .enum-told7 .given .1))
 
 returns-8 : tie.Need-returns-8
 unfolding opcodeOf
-returns-8 c = simp (c .before .enum-told8 .given .1, c .few8 .ensures)
+returns-8 c = (simp (c .few8 .ensures, c .before .enum-told8 .given .1), simp (c .before .enum-told8 .given .1))
 
 returns-9 : tie.Need-returns-9
 unfolding opcodeOf
-returns-9 c = simp (c .before .before .before .o .given .1, c .few9 .ensures, c .before .wide8 .ensures)
+returns-9 c = (
+  simp (c .few9 .ensures, c .before .wide8 .ensures .0, c .before .before .before .o .given .1),
+  simp
+      (c .before .wide8 .ensures .1, c .before .before .before .o .given .1),
+)
 
 pub opcode-numbers-spec : {M : Type 1} → statement M
 opcode-numbers-spec =

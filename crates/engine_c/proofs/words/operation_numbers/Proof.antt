@@ -1,6 +1,7 @@
--- `engine_c::words::operation_numbers` meets its contract. Each kind gets the number that `operationOf` reads back, and its values in the places
--- that it reads. Assumes nothing.
+-- `engine_c::words::operation_numbers` meets its contract. Each kind gets the numbers that the definition says, and they are read back
+-- (`Back`). Assumes nothing.
 use Rattle.engine_c.specs.Words.{operationOf}
+use Rattle.engine_c.proofs.Back.{putting-back, getting-back, sending-back, gathering-back}
 use borrow.Author.Needs.{needs}
 use Rattle.engine_c.proofs.words.operation_numbers.Statement.{statement}
 use Rattle.engine_c.proofs.words.operation_numbers.Tie as tie
@@ -73,62 +74,60 @@ few-requires-3 c κs = search needs
 
 returns : tie.Need-returns
 unfolding operationOf
-returns c = simp (c .few .ensures, c .before .enum-told .given .1)
+returns c = (simp (c .few .ensures, c .before .enum-told .given .1), simp (c .before .enum-told .given .1))
 
 returns-2 : tie.Need-returns-2
 unfolding operationOf
-returns-2 c = simp (c .few2 .ensures, c .before .enum-told2 .given .1)
+returns-2 c = (simp (c .few2 .ensures, c .before .enum-told2 .given .1), simp (c .before .enum-told2 .given .1))
 
 returns-3 : tie.Need-returns-3
-unfolding operationOf
 returns-3 c =
-    simp (
-      c .gathered-numbers .ensures .0,
-      c .gathered-numbers .ensures .1 .0,
-      c .gathered-numbers .ensures .1 .1 .0,
-      c .gathered-numbers .ensures .1 .1 .1 .0,
-      c .gathered-numbers .ensures .1 .1 .1 .1,
-      c .before .flag-number .ensures,
-      c .before .before .before .o .given .1,
+    let known = c .before .before .before .o .given .1 in (
+      simp (c .gathered-numbers .ensures, c .before .flag-number .ensures, known),
+      rw known (putting-back _ _),
     )
 
 returns-4 : tie.Need-returns-4
-unfolding operationOf
 returns-4 c =
-    simp (
-      c .gathered-numbers2 .ensures .0,
-      c .gathered-numbers2 .ensures .1 .0,
-      c .gathered-numbers2 .ensures .1 .1 .0,
-      c .gathered-numbers2 .ensures .1 .1 .1 .0,
-      c .gathered-numbers2 .ensures .1 .1 .1 .1,
-      c .before .flag-number4 .ensures,
-      c .before .before .flag-number3 .ensures,
-      c .before .before .before .flag-number2 .ensures,
-      c .before .before .before .before .before .o2 .given .1,
+    let known = c .before .before .before .before .before .o2 .given .1 in (
+      simp (
+        c .gathered-numbers2 .ensures,
+        c .before .flag-number4 .ensures,
+        c .before .before .flag-number3 .ensures,
+        c .before .before .before .flag-number2 .ensures,
+        known,
+      ),
+      rw known (getting-back _ _ _ _),
     )
 
 returns-5 : tie.Need-returns-5
-returns-5 c = rw (c .before .before .o3 .given .1) (c .sending-numbers .ensures)
+returns-5 c =
+    let known = c .before .before .o3 .given .1 in (
+      simp (c .sending-numbers .ensures .0, known),
+      rw known (sending-back _ _ _ _ (c .sending-numbers .ensures .1)),
+    )
 
 returns-6 : tie.Need-returns-6
-unfolding operationOf
 returns-6 c =
-    simp (
-      c .gathered-numbers3 .ensures .0,
-      c .gathered-numbers3 .ensures .1 .0,
-      c .gathered-numbers3 .ensures .1 .1 .0,
-      c .gathered-numbers3 .ensures .1 .1 .1 .0,
-      c .gathered-numbers3 .ensures .1 .1 .1 .1,
-      c .before .opcode-numbers .ensures,
-      c .before .before .before .o4 .given .1,
+    let known = c .before .before .before .o4 .given .1 in (
+      simp (c .gathered-numbers3 .ensures, c .before .opcode-numbers .ensures .0, known),
+      rw known (gathering-back _ _ (c .before .opcode-numbers .ensures .1)),
     )
 
 returns-7 : tie.Need-returns-7
-returns-7 c = rw (c .before .before .o5 .given .1) (c .connecting-numbers .ensures)
+returns-7 c =
+    let known = c .before .before .o5 .given .1 in (
+      simp (c .connecting-numbers .ensures .0, known),
+      rw known (c .connecting-numbers .ensures .1),
+    )
 
 returns-8 : tie.Need-returns-8
 unfolding operationOf
-returns-8 c = simp (c .few3 .ensures, c .before .wide8 .ensures, c .before .before .before .o6 .given .1)
+returns-8 c =
+    let known = c .before .before .before .o6 .given .1 in (
+      simp (c .few3 .ensures, c .before .wide8 .ensures .0, known),
+      simp (c .before .wide8 .ensures .1, known),
+    )
 
 pub operation-numbers-spec : {M : Type 1} → statement M
 operation-numbers-spec =

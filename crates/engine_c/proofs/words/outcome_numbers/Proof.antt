@@ -1,7 +1,4 @@
--- `engine_c::words::outcome_numbers` meets its contract. Each kind gets the number that `outcomeOf` reads back; ends and refusals are given back
--- by their numbers (`Back`). Assumes nothing.
-use Rattle.engine_c.specs.Words.{outcomeOf}
-use Rattle.engine_c.proofs.Back.{end-back, refusal-back}
+-- `engine_c::words::outcome_numbers` meets its contract. Each kind gets the numbers that the definition says. Assumes nothing.
 use borrow.Author.Needs.{needs}
 use Rattle.engine_c.proofs.words.outcome_numbers.Statement.{statement}
 use Rattle.engine_c.proofs.words.outcome_numbers.Tie as tie
@@ -52,36 +49,29 @@ few-requires-4 : tie.Need-few-requires-4
 few-requires-4 c κs = search needs
 
 returns : tie.Need-returns
-unfolding outcomeOf
 returns c = simp (c .few .ensures, c .before .enum-told .given .1)
 
 returns-2 : tie.Need-returns-2
-unfolding outcomeOf
 returns-2 c = simp (c .few2 .ensures, c .before .wide .ensures, c .before .before .before .o .given .1)
 
 returns-3 : tie.Need-returns-3
-unfolding outcomeOf
 returns-3 c = simp (c .request-numbers .ensures, c .before .before .o2 .given .1)
 
 returns-4 : tie.Need-returns-4
-unfolding outcomeOf
 returns-4 c =
     simp (
       c .few3 .ensures,
-      c .before .wide8 .ensures,
+      c .before .wide8 .ensures .0,
       c .before .before .end-number .ensures,
-      end-back,
       c .before .before .before .before .o3 .given .1,
     )
 
 returns-5 : tie.Need-returns-5
-unfolding outcomeOf
 returns-5 c =
     simp (
       c .few4 .ensures,
-      c .before .wide82 .ensures,
+      c .before .wide82 .ensures .0,
       c .before .before .refusal-number .ensures,
-      refusal-back,
       c .before .before .before .before .o4 .given .1,
     )
 

@@ -1,4 +1,6 @@
--- `engine_c::words::peer_numbers` meets its contract. Each field is left as a number that is read back. Assumes nothing.
+-- `engine_c::words::peer_numbers` meets its contract. Each field is left as the number that the definition says, and is read back (`Back`).
+-- Assumes nothing.
+use Rattle.engine_c.proofs.Back.{peer-back}
 use borrow.Author.Needs.{needs}
 use Rattle.engine_c.proofs.words.peer_numbers.Statement.{statement}
 use Rattle.engine_c.proofs.words.peer_numbers.Tie as tie
@@ -25,16 +27,18 @@ flag-number-requires-2 : tie.Need-flag-number-requires-2
 flag-number-requires-2 c κs = search needs
 
 returns : tie.Need-returns
-returns c =
-    simp (
-      c .flag-number2 .ensures,
-      c .before .flag-number .ensures,
-      c .before .before .wide16 .ensures,
-      c .before .before .before .wide32 .ensures,
-      c .before .before .before .before .wide2 .ensures,
-      c .before .before .before .before .before .wide .ensures,
-      c .before .before .before .before .before .before .challenge-numbers .ensures,
-    )
+returns c = (
+  simp (
+    c .flag-number2 .ensures,
+    c .before .flag-number .ensures,
+    c .before .before .wide16 .ensures .0,
+    c .before .before .before .wide32 .ensures .0,
+    c .before .before .before .before .wide2 .ensures,
+    c .before .before .before .before .before .wide .ensures,
+    c .before .before .before .before .before .before .challenge-numbers .ensures,
+  ),
+  peer-back _ (c .before .before .before .wide32 .ensures .1) (c .before .before .wide16 .ensures .1),
+)
 
 pub peer-numbers-spec : {M : Type 1} → statement M
 peer-numbers-spec =

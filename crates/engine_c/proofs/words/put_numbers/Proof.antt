@@ -1,5 +1,4 @@
 -- `engine_c::words::put_numbers` meets its contract. The second number says whether there is a body. Assumes nothing.
-use Rattle.engine_c.specs.Words.{outcomeOf}
 use borrow.Author.Needs.{needs}
 use Rattle.engine_c.proofs.words.put_numbers.Statement.{statement}
 use Rattle.engine_c.proofs.words.put_numbers.Tie as tie
@@ -26,11 +25,9 @@ few-requires-2 : tie.Need-few-requires-2
 few-requires-2 c κs = search needs
 
 returns : tie.Need-returns
-unfolding outcomeOf
 returns c = simp (c .few .ensures, c .before .wide2 .ensures, c .before .before .wide .ensures, c .before .before .before .before .body .given .1)
 
 returns-2 : tie.Need-returns-2
-unfolding outcomeOf
 returns-2 c = simp (c .few2 .ensures, c .before .wide3 .ensures, c .before .before .enum-told .given .1)
 
 pub put-numbers-spec : {M : Type 1} → statement M

@@ -1,6 +1,4 @@
--- `engine_c::words::request_numbers` meets its contract. Each kind gets the number that `outcomeOf` reads back, and its values in the places
--- that it reads. Assumes nothing.
-use Rattle.engine_c.specs.Words.{outcomeOf}
+-- `engine_c::words::request_numbers` meets its contract. Each kind gets the numbers that the definition says. Assumes nothing.
 use borrow.Author.Needs.{needs}
 use Rattle.engine_c.proofs.words.request_numbers.Statement.{statement}
 use Rattle.engine_c.proofs.words.request_numbers.Tie as tie
@@ -120,15 +118,12 @@ few-requires-10 : tie.Need-few-requires-10
 few-requires-10 c κs = search needs
 
 returns : tie.Need-returns
-unfolding outcomeOf
 returns c = simp (c .few .ensures, c .before .wide .ensures, c .before .before .before .q .given .1)
 
 returns-2 : tie.Need-returns-2
-unfolding outcomeOf
 returns-2 c = simp (c .few2 .ensures, c .before .wide2 .ensures, c .before .before .before .q2 .given .1)
 
 returns-3 : tie.Need-returns-3
-unfolding outcomeOf
 returns-3 c =
     simp (
       c .few3 .ensures,
@@ -139,43 +134,34 @@ returns-3 c =
     )
 
 returns-4 : tie.Need-returns-4
-unfolding outcomeOf
 returns-4 c = simp (c .few4 .ensures, c .before .wide4 .ensures, c .before .before .before .q4 .given .1)
 
 returns-5 : tie.Need-returns-5
-unfolding outcomeOf
 returns-5 c = simp (c .put-numbers .ensures, c .before .before .q5 .given .1)
 
 returns-6 : tie.Need-returns-6
-unfolding outcomeOf
 returns-6 c = simp (c .few5 .ensures, c .before .wide5 .ensures, c .before .before .before .q6 .given .1)
 
 returns-7 : tie.Need-returns-7
-unfolding outcomeOf
 returns-7 c = simp (c .few6 .ensures, c .before .wide6 .ensures, c .before .before .before .q7 .given .1)
 
 returns-8 : tie.Need-returns-8
-unfolding outcomeOf
 returns-8 c = simp (c .few7 .ensures, c .before .wide7 .ensures, c .before .before .before .q8 .given .1)
 
 returns-9 : tie.Need-returns-9
-unfolding outcomeOf
-returns-9 c = simp (c .few8 .ensures, c .before .wide82 .ensures, c .before .before .wide8 .ensures, c .before .before .before .before .q9 .given .1)
+returns-9 c = simp
+    (c .few8 .ensures, c .before .wide82 .ensures .0, c .before .before .wide8 .ensures, c .before .before .before .before .q9 .given .1)
 
 returns-10 : tie.Need-returns-10
-unfolding outcomeOf
-returns-10 c = simp (c .found-numbers .ensures .0, c .found-numbers .ensures .1, c .before .before .q10 .given .1)
+returns-10 c = simp (c .found-numbers .ensures, c .before .before .q10 .given .1)
 
 returns-11 : tie.Need-returns-11
-unfolding outcomeOf
 returns-11 c = simp (c .few9 .ensures, c .before .enum-told .given .1)
 
 returns-12 : tie.Need-returns-12
-unfolding outcomeOf
 returns-12 c = simp (c .credentials-numbers .ensures, c .before .before .q11 .given .1)
 
 returns-13 : tie.Need-returns-13
-unfolding outcomeOf
 returns-13 c = simp (c .few10 .ensures, c .before .wide9 .ensures, c .before .before .before .q12 .given .1)
 
 pub request-numbers-spec : {M : Type 1} → statement M

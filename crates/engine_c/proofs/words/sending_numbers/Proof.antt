@@ -1,5 +1,5 @@
--- `engine_c::words::sending_numbers` meets its contract. Each field is left as a number that is read back. Assumes nothing.
-use Rattle.engine_c.specs.Words.{operationOf}
+-- `engine_c::words::sending_numbers` meets its contract. Each field is left as the number that the definition says, and a byte is its own low
+-- bits. Assumes nothing.
 use borrow.Author.Needs.{needs}
 use Rattle.engine_c.proofs.words.sending_numbers.Statement.{statement}
 use Rattle.engine_c.proofs.words.sending_numbers.Tie as tie
@@ -38,21 +38,22 @@ flag-number-requires-5 : tie.Need-flag-number-requires-5
 flag-number-requires-5 c κs = search needs
 
 returns : tie.Need-returns
-unfolding operationOf
-returns c =
-    simp (
-      c .before .before .before .before .before .before .before .before .before .before .wide .ensures,
-      c .before .before .before .before .before .before .before .before .before .wide2 .ensures,
-      c .before .before .before .before .before .before .before .before .flag-number .ensures,
-      c .before .before .before .before .before .before .before .flag-number2 .ensures,
-      c .before .before .before .before .before .before .flag-number3 .ensures,
-      c .before .before .before .before .before .wide8 .ensures,
-      c .before .before .before .before .wide3 .ensures,
-      c .before .before .before .wide4 .ensures,
-      c .before .before .wide5 .ensures,
-      c .before .flag-number4 .ensures,
-      c .flag-number5 .ensures,
-    )
+returns c = (
+  simp (
+    c .before .before .before .before .before .before .before .before .before .before .wide .ensures,
+    c .before .before .before .before .before .before .before .before .before .wide2 .ensures,
+    c .before .before .before .before .before .before .before .before .flag-number .ensures,
+    c .before .before .before .before .before .before .before .flag-number2 .ensures,
+    c .before .before .before .before .before .before .flag-number3 .ensures,
+    c .before .before .before .before .before .wide8 .ensures .0,
+    c .before .before .before .before .wide3 .ensures,
+    c .before .before .before .wide4 .ensures,
+    c .before .before .wide5 .ensures,
+    c .before .flag-number4 .ensures,
+    c .flag-number5 .ensures,
+  ),
+  c .before .before .before .before .before .wide8 .ensures .1,
+)
 
 pub sending-numbers-spec : {M : Type 1} → statement M
 sending-numbers-spec =

@@ -1,4 +1,6 @@
--- `engine_c::words::settings_numbers` meets its contract. Each field is left as a number that is read back. Assumes nothing.
+-- `engine_c::words::settings_numbers` meets its contract. Each field is left as the number that the definition says, and is read back
+-- (`Back`). Assumes nothing.
+use Rattle.engine_c.proofs.Back.{settings-back}
 use borrow.Author.Needs.{needs}
 use Rattle.engine_c.proofs.words.settings_numbers.Statement.{statement}
 use Rattle.engine_c.proofs.words.settings_numbers.Tie as tie
@@ -35,17 +37,20 @@ flag-number-requires-7 c κs = search needs
 
 returns : tie.Need-returns
 returns c =
-    simp (
-      c .flag-number7 .ensures,
-      c .before .flag-number6 .ensures,
-      c .before .before .flag-number5 .ensures,
-      c .before .before .before .flag-number4 .ensures,
-      c .before .before .before .before .flag-number3 .ensures,
-      c .before .before .before .before .before .flag-number2 .ensures,
-      c .before .before .before .before .before .before .flag-number .ensures,
-      c .before .before .before .before .before .before .before .wide8 .ensures,
-      c .before .before .before .before .before .before .before .before .wide16 .ensures,
-      c .before .before .before .before .before .before .before .before .before .wide32 .ensures,
+    let at-wide8 = c .before .before .before .before .before .before .before in (
+      simp (
+        c .flag-number7 .ensures,
+        c .before .flag-number6 .ensures,
+        c .before .before .flag-number5 .ensures,
+        c .before .before .before .flag-number4 .ensures,
+        c .before .before .before .before .flag-number3 .ensures,
+        c .before .before .before .before .before .flag-number2 .ensures,
+        c .before .before .before .before .before .before .flag-number .ensures,
+        c .before .before .before .before .before .before .before .wide8 .ensures .0,
+        c .before .before .before .before .before .before .before .before .wide16 .ensures .0,
+        c .before .before .before .before .before .before .before .before .before .wide32 .ensures .0,
+      ),
+      settings-back _ (at-wide8 .before .before .wide32 .ensures .1) (at-wide8 .before .wide16 .ensures .1) (at-wide8 .wide8 .ensures .1),
     )
 
 pub settings-numbers-spec : {M : Type 1} → statement M

@@ -1,7 +1,7 @@
--- `engine_c::words::store` meets its contract. Each part of the result is read back from its numbers, which are written out here one by one,
--- since `simp` does not see that a record is equal to the record of its fields. Assumes nothing.
-use Rattle.engine_c.specs.Words.{twelve, operationOf, outcomeOf, engineOf, resultOf}
-use mathlib.Core.Path.{_≡_}
+-- `engine_c::words::store` meets its contract. The numbers are those that the definition says, and the result is read back from them
+-- (`Back`). Assumes nothing.
+use Rattle.engine_c.specs.Words.{wordsOf}
+use Rattle.engine_c.proofs.Back.{written-back}
 use borrow.Author.Needs.{needs}
 use Rattle.engine_c.proofs.words.store.Statement.{statement}
 use Rattle.engine_c.proofs.words.store.Tie as tie
@@ -34,28 +34,25 @@ wide-requires-3 : tie.Need-wide-requires-3
 wide-requires-3 c κs = search needs
 
 returns : tie.Need-returns
-unfolding resultOf engineOf
+unfolding wordsOf
 returns c =
-    let r = c .before .before .before .before .before .before .before .before .before .before .before .args .r in
-    let o = c .before .before .before .before .before .before .before .operation-numbers .result in
-    let t = c .before .before .before .before .before .before .outcome-numbers .result in
-    let eo : operationOf (twelve (o .kind) (o .a) (o .b) (o .c) (o .d) (o .e) (o .f) (o .g) (o .h) (o .i) (o .j) (o .k)) ≡ r .engine .operation =
-    c .before .before .before .before .before .before .before .operation-numbers .ensures
-    in
-    let et : outcomeOf (twelve (t .kind) (t .a) (t .b) (t .c) (t .d) (t .e) (t .f) (t .g) (t .h) (t .i) (t .j) (t .k)) ≡ r .outcome =
-    c .before .before .before .before .before .before .outcome-numbers .ensures
-    in
-    simp (
-      eo,
-      et,
+    let at-awaits = c .before .before .before .before .before in
+    let at-settings = at-awaits .before .before .before .before in
+    let r = at-settings .before .before .args .r in
+    written-back _ r
+    (simp (
       c .before .wide3 .ensures,
       c .before .before .wide2 .ensures,
       c .before .before .before .wide .ensures,
       c .before .before .before .before .target-numbers .ensures,
-      c .before .before .before .before .before .awaits-number .ensures,
-      c .before .before .before .before .before .before .before .before .peer-numbers .ensures,
-      c .before .before .before .before .before .before .before .before .before .settings-numbers .ensures,
-    )
+      at-awaits .awaits-number .ensures,
+      at-awaits .before .outcome-numbers .ensures,
+      at-awaits .before .before .operation-numbers .ensures .0,
+      at-awaits .before .before .before .peer-numbers .ensures .0,
+      at-settings .settings-numbers .ensures .0,
+    ))
+    (at-settings .settings-numbers .ensures .1) (at-awaits .before .before .before .peer-numbers .ensures .1)
+    (at-awaits .before .before .operation-numbers .ensures .1)
 
 pub store-spec : {M : Type 1} → statement M
 store-spec =

@@ -1,4 +1,4 @@
--- `engine_c::words::target_numbers` meets its contract. Each field is left as a number that is read back. Assumes nothing.
+-- `engine_c::words::target_numbers` meets its contract. Each field is left as the number that the definition says. Assumes nothing.
 use borrow.Author.Needs.{needs}
 use Rattle.engine_c.proofs.words.target_numbers.Statement.{statement}
 use Rattle.engine_c.proofs.words.target_numbers.Tie as tie

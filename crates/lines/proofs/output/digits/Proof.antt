@@ -1,20 +1,24 @@
--- lines::output::digits meets its contract. Two digits a byte fill at most the store. Assumes nothing.
-use borrow.Author.Needs.{needs}
+-- `lines::output::digits` meets its contract. The store is the paste of the digits so far (`Texts`). Assumes nothing.
+use mathlib.Core.Path.{_≡_, refl, sym, ap, _∙_}
 use native.Mathlib.Omega.{arith}
-use Prim.Native.Nat.{_-_, _*_, _≤_}
-use mathlib.Core.Path.{_≡_}
+use Prim.Native.Nat.{_-_, _*_, _/_, _≤_}
 use lib.ListN.{length, length-set}
+use lib.Seq.{paste, paste-zero}
+use Rattle.lines.specs.Output.{hexOf, hexFront}
+use Rattle.lines.proofs.Texts.{hex-turn, all-bytes, all-room}
+use borrow.Author.Needs.{needs}
 use Rattle.lines.proofs.output.digits.Statement.{statement}
 use Rattle.lines.proofs.output.digits.Tie as tie
 
 abbrev Inv-loop : tie.InvT-loop
-Inv-loop s out₀ n₀ out n = (2 * n ≤ length out) × (length out ≡ length out₀)
+Inv-loop s out₀ n₀ out n =
+    (2 * n ≤ length out) × (length out ≡ length out₀) × (n ≤ length s) × (out ≡ paste out₀ 0 (hexOf s) (2 * n))
 
 abbrev μ-loop : tie.MeasureT-loop
 μ-loop s out₀ n₀ out n = length out - n
 
 loop-holds : tie.Need-loop-holds Inv-loop μ-loop
-loop-holds c = search needs
+loop-holds c = (omega arith, refl, omega arith, paste-zero (c .before .before .args .out .now) 0 (hexOf (c .before .before .args .s .now)))
 
 mul-result : tie.Need-mul-result Inv-loop μ-loop
 mul-result c = search needs
@@ -23,7 +27,12 @@ same-length : tie.Need-same-length Inv-loop μ-loop
 same-length c = search needs
 
 returns : tie.Need-returns Inv-loop μ-loop
-returns c = search needs
+unfolding hexFront
+returns c =
+    let l = c .before .before .loop in
+    let x = c .before .before .before .before .before .args in
+    let e = all-bytes (length (x .s .now)) (length (x .out .now) / 2) (l .n) (c .if1 .taken) (l .inv .2) (omega arith) in
+    (search needs, rw (e, l .inv .3) refl)
 
 shared-slice-read-digit : tie.Need-shared-slice-read-digit Inv-loop μ-loop
 shared-slice-read-digit c = search needs
@@ -59,7 +68,16 @@ loop-less : tie.Need-loop-less Inv-loop μ-loop
 loop-less c = simp length-set (omega arith)
 
 loop-again : tie.Need-loop-again Inv-loop μ-loop
-loop-again c = simp length-set (omega arith)
+loop-again c =
+    let z = c .before .before .before .before .before in
+    let l = z .before .loop in
+    let x = z .before .before .before .before .args in (
+      (simp length-set (omega arith)),
+      (simp length-set (l .inv .1)),
+      omega arith,
+      (rw (c .digit2 .ensures, c .before .before .digit .ensures) (hex-turn (x .out .now) (x .s .now) (l .out) (l .n) (l .inv .3) (omega arith)
+          (omega arith))),
+    )
 
 mul-result-2 : tie.Need-mul-result-2 Inv-loop μ-loop
 mul-result-2 c = search needs
@@ -68,7 +86,12 @@ same-length-2 : tie.Need-same-length-2 Inv-loop μ-loop
 same-length-2 c = search needs
 
 returns-2 : tie.Need-returns-2 Inv-loop μ-loop
-returns-2 c = search needs
+unfolding hexFront
+returns-2 c =
+    let l = c .before .loop in
+    let x = c .before .before .before .before .args in
+    let e = all-room (length (x .s .now)) (length (x .out .now) / 2) (l .n) (l .inv .2) (omega arith) (omega arith) in
+    (search needs, rw (e, l .inv .3) refl)
 
 pub digits-spec : {M : Type 1} → statement M
 digits-spec =
