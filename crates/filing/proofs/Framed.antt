@@ -16,7 +16,7 @@ use Rattle.digest.proofs.Octets.{length-digest}
 use Rattle.archive.specs.Block.{same, allZero}
 use Rattle.archive.proofs.Compare.{same-refl, zero-zeros}
 use Rattle.filing.specs.Frame.{Content, filling, checkAt, rowsOf, checkOf, framesFrom, logBytes}
-use Rattle.filing.specs.Reading.{Log, log, pushed, sizeIn, contentOf, checkIn, frameFault, readFrom, readLog}
+use Rattle.filing.specs.Reading.{Log, log, putFirst, sizeIn, contentOf, checkIn, frameFault, readFrom, readLog}
 use Rattle.filing.specs.Claims.{AllFit, LogReads, FirstOf, CutReads}
 
 -- the number whose four bytes these are
@@ -44,7 +44,7 @@ turn-short f before k (a ∷ x) h = go (ltb (length (a ∷ x)) 32) refl
 
     later : Log
     later =
-        pick (eqb (frameFault before k y) 0) (pushed (contentOf y) (readFrom f (checkIn y) (k + 1) (drop (checkAt (sizeIn y) + 16) y)))
+        pick (eqb (frameFault before k y) 0) (putFirst (contentOf y) (readFrom f (checkIn y) (k + 1) (drop (checkAt (sizeIn y) + 16) y)))
         (log [] (frameFault before k y))
 
     go : (t : Bool) → ltb (length y) 32 ≡ t → Nothing-read (pick t (log [] 1) (pick (ltb (length y) (checkAt (sizeIn y) + 16)) (log [] 1) later))
@@ -143,12 +143,12 @@ module _ (w x y z : ℕ) (t : ℕ) (p : List ℕ) (k : ℕ) (before rest : List 
       ≡ pick (ltb (length whole) 32) (log [] 1)
       (pick (ltb (length whole) (checkAt (sizeIn whole) + 16)) (log [] 1)
       (pick (eqb (frameFault before k whole) 0)
-      (pushed (contentOf whole) (readFrom f (checkIn whole) (k + 1) (drop (checkAt (sizeIn whole) + 16) whole)))
+      (putFirst (contentOf whole) (readFrom f (checkIn whole) (k + 1) (drop (checkAt (sizeIn whole) + 16) whole)))
       (log [] (frameFault before k whole))))
   unfolding readFrom rowsOf
   opened f = refl
 
-  one-frame : (f : ℕ) → readFrom (suc f) before k whole ≡ pushed c (readFrom f check (k + 1) rest)
+  one-frame : (f : ℕ) → readFrom (suc f) before k whole ≡ putFirst c (readFrom f check (k + 1) rest)
   one-frame f =
       let a : ltb (length whole) 32 ≡ false = le-ltb (length whole) 32 (omega (arith, length-whole)) in
       let b : ltb (length whole) (checkAt (sizeIn whole) + 16) ≡ false =
@@ -190,7 +190,7 @@ module _ (w x y z : ℕ) (t : ℕ) (p : List ℕ) (k : ℕ) (before rest : List 
 
 read-content : (l : List ℕ) (t : ℕ) (p : List ℕ) (k : ℕ) (before rest : List ℕ) (f : ℕ) → length l ≡ 4 → t < 2 ^ 32 → length p < 2 ^ 32 → k < 2 ^ 32
     → let c : Content = record { kind = l; clock = t; payload = p } in
-    readFrom (suc f) before k (rowsOf k c ++ (checkOf before k c ++ rest)) ≡ pushed c (readFrom f (checkOf before k c) (k + 1) rest)
+    readFrom (suc f) before k (rowsOf k c ++ (checkOf before k c ++ rest)) ≡ putFirst c (readFrom f (checkOf before k c) (k + 1) rest)
 read-content [] t p k before rest f e ht hp hk = absurd (omega (arith, e))
 read-content (w ∷ []) t p k before rest f e ht hp hk = absurd (omega (arith, e))
 read-content (w ∷ x ∷ []) t p k before rest f e ht hp hk = absurd (omega (arith, e))
@@ -206,7 +206,7 @@ read-frames [] (suc f) before k a h l = refl
 read-frames (c ∷ cs) zero before k a h l = absurd (omega (arith, l))
 read-frames (c ∷ cs) (suc f) before k (four, clock, short, a) h l =
     read-content (c .kind) (c .clock) (c .payload) k before (framesFrom (checkOf before k c) (k + 1) cs) f four clock short (omega (arith, h))
-    ∙ ap (pushed c) (read-frames cs f (checkOf before k c) (k + 1) a (omega (arith, h)) (omega (arith, l)))
+    ∙ ap (putFirst c) (read-frames cs f (checkOf before k c) (k + 1) a (omega (arith, h)) (omega (arith, l)))
 
 length-of : (before : List ℕ) (k : ℕ) (c : Content) → length (checkOf before k c) ≡ 16
 unfolding checkOf
@@ -231,7 +231,7 @@ log-reads cs a h = read-frames cs (length (logBytes cs) + 1) [] 0 a (omega (arit
 nothing-first : (cs : List Content) (l : Log) → Nothing-read l → FirstOf cs l
 nothing-first cs l (e, h) = record { lost = cs; whole = ap (λ (d : List Content). d ++ cs) e; fine = h }
 
-pushed-first : (c : Content) (cs : List Content) (l : Log) → FirstOf cs l → FirstOf (c ∷ cs) (pushed c l)
+pushed-first : (c : Content) (cs : List Content) (l : Log) → FirstOf cs l → FirstOf (c ∷ cs) (putFirst c l)
 pushed-first c cs l w = record { lost = w .lost; whole = ap (λ (d : List Content). c ∷ d) (w .whole); fine = w .fine }
 
 cut-content : (l : List ℕ) (t : ℕ) (p : List ℕ) (k : ℕ) (before rest : List ℕ) (f n : ℕ) → length l ≡ 4 → t < 2 ^ 32 → length p < 2 ^ 32 → k < 2 ^ 32

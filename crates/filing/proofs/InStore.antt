@@ -18,7 +18,7 @@ use Rattle.archive.specs.Writing.{Writing, writing}
 use Rattle.archive.specs.declared.block.Wrote.the-variants.{Written, Short, TooLong}
 use Rattle.archive.proofs.Laid.{parts-laid}
 use Rattle.filing.specs.Frame.{Content, filling, checkAt, frameLength, rowsOf, checkOf, chainAt, beforeAt, frameOf, frameWritten}
-use Rattle.filing.specs.Reading.{Log, log, pushed, sizeIn, contentOf, checkIn, frameFault, readFrom, turnFor, turnOf, turnAt, afterTurn}
+use Rattle.filing.specs.Reading.{Log, log, putFirst, sizeIn, contentOf, checkIn, frameFault, readFrom, turnFor, turnOf, turnAt, afterTurn}
 use Rattle.filing.specs.Claims.{TurnReads}
 use Rattle.filing.specs.declared.frame.Turn.the-variants.{End, Cut, Damaged, Misplaced, Malformed, Frame}
 
@@ -327,7 +327,7 @@ module _ (s : List ℕ) (at number : ℕ) where
 -- by the tests of check, number and filling
 by-tests : (a b d : Bool) (size : ℕ) (y : List ℕ) (l : Log)
     → let f : ℕ = pick a (pick b (pick d 0 13) 12) 11 in
-    pick (eqb f 0) (pushed (contentOf y) l) (log [] f) ≡ afterTurn (turnFor f size) y l
+    pick (eqb f 0) (putFirst (contentOf y) l) (log [] f) ≡ afterTurn (turnFor f size) y l
 unfolding turnFor
 by-tests true true true size y l = refl
 by-tests true true false size y l = refl
@@ -335,7 +335,7 @@ by-tests true false d size y l = refl
 by-tests false b d size y l = refl
 
 by-fault : (before : List ℕ) (n : ℕ) (y : List ℕ) (l : Log)
-    → pick (eqb (frameFault before n y) 0) (pushed (contentOf y) l) (log [] (frameFault before n y))
+    → pick (eqb (frameFault before n y) 0) (putFirst (contentOf y) l) (log [] (frameFault before n y))
     ≡ afterTurn (turnFor (frameFault before n y) (sizeIn y)) y l
 unfolding frameFault
 by-fault before n y l =
@@ -357,7 +357,7 @@ turn-reads f before n (a ∷ x) = rw (some) (go (ltb (length y) 32) (ltb (length
     some = ne-eqb (length y) 0 (λ e. omega (arith, e))
 
     last : Log
-    last = pick (eqb (frameFault before n y) 0) (pushed (contentOf y) l) (log [] (frameFault before n y))
+    last = pick (eqb (frameFault before n y) 0) (putFirst (contentOf y) l) (log [] (frameFault before n y))
 
     go : (s t : Bool) → pick s (log [] 1) (pick t (log [] 1) last)
         ≡ afterTurn (pick s Cut (pick t Cut (turnFor (frameFault before n y) (sizeIn y)))) y l

@@ -7,6 +7,13 @@ pub mod Pieces
 pub mod Framed
 pub mod InStore
 pub mod Told
+pub mod Contents
+pub mod FileRows
 pub mod Named
+pub mod Lined
+pub mod Placed
+pub mod NoteText
+pub mod Configured
+pub mod ConfCases
 pub mod Letters
 pub mod Tried

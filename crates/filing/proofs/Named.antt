@@ -64,7 +64,7 @@ digits-tell n h =
 two-names : (m n : ℕ) → m < 1000000 → n < 1000000 → recordName m ≡ recordName n → m ≡ n
 two-names m n h k e = sym (digits-tell m h) ∙ ap told e ∙ digits-tell n k
 
-length-record : (n : ℕ) → length (recordName n) ≡ 6
+pub length-record : (n : ℕ) → length (recordName n) ≡ 6
 unfolding recordName decimal
 length-record n = refl
 

@@ -1,7 +1,7 @@
 -- The frames of a log stand for its entries, and the first one for the settings. Assumes nothing.
 use Prim.Native.Nat.{ℕ, _+_, _*_, _/_, _%_, _^_, _≤_, _<_}
 use mathlib.Core.Path.{_≡_, refl, ap, ap₂, _∙_}
-use mathlib.Core.Bool.{Bool, true, false}
+use mathlib.Core.Bool.{Bool, true, false, _||_}
 use mathlib.Core.List.{List, [], _∷_, _++_}
 use native.Mathlib.Omega.{arith}
 use lib.Dec.{eqb}
@@ -13,7 +13,10 @@ use Rattle.journal.specs.Journal.{Settings}
 use Rattle.filing.specs.Entries.{LogEntry, received, sent, answered, object, checked, nonce, closed, ended}
 use Rattle.filing.specs.Kinds.{idBytes, idsIn, AllIds, contentFor, endIn, entryIn, entriesIn, FitsFrame, nothing, entry, beside, OpenFrame, openFlags, openRow, isSet, settingsIn}
 use Rattle.filing.proofs.Framed.{number-back}
-use Rattle.filing.specs.Claims.{EntriesBack, RowOpens, SettingsBack}
+use Rattle.filing.specs.ReadBack.{entryWith}
+use Rattle.filing.specs.declared.frame.Kind.the-variants.{Open, Recv, Part, Sent, Answ, Objt, Pass, Nonc, Clos, File, Fail, Done}
+use Rattle.filing.specs.declared.entry.EntryRead.the-variants.{End, Nothing}
+use Rattle.filing.specs.Claims.{EntriesBack, RowOpens, SettingsBack, KindsRead, EntryReads}
 
 ids-back : (l : List ℕ) → AllIds l → idsIn (idBytes l) ≡ l
 unfolding idsIn
@@ -87,3 +90,38 @@ module _ (o : OpenFrame) where
 pub settings-back : SettingsBack
 unfolding settingsIn
 settings-back o h = rw (number-back (o .limit) h, srm-is o, authentication-is o, asks-is o, enforces-is o, refuses-is o) refl
+
+-- ---- frames as the code reads them
+
+pub kinds-read : KindsRead
+kinds-read Open = refl
+kinds-read Recv = refl
+kinds-read Part = refl
+kinds-read Sent = refl
+kinds-read Answ = refl
+kinds-read Objt = refl
+kinds-read Pass = refl
+kinds-read Nonc = refl
+kinds-read Clos = refl
+kinds-read File = refl
+kinds-read Fail = refl
+kinds-read Done = refl
+
+end-told : (b : Bool) (p : List ℕ) → entryWith (pick b End Nothing) p ≡ pick b (ended ∷ []) []
+end-told true p = refl
+end-told false p = refl
+
+pub entry-reads : EntryReads
+unfolding entryIn same
+entry-reads Open t p = refl
+entry-reads Recv t p = refl
+entry-reads Part t p = refl
+entry-reads Sent t p = refl
+entry-reads Answ t p = refl
+entry-reads Objt t p = refl
+entry-reads Pass t p = refl
+entry-reads Nonc t p = refl
+entry-reads Clos t p = refl
+entry-reads File t p = refl
+entry-reads Fail t p = refl
+entry-reads Done t p = end-told (eqb (getD p 0 0) 1 || eqb (getD p 0 0) 2) p

@@ -4,6 +4,7 @@ use mathlib.Core.Bool.{Bool, true, false, _&&_}
 use Prim.Native.Nat.{ℕ, suc, _+_, _≤_, _<_, _^_}
 use lib.ListN.{length, take, drop}
 use mathlib.Core.List.{List, [], _∷_, _++_}
+use mathlib.Core.Option.{some}
 use Rattle.journal.specs.Record.{Record}
 use Rattle.journal.specs.Calls.{Fed}
 use Rattle.journal.specs.Checks.{tooMany}
@@ -15,9 +16,23 @@ use Rattle.filing.specs.Plan.{planFor, stepsFrom, runs, codeFor}
 use Rattle.filing.specs.Entries.{LogEntry, received, entryStep, namesStep, Handed, logHanded, journalHanded, logRecords, firstEnd, logEnds, logOf, Joins}
 use Rattle.filing.specs.Frame.{Content, frameLength, logBytes}
 use Rattle.filing.specs.Reading.{Log, log, sizeIn, checkIn, readFrom, readLog, turnOf, afterTurn}
-use Rattle.filing.specs.Kinds.{entriesIn, Encodes, OpenFrame, openingBytes, opened, openRow, settingsIn}
+use Rattle.filing.specs.declared.frame.Kind.{Kind}
+use Rattle.filing.specs.declared.entry.KindRead.the-variants.{Known}
+use Rattle.filing.specs.ReadBack.{kindRead, entryRead, entryWith}
+use Rattle.filing.specs.Kinds.{kindNumber, lettersOf, entryIn, entriesIn, Encodes, OpenFrame, openingBytes, opened, openRow, settingsIn}
 use Rattle.filing.specs.declared.payload.OpenNumbers.{OpenNumbers}
 use Rattle.filing.specs.declared.payload.OpenFlags.{OpenFlags}
+use Rattle.filing.specs.declared.content.Event.{Event}
+use Rattle.filing.specs.declared.content.Event.the-variants.{Filing}
+use Rattle.filing.specs.declared.file.RecordMarks.{RecordMarks}
+use Rattle.packet.specs.AuthWrite.{given}
+use Rattle.filing.specs.FileFrame.{FileFrame, bytesIn, fileBytes, fileOf, handedBy, fileRow, fileIn}
+use Rattle.filing.specs.Contents.{payloadFor, contentBy, entryBy, Noted, contentsBy, entriesBy}
+use Rattle.archive.specs.Writing.{writing, front}
+use Rattle.archive.specs.declared.block.Wrote.the-variants.{Written}
+use Rattle.filing.specs.declared.note.LogPlace.{LogPlace}
+use Rattle.filing.specs.Note.{noteOf, noteFor, noteWritten}
+use Rattle.filing.specs.Cases.{examplePlace, exampleName, examplePayload, exampleCheck, exampleSum, exampleNote}
 use Rattle.calendar.specs.Time.{allDigits}
 use Rattle.filing.specs.Names.{recordName, partName}
 use Rattle.filing.specs.Tries.{historyOf, checkAllowed, Settled}
@@ -140,6 +155,58 @@ SettingsBack =
       demandsUser = o .enforcesUser && o .asksUser;
       refuses = o .refuses;
     }
+
+-- ---- frames as the code reads them
+
+-- The letters of a kind are read as that kind.
+abbrev pub KindsRead : Type 0
+KindsRead = (k : Kind) → kindRead (kindNumber k) ≡ Known k
+
+-- What is read of a payload is the entry that its frame stands for.
+abbrev pub EntryReads : Type 0
+EntryReads = (k : Kind) (t : ℕ) (p : List ℕ) → entryWith (entryRead k p) p ≡ entryIn (record { kind = lettersOf k; clock = t; payload = p })
+
+-- ---- what is logged of an event
+
+-- The frame of an event stands for the entry that the event is.
+abbrev pub EventTells : Type 0
+EventTells = (e : Event) (t : ℕ) (a b c : List ℕ) → entryIn (contentBy e t a b c) ≡ entryBy e (a ++ (b ++ c))
+
+-- The frames of some events stand for their entries.
+abbrev pub NotedBack : Type 0
+NotedBack = (l : List Noted) → entriesIn (contentsBy l) ≡ entriesBy l
+
+-- ---- the frame of a record
+
+-- The payload of the frame `file` is its row and the Target behind it.
+abbrev pub FilingSays : Type 0
+FilingSays =
+    (m : RecordMarks) (hs b t : List ℕ)
+    → payloadFor Filing (fileRow m hs b t) (bytesIn (given (m .«has_target») t)) [] ≡ fileBytes (fileOf (m .number) (handedBy m hs b t))
+
+-- What the frame says fits: numbers of 32 bits, MD5s of sixteen bytes, a Target of 254 bytes at most.
+abbrev pub FitsFile : FileFrame → Type 0
+FitsFile f =
+    (f .number < 2 ^ 32) × (f .headers < 2 ^ 32) × (f .body < 2 ^ 32) × (f .blocks < 2 ^ 32) × (length (f .headersSum) ≡ 16)
+    × (length (f .bodySum) ≡ 16) × (length (bytesIn (f .target)) < 255)
+
+-- What is written of a record is read back.
+abbrev pub FileBack : Type 0
+FileBack = (f : FileFrame) → FitsFile f → fileIn (fileBytes f) ≡ some f
+
+-- ---- the note
+
+-- The note that is written of a frame is that of what the frame says, in a store that has room.
+abbrev pub NoteSays : Type 0
+NoteSays =
+    (s name : List ℕ) (p : LogPlace) (f : FileFrame) (check body : List ℕ) → 1024 ≤ length s → FitsFile f → length name ≡ 33 → length check ≡ 16
+    → length body ≡ 16
+    → noteWritten s name p (fileBytes f) check body
+    ≡ writing (Written (length (noteOf name p f check body))) (front (noteOf name p f check body) s)
+
+-- The note of the example is the one that was made by other means.
+abbrev pub ExampleNote : Type 0
+ExampleNote = noteFor [] exampleName examplePlace (fileIn examplePayload) exampleCheck exampleSum ≡ writing (Written (length exampleNote)) exampleNote
 
 -- ---- names
 

@@ -5,6 +5,15 @@ pub mod Entries
 pub mod Frame
 pub mod Reading
 pub mod Kinds
+pub mod Contents
+pub mod ReadBack
+pub mod FileFrame
 pub mod Names
+pub mod Lines
+pub mod Paths
+pub mod Users
+pub mod Note
+pub mod Cases
+pub mod Conf
 pub mod Tries
 pub mod Claims

@@ -2,13 +2,8 @@
 -- its number, and that of a record which is not filed to its end. No byte of a client's is in them.
 use Prim.Native.Nat.{ℕ, _+_, _/_, _%_}
 use mathlib.Core.List.{List, [], _∷_, _++_}
-use lib.Dec.{ltb}
-use Rattle.base.specs.Pick.{pick}
 use Rattle.calendar.specs.Time.{decimal, timeOf}
-
--- The hexadecimal digit of a number below 16.
-abbrev pub hexDigit : ℕ → ℕ
-hexDigit x = pick (ltb x 10) (0x30 + x) (0x57 + x)
+use Rattle.files.specs.Path.{hexDigit}
 
 -- The eight hexadecimal digits of a number of 32 bits.
 abbrev pub hex8 : ℕ → List ℕ

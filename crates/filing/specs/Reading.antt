@@ -25,8 +25,8 @@ abbrev pub log : List Content → ℕ → Log
 log cs n = record { contents = cs; rest = n }
 
 -- A log with one frame more in front.
-abbrev pub pushed : Content → Log → Log
-pushed c l = log (c ∷ l .contents) (l .rest)
+abbrev pub putFirst : Content → Log → Log
+putFirst c l = log (c ∷ l .contents) (l .rest)
 
 -- The length of the payload of the frame at the front of `x`, by its own word.
 abbrev pub sizeIn : List ℕ → ℕ
@@ -56,7 +56,7 @@ readFrom (suc f) before n (a ∷ x) =
     pick (ltb (length y) 32) (log [] 1)
     (pick (ltb (length y) (checkAt (sizeIn y) + 16)) (log [] 1)
     (pick (eqb (frameFault before n y) 0)
-    (pushed (contentOf y) (readFrom f (checkIn y) (n + 1) (drop (checkAt (sizeIn y) + 16) y)))
+    (putFirst (contentOf y) (readFrom f (checkIn y) (n + 1) (drop (checkAt (sizeIn y) + 16) y)))
     (log [] (frameFault before n y))))
 
 -- A whole log. Each turn takes a frame of 32 bytes at least, so there are more turns than frames.
@@ -87,4 +87,4 @@ afterTurn Cut x l = log [] 1
 afterTurn Damaged x l = log [] 11
 afterTurn Misplaced x l = log [] 12
 afterTurn Malformed x l = log [] 13
-afterTurn (Frame size) x l = pushed (contentOf x) l
+afterTurn (Frame size) x l = putFirst (contentOf x) l

@@ -2,12 +2,13 @@
 ghost use mathlib.Core.Path.{_≡_};
 ghost use mathlib.Core.List.{_++_};
 ghost use Prim.Native.Nat.{_+_, _%_};
-ghost use Rattle.filing.specs.Names.{hexDigit, hex8, sessionName, recordName, partName};
+ghost use Rattle.files.specs.Path.{hexDigit};
+ghost use Rattle.filing.specs.Names.{hex8, sessionName, recordName, partName};
 use base::copy_into;
 use calendar::time::write_time;
 
 // Returns the hexadecimal digit of `x`'s low four bits.
-fn hex_digit(x: u32) -> u8
+pub fn hex_digit(x: u32) -> u8
     ensures { λ r. ⌜ r ≡ hexDigit (x % 16) ⌝ }
 {
     let low = (x % 16) as u8;

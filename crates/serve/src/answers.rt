@@ -1,10 +1,10 @@
 // What this host answers: files for Puts and Gets, codes without headers for the rest, no password and no credentials.
 use crate::file;
 use crate::file::Opened;
-use crate::file::front;
 use crate::folder::folder_of;
 use crate::log;
 use engine::calls;
+use files::path::front;
 use packet::response::SUCCESS;
 use server::Body;
 use server::CallResult;

@@ -1,34 +1,25 @@
 // Files of a folder: the working folder, or that of a service. Only a name that may be served is opened or written.
-use crate::folder::Folder;
 use crate::folder::LONGEST;
 use crate::folder::join;
 use crate::log;
-use crate::name::is_file_name;
-use crate::name::name_in;
 use crate::path::is_link;
 use crate::path::part_name;
+use files::error::is_read_only;
+use files::error::refusal_of;
+use files::name::is_file_name;
+use files::name::name_in;
+use files::path::Folder;
+use files::path::front;
 use libc::SEEK_CUR;
 use packet::response::CONFLICT;
 use packet::response::FORBIDDEN;
 use packet::response::INTERNAL_SERVER_ERROR;
-use packet::response::NOT_FOUND;
 use packet::response::NOT_IMPLEMENTED;
 use packet::response::SUCCESS;
 use server::Body;
 ghost use mathlib.Core.Path.{_≡_};
 ghost use mathlib.Core.Bool.{true};
-ghost use Rattle.serve.specs.Name.{fileName};
-
-// Linux's numbers of two errors that `libc` has no name for: a socket cannot be opened, and a program that is running cannot be opened for
-// writing.
-const ENXIO: i32 = 6;
-
-const ETXTBSY: i32 = 26;
-
-// Returns the first `n` bytes of `s`, or all if there are fewer.
-pub(crate) fn front(s: &[u8], n: usize) -> &[u8] {
-    if n <= s.len() { &s[0..n] } else { s }
-}
+ghost use Rattle.files.specs.Name.{fileName};
 
 // ---- a Put
 
@@ -209,23 +200,6 @@ pub(crate) fn put_body(folder: Folder, headers: &[u8], content: Body, body: &[u8
 pub enum Opened {
     File(i32),
     Code(u8),
-}
-
-// Returns the code of the reply if a file cannot be opened.
-fn refusal_of(error: i32) -> u8 {
-    match error {
-        libc::ENOENT => NOT_FOUND,
-        libc::EACCES | libc::EPERM | libc::EISDIR | libc::ELOOP | ENXIO => FORBIDDEN,
-        _ => INTERNAL_SERVER_ERROR,
-    }
-}
-
-// Returns whether a file that cannot be opened for writing may still be opened for reading.
-fn is_read_only(error: i32) -> bool {
-    match error {
-        libc::EACCES | libc::EPERM | libc::EROFS | ETXTBSY => true,
-        _ => false,
-    }
 }
 
 // Opens a file for reading, or answers -1. An open for reading waits for ever at a pipe that nobody writes to, and one for reading and

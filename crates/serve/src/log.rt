@@ -1,6 +1,6 @@
 // What is done, in lines on standard error.
 use crate::file::Opened;
-use crate::file::front;
+use files::path::front;
 use host::names::put_name;
 use libc::STDERR_FILENO;
 use lines::output;

@@ -5,14 +5,13 @@ mod answers;
 mod file;
 mod folder;
 mod log;
-mod name;
 mod path;
 
 use crate::answers::Answered;
 use crate::answers::CHUNK;
 use crate::answers::answer;
-use crate::file::front;
 use engine::calls;
+use files::path::front;
 use host::feed::INPUT;
 use host::feed::Rest;
 use host::feed::Step;

@@ -2,9 +2,10 @@
 ghost use Prim.Native.Nat.{_≤_};
 ghost use lib.ListN.{length};
 use calendar::time::write_time;
+use filing::entry::KindRead;
+use filing::entry::kind_in;
 use filing::frame::Kind;
 use filing::frame::Turn;
-use filing::frame::kind_number;
 use filing::frame::read_frame;
 use libc::STDOUT_FILENO;
 use lines::input::keep;
@@ -37,45 +38,30 @@ struct Place {
     is_over: bool,
 }
 
+// Returns which line of the words a kind has.
+fn line_of(kind: Kind) -> usize {
+    match kind {
+        Kind::Open => 1,
+        Kind::Recv => 2,
+        Kind::Part => 3,
+        Kind::Sent => 4,
+        Kind::Answ => 5,
+        Kind::Objt => 6,
+        Kind::Pass => 7,
+        Kind::Nonc => 8,
+        Kind::Clos => 9,
+        Kind::File => 10,
+        Kind::Fail => 11,
+        Kind::Done => 12,
+    }
+}
+
 // Returns which line of the words a frame has, by its four letters.
 fn word_of(letters: u32) -> usize {
-    if letters == kind_number(Kind::Open) {
-        return 1;
+    match kind_in(letters) {
+        KindRead::Known(kind) => line_of(kind),
+        KindRead::Unknown => 0,
     }
-    if letters == kind_number(Kind::Recv) {
-        return 2;
-    }
-    if letters == kind_number(Kind::Part) {
-        return 3;
-    }
-    if letters == kind_number(Kind::Sent) {
-        return 4;
-    }
-    if letters == kind_number(Kind::Answ) {
-        return 5;
-    }
-    if letters == kind_number(Kind::Objt) {
-        return 6;
-    }
-    if letters == kind_number(Kind::Pass) {
-        return 7;
-    }
-    if letters == kind_number(Kind::Nonc) {
-        return 8;
-    }
-    if letters == kind_number(Kind::Clos) {
-        return 9;
-    }
-    if letters == kind_number(Kind::File) {
-        return 10;
-    }
-    if letters == kind_number(Kind::Fail) {
-        return 11;
-    }
-    if letters == kind_number(Kind::Done) {
-        return 12;
-    }
-    0
 }
 
 // Prints the line of `text` with the number `k`.

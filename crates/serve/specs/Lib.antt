@@ -1,2 +1,0 @@
--- What a file's name may be.
-pub mod Name
