@@ -531,28 +531,32 @@ class Session:
         self.lines, self.records, self.same, self.grave, self.rows, self.clocks, self.frames = ['session ' + self.name], 0, 0, 0, [], [], []
         data = read(os.path.join(folder, 'session'))
         try:
-            if data is None:
-                raise Damage('no log')
-            log = Log(data, options.packets_only)
-            if log.journal is None and not log.fault.startswith('breaks off'):
-                raise Damage('log %s' % (log.fault or 'is empty'))
+            log = Log(data or b'', options.packets_only)
+            if log.journal is None and log.fault and not log.fault.startswith('breaks off'):
+                raise Damage('log %s' % log.fault)
         except Damage as e:
             self.say(str(e), True)
             return
         self.clocks, self.frames = [c for _, c, _, _ in log.frames if c], log.frames
-        self.say('log %d frames, %s' % (len(log.frames), log.fault or ('whole, end %d' % log.done if log.done is not None else 'whole, no end')),
-                 bool(log.fault) and not log.fault.startswith('breaks off'))
-        if log.journal is None:
-            return
-        due = log.journal.number
-        if log.done is not None and log.done < 0x80 and due is not None and due != log.done:
-            self.say('end %d, and %d is due' % (log.done, due), True)
-        self.compare(log, data, options.extract)
+        # A session that was cut before its first frame has no log yet, or an empty one, and no record.
+        if not data:
+            self.say('no log' if data is None else 'log is empty', False)
+        else:
+            self.say('log %d frames, %s' % (len(log.frames), log.fault or ('whole, end %d' % log.done if log.done is not None else 'whole, no end')),
+                     bool(log.fault) and not log.fault.startswith('breaks off'))
+        if log.journal is not None:
+            self.judge(log, data, options.extract)
         known = ['session'] + ['%06d' % (k + 1) for k in range(self.records)]
         for name in sorted(os.listdir(folder)):
             if name not in known and not re.fullmatch(r'\d{6}\.part', name):
                 self.say('folder %s: no such record' % name, True)
         self.lines.append('records %d, same %d, grave %d' % (self.records, self.same, self.grave))
+
+    def judge(self, log, data, extract):
+        due = log.journal.number
+        if log.done is not None and log.done < 0x80 and due is not None and due != log.done:
+            self.say('end %d, and %d is due' % (log.done, due), True)
+        self.compare(log, data, extract)
 
     def say(self, line, grave):
         self.lines.append(line)

@@ -1,0 +1,55 @@
+-- `receiver::turn::receive` meets its contract: the turns are counted down. Assumes nothing.
+use borrow.Author.Needs.{needs}
+use Rattle.receiver.proofs.turn.receive.Statement.{statement}
+use Rattle.receiver.proofs.turn.receive.Tie as tie
+
+abbrev Inv-loop : tie.InvT-loop
+Inv-loop input₀ work₀ tables₀ packet₀ headers₀ body₀ reply₀ s₀ left₀ input work tables packet headers body reply s left =
+    Unit {0}
+
+abbrev μ-loop : tie.MeasureT-loop
+μ-loop input₀ work₀ tables₀ packet₀ headers₀ body₀ reply₀ s₀ left₀ input work tables packet headers body reply s left =
+    left
+
+loop-holds : tie.Need-loop-holds Inv-loop μ-loop
+loop-holds c = search needs
+
+end-of-requires : tie.Need-end-of-requires Inv-loop μ-loop
+end-of-requires c κs = search needs
+
+end-requires : tie.Need-end-requires Inv-loop μ-loop
+end-requires c κs = search needs
+
+returns : tie.Need-returns Inv-loop μ-loop
+returns c = search needs
+
+turn-requires : tie.Need-turn-requires Inv-loop μ-loop
+turn-requires c κs = search needs
+
+sub-left : tie.Need-sub-left Inv-loop μ-loop
+sub-left c = search needs
+
+loop-less : tie.Need-loop-less Inv-loop μ-loop
+loop-less c = search needs
+
+loop-again : tie.Need-loop-again Inv-loop μ-loop
+loop-again c = search needs
+
+returns-2 : tie.Need-returns-2 Inv-loop μ-loop
+returns-2 c = search needs
+
+pub receive-spec : {M : Type 1} → statement M
+receive-spec =
+    tie.close
+    (tie.spec
+    Inv-loop
+    μ-loop
+    loop-holds
+    end-of-requires
+    end-requires
+    returns
+    turn-requires
+    sub-left
+    loop-less
+    loop-again
+    returns-2)
