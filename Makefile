@@ -1,4 +1,4 @@
-.PHONY: help try run test check backends serve interop faults filing oracle compare planted perf mutants bindings dist rust-perf
+.PHONY: help try run test check backends serve receiver receiver-test interop faults filing audit oracle compare planted perf mutants bindings dist rust-perf
 
 # Bare `make` says what there is, and runs nothing. The times are those of two cores with nothing else to do; what is proved stays proved until
 # a file changes.
@@ -6,10 +6,12 @@ help:
 	@echo 'command        what it does                                                            needs                  about'
 	@echo 'make try       plays a session through the engine, line by line, without a proof       Rattle (rt), python3   10 seconds'
 	@echo 'make run       proves the bench, and plays the same session                            Rattle, python3        10 minutes, then at once'
-	@echo 'make test      the gate: proves all from nothing, refuses wrong programs, runs all     Rattle, python3        40 minutes'
+	@echo 'make test      the gate: proves all from nothing, refuses wrong programs, runs all     Rattle, python3        32 minutes'
 	@echo 'make check     what needs no prover: documents, trace, edits, contracts, sessions      python3                5 seconds'
 	@echo 'make backends  every program compiled in three ways and interpreted, compared          Rattle, python3        3 minutes'
 	@echo 'make serve     a server of the files in a folder: DIR=./served PORT=6500               Rattle, python3        10 minutes, then at once'
+	@echo 'make receiver  takes records and gives out rule files: DIR=./received PORT=6500        Rattle, python3        10 minutes, then at once'
+	@echo 'make receiver-test  that receiver killed, cut off, with full disks, many clients       Rattle, cc, strace, root  12 minutes, then 3'
 	@echo 'make faults    that server with slow and full disks, kills, many and silent clients    Rattle, cc, root       12 minutes, then 2'
 	@echo 'make interop   stock clients at that server, and transfer at stock servers             Rattle, root, Debian   13 minutes, then 1'
 	@echo 'make filing    what a receiver files: log, note, damages, power cuts, pcapng            Rattle, tshark         3 minutes, then 1'
@@ -59,6 +61,19 @@ serve:
 	@tools/progress check serve >&2
 	@exec tools/serve --port $(PORT) --dir "$$SERVED" --idle $(IDLE) --clients $(CLIENTS) $(if $(KEEP),--keep)
 
+# A receiver of records in DIR, behind a socket (tools/receiver, docs/RECEIVER.md). ADDRESS=where it listens; PORT, DIR, IDLE and CLIENTS as above.
+ADDRESS ?= 127.0.0.1
+receiver: export RECEIVED := $(if $(filter file,$(origin DIR)),./received,$(DIR))
+receiver:
+	@tools/progress check receiver >&2
+	@exec tools/receiver --address $(ADDRESS) --port $(PORT) --dir "$$RECEIVED" --idle $(IDLE) --clients $(CLIENTS)
+
+# The receiver on good days and bad ones: each of its calls killed and failing, short writes, power cuts, full disks, many clients, passwords; all
+# that it files is audited. Last line: 'receiver-test: N of N'.
+receiver-test:
+	@tools/progress check receiver >&2
+	@tools/receiver-test
+
 # The server on a bad day: slow and full disks, limits, kills, many and silent clients, odd names. Last line: 'faults: N of N'.
 faults:
 	@tools/progress check serve >&2
@@ -73,6 +88,10 @@ interop:
 filing:
 	@tools/progress check showlog >&2
 	@tools/archive-test
+
+# The sessions below DIR, audited by all frames and by packets alone (docs/AUDIT.md). Last line: 'audit: N sessions, M lines differ'.
+audit:
+	@tools/audit "$(DIR)"
 
 # The original with a driver, for comparison by running. Nothing of the gate needs it.
 oracle:
