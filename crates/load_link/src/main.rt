@@ -198,48 +198,6 @@ fn front(s: &[u8], n: usize) -> &[u8] {
     if n <= s.len() { &s[0..n] } else { s }
 }
 
-// Does what is due at the client's end before the server's.
-fn client_turn(
-    last: client_model::CallResult,
-    turn: Turn,
-    is_put: bool,
-    a: &[u8],
-    reply: &[u8],
-    packet: &mut [u8; PACKET],
-    headers: &mut [u8; PACKET],
-    body: &mut [u8; PACKET],
-    request: &mut [u8; PACKET],
-) -> client_model::CallResult {
-    match turn {
-        Turn::User => call(last, is_put, a, packet, headers, body, request),
-        Turn::Down(n) => calls::bytes_offered(
-            last.client,
-            0,
-            front(reply, n),
-            packet,
-            headers,
-            body,
-            request,
-        ),
-        _ => last,
-    }
-}
-
-// Tells the client that its packet has gone, if it has.
-fn sent(
-    last: client_model::CallResult,
-    turn: Turn,
-    packet: &mut [u8; PACKET],
-    headers: &mut [u8; PACKET],
-    body: &mut [u8; PACKET],
-    request: &mut [u8; PACKET],
-) -> client_model::CallResult {
-    match turn {
-        Turn::Up(_) => calls::request_sent(last.client, packet, headers, body, request),
-        _ => last,
-    }
-}
-
 // ---- the server's end
 
 // Answers a Get with the object and a read of its body with `a`, and replies with success to all else.
@@ -265,36 +223,6 @@ fn answer(
         ),
         HostRequest::Read { room: _ } => serving::body_given(e, a, packet, headers, body, reply),
         _ => serving::reply_given(e, SUCCESS, b"", tables, packet, headers, body, reply),
-    }
-}
-
-// Does what is due at the server's end.
-fn server_turn(
-    last: server::CallResult,
-    turn: Turn,
-    a: &[u8],
-    request: &[u8],
-    tables: &mut [u64; TABLES],
-    packet: &mut [u8; PACKET],
-    headers: &mut [u8; PACKET],
-    body: &mut [u8; BODY],
-    reply: &mut [u8; PACKET],
-) -> server::CallResult {
-    let e = last.engine;
-    match turn {
-        Turn::Host(r) => answer(e, r, a, tables, packet, headers, body, reply),
-        Turn::Up(n) => serving::bytes_offered(
-            e,
-            0,
-            front(request, n),
-            tables,
-            packet,
-            headers,
-            body,
-            reply,
-        ),
-        Turn::Down(_) => serving::reply_taken(e, packet, headers, body, reply),
-        _ => last,
     }
 }
 
@@ -354,29 +282,59 @@ fn play(
             return q;
         }
         q = noted(q, said, turn);
-        client = client_turn(
-            client,
-            turn,
-            q.is_put,
-            front(zeros, q.given),
-            reply,
-            c_packet,
-            c_headers,
-            c_body,
-            request,
-        );
-        server = server_turn(
-            server,
-            turn,
-            front(zeros, q.given),
-            request,
-            tables,
-            packet,
-            headers,
-            body,
-            reply,
-        );
-        client = sent(client, turn, c_packet, c_headers, c_body, request);
+        match turn {
+            Turn::User => {
+                client = call(
+                    client,
+                    q.is_put,
+                    front(zeros, q.given),
+                    c_packet,
+                    c_headers,
+                    c_body,
+                    request,
+                );
+            }
+            Turn::Host(asked_for) => {
+                server = answer(
+                    server.engine,
+                    asked_for,
+                    front(zeros, q.given),
+                    tables,
+                    packet,
+                    headers,
+                    body,
+                    reply,
+                );
+            }
+            Turn::Up(n) => {
+                server = serving::bytes_offered(
+                    server.engine,
+                    0,
+                    front(request, n),
+                    tables,
+                    packet,
+                    headers,
+                    body,
+                    reply,
+                );
+                client = calls::request_sent(client.client, c_packet, c_headers, c_body, request);
+            }
+            Turn::Down(n) => {
+                client = calls::bytes_offered(
+                    client.client,
+                    0,
+                    front(reply, n),
+                    c_packet,
+                    c_headers,
+                    c_body,
+                    request,
+                );
+                server = serving::reply_taken(server.engine, packet, headers, body, reply);
+            }
+            Turn::Stop => {
+                return q;
+            }
+        }
         left -= 1;
     }
     q

@@ -44,46 +44,65 @@ returns c = search needs
 noted-requires : tie.Need-noted-requires Inv-loop μ-loop
 noted-requires c κs = search needs
 
+enum-told : tie.Need-enum-told Inv-loop μ-loop
+enum-told c = search needs
+
 front-requires : tie.Need-front-requires Inv-loop μ-loop
 front-requires c κs = search needs
 
-client-turn-requires : tie.Need-client-turn-requires Inv-loop μ-loop
-client-turn-requires c κs = search needs
+call-requires : tie.Need-call-requires Inv-loop μ-loop
+call-requires c κs = search needs
+
+enum-known-turn : tie.Need-enum-known-turn Inv-loop μ-loop
+enum-known-turn c = search needs
 
 front-requires-2 : tie.Need-front-requires-2 Inv-loop μ-loop
 front-requires-2 c κs = search needs
 
-server-turn-requires : tie.Need-server-turn-requires Inv-loop μ-loop
-server-turn-requires c κs = search needs
+answer-requires : tie.Need-answer-requires Inv-loop μ-loop
+answer-requires c κs = search needs
 
-sent-requires : tie.Need-sent-requires Inv-loop μ-loop
-sent-requires c κs = search needs
+enum-known-turn-2 : tie.Need-enum-known-turn-2 Inv-loop μ-loop
+enum-known-turn-2 c = search needs
+
+front-requires-3 : tie.Need-front-requires-3 Inv-loop μ-loop
+front-requires-3 c κs = search needs
+
+bytes-offered-requires : tie.Need-bytes-offered-requires Inv-loop μ-loop
+bytes-offered-requires c κs = search needs
+
+request-sent-requires : tie.Need-request-sent-requires Inv-loop μ-loop
+request-sent-requires c κs = search needs
+
+enum-known-turn-3 : tie.Need-enum-known-turn-3 Inv-loop μ-loop
+enum-known-turn-3 c = search needs
+
+front-requires-4 : tie.Need-front-requires-4 Inv-loop μ-loop
+front-requires-4 c κs = search needs
+
+bytes-offered-requires-2 : tie.Need-bytes-offered-requires-2 Inv-loop μ-loop
+bytes-offered-requires-2 c κs = search needs
+
+reply-taken-requires : tie.Need-reply-taken-requires Inv-loop μ-loop
+reply-taken-requires c κs = search needs
+
+enum-told-2 : tie.Need-enum-told-2 Inv-loop μ-loop
+enum-told-2 c = search needs
+
+returns-2 : tie.Need-returns-2 Inv-loop μ-loop
+returns-2 c = search needs
 
 sub-left : tie.Need-sub-left Inv-loop μ-loop
-sub-left c =
-    let sent = c .before .before .before .before .before in
-    let served = sent .before .before .before .before in
-    let offered = served .before .before .before .before in
-    let called = offered .before .before .before .before in
-    let given = called .before .before .before .before in
-    let noted = given .before .before .before in
-    omega (arith, noted .before .before .loop-test .taken)
+sub-left c = search needs
 
 loop-less : tie.Need-loop-less Inv-loop μ-loop
-loop-less c =
-    let sent = c .before .before .before .before .before in
-    let served = sent .before .before .before .before in
-    let offered = served .before .before .before .before in
-    let called = offered .before .before .before .before in
-    let given = called .before .before .before .before in
-    let noted = given .before .before .before in
-    omega (arith, noted .before .before .loop-test .taken)
+loop-less c = search needs
 
 loop-again : tie.Need-loop-again Inv-loop μ-loop
 loop-again c = tt
 
-returns-2 : tie.Need-returns-2 Inv-loop μ-loop
-returns-2 c = search needs
+returns-3 : tie.Need-returns-3 Inv-loop μ-loop
+returns-3 c = search needs
 
 pub play-spec : {M : Type 1} → statement M
 play-spec =
@@ -101,12 +120,23 @@ play-spec =
     is-over-requires
     returns
     noted-requires
+    enum-told
     front-requires
-    client-turn-requires
+    call-requires
+    enum-known-turn
     front-requires-2
-    server-turn-requires
-    sent-requires
+    answer-requires
+    enum-known-turn-2
+    front-requires-3
+    bytes-offered-requires
+    request-sent-requires
+    enum-known-turn-3
+    front-requires-4
+    bytes-offered-requires-2
+    reply-taken-requires
+    enum-told-2
+    returns-2
     sub-left
     loop-less
     loop-again
-    returns-2)
+    returns-3)
