@@ -71,7 +71,7 @@ receiver:
 # The receiver on good days and bad ones: each of its calls killed and failing, short writes, power cuts, full disks, many clients, passwords; all
 # that it files is audited. Last line: 'receiver-test: N of N'.
 receiver-test:
-	@tools/progress check receiver >&2
+	@tools/progress check receiver audit transfer >&2
 	@tools/receiver-test
 
 # The server on a bad day: slow and full disks, limits, kills, many and silent clients, odd names. Last line: 'faults: N of N'.
