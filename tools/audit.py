@@ -579,16 +579,17 @@ class Session:
 
 # ---- the page
 
-STYLE = """body{font:15px/1.4 sans-serif;margin:2em;max-width:70em}table{border-collapse:collapse}td,th{padding:.2em .8em;text-align:left;
-border-bottom:1px solid #ccc}.grave{background:#fbb}.good{background:#cfc}svg{display:block;margin:1em 0}pre{background:#eee;padding:1em}"""
+STYLE = """body{font:15px/1.4 sans-serif;margin:2em}table{border-collapse:collapse}td,th{padding:.2em .8em;text-align:left;white-space:nowrap;
+border-bottom:1px solid #ccc}p{padding:.4em .8em}.grave{background:#fbb}.good{background:#cfc}svg{display:block;margin:1em 0}
+pre{background:#eee;padding:1em;overflow-x:auto}"""
 
 
 def timeline(sessions):
     """A row for each day, each session a bar from its first to its last clock, each record a tick; grave ones are red."""
     days = sorted({c // 86400 for s in sessions for c in s.clocks})
-    out = ['<svg width="1000" height="%d" font-size="12">' % (24 * len(days) + 20)]
+    out = ['<svg width="1020" height="%d" font-size="12">' % (24 * len(days) + 20)]
     for hour in range(0, 25, 3):
-        out.append('<text x="%d" y="12">%02d</text>' % (90 + 900 * hour // 24, hour))
+        out.append('<text x="%d" y="12" text-anchor="middle">%02d</text>' % (90 + 900 * hour // 24, hour))
     place = lambda c: 90 + 900 * (c % 86400) / 86400
     for row, day in enumerate(days):
         y = 20 + 24 * row
@@ -599,9 +600,8 @@ def timeline(sessions):
                 a, b = place(min(clocks)), place(max(clocks))
                 out.append('<rect x="%.1f" y="%d" width="%.1f" height="10" fill="%s"><title>%s</title></rect>' % (
                     a, y + 4, max(1.5, b - a), '#c00' if s.grave else '#69c', s.name))
-            for grave, clock, *_ in s.rows:
-                if clock // 86400 == day:
-                    out.append('<rect x="%.1f" y="%d" width="1" height="18" fill="%s"/>' % (place(clock), y, '#c00' if grave else '#063'))
+        for grave, clock in sorted((grave, clock) for s in sessions for grave, clock, *_ in s.rows if clock // 86400 == day):
+            out.append('<rect x="%.1f" y="%d" width="%d" height="18" fill="%s"/>' % (place(clock), y, 1 + grave, '#c00' if grave else '#063'))
     return ''.join(out) + '</svg>'
 
 
@@ -610,9 +610,9 @@ def page(sessions, last):
     out = ['<!DOCTYPE html><html lang="en"><meta charset="utf-8"><title>Audit</title><style>%s</style><h1>Audit</h1>' % STYLE]
     out.append('<p class="%s">%s</p>' % ('grave' if any(s.grave for s in sessions) else 'good', last))
     out.append('<h2>Days</h2>' + timeline(sessions))
-    out.append('<h2>Records</h2><table><tr><th>time<th>session<th>record<th>target<th>headers<th>body<th>verdict')
+    out.append('<h2>Records</h2><table><tr><th>time<th>verdict<th>record<th>session<th>target<th>headers<th>body')
     for grave, clock, name, k, target, kept, size, words in rows:
-        out.append('<tr%s><td>%s' % (' class="grave"' if grave else '', stamp(clock)) + ''.join('<td>' + html.escape(str(x)) for x in (name, k, target, kept, size, words)))
+        out.append('<tr%s><td>%s' % (' class="grave"' if grave else '', stamp(clock)) + ''.join('<td>' + html.escape(str(x)) for x in (words, k, name, target, kept, size)))
     out.append('</table><h2>Lines</h2><pre>%s</pre></html>' % html.escape('\n'.join(line for s in sessions for line in s.lines) + '\n' + last))
     return '\n'.join(out) + '\n'
 
