@@ -360,7 +360,8 @@ fn kind_of(id: u8) -> Kind {
 fn header_piece(s: &[u8], at: usize) -> Piece
     ensures { λ r. ⌜ (r .start ≤ r .end) × (r .end ≤ length (now (s .entry))) ⌝ }
 {
-    match header::header_at(s, at) {
+    let c = header::Cursor::new(at);
+    match c.read(s) {
         HeaderAt::At {
             id,
             encoding: _,

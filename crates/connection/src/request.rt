@@ -3,12 +3,12 @@
 ghost use mathlib.Core.Path.{_≡_};
 ghost use Rattle.connection.specs.Request.{connectRequest, notedFound, notedRequest, headerless};
 use packet::header::HeaderAt;
-use packet::header::header_at;
 use packet::header_id::AUTHENTICATE_CHALLENGE;
 use packet::header_id::AUTHENTICATE_RESPONSE;
 use packet::header_id::SINGLE_RESPONSE_MODE;
 use packet::header_id::TARGET;
 use packet::tlv::Found;
+use walk::step;
 
 // Where the headers start, and where the values of four of them stand, of each the first. If not all headers can be read, none is found,
 // and `from` is the packet's end.
@@ -71,7 +71,7 @@ pub fn connect_request(s: &[u8], from: usize) -> ConnectRequest
     let mut c = nothing_found(from);
     let mut at = from;
     loop {
-        match header_at(s, at) {
+        match step(s, at) {
             HeaderAt::At {
                 id,
                 encoding: _,

@@ -13,12 +13,12 @@ ghost use Rattle.incoming.specs.Gather.{gathering, isStored, isDropped, 
 ghost use Rattle.incoming.specs.Gather.{gatherOne, gatherAll, headersOf};
 use base::copy_into;
 use packet::header::HeaderAt;
-use packet::header::header_at;
 use packet::header_id::BODY;
 use packet::header_id::END_OF_BODY;
 use packet::header_id::SINGLE_RESPONSE_MODE;
 use packet::header_id::SINGLE_RESPONSE_MODE_PARAMETERS;
 use packet::limits::MAX_PACKET;
+use walk::step;
 
 // Which headers of an operation's packets are kept.
 pub enum Keep {
@@ -178,7 +178,7 @@ pub fn gather(
             encoding: _,
             start,
             end,
-        } = header_at(p, at)
+        } = step(p, at)
         else {
             return g;
         };

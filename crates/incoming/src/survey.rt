@@ -7,13 +7,13 @@ ghost use Rattle.incoming.specs.Noted.{noteId, noteMode, noteParameter, 
 ghost use Rattle.incoming.specs.Survey.{unreadableSurvey, surveyOf};
 use packet::header::HeaderAt;
 use packet::header::be32_at;
-use packet::header::header_at;
 use packet::header_id::CONNECTION_ID;
 use packet::header_id::SINGLE_RESPONSE_MODE;
 use packet::header_id::SINGLE_RESPONSE_MODE_PARAMETERS;
 use packet::srm::ENABLE;
 use packet::srm::requests_additional_packet;
 use packet::srm::requests_wait;
+use walk::step;
 
 // What the engine asks of the headers of every packet.
 pub struct Survey {
@@ -138,7 +138,7 @@ pub fn survey_headers(p: &[u8], from: usize) -> Survey
     };
     let mut at = from;
     loop {
-        match header_at(p, at) {
+        match step(p, at) {
             HeaderAt::At {
                 id,
                 encoding: _,

@@ -10,7 +10,6 @@ ghost use Rattle.outgoing.specs.Queue.{mustLead, isChunk, leadEnd, putIn
 ghost use Rattle.outgoing.specs.Queue.{headersBack, bodyBack, bothRoom, rewinding, rewound};
 use base::copy_into;
 use packet::header::HeaderAt;
-use packet::header::header_at;
 use packet::header_id::BODY;
 use packet::header_id::CONNECTION_ID;
 use packet::header_id::END_OF_BODY;
@@ -20,6 +19,7 @@ use packet::header_id::TARGET;
 use packet::store::LengthField;
 use packet::store::room;
 use packet::tlv::Wrote;
+use walk::step;
 
 // ---- bytes that are put in between
 
@@ -68,7 +68,7 @@ fn lead_end(s: &[u8]) -> usize
 {
     let mut at = 0;
     loop {
-        match header_at(s, at) {
+        match step(s, at) {
             HeaderAt::At {
                 id,
                 encoding: _,
@@ -158,7 +158,7 @@ fn back_from(part: Part, id: u8, at: usize, start: usize, end: usize) -> usize
 fn piece_at(part: Part, packet: &[u8], at: usize) -> Piece
     ensures { λ r. ⌜ r ≡ pieceOf part (headerAt (now (packet .entry)) at) at ⌝ }
 {
-    match header_at(packet, at) {
+    match step(packet, at) {
         HeaderAt::At {
             id,
             encoding: _,

@@ -13,7 +13,7 @@ use Rattle.packet.specs.declared.header.HeaderAt.the-variants.{At, Unreadable, 
 use Rattle.packet.specs.Header.{Header, headerAt, part, push, walkFrom, readHeaders}
 use Rattle.packet.proofs.HeaderLaws.{by-cursor}
 use Rattle.walk.specs.declared.Walk.{Walk}
-use Rattle.walk.specs.Walk.{movedTo, walkedFor, walked, cursorFor, byCursor}
+use Rattle.walk.specs.Walk.{walkTo, walkedFor, walked, cursorFor, byCursor}
 
 -- ---- any reader that takes the packet's step at each place gives the packet's list
 
@@ -37,7 +37,7 @@ follows s g steps (suc k) at l =
 pub walked-reads : (w : Walk) → walked w ≡ readHeaders (now (w .packet)) (w .at)
 unfolding walked walkedFor
 walked-reads w =
-    follows (now (w .packet)) (λ k n. walkedFor k (movedTo w n)) (λ k n. refl) (suc (length (now (w .packet)))) (w .at) (omega arith)
+    follows (now (w .packet)) (λ k n. walkedFor k (walkTo w n)) (λ k n. refl) (suc (length (now (w .packet)))) (w .at) (omega arith)
 
 -- the cursor gives it too
 pub cursor-reads : (s : List ℕ) (c : Cursor) → byCursor s c ≡ readHeaders s (c .at)
@@ -48,8 +48,8 @@ cursor-reads s c = follows s (λ k n. cursorFor k s (record { at = n })) (λ k n
 pub walked-cursor : (w : Walk) → walked w ≡ byCursor (now (w .packet)) (record { at = w .at })
 walked-cursor w = walked-reads w ∙ sym (cursor-reads (now (w .packet)) (record { at = w .at }))
 
--- and the walk's list goes on as its functions do, with no word of fuel: by what `next` gives, then from `moved`
-pub walked-step : (w : Walk) → walked w ≡ walkFrom (now (w .packet)) (headerAt (now (w .packet)) (w .at)) (λ n. walked (movedTo w n))
+-- and the walk's list goes on as its functions do, with no word of fuel: by what `next` gives, then from the walk behind it
+pub walked-step : (w : Walk) → walked w ≡ walkFrom (now (w .packet)) (headerAt (now (w .packet)) (w .at)) (λ n. walked (walkTo w n))
 walked-step w =
     walked-reads w
-    ∙ sym (turn (now (w .packet)) (w .at) (λ n. walked (movedTo w n)) (λ n l. walked-reads (movedTo w n)) (headerAt (now (w .packet)) (w .at)) refl)
+    ∙ sym (turn (now (w .packet)) (w .at) (λ n. walked (walkTo w n)) (λ n l. walked-reads (walkTo w n)) (headerAt (now (w .packet)) (w .at)) refl)

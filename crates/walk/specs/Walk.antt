@@ -17,9 +17,9 @@ use Rattle.walk.specs.declared.Count.the-variants.{Headers, Unreadable}
 abbrev pub walkAt : RefT (List ℕ) → ℕ → Walk
 walkAt packet at = record { packet = packet; at = at }
 
--- `moved`: the walk over the same packet that stands at `at`.
-abbrev pub movedTo : Walk → ℕ → Walk
-movedTo w at = walkAt (w .packet) at
+-- The walk over the same packet that stands at `at`: behind a header, `at` is where its value ends.
+abbrev pub walkTo : Walk → ℕ → Walk
+walkTo w at = walkAt (w .packet) at
 
 -- `n` headers, and then those of a list; `none` is unreadable.
 abbrev pub countFrom : ℕ → Option (List Header) → Count
@@ -32,11 +32,11 @@ countOf r = countFrom 0 r
 
 -- ---- the list
 
--- The headers from where the walk stands: what `next` gives, and on from where `moved` stands behind it. Each takes a byte at least, so a
+-- The headers from where the walk stands: what `next` gives, and on from the walk that stands behind it. Each takes a byte at least, so a
 -- fuel over the packet's length is enough.
 unfoldable pub walkedFor : ℕ → Walk → Option (List Header)
 walkedFor zero w = none
-walkedFor (suc k) w = walkFrom (now (w .packet)) (headerAt (now (w .packet)) (w .at)) (λ n. walkedFor k (movedTo w n))
+walkedFor (suc k) w = walkFrom (now (w .packet)) (headerAt (now (w .packet)) (w .at)) (λ n. walkedFor k (walkTo w n))
 
 -- The headers from where the walk stands up to the packet's end.
 unfoldable pub walked : Walk → Option (List Header)

@@ -2,7 +2,7 @@
 // plain slice; each function here takes the struct apart or makes one.
 ghost use mathlib.Core.Path.{_≡_};
 ghost use Rattle.packet.specs.Header.{headerAt, readHeaders};
-ghost use Rattle.walk.specs.Walk.{walkAt, movedTo, countOf};
+ghost use Rattle.walk.specs.Walk.{walkAt, countOf};
 use packet::header::HeaderAt;
 use packet::header::header_at;
 
@@ -19,13 +19,6 @@ pub fn new<'a>(packet: &'a [u8], at: usize) -> Walk<'a>
     Walk { packet, at }
 }
 
-// Returns the place where the walk stands.
-pub fn place<'a>(w: Walk<'a>) -> usize
-    ensures { λ r. ⌜ r ≡ w .entry .at ⌝ }
-{
-    w.at
-}
-
 // Reads the header where the walk stands.
 pub fn next<'a>(w: Walk<'a>) -> HeaderAt
     ensures { λ r. ⌜ r ≡ headerAt (now (w .entry .packet)) (w .entry .at) ⌝ }
@@ -33,17 +26,7 @@ pub fn next<'a>(w: Walk<'a>) -> HeaderAt
     header_at(w.packet, w.at)
 }
 
-// Returns the walk over the same packet that stands at `at`: behind a header, `at` is where its value ends.
-pub fn moved<'a>(w: Walk<'a>, at: usize) -> Walk<'a>
-    ensures { λ r. ⌜ r ≡ movedTo (w .entry) at ⌝ }
-{
-    Walk {
-        packet: w.packet,
-        at,
-    }
-}
-
-// Reads the header at `at`, for callers that have a plain slice.
+// Reads the header at `at`: a walk's step for callers that have a plain slice. The loops over headers above this crate go by it.
 pub fn step(packet: &[u8], at: usize) -> HeaderAt
     ensures { λ r. ⌜ r ≡ headerAt (now (packet .entry)) at ⌝ }
 {

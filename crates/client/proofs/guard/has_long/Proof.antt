@@ -24,19 +24,19 @@ loop-holds : tie.Need-loop-holds Inv-loop μ-loop
 unfolding tooLong
 loop-holds c = record { readable = c .before .pre; gives = refl }
 
-header-at-requires : tie.Need-header-at-requires Inv-loop μ-loop
-header-at-requires c κs = search needs
+step-requires : tie.Need-step-requires Inv-loop μ-loop
+step-requires c κs = search needs
 
 enum-known-end : tie.Need-enum-known-end Inv-loop μ-loop
 enum-known-end c = search needs
 
 returns : tie.Need-returns Inv-loop μ-loop
-returns c = ends _ _ _ _ (c .before .before .loop .inv) _ (c .before .header-at .ensures) (c .match .keys2)
+returns c = ends _ _ _ _ (c .before .before .loop .inv) _ (c .before .step .ensures) (c .match .keys2)
 
 sub-if1 : tie.Need-sub-if1 Inv-loop μ-loop
 sub-if1 c =
     let at-header-at = c .before .before .before in
-    let h = by-cursor _ _ (At _ _ _ _) (sym (at-header-at .header-at .ensures) ∙ c .before .end .given .1) in omega (arith, h .next)
+    let h = by-cursor _ _ (At _ _ _ _) (sym (at-header-at .step .ensures) ∙ c .before .end .given .1) in omega (arith, h .next)
 
 returns-2 : tie.Need-returns-2 Inv-loop μ-loop
 returns-2 c =
@@ -44,16 +44,16 @@ returns-2 c =
     let at-header-at = at-end .before .before in
     let at-loop = at-header-at .before in
     let at-shared-slice-known = at-loop .before in
-    let h = by-cursor _ _ (At _ _ _ _) (sym (at-header-at .header-at .ensures) ∙ at-end .end .given .1) in
+    let h = by-cursor _ _ (At _ _ _ _) (sym (at-header-at .step .ensures) ∙ at-end .end .given .1) in
     found _ _ _ _ (at-loop .loop .inv) _ _ _ _ h _
     (ap (ltb _) (header-length _ _ _ _ _ _ (λ i. omega (arith, at-shared-slice-known .shared-slice-known .given i))
-    (sym (at-header-at .header-at .ensures) ∙ at-end .end .given .1) (h .stands .fits))) (lt-ltb _ _ (c .if1 .taken))
+    (sym (at-header-at .step .ensures) ∙ at-end .end .given .1) (h .stands .fits))) (lt-ltb _ _ (c .if1 .taken))
 
 loop-less : tie.Need-loop-less Inv-loop μ-loop
 loop-less c =
     let at-end = c .before .before in
     let at-header-at = at-end .before .before in
-    let h = by-cursor _ _ (At _ _ _ _) (sym (at-header-at .header-at .ensures) ∙ at-end .end .given .1) in omega (arith, h .next, h .stands .fits)
+    let h = by-cursor _ _ (At _ _ _ _) (sym (at-header-at .step .ensures) ∙ at-end .end .given .1) in omega (arith, h .next, h .stands .fits)
 
 loop-again : tie.Need-loop-again Inv-loop μ-loop
 loop-again c =
@@ -61,10 +61,10 @@ loop-again c =
     let at-header-at = at-end .before .before in
     let at-loop = at-header-at .before in
     let at-shared-slice-known = at-loop .before in
-    let h = by-cursor _ _ (At _ _ _ _) (sym (at-header-at .header-at .ensures) ∙ at-end .end .given .1) in
+    let h = by-cursor _ _ (At _ _ _ _) (sym (at-header-at .step .ensures) ∙ at-end .end .given .1) in
     on _ _ _ _ (at-loop .loop .inv) _ _ _ _ h _
     (ap (ltb _) (header-length _ _ _ _ _ _ (λ i. omega (arith, at-shared-slice-known .shared-slice-known .given i))
-    (sym (at-header-at .header-at .ensures) ∙ at-end .end .given .1) (h .stands .fits))) (le-ltb _ _ (c .if1 .left))
+    (sym (at-header-at .step .ensures) ∙ at-end .end .given .1) (h .stands .fits))) (le-ltb _ _ (c .if1 .left))
 
 pub has-long-spec : {M : Type 1} → statement M
 has-long-spec =
@@ -73,7 +73,7 @@ has-long-spec =
     Inv-loop
     μ-loop
     loop-holds
-    header-at-requires
+    step-requires
     enum-known-end
     returns
     sub-if1

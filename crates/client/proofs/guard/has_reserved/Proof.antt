@@ -22,14 +22,14 @@ abbrev μ-loop : tie.MeasureT-loop
 loop-holds : tie.Need-loop-holds Inv-loop μ-loop
 loop-holds c = record { readable = c .before .pre; gives = refl }
 
-header-at-requires : tie.Need-header-at-requires Inv-loop μ-loop
-header-at-requires c κs = search needs
+step-requires : tie.Need-step-requires Inv-loop μ-loop
+step-requires c κs = search needs
 
 enum-known-id : tie.Need-enum-known-id Inv-loop μ-loop
 enum-known-id c = search needs
 
 returns : tie.Need-returns Inv-loop μ-loop
-returns c = ends _ _ _ _ (c .before .before .loop .inv) _ (c .before .header-at .ensures) (c .match .keys2)
+returns c = ends _ _ _ _ (c .before .before .loop .inv) _ (c .before .step .ensures) (c .match .keys2)
 
 is-reserved-requires : tie.Need-is-reserved-requires Inv-loop μ-loop
 is-reserved-requires c κs = search needs
@@ -39,21 +39,21 @@ returns-2 c =
     let at-id = c .before .before .before in
     let at-header-at = at-id .before .before in
     let at-loop = at-header-at .before in
-    found _ _ _ _ (at-loop .loop .inv) _ _ _ _ (by-cursor _ _ (At _ _ _ _) (sym (at-header-at .header-at .ensures) ∙ at-id .id .given .1)) _
+    found _ _ _ _ (at-loop .loop .inv) _ _ _ _ (by-cursor _ _ (At _ _ _ _) (sym (at-header-at .step .ensures) ∙ at-id .id .given .1)) _
     (sym (c .before .is-reserved .ensures)) (c .if1 .taken)
 
 loop-less : tie.Need-loop-less Inv-loop μ-loop
 loop-less c =
     let at-id = c .before .before .before in
     let at-header-at = at-id .before .before in
-    let h = by-cursor _ _ (At _ _ _ _) (sym (at-header-at .header-at .ensures) ∙ at-id .id .given .1) in omega (arith, h .next, h .stands .fits)
+    let h = by-cursor _ _ (At _ _ _ _) (sym (at-header-at .step .ensures) ∙ at-id .id .given .1) in omega (arith, h .next, h .stands .fits)
 
 loop-again : tie.Need-loop-again Inv-loop μ-loop
 loop-again c =
     let at-id = c .before .before .before in
     let at-header-at = at-id .before .before in
     let at-loop = at-header-at .before in
-    on _ _ _ _ (at-loop .loop .inv) _ _ _ _ (by-cursor _ _ (At _ _ _ _) (sym (at-header-at .header-at .ensures) ∙ at-id .id .given .1)) _
+    on _ _ _ _ (at-loop .loop .inv) _ _ _ _ (by-cursor _ _ (At _ _ _ _) (sym (at-header-at .step .ensures) ∙ at-id .id .given .1)) _
     (sym (c .before .is-reserved .ensures)) (c .if1 .left)
 
 pub has-reserved-spec : {M : Type 1} → statement M
@@ -63,7 +63,7 @@ has-reserved-spec =
     Inv-loop
     μ-loop
     loop-holds
-    header-at-requires
+    step-requires
     enum-known-id
     returns
     is-reserved-requires

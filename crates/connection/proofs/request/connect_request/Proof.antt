@@ -21,8 +21,8 @@ nothing-found-requires c κs = search needs
 loop-holds : tie.Need-loop-holds Inv-loop μ-loop
 loop-holds c = begins _ _ _ (c .nothing-found .ensures)
 
-header-at-requires : tie.Need-header-at-requires Inv-loop μ-loop
-header-at-requires c κs = search needs
+step-requires : tie.Need-step-requires Inv-loop μ-loop
+step-requires c κs = search needs
 
 enum-known-id : tie.Need-enum-known-id Inv-loop μ-loop
 enum-known-id c = search needs
@@ -33,13 +33,13 @@ note-requires c κs = search needs
 loop-less : tie.Need-loop-less Inv-loop μ-loop
 loop-less c =
     let k = c .before .before in
-    let h = header-at-within _ _ _ _ _ _ (sym (k .before .before .header-at .ensures) ∙ k .id .given .1) in
+    let h = header-at-within _ _ _ _ _ _ (sym (k .before .before .step .ensures) ∙ k .id .given .1) in
     omega arith
 
 loop-again : tie.Need-loop-again Inv-loop μ-loop
 loop-again c =
     let k = c .before .before in
-    goes-on _ _ _ _ _ _ _ _ _ (sym (k .before .before .header-at .ensures) ∙ k .id .given .1) (k .before .before .before .loop .inv) (c .note .ensures)
+    goes-on _ _ _ _ _ _ _ _ _ (sym (k .before .before .step .ensures) ∙ k .id .given .1) (k .before .before .before .loop .inv) (c .note .ensures)
 
 enum-told : tie.Need-enum-told Inv-loop μ-loop
 enum-told c = search needs
@@ -50,7 +50,7 @@ nothing-found-requires-2 c κs = search needs
 returns : tie.Need-returns Inv-loop μ-loop
 returns c =
     let k = c .before .before .before in
-    stops _ _ _ _ _ (sym (k .header-at .ensures) ∙ c .before .enum-told .given .1) (k .before .loop .inv) (c .nothing-found2 .ensures)
+    stops _ _ _ _ _ (sym (k .step .ensures) ∙ c .before .enum-told .given .1) (k .before .loop .inv) (c .nothing-found2 .ensures)
 
 enum-told-2 : tie.Need-enum-told-2 Inv-loop μ-loop
 enum-told-2 c = search needs
@@ -58,7 +58,7 @@ enum-told-2 c = search needs
 returns-2 : tie.Need-returns-2 Inv-loop μ-loop
 returns-2 c =
     let l = c .before .before .before in
-    ends _ _ _ _ (sym (c .before .before .header-at .ensures) ∙ c .enum-told2 .given .1) (l .loop .inv)
+    ends _ _ _ _ (sym (c .before .before .step .ensures) ∙ c .enum-told2 .given .1) (l .loop .inv)
 
 pub connect-request-spec : {M : Type 1} → statement M
 connect-request-spec =
@@ -68,7 +68,7 @@ connect-request-spec =
     μ-loop
     nothing-found-requires
     loop-holds
-    header-at-requires
+    step-requires
     enum-known-id
     note-requires
     loop-less

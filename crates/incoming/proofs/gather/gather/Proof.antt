@@ -26,8 +26,8 @@ loop-holds c =
     let s = c .before .before .before in
     (record { readable = s .pre .0; gives = refl; kept-room = s .pre .1; body-within = s .pre .3 }, refl, refl)
 
-header-at-requires : tie.Need-header-at-requires Inv-loop μ-loop
-header-at-requires c κs = search needs
+step-requires : tie.Need-step-requires Inv-loop μ-loop
+step-requires c κs = search needs
 
 enum-known-id : tie.Need-enum-known-id Inv-loop μ-loop
 enum-known-id c = search needs
@@ -37,7 +37,7 @@ here : (c : tie.After-known-told Inv-loop μ-loop) →
     let v = c .before .id .given .0 in
     let l = c .before .before .before .before .before .before in
     Here (l .before .before .before .before .args .p .now) (l .loop .at) (v .0) (v .1 .0) (v .1 .1 .0) (v .1 .1 .1 .0)
-here c = by-cursor _ _ _ (sym (c .before .before .before .header-at .ensures) ∙ c .before .id .given .1)
+here c = by-cursor _ _ _ (sym (c .before .before .before .step .ensures) ∙ c .before .id .given .1)
 
 same-length : tie.Need-same-length Inv-loop μ-loop
 same-length c = c .before .before .before .before .loop .inv .1
@@ -48,13 +48,13 @@ same-length-2 c = c .before .before .before .before .loop .inv .2
 returns : tie.Need-returns Inv-loop μ-loop
 returns c =
     let l = c .before .before .before .before .loop .inv .0 in
-    (ends _ _ _ _ _ _ l _ (c .before .header-at .ensures) (c .match .keys2), (l .kept-room, l .body-within))
+    (ends _ _ _ _ _ _ l _ (c .before .step .ensures) (c .match .keys2), (l .kept-room, l .body-within))
 
 gather-one-requires : tie.Need-gather-one-requires Inv-loop μ-loop
 gather-one-requires c κs =
     let k = c .before .before in
     let h = here k in
-    let e = sym (k .before .before .before .header-at .ensures) ∙ k .before .id .given .1 in
+    let e = sym (k .before .before .before .step .ensures) ∙ k .before .id .given .1 in
     let s = k .before .before .before .before .before .before .before .before .before in
     let octets = s .shared-slice-known .given in (
       header-at-bytes (s .before .args .p .now) _ _ _ _ _ (λ i. omega (arith, octets i)) e,
@@ -105,7 +105,7 @@ gather-spec =
     Inv-loop
     μ-loop
     loop-holds
-    header-at-requires
+    step-requires
     enum-known-id
     same-length
     same-length-2

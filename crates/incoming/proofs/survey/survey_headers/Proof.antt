@@ -22,8 +22,8 @@ abbrev μ-loop : tie.MeasureT-loop
 loop-holds : tie.Need-loop-holds Inv-loop μ-loop
 loop-holds c = begins (readHeaders (c .before .args .p .now) (c .before .args .from))
 
-header-at-requires : tie.Need-header-at-requires Inv-loop μ-loop
-header-at-requires c κs = search needs
+step-requires : tie.Need-step-requires Inv-loop μ-loop
+step-requires c κs = search needs
 
 enum-known-id : tie.Need-enum-known-id Inv-loop μ-loop
 enum-known-id c = search needs
@@ -33,7 +33,7 @@ here : (c : tie.After-known-told Inv-loop μ-loop) →
     let v = c .before .id .given .0 in
     let l = c .before .before .before .before in
     Here (l .before .before .args .p .now) (l .loop .at) (v .0) (v .1 .0) (v .1 .1 .0) (v .1 .1 .1 .0)
-here c = by-cursor _ _ _ (sym (c .before .before .before .header-at .ensures) ∙ c .before .id .given .1)
+here c = by-cursor _ _ _ (sym (c .before .before .before .step .ensures) ∙ c .before .id .given .1)
 
 sub-note : tie.Need-sub-note Inv-loop μ-loop
 sub-note c = let h = here c in omega arith
@@ -68,7 +68,7 @@ unfolding surveyOf
 returns c =
     let k = c .before .before .before in
     let l = k .before .loop in
-    let e = by-cursor _ _ Unreadable (sym (k .header-at .ensures) ∙ c .before .enum-told .given .1) in
+    let e = by-cursor _ _ Unreadable (sym (k .step .ensures) ∙ c .before .enum-told .given .1) in
     c .unreadable .ensures ∙ sym (l .inv ∙ ap (surveyLeft (l .n)) e)
 
 enum-told-2 : tie.Need-enum-told-2 Inv-loop μ-loop
@@ -81,7 +81,7 @@ returns-2 : tie.Need-returns-2 Inv-loop μ-loop
 returns-2 c =
     let k = c .before .before .before in
     let l = k .before .loop in
-    let e = by-cursor _ _ End (sym (k .header-at .ensures) ∙ c .before .enum-told2 .given .1) .1 in
+    let e = by-cursor _ _ End (sym (k .step .ensures) ∙ c .before .enum-told2 .given .1) .1 in
     c .surveyed .ensures ∙ sym (l .inv ∙ ap (surveyLeft (l .n)) e ∙ ends (l .n))
 
 pub survey-headers-spec : {M : Type 1} → statement M
@@ -91,7 +91,7 @@ survey-headers-spec =
     Inv-loop
     μ-loop
     loop-holds
-    header-at-requires
+    step-requires
     enum-known-id
     sub-note
     part-note-start

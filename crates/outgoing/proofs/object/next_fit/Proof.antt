@@ -10,8 +10,8 @@ use Rattle.outgoing.specs.Steps.{fitOf}
 use Rattle.outgoing.proofs.object.next_fit.Statement.{statement}
 use Rattle.outgoing.proofs.object.next_fit.Tie as tie
 
-header-at-requires : tie.Need-header-at-requires
-header-at-requires c κs = search needs
+step-requires : tie.Need-step-requires
+step-requires c κs = search needs
 
 enum-known-end : tie.Need-enum-known-end
 enum-known-end c = search needs
@@ -19,7 +19,7 @@ enum-known-end c = search needs
 -- what the cursor told
 stands : (c : tie.After-known-told) → let v = c .before .end .given .0 in let x = c .before .before .before .before .before .args in
     headerAt (x .headers .now) (x .sent) ≡ At (v .0) (v .1 .0) (v .1 .1 .0) (v .1 .1 .1 .0)
-stands c = sym (c .before .before .before .header-at .ensures) ∙ c .before .end .given .1
+stands c = sym (c .before .before .before .step .ensures) ∙ c .before .end .given .1
 
 sub-n : tie.Need-sub-n
 sub-n c = omega (arith, header-at-within _ _ _ _ _ _ (stands c) .0)
@@ -50,17 +50,17 @@ returns-3 c = rw (stands (c .before .before), le-ltb _ _ (c .before .if1 .left),
 
 returns-4 : tie.Need-returns-4
 unfolding fitOf
-returns-4 c = rw (sym (c .before .before .header-at .ensures) ∙ c .enum-told .given .1)
+returns-4 c = rw (sym (c .before .before .step .ensures) ∙ c .enum-told .given .1)
 
 returns-5 : tie.Need-returns-5
 unfolding fitOf
-returns-5 c = rw (sym (c .before .before .header-at .ensures) ∙ c .enum-told2 .given .1)
+returns-5 c = rw (sym (c .before .before .step .ensures) ∙ c .enum-told2 .given .1)
 
 pub next-fit-spec : {M : Type 1} → statement M
 next-fit-spec =
     tie.close
     (tie.spec
-    header-at-requires
+    step-requires
     enum-known-end
     sub-n
     returns

@@ -22,8 +22,8 @@ abbrev μ-loop : tie.MeasureT-loop
 loop-holds : tie.Need-loop-holds Inv-loop μ-loop
 loop-holds c = (refl, omega arith)
 
-header-at-requires : tie.Need-header-at-requires Inv-loop μ-loop
-header-at-requires c κs = search needs
+step-requires : tie.Need-step-requires Inv-loop μ-loop
+step-requires c κs = search needs
 
 enum-known-id : tie.Need-enum-known-id Inv-loop μ-loop
 enum-known-id c = search needs
@@ -39,7 +39,7 @@ onward : (c : tie.After-must-lead Inv-loop μ-loop) → let v = c .before .befor
 onward c =
     let k = c .before .before in
     let l = k .before .before .before in
-    rw (c .must-lead .ensures) (l .loop .inv .0 ∙ lead-step _ _ (At _ _ _ _) (sym (k .before .before .header-at .ensures) ∙ k .id .given .1))
+    rw (c .must-lead .ensures) (l .loop .inv .0 ∙ lead-step _ _ (At _ _ _ _) (sym (k .before .before .step .ensures) ∙ k .id .given .1))
 
 returns : tie.Need-returns Inv-loop μ-loop
 returns c =
@@ -51,7 +51,7 @@ within : (c : tie.After-must-lead Inv-loop μ-loop) → let v = c .before .befor
     (l .loop .at < v .1 .1 .1 .0) × (v .1 .1 .1 .0 ≤ length (l .before .before .args .s .now))
 within c =
     let k = c .before .before in
-    header-at-within _ _ _ _ _ _ (sym (k .before .before .header-at .ensures) ∙ k .id .given .1)
+    header-at-within _ _ _ _ _ _ (sym (k .before .before .step .ensures) ∙ k .id .given .1)
 
 loop-less : tie.Need-loop-less Inv-loop μ-loop
 loop-less c = let h = within (c .before) in omega arith
@@ -65,7 +65,7 @@ enum-told c = search needs
 returns-2 : tie.Need-returns-2 Inv-loop μ-loop
 returns-2 c =
     let l = c .before .before .before in
-    (sym (l .loop .inv .0 ∙ lead-step _ _ Unreadable (sym (c .before .before .header-at .ensures) ∙ c .enum-told .given .1)), l .loop .inv .1)
+    (sym (l .loop .inv .0 ∙ lead-step _ _ Unreadable (sym (c .before .before .step .ensures) ∙ c .enum-told .given .1)), l .loop .inv .1)
 
 enum-told-2 : tie.Need-enum-told-2 Inv-loop μ-loop
 enum-told-2 c = search needs
@@ -73,7 +73,7 @@ enum-told-2 c = search needs
 returns-3 : tie.Need-returns-3 Inv-loop μ-loop
 returns-3 c =
     let l = c .before .before .before in
-    (sym (l .loop .inv .0 ∙ lead-step _ _ End (sym (c .before .before .header-at .ensures) ∙ c .enum-told2 .given .1)), l .loop .inv .1)
+    (sym (l .loop .inv .0 ∙ lead-step _ _ End (sym (c .before .before .step .ensures) ∙ c .enum-told2 .given .1)), l .loop .inv .1)
 
 pub lead-end-spec : {M : Type 1} → statement M
 lead-end-spec =
@@ -82,7 +82,7 @@ lead-end-spec =
     Inv-loop
     μ-loop
     loop-holds
-    header-at-requires
+    step-requires
     enum-known-id
     must-lead-requires
     returns

@@ -4,8 +4,8 @@ use mathlib.Core.Path.{sym, _∙_}
 use Rattle.outgoing.proofs.queue.piece_at.Statement.{statement}
 use Rattle.outgoing.proofs.queue.piece_at.Tie as tie
 
-header-at-requires : tie.Need-header-at-requires
-header-at-requires c κs = search needs
+step-requires : tie.Need-step-requires
+step-requires c κs = search needs
 
 enum-known-id : tie.Need-enum-known-id
 enum-known-id c = search needs
@@ -22,19 +22,19 @@ enum-told-2 c = search needs
 returns : tie.Need-returns
 returns c =
     let k = c .before .before in
-    rw (sym (k .before .before .header-at .ensures) ∙ k .id .given .1, c .back-from .ensures)
+    rw (sym (k .before .before .step .ensures) ∙ k .id .given .1, c .back-from .ensures)
 
 returns-2 : tie.Need-returns-2
-returns-2 c = rw (sym (c .before .before .header-at .ensures) ∙ c .enum-told .given .1)
+returns-2 c = rw (sym (c .before .before .step .ensures) ∙ c .enum-told .given .1)
 
 returns-3 : tie.Need-returns-3
-returns-3 c = rw (sym (c .before .before .header-at .ensures) ∙ c .enum-told2 .given .1)
+returns-3 c = rw (sym (c .before .before .step .ensures) ∙ c .enum-told2 .given .1)
 
 pub piece-at-spec : {M : Type 1} → statement M
 piece-at-spec =
     tie.close
     (tie.spec
-    header-at-requires
+    step-requires
     enum-known-id
     back-from-requires
     enum-told
