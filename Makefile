@@ -18,7 +18,7 @@ help:
 	@echo 'make oracle    builds the original Rust with a driver, for comparison                  cargo, OBEX_SRC        2 minutes'
 	@echo 'make compare   port beside original: questions, then sessions: N=1000000 SEED=1        the oracle, Rattle     13 minutes, then 2'
 	@echo 'make planted   the sessions tell wrong readings of the papers apart                    the oracle             half an hour'
-	@echo 'make perf      throughput of port and original in one run                              the oracle, openssl    10 minutes, then 3'
+	@echo 'make perf      throughput of port, original and other servers in one run               the oracle, openssl, valgrind  20 minutes, then 5'
 	@echo 'make mutants   the wrong programs that are not in the gate, NAME=crate for one crate   Rattle, python3        1 to 2 hours; goes on where it stopped'
 	@echo 'make bindings  engine, client, headers, blocks for Rust and C: archives, tests, misuse Rattle, cargo, cc      20 minutes, then 3'
 	@echo 'make dist      a folder to build against without Rattle: DIST=target/dist              Rattle                 15 minutes, then at once'
@@ -108,9 +108,9 @@ compare: oracle
 planted: oracle
 	@tools/compare-planted $(N) $(SEED)
 
-# Throughput beside the original, OpenSSL and libopenobex.
+# Throughput beside the original, OpenSSL and other servers, what filing costs the receiver, and how the engine's cost grows.
 perf: oracle
-	@tools/progress check load load_link serve digest_c archive_c >&2
+	@tools/progress check load load_link serve receiver replay digest_c archive_c >&2
 	@tools/perf
 
 # The wrong programs that are not in the gate: the prover must refuse each. NAME=crate for one crate. Last line: 'N refused, 0 alive'.

@@ -9,15 +9,16 @@ use Rattle.digest.specs.declared.md5.Regs.{Regs}
 use Rattle.digest.specs.declared.md5.Span.{Span}
 use Rattle.digest.specs.Md5.{table, shifts, wordAt, steps}
 
--- `t` is reached from `s` by `i` steps on the block `p`; step `i` belongs to round `r` and takes the word `w`, the constant `k` and the
--- shift `n`.
-pub record Turn (p : List ℕ) (s t : Regs) (r i w k n : ℕ) : Type 0 where
+-- `t` is reached from `s` by `i` steps on the block `p`, with the constants `k`; step `i` belongs to round `r` and takes the word `w` and
+-- the shift `n`.
+pub record Turn (p k : List ℕ) (s t : Regs) (r i w n : ℕ) : Type 0 where
   pub whole : length p ≡ 64
   pub before : t ≡ steps p i s
   pub round : i / 16 ≡ r
   pub takes : w ≡ wordAt r i
   pub inside : w < 16
-  pub constant : k ≡ getD table i 0
+  pub constants : k ≡ table
+  pub known : i < 64
   pub shift : n ≡ getD shifts i 0
   pub some : 0 < n
   pub short : n < 32

@@ -5,8 +5,76 @@ ghost use mathlib.Core.List.{_++_};
 ghost use Prim.Native.Nat.{_+_, _-_, _*_, _/_, _%_, _^_, _<_, _≤_, min, max};
 ghost use lib.ListN.{length, take, drop};
 ghost use lib.Seq.{paste};
-ghost use Rattle.digest.specs.Md5.{mixOf, rotl, rfcSum, handSum, word, steps, blockOf, le, zeros, padded, blocks, digestOf, beValue, octets16, numbers16, outputOf, requestDigest};
+ghost use Rattle.digest.specs.Md5.{mixOf, rotl, table, rfcSum, handSum, word, steps, blockOf, le, zeros, padded, blocks, digestOf, beValue, octets16, numbers16, outputOf, requestDigest};
 ghost use Rattle.digest.specs.Turn.{Turn, spanOf, partLaid};
+
+// RFC 1321's table T (section 3.4).
+const CONSTANTS: [u32; 64] = [
+    0xd76aa478,
+    0xe8c7b756,
+    0x242070db,
+    0xc1bdceee,
+    0xf57c0faf,
+    0x4787c62a,
+    0xa8304613,
+    0xfd469501,
+    0x698098d8,
+    0x8b44f7af,
+    0xffff5bb1,
+    0x895cd7be,
+    0x6b901122,
+    0xfd987193,
+    0xa679438e,
+    0x49b40821,
+    0xf61e2562,
+    0xc040b340,
+    0x265e5a51,
+    0xe9b6c7aa,
+    0xd62f105d,
+    0x02441453,
+    0xd8a1e681,
+    0xe7d3fbc8,
+    0x21e1cde6,
+    0xc33707d6,
+    0xf4d50d87,
+    0x455a14ed,
+    0xa9e3e905,
+    0xfcefa3f8,
+    0x676f02d9,
+    0x8d2a4c8a,
+    0xfffa3942,
+    0x8771f681,
+    0x6d9d6122,
+    0xfde5380c,
+    0xa4beea44,
+    0x4bdecfa9,
+    0xf6bb4b60,
+    0xbebfbc70,
+    0x289b7ec6,
+    0xeaa127fa,
+    0xd4ef3085,
+    0x04881d05,
+    0xd9d4d039,
+    0xe6db99e5,
+    0x1fa27cf8,
+    0xc4ac5665,
+    0xf4292244,
+    0x432aff97,
+    0xab9423a7,
+    0xfc93a039,
+    0x655b59c3,
+    0x8f0ccc92,
+    0xffeff47d,
+    0x85845dd1,
+    0x6fa87e4f,
+    0xfe2ce6e0,
+    0xa3014314,
+    0x4e0811a1,
+    0xf7537e82,
+    0xbd3af235,
+    0x2ad7d2bb,
+    0xeb86d391,
+];
 
 struct Regs {
     pub a: u32,
@@ -27,6 +95,14 @@ fn rotate_left(x: u32, n: u32) -> u32
     ensures { λ r. ⌜ r ≡ rotl x n ⌝ }
 {
     (x << n) | (x >> (32 - n))
+}
+
+// Returns the constants of the 64 steps. They are lent to the steps and not written in them: a constant that the
+// compiler knows it adds last, behind the function's value, and each step then waits for one addition more.
+fn constants() -> [u32; 64]
+    ensures { λ r. ⌜ (64 ≡ length r) × (r ≡ table) ⌝ }
+{
+    CONSTANTS
 }
 
 // Returns the sum of a step, wrapping, in the order in which the hardware group checks it by hand: the constant `k` and the message word
@@ -51,24 +127,35 @@ fn word_at(p: &[u8], k: usize) -> u32
         + 16777216 * base::wide32(p[4 * k + 3])
 }
 
-// Takes step `i`, of round `r`, if `t` has the registers after `i` steps from `s`. The caller gives the word's place `w`, the constant `k`,
-// the shift `n` and the function's value `f`.
+// Takes step `i`, of round `r`, if `t` has the registers after `i` steps from `s`. The caller gives the word's place `w`, the shift `n` and
+// the function's value `f`.
 //
 // A worked step, so that a reader can follow `sum4` by hand: the first step of a message that begins with the bytes 61 62 63 00. All
 // numbers are hexadecimal, and proofs/SumOrder has them as theorems.
 //
 //     the registers   a = 67452301, b = efcdab89, c = 98badcfe, d = 10325476
-//     `k`             d76aa478
+//     the constant    d76aa478
 //     + the word      00636261, the sum is d7ce06d9
 //     + `f`           98badcfe, the sum is 7088e3d7
 //     + `t.a`         67452301, the sum is d7ce06d8
 //     rotated by 7    e7036c6b
 //     + `t.b`         efcdab89, the sum is d6d117f4, which is the new b
-fn step(p: &[u8], s: Regs, t: Regs, r: usize, i: usize, w: usize, k: u32, n: u32, f: u32) -> Regs
-    requires { ⌜ Turn (now p) s t r i w k n × (f ≡ mixOf r (t .b) (t .c) (t .d)) ⌝ }
+fn step(
+    p: &[u8],
+    constants: &[u32],
+    s: Regs,
+    t: Regs,
+    r: usize,
+    i: usize,
+    w: usize,
+    n: u32,
+    f: u32,
+) -> Regs
+    requires { ⌜ Turn (now p) (now constants) s t r i w n × (f ≡ mixOf r (t .b) (t .c) (t .d)) ⌝ }
     ensures { λ v. ⌜ v ≡ steps (now (p .entry)) (i + 1) s ⌝ }
 {
     let x = word_at(p, w);
+    let k = constants[i];
     let rotated = rotate_left(sum4(t.a, f, k, x), n);
     Regs {
         a: t.d,
@@ -87,62 +174,62 @@ fn mix0(b: u32, c: u32, d: u32) -> u32
     d ^ (b & (c ^ d))
 }
 
-fn step0(p: &[u8], s: Regs, t: Regs, i: usize, w: usize, k: u32, n: u32) -> Regs
-    requires { ⌜ Turn (now p) s t 0 i w k n ⌝ }
+fn step0(p: &[u8], constants: &[u32], s: Regs, t: Regs, i: usize, w: usize, n: u32) -> Regs
+    requires { ⌜ Turn (now p) (now constants) s t 0 i w n ⌝ }
     ensures { λ r. ⌜ r ≡ steps (now (p .entry)) (i + 1) s ⌝ }
 {
-    step(p, s, t, 0, i, w, k, n, mix0(t.b, t.c, t.d))
+    step(p, constants, s, t, 0, i, w, n, mix0(t.b, t.c, t.d))
 }
 
-fn quad00(p: &[u8], s: Regs, t: Regs) -> Regs
-    requires { ⌜ (length (now p) ≡ 64) × (t ≡ steps (now p) 0 s) ⌝ }
+fn quad00(p: &[u8], constants: &[u32], s: Regs, t: Regs) -> Regs
+    requires { ⌜ (length (now p) ≡ 64) × (now constants ≡ table) × (t ≡ steps (now p) 0 s) ⌝ }
     ensures { λ r. ⌜ r ≡ steps (now (p .entry)) 4 s ⌝ }
 {
-    let t1 = step0(p, s, t, 0, 0, 0xd76aa478, 7);
-    let t2 = step0(p, s, t1, 1, 1, 0xe8c7b756, 12);
-    let t3 = step0(p, s, t2, 2, 2, 0x242070db, 17);
-    step0(p, s, t3, 3, 3, 0xc1bdceee, 22)
+    let t1 = step0(p, constants, s, t, 0, 0, 7);
+    let t2 = step0(p, constants, s, t1, 1, 1, 12);
+    let t3 = step0(p, constants, s, t2, 2, 2, 17);
+    step0(p, constants, s, t3, 3, 3, 22)
 }
 
-fn quad01(p: &[u8], s: Regs, t: Regs) -> Regs
-    requires { ⌜ (length (now p) ≡ 64) × (t ≡ steps (now p) 4 s) ⌝ }
+fn quad01(p: &[u8], constants: &[u32], s: Regs, t: Regs) -> Regs
+    requires { ⌜ (length (now p) ≡ 64) × (now constants ≡ table) × (t ≡ steps (now p) 4 s) ⌝ }
     ensures { λ r. ⌜ r ≡ steps (now (p .entry)) 8 s ⌝ }
 {
-    let t1 = step0(p, s, t, 4, 4, 0xf57c0faf, 7);
-    let t2 = step0(p, s, t1, 5, 5, 0x4787c62a, 12);
-    let t3 = step0(p, s, t2, 6, 6, 0xa8304613, 17);
-    step0(p, s, t3, 7, 7, 0xfd469501, 22)
+    let t1 = step0(p, constants, s, t, 4, 4, 7);
+    let t2 = step0(p, constants, s, t1, 5, 5, 12);
+    let t3 = step0(p, constants, s, t2, 6, 6, 17);
+    step0(p, constants, s, t3, 7, 7, 22)
 }
 
-fn quad02(p: &[u8], s: Regs, t: Regs) -> Regs
-    requires { ⌜ (length (now p) ≡ 64) × (t ≡ steps (now p) 8 s) ⌝ }
+fn quad02(p: &[u8], constants: &[u32], s: Regs, t: Regs) -> Regs
+    requires { ⌜ (length (now p) ≡ 64) × (now constants ≡ table) × (t ≡ steps (now p) 8 s) ⌝ }
     ensures { λ r. ⌜ r ≡ steps (now (p .entry)) 12 s ⌝ }
 {
-    let t1 = step0(p, s, t, 8, 8, 0x698098d8, 7);
-    let t2 = step0(p, s, t1, 9, 9, 0x8b44f7af, 12);
-    let t3 = step0(p, s, t2, 10, 10, 0xffff5bb1, 17);
-    step0(p, s, t3, 11, 11, 0x895cd7be, 22)
+    let t1 = step0(p, constants, s, t, 8, 8, 7);
+    let t2 = step0(p, constants, s, t1, 9, 9, 12);
+    let t3 = step0(p, constants, s, t2, 10, 10, 17);
+    step0(p, constants, s, t3, 11, 11, 22)
 }
 
-fn quad03(p: &[u8], s: Regs, t: Regs) -> Regs
-    requires { ⌜ (length (now p) ≡ 64) × (t ≡ steps (now p) 12 s) ⌝ }
+fn quad03(p: &[u8], constants: &[u32], s: Regs, t: Regs) -> Regs
+    requires { ⌜ (length (now p) ≡ 64) × (now constants ≡ table) × (t ≡ steps (now p) 12 s) ⌝ }
     ensures { λ r. ⌜ r ≡ steps (now (p .entry)) 16 s ⌝ }
 {
-    let t1 = step0(p, s, t, 12, 12, 0x6b901122, 7);
-    let t2 = step0(p, s, t1, 13, 13, 0xfd987193, 12);
-    let t3 = step0(p, s, t2, 14, 14, 0xa679438e, 17);
-    step0(p, s, t3, 15, 15, 0x49b40821, 22)
+    let t1 = step0(p, constants, s, t, 12, 12, 7);
+    let t2 = step0(p, constants, s, t1, 13, 13, 12);
+    let t3 = step0(p, constants, s, t2, 14, 14, 17);
+    step0(p, constants, s, t3, 15, 15, 22)
 }
 
 // Takes the 16 steps of round 0 on the block `p`, from the registers `t`.
-fn round0(p: &[u8], s: Regs, t: Regs) -> Regs
-    requires { ⌜ (length (now p) ≡ 64) × (t ≡ steps (now p) 0 s) ⌝ }
+fn round0(p: &[u8], constants: &[u32], s: Regs, t: Regs) -> Regs
+    requires { ⌜ (length (now p) ≡ 64) × (now constants ≡ table) × (t ≡ steps (now p) 0 s) ⌝ }
     ensures { λ r. ⌜ r ≡ steps (now (p .entry)) 16 s ⌝ }
 {
-    let a = quad00(p, s, t);
-    let b = quad01(p, s, a);
-    let c = quad02(p, s, b);
-    quad03(p, s, c)
+    let a = quad00(p, constants, s, t);
+    let b = quad01(p, constants, s, a);
+    let c = quad02(p, constants, s, b);
+    quad03(p, constants, s, c)
 }
 
 // Mixes the registers in round 1. The function is RFC 1321's G.
@@ -152,62 +239,62 @@ fn mix1(b: u32, c: u32, d: u32) -> u32
     (b & d) | (c & !d)
 }
 
-fn step1(p: &[u8], s: Regs, t: Regs, i: usize, w: usize, k: u32, n: u32) -> Regs
-    requires { ⌜ Turn (now p) s t 1 i w k n ⌝ }
+fn step1(p: &[u8], constants: &[u32], s: Regs, t: Regs, i: usize, w: usize, n: u32) -> Regs
+    requires { ⌜ Turn (now p) (now constants) s t 1 i w n ⌝ }
     ensures { λ r. ⌜ r ≡ steps (now (p .entry)) (i + 1) s ⌝ }
 {
-    step(p, s, t, 1, i, w, k, n, mix1(t.b, t.c, t.d))
+    step(p, constants, s, t, 1, i, w, n, mix1(t.b, t.c, t.d))
 }
 
-fn quad10(p: &[u8], s: Regs, t: Regs) -> Regs
-    requires { ⌜ (length (now p) ≡ 64) × (t ≡ steps (now p) 16 s) ⌝ }
+fn quad10(p: &[u8], constants: &[u32], s: Regs, t: Regs) -> Regs
+    requires { ⌜ (length (now p) ≡ 64) × (now constants ≡ table) × (t ≡ steps (now p) 16 s) ⌝ }
     ensures { λ r. ⌜ r ≡ steps (now (p .entry)) 20 s ⌝ }
 {
-    let t1 = step1(p, s, t, 16, 1, 0xf61e2562, 5);
-    let t2 = step1(p, s, t1, 17, 6, 0xc040b340, 9);
-    let t3 = step1(p, s, t2, 18, 11, 0x265e5a51, 14);
-    step1(p, s, t3, 19, 0, 0xe9b6c7aa, 20)
+    let t1 = step1(p, constants, s, t, 16, 1, 5);
+    let t2 = step1(p, constants, s, t1, 17, 6, 9);
+    let t3 = step1(p, constants, s, t2, 18, 11, 14);
+    step1(p, constants, s, t3, 19, 0, 20)
 }
 
-fn quad11(p: &[u8], s: Regs, t: Regs) -> Regs
-    requires { ⌜ (length (now p) ≡ 64) × (t ≡ steps (now p) 20 s) ⌝ }
+fn quad11(p: &[u8], constants: &[u32], s: Regs, t: Regs) -> Regs
+    requires { ⌜ (length (now p) ≡ 64) × (now constants ≡ table) × (t ≡ steps (now p) 20 s) ⌝ }
     ensures { λ r. ⌜ r ≡ steps (now (p .entry)) 24 s ⌝ }
 {
-    let t1 = step1(p, s, t, 20, 5, 0xd62f105d, 5);
-    let t2 = step1(p, s, t1, 21, 10, 0x02441453, 9);
-    let t3 = step1(p, s, t2, 22, 15, 0xd8a1e681, 14);
-    step1(p, s, t3, 23, 4, 0xe7d3fbc8, 20)
+    let t1 = step1(p, constants, s, t, 20, 5, 5);
+    let t2 = step1(p, constants, s, t1, 21, 10, 9);
+    let t3 = step1(p, constants, s, t2, 22, 15, 14);
+    step1(p, constants, s, t3, 23, 4, 20)
 }
 
-fn quad12(p: &[u8], s: Regs, t: Regs) -> Regs
-    requires { ⌜ (length (now p) ≡ 64) × (t ≡ steps (now p) 24 s) ⌝ }
+fn quad12(p: &[u8], constants: &[u32], s: Regs, t: Regs) -> Regs
+    requires { ⌜ (length (now p) ≡ 64) × (now constants ≡ table) × (t ≡ steps (now p) 24 s) ⌝ }
     ensures { λ r. ⌜ r ≡ steps (now (p .entry)) 28 s ⌝ }
 {
-    let t1 = step1(p, s, t, 24, 9, 0x21e1cde6, 5);
-    let t2 = step1(p, s, t1, 25, 14, 0xc33707d6, 9);
-    let t3 = step1(p, s, t2, 26, 3, 0xf4d50d87, 14);
-    step1(p, s, t3, 27, 8, 0x455a14ed, 20)
+    let t1 = step1(p, constants, s, t, 24, 9, 5);
+    let t2 = step1(p, constants, s, t1, 25, 14, 9);
+    let t3 = step1(p, constants, s, t2, 26, 3, 14);
+    step1(p, constants, s, t3, 27, 8, 20)
 }
 
-fn quad13(p: &[u8], s: Regs, t: Regs) -> Regs
-    requires { ⌜ (length (now p) ≡ 64) × (t ≡ steps (now p) 28 s) ⌝ }
+fn quad13(p: &[u8], constants: &[u32], s: Regs, t: Regs) -> Regs
+    requires { ⌜ (length (now p) ≡ 64) × (now constants ≡ table) × (t ≡ steps (now p) 28 s) ⌝ }
     ensures { λ r. ⌜ r ≡ steps (now (p .entry)) 32 s ⌝ }
 {
-    let t1 = step1(p, s, t, 28, 13, 0xa9e3e905, 5);
-    let t2 = step1(p, s, t1, 29, 2, 0xfcefa3f8, 9);
-    let t3 = step1(p, s, t2, 30, 7, 0x676f02d9, 14);
-    step1(p, s, t3, 31, 12, 0x8d2a4c8a, 20)
+    let t1 = step1(p, constants, s, t, 28, 13, 5);
+    let t2 = step1(p, constants, s, t1, 29, 2, 9);
+    let t3 = step1(p, constants, s, t2, 30, 7, 14);
+    step1(p, constants, s, t3, 31, 12, 20)
 }
 
 // Takes the 16 steps of round 1 on the block `p`, from the registers `t`.
-fn round1(p: &[u8], s: Regs, t: Regs) -> Regs
-    requires { ⌜ (length (now p) ≡ 64) × (t ≡ steps (now p) 16 s) ⌝ }
+fn round1(p: &[u8], constants: &[u32], s: Regs, t: Regs) -> Regs
+    requires { ⌜ (length (now p) ≡ 64) × (now constants ≡ table) × (t ≡ steps (now p) 16 s) ⌝ }
     ensures { λ r. ⌜ r ≡ steps (now (p .entry)) 32 s ⌝ }
 {
-    let a = quad10(p, s, t);
-    let b = quad11(p, s, a);
-    let c = quad12(p, s, b);
-    quad13(p, s, c)
+    let a = quad10(p, constants, s, t);
+    let b = quad11(p, constants, s, a);
+    let c = quad12(p, constants, s, b);
+    quad13(p, constants, s, c)
 }
 
 // Mixes the registers in round 2. The function is RFC 1321's H.
@@ -217,62 +304,62 @@ fn mix2(b: u32, c: u32, d: u32) -> u32
     b ^ c ^ d
 }
 
-fn step2(p: &[u8], s: Regs, t: Regs, i: usize, w: usize, k: u32, n: u32) -> Regs
-    requires { ⌜ Turn (now p) s t 2 i w k n ⌝ }
+fn step2(p: &[u8], constants: &[u32], s: Regs, t: Regs, i: usize, w: usize, n: u32) -> Regs
+    requires { ⌜ Turn (now p) (now constants) s t 2 i w n ⌝ }
     ensures { λ r. ⌜ r ≡ steps (now (p .entry)) (i + 1) s ⌝ }
 {
-    step(p, s, t, 2, i, w, k, n, mix2(t.b, t.c, t.d))
+    step(p, constants, s, t, 2, i, w, n, mix2(t.b, t.c, t.d))
 }
 
-fn quad20(p: &[u8], s: Regs, t: Regs) -> Regs
-    requires { ⌜ (length (now p) ≡ 64) × (t ≡ steps (now p) 32 s) ⌝ }
+fn quad20(p: &[u8], constants: &[u32], s: Regs, t: Regs) -> Regs
+    requires { ⌜ (length (now p) ≡ 64) × (now constants ≡ table) × (t ≡ steps (now p) 32 s) ⌝ }
     ensures { λ r. ⌜ r ≡ steps (now (p .entry)) 36 s ⌝ }
 {
-    let t1 = step2(p, s, t, 32, 5, 0xfffa3942, 4);
-    let t2 = step2(p, s, t1, 33, 8, 0x8771f681, 11);
-    let t3 = step2(p, s, t2, 34, 11, 0x6d9d6122, 16);
-    step2(p, s, t3, 35, 14, 0xfde5380c, 23)
+    let t1 = step2(p, constants, s, t, 32, 5, 4);
+    let t2 = step2(p, constants, s, t1, 33, 8, 11);
+    let t3 = step2(p, constants, s, t2, 34, 11, 16);
+    step2(p, constants, s, t3, 35, 14, 23)
 }
 
-fn quad21(p: &[u8], s: Regs, t: Regs) -> Regs
-    requires { ⌜ (length (now p) ≡ 64) × (t ≡ steps (now p) 36 s) ⌝ }
+fn quad21(p: &[u8], constants: &[u32], s: Regs, t: Regs) -> Regs
+    requires { ⌜ (length (now p) ≡ 64) × (now constants ≡ table) × (t ≡ steps (now p) 36 s) ⌝ }
     ensures { λ r. ⌜ r ≡ steps (now (p .entry)) 40 s ⌝ }
 {
-    let t1 = step2(p, s, t, 36, 1, 0xa4beea44, 4);
-    let t2 = step2(p, s, t1, 37, 4, 0x4bdecfa9, 11);
-    let t3 = step2(p, s, t2, 38, 7, 0xf6bb4b60, 16);
-    step2(p, s, t3, 39, 10, 0xbebfbc70, 23)
+    let t1 = step2(p, constants, s, t, 36, 1, 4);
+    let t2 = step2(p, constants, s, t1, 37, 4, 11);
+    let t3 = step2(p, constants, s, t2, 38, 7, 16);
+    step2(p, constants, s, t3, 39, 10, 23)
 }
 
-fn quad22(p: &[u8], s: Regs, t: Regs) -> Regs
-    requires { ⌜ (length (now p) ≡ 64) × (t ≡ steps (now p) 40 s) ⌝ }
+fn quad22(p: &[u8], constants: &[u32], s: Regs, t: Regs) -> Regs
+    requires { ⌜ (length (now p) ≡ 64) × (now constants ≡ table) × (t ≡ steps (now p) 40 s) ⌝ }
     ensures { λ r. ⌜ r ≡ steps (now (p .entry)) 44 s ⌝ }
 {
-    let t1 = step2(p, s, t, 40, 13, 0x289b7ec6, 4);
-    let t2 = step2(p, s, t1, 41, 0, 0xeaa127fa, 11);
-    let t3 = step2(p, s, t2, 42, 3, 0xd4ef3085, 16);
-    step2(p, s, t3, 43, 6, 0x04881d05, 23)
+    let t1 = step2(p, constants, s, t, 40, 13, 4);
+    let t2 = step2(p, constants, s, t1, 41, 0, 11);
+    let t3 = step2(p, constants, s, t2, 42, 3, 16);
+    step2(p, constants, s, t3, 43, 6, 23)
 }
 
-fn quad23(p: &[u8], s: Regs, t: Regs) -> Regs
-    requires { ⌜ (length (now p) ≡ 64) × (t ≡ steps (now p) 44 s) ⌝ }
+fn quad23(p: &[u8], constants: &[u32], s: Regs, t: Regs) -> Regs
+    requires { ⌜ (length (now p) ≡ 64) × (now constants ≡ table) × (t ≡ steps (now p) 44 s) ⌝ }
     ensures { λ r. ⌜ r ≡ steps (now (p .entry)) 48 s ⌝ }
 {
-    let t1 = step2(p, s, t, 44, 9, 0xd9d4d039, 4);
-    let t2 = step2(p, s, t1, 45, 12, 0xe6db99e5, 11);
-    let t3 = step2(p, s, t2, 46, 15, 0x1fa27cf8, 16);
-    step2(p, s, t3, 47, 2, 0xc4ac5665, 23)
+    let t1 = step2(p, constants, s, t, 44, 9, 4);
+    let t2 = step2(p, constants, s, t1, 45, 12, 11);
+    let t3 = step2(p, constants, s, t2, 46, 15, 16);
+    step2(p, constants, s, t3, 47, 2, 23)
 }
 
 // Takes the 16 steps of round 2 on the block `p`, from the registers `t`.
-fn round2(p: &[u8], s: Regs, t: Regs) -> Regs
-    requires { ⌜ (length (now p) ≡ 64) × (t ≡ steps (now p) 32 s) ⌝ }
+fn round2(p: &[u8], constants: &[u32], s: Regs, t: Regs) -> Regs
+    requires { ⌜ (length (now p) ≡ 64) × (now constants ≡ table) × (t ≡ steps (now p) 32 s) ⌝ }
     ensures { λ r. ⌜ r ≡ steps (now (p .entry)) 48 s ⌝ }
 {
-    let a = quad20(p, s, t);
-    let b = quad21(p, s, a);
-    let c = quad22(p, s, b);
-    quad23(p, s, c)
+    let a = quad20(p, constants, s, t);
+    let b = quad21(p, constants, s, a);
+    let c = quad22(p, constants, s, b);
+    quad23(p, constants, s, c)
 }
 
 // Mixes the registers in round 3. The function is RFC 1321's I.
@@ -282,81 +369,81 @@ fn mix3(b: u32, c: u32, d: u32) -> u32
     c ^ (b | !d)
 }
 
-fn step3(p: &[u8], s: Regs, t: Regs, i: usize, w: usize, k: u32, n: u32) -> Regs
-    requires { ⌜ Turn (now p) s t 3 i w k n ⌝ }
+fn step3(p: &[u8], constants: &[u32], s: Regs, t: Regs, i: usize, w: usize, n: u32) -> Regs
+    requires { ⌜ Turn (now p) (now constants) s t 3 i w n ⌝ }
     ensures { λ r. ⌜ r ≡ steps (now (p .entry)) (i + 1) s ⌝ }
 {
-    step(p, s, t, 3, i, w, k, n, mix3(t.b, t.c, t.d))
+    step(p, constants, s, t, 3, i, w, n, mix3(t.b, t.c, t.d))
 }
 
-fn quad30(p: &[u8], s: Regs, t: Regs) -> Regs
-    requires { ⌜ (length (now p) ≡ 64) × (t ≡ steps (now p) 48 s) ⌝ }
+fn quad30(p: &[u8], constants: &[u32], s: Regs, t: Regs) -> Regs
+    requires { ⌜ (length (now p) ≡ 64) × (now constants ≡ table) × (t ≡ steps (now p) 48 s) ⌝ }
     ensures { λ r. ⌜ r ≡ steps (now (p .entry)) 52 s ⌝ }
 {
-    let t1 = step3(p, s, t, 48, 0, 0xf4292244, 6);
-    let t2 = step3(p, s, t1, 49, 7, 0x432aff97, 10);
-    let t3 = step3(p, s, t2, 50, 14, 0xab9423a7, 15);
-    step3(p, s, t3, 51, 5, 0xfc93a039, 21)
+    let t1 = step3(p, constants, s, t, 48, 0, 6);
+    let t2 = step3(p, constants, s, t1, 49, 7, 10);
+    let t3 = step3(p, constants, s, t2, 50, 14, 15);
+    step3(p, constants, s, t3, 51, 5, 21)
 }
 
-fn quad31(p: &[u8], s: Regs, t: Regs) -> Regs
-    requires { ⌜ (length (now p) ≡ 64) × (t ≡ steps (now p) 52 s) ⌝ }
+fn quad31(p: &[u8], constants: &[u32], s: Regs, t: Regs) -> Regs
+    requires { ⌜ (length (now p) ≡ 64) × (now constants ≡ table) × (t ≡ steps (now p) 52 s) ⌝ }
     ensures { λ r. ⌜ r ≡ steps (now (p .entry)) 56 s ⌝ }
 {
-    let t1 = step3(p, s, t, 52, 12, 0x655b59c3, 6);
-    let t2 = step3(p, s, t1, 53, 3, 0x8f0ccc92, 10);
-    let t3 = step3(p, s, t2, 54, 10, 0xffeff47d, 15);
-    step3(p, s, t3, 55, 1, 0x85845dd1, 21)
+    let t1 = step3(p, constants, s, t, 52, 12, 6);
+    let t2 = step3(p, constants, s, t1, 53, 3, 10);
+    let t3 = step3(p, constants, s, t2, 54, 10, 15);
+    step3(p, constants, s, t3, 55, 1, 21)
 }
 
-fn quad32(p: &[u8], s: Regs, t: Regs) -> Regs
-    requires { ⌜ (length (now p) ≡ 64) × (t ≡ steps (now p) 56 s) ⌝ }
+fn quad32(p: &[u8], constants: &[u32], s: Regs, t: Regs) -> Regs
+    requires { ⌜ (length (now p) ≡ 64) × (now constants ≡ table) × (t ≡ steps (now p) 56 s) ⌝ }
     ensures { λ r. ⌜ r ≡ steps (now (p .entry)) 60 s ⌝ }
 {
-    let t1 = step3(p, s, t, 56, 8, 0x6fa87e4f, 6);
-    let t2 = step3(p, s, t1, 57, 15, 0xfe2ce6e0, 10);
-    let t3 = step3(p, s, t2, 58, 6, 0xa3014314, 15);
-    step3(p, s, t3, 59, 13, 0x4e0811a1, 21)
+    let t1 = step3(p, constants, s, t, 56, 8, 6);
+    let t2 = step3(p, constants, s, t1, 57, 15, 10);
+    let t3 = step3(p, constants, s, t2, 58, 6, 15);
+    step3(p, constants, s, t3, 59, 13, 21)
 }
 
-fn quad33(p: &[u8], s: Regs, t: Regs) -> Regs
-    requires { ⌜ (length (now p) ≡ 64) × (t ≡ steps (now p) 60 s) ⌝ }
+fn quad33(p: &[u8], constants: &[u32], s: Regs, t: Regs) -> Regs
+    requires { ⌜ (length (now p) ≡ 64) × (now constants ≡ table) × (t ≡ steps (now p) 60 s) ⌝ }
     ensures { λ r. ⌜ r ≡ steps (now (p .entry)) 64 s ⌝ }
 {
-    let t1 = step3(p, s, t, 60, 4, 0xf7537e82, 6);
-    let t2 = step3(p, s, t1, 61, 11, 0xbd3af235, 10);
-    let t3 = step3(p, s, t2, 62, 2, 0x2ad7d2bb, 15);
-    step3(p, s, t3, 63, 9, 0xeb86d391, 21)
+    let t1 = step3(p, constants, s, t, 60, 4, 6);
+    let t2 = step3(p, constants, s, t1, 61, 11, 10);
+    let t3 = step3(p, constants, s, t2, 62, 2, 15);
+    step3(p, constants, s, t3, 63, 9, 21)
 }
 
 // Takes the 16 steps of round 3 on the block `p`, from the registers `t`.
-fn round3(p: &[u8], s: Regs, t: Regs) -> Regs
-    requires { ⌜ (length (now p) ≡ 64) × (t ≡ steps (now p) 48 s) ⌝ }
+fn round3(p: &[u8], constants: &[u32], s: Regs, t: Regs) -> Regs
+    requires { ⌜ (length (now p) ≡ 64) × (now constants ≡ table) × (t ≡ steps (now p) 48 s) ⌝ }
     ensures { λ r. ⌜ r ≡ steps (now (p .entry)) 64 s ⌝ }
 {
-    let a = quad30(p, s, t);
-    let b = quad31(p, s, a);
-    let c = quad32(p, s, b);
-    quad33(p, s, c)
+    let a = quad30(p, constants, s, t);
+    let b = quad31(p, constants, s, a);
+    let c = quad32(p, constants, s, b);
+    quad33(p, constants, s, c)
 }
 
 // Takes the 64 steps on the block `p` from the registers `s`.
-fn all_steps(p: &[u8], s: Regs) -> Regs
-    requires { ⌜ length (now p) ≡ 64 ⌝ }
+fn all_steps(p: &[u8], constants: &[u32], s: Regs) -> Regs
+    requires { ⌜ (length (now p) ≡ 64) × (now constants ≡ table) ⌝ }
     ensures { λ r. ⌜ r ≡ steps (now (p .entry)) 64 s ⌝ }
 {
-    let a = round0(p, s, s);
-    let b = round1(p, s, a);
-    let c = round2(p, s, b);
-    round3(p, s, c)
+    let a = round0(p, constants, s, s);
+    let b = round1(p, constants, s, a);
+    let c = round2(p, constants, s, b);
+    round3(p, constants, s, c)
 }
 
 // Adds what the 64 steps on the block `p` give to the registers `s` from before.
-fn block(p: &[u8], s: Regs) -> Regs
-    requires { ⌜ length (now p) ≡ 64 ⌝ }
+fn block(p: &[u8], constants: &[u32], s: Regs) -> Regs
+    requires { ⌜ (length (now p) ≡ 64) × (now constants ≡ table) ⌝ }
     ensures { λ r. ⌜ r ≡ blockOf (now (p .entry)) s ⌝ }
 {
-    let t = all_steps(p, s);
+    let t = all_steps(p, constants, s);
     Regs {
         a: std::num::wrapping_add_u32(s.a, t.a),
         b: std::num::wrapping_add_u32(s.b, t.b),
@@ -457,32 +544,46 @@ fn fill(prefix: &[u8], rest: &[u8], at: usize) -> [u8; 64]
 }
 
 // Runs the blocks from `from` up to `to`, each laid out anew: such a block touches the prefix or the padding.
-fn filled_blocks(prefix: &[u8], rest: &[u8], from: usize, to: usize, start: Regs) -> Regs
+fn filled_blocks(
+    constants: &[u32],
+    prefix: &[u8],
+    rest: &[u8],
+    from: usize,
+    to: usize,
+    start: Regs,
+) -> Regs
     requires { ⌜ (length (now prefix) < 64) × (from ≤ to) × (64 * to ≤ length (padded (now prefix ++ now rest)))
-        × (start ≡ blocks (padded (now prefix ++ now rest)) from) ⌝ }
+        × (start ≡ blocks (padded (now prefix ++ now rest)) from) × (now constants ≡ table) ⌝ }
     ensures { λ r. ⌜ r ≡ blocks (padded (now (prefix .entry) ++ now (rest .entry))) to ⌝ }
 {
     let mut s = start;
     let mut k = from;
     while k < to {
         let p = fill(prefix, rest, 64 * k);
-        s = block(&p, s);
+        s = block(&p, constants, s);
         k += 1;
     }
     s
 }
 
 // Runs the blocks from `from` up to `to`, which lie wholly in `rest` and are read there without a copy.
-fn whole_blocks(prefix: &[u8], rest: &[u8], from: usize, to: usize, start: Regs) -> Regs
+fn whole_blocks(
+    constants: &[u32],
+    prefix: &[u8],
+    rest: &[u8],
+    from: usize,
+    to: usize,
+    start: Regs,
+) -> Regs
     requires { ⌜ (length (now prefix) ≤ 64 * from) × (64 * to ≤ length (now prefix) + length (now rest)) × (length (now prefix) < 64)
-        × (start ≡ blocks (padded (now prefix ++ now rest)) from) ⌝ }
+        × (start ≡ blocks (padded (now prefix ++ now rest)) from) × (now constants ≡ table) ⌝ }
     ensures { λ r. ⌜ r ≡ blocks (padded (now (prefix .entry) ++ now (rest .entry))) (max from to) ⌝ }
 {
     let mut s = start;
     let mut k = from;
     while k < to {
         let at = 64 * k - prefix.len();
-        s = block(&rest[at..at + 64], s);
+        s = block(&rest[at..at + 64], constants, s);
         k += 1;
     }
     s
@@ -503,9 +604,17 @@ fn all_blocks(prefix: &[u8], rest: &[u8]) -> Regs
         c: 0x98badcfe,
         d: 0x10325476,
     };
-    let s = filled_blocks(prefix, rest, 0, head, start);
-    let t = whole_blocks(prefix, rest, head, whole, s);
-    filled_blocks(prefix, rest, most(head, whole), (field_at(n) + 8) / 64, t)
+    let lent = constants();
+    let s = filled_blocks(&lent, prefix, rest, 0, head, start);
+    let t = whole_blocks(&lent, prefix, rest, head, whole, s);
+    filled_blocks(
+        &lent,
+        prefix,
+        rest,
+        most(head, whole),
+        (field_at(n) + 8) / 64,
+        t,
+    )
 }
 
 // Returns the number whose bytes are those of the word `x` in the other order.

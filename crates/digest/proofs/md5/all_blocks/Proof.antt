@@ -17,16 +17,29 @@ add-n c = search needs
 add-head : tie.Need-add-head
 add-head c = search needs
 
+constants-requires : tie.Need-constants-requires
+constants-requires c κs = search needs
+
+slice-aggregate-filled-blocks : tie.Need-slice-aggregate-filled-blocks
+slice-aggregate-filled-blocks c = search needs
+
 filled-blocks-requires : tie.Need-filled-blocks-requires
 unfolding blocks
 filled-blocks-requires c κs =
-    let p = now (c .before .before .args .prefix) in
-    let r = now (c .before .before .args .rest) in
+    let start = c .before .before .before .before in
+    let p = now (start .args .prefix) in
+    let r = now (start .args .rest) in
     let l = length-append p r in
-    (omega arith, omega arith, omega (arith, length-padded (p ++ r)), refl)
+    (omega arith, omega arith, omega (arith, length-padded (p ++ r)), refl, c .before .constants .ensures .1)
+
+slice-aggregate-whole-blocks : tie.Need-slice-aggregate-whole-blocks
+slice-aggregate-whole-blocks c = search needs
 
 whole-blocks-requires : tie.Need-whole-blocks-requires
 whole-blocks-requires c κs = search needs
+
+slice-aggregate-filled-blocks-2 : tie.Need-slice-aggregate-filled-blocks-2
+slice-aggregate-filled-blocks-2 c = search needs
 
 most-requires : tie.Need-most-requires
 most-requires c κs = search needs
@@ -39,19 +52,24 @@ add-filled-blocks c = search needs
 
 filled-blocks-requires-2 : tie.Need-filled-blocks-requires-2
 filled-blocks-requires-2 c κs =
-    let start = c .before .before .before .before .before .before in
+    let middle = c .before .before .before in
+    let held = middle .before .before .before .before in
+    let start = held .before .before .before in
     let p = now (start .args .prefix) in
     let r = now (start .args .rest) in
     let z = c .field-at .ensures in (
       start .pre,
       rw (c .before .most .ensures, z) (before-end (length p) (length r) (start .pre)),
       rw (z, field-end p r) (whole-part (length (padded (p ++ r)))),
-      rw (c .before .most .ensures) (c .before .before .whole-blocks .ensures),
+      rw (c .before .most .ensures) (middle .whole-blocks .ensures),
+      held .constants .ensures .1,
     )
 
 returns : tie.Need-returns
 returns c =
-    let start = c .before .before .before .before .before .before .before in
+    let middle = c .before .before .before .before in
+    let held = middle .before .before .before .before in
+    let start = held .before .before .before in
     let p = now (start .args .prefix) in
     let r = now (start .args .rest) in
     rw (c .before .field-at .ensures, field-end p r) at (c .filled-blocks2 .ensures)
@@ -62,8 +80,12 @@ all-blocks-spec =
     (tie.spec
     add-n
     add-head
+    constants-requires
+    slice-aggregate-filled-blocks
     filled-blocks-requires
+    slice-aggregate-whole-blocks
     whole-blocks-requires
+    slice-aggregate-filled-blocks-2
     most-requires
     field-at-requires
     add-filled-blocks

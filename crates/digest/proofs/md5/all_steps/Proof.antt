@@ -7,7 +7,7 @@ use Rattle.digest.proofs.md5.all_steps.Tie as tie
 
 round0-requires : tie.Need-round0-requires
 unfolding steps
-round0-requires c κs = (search needs, refl)
+round0-requires c κs = (search needs, search needs, refl)
 
 round1-requires : tie.Need-round1-requires
 round1-requires c κs = search needs

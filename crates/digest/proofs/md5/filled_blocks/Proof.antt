@@ -13,17 +13,17 @@ use Rattle.digest.proofs.md5.filled_blocks.Statement.{statement}
 use Rattle.digest.proofs.md5.filled_blocks.Tie as tie
 
 abbrev Inv-loop : tie.InvT-loop
-Inv-loop prefix rest from to s₀ k₀ s k = (k ≤ to) × (s ≡ blocks (padded (prefix ++ rest)) k)
+Inv-loop constants prefix rest from to s₀ k₀ s k = (k ≤ to) × (s ≡ blocks (padded (prefix ++ rest)) k)
 
 abbrev μ-loop : tie.MeasureT-loop
-μ-loop prefix rest from to s₀ k₀ s k = to - k
+μ-loop constants prefix rest from to s₀ k₀ s k = to - k
 
 loop-holds : tie.Need-loop-holds Inv-loop μ-loop
-loop-holds c = (omega arith, c .before .before .pre .3)
+loop-holds c = (omega arith, c .before .before .before .pre .3)
 
 mul-fill : tie.Need-mul-fill Inv-loop μ-loop
 mul-fill c =
-    let x = c .before .before .before .before .args in
+    let x = c .before .before .before .before .before .args in
     let p = now (x .prefix) in
     let r = now (x .rest) in
     omega (arith, length-padded (p ++ r), length-append p r)
@@ -35,7 +35,9 @@ slice-aggregate-block : tie.Need-slice-aggregate-block Inv-loop μ-loop
 slice-aggregate-block c = search needs
 
 block-requires : tie.Need-block-requires Inv-loop μ-loop
-block-requires c κs = sym (c .before .fill .ensures .0)
+block-requires c κs =
+    let turn = c .before .before .before in
+    (sym (c .before .fill .ensures .0), turn .before .before .before .before .pre .4)
 
 add-k : tie.Need-add-k Inv-loop μ-loop
 add-k c = omega arith
@@ -50,7 +52,7 @@ loop-again c = (omega arith, rw (add-one, c .block .ensures, c .before .before .
 returns : tie.Need-returns Inv-loop μ-loop
 returns c =
     let l = c .before .loop in
-    let e : l .k ≡ c .before .before .before .before .args .to = omega arith in
+    let e : l .k ≡ c .before .before .before .before .before .args .to = omega arith in
     rw e at (l .inv .1)
 
 pub filled-blocks-spec : {M : Type 1} → statement M

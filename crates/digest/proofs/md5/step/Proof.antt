@@ -10,6 +10,14 @@ use Rattle.digest.proofs.md5.step.Tie as tie
 word-at-requires : tie.Need-word-at-requires
 word-at-requires c κs = search needs
 
+mul-k : tie.Need-mul-k
+mul-k c = search needs
+
+shared-slice-read-k : tie.Need-shared-slice-read-k
+shared-slice-read-k c =
+    let pre = c .before .before .before .before .pre in
+    rw (pre .0 .constants) (pre .0 .known)
+
 sum4-requires : tie.Need-sum4-requires
 sum4-requires c κs = search needs
 
@@ -22,19 +30,20 @@ wrapping-add-u32-requires c κs = search needs
 returns : tie.Need-returns
 unfolding steps stepOf
 returns c =
-    let pre = c .before .before .before .before .before .pre in
+    let read = c .before .before .before in
+    let pre = read .before .before .before .before .pre in
     rw (
       add-one,
       c .wrapping-add-u32 .ensures,
       c .before .rotate-left .ensures,
       c .before .before .sum4 .ensures .1,
       rfc-once,
-      c .before .before .before .word-at .ensures,
+      read .before .word-at .ensures,
       pre .1,
       sym (pre .0 .before),
       pre .0 .round,
       pre .0 .takes,
-      sym (pre .0 .constant),
+      pre .0 .constants,
       sym (pre .0 .shift),
     )
 
@@ -43,6 +52,8 @@ step-spec =
     tie.close
     (tie.spec
     word-at-requires
+    mul-k
+    shared-slice-read-k
     sum4-requires
     rotate-left-requires
     wrapping-add-u32-requires

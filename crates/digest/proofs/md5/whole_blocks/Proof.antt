@@ -13,13 +13,13 @@ use Rattle.digest.proofs.md5.whole_blocks.Statement.{statement}
 use Rattle.digest.proofs.md5.whole_blocks.Tie as tie
 
 abbrev Inv-loop : tie.InvT-loop
-Inv-loop prefix rest from to s₀ k₀ s k = (from ≤ k) × (k ≤ max from to) × (s ≡ blocks (padded (prefix ++ rest)) k)
+Inv-loop constants prefix rest from to s₀ k₀ s k = (from ≤ k) × (k ≤ max from to) × (s ≡ blocks (padded (prefix ++ rest)) k)
 
 abbrev μ-loop : tie.MeasureT-loop
-μ-loop prefix rest from to s₀ k₀ s k = to - k
+μ-loop constants prefix rest from to s₀ k₀ s k = to - k
 
 loop-holds : tie.Need-loop-holds Inv-loop μ-loop
-loop-holds c = (omega arith, omega arith, c .before .before .pre .3)
+loop-holds c = (omega arith, omega arith, c .before .before .before .pre .3)
 
 mul-at : tie.Need-mul-at Inv-loop μ-loop
 mul-at c = omega arith
@@ -41,10 +41,11 @@ part-block-end c = omega arith
 
 block-requires : tie.Need-block-requires Inv-loop μ-loop
 block-requires c κs =
-    let x = c .before .before .before .before .before .args in
-    let r = now (x .rest) in
-    let at = 64 * c .before .before .loop .k - length (now (x .prefix)) in
-    omega (arith, length-take (at + 64 - at) (drop at r), length-drop at r)
+    let turn = c .before .before in
+    let start = turn .before .before .before .before in
+    let r = now (start .args .rest) in
+    let at = 64 * turn .loop .k - length (now (start .args .prefix)) in
+    (omega (arith, length-take (at + 64 - at) (drop at r), length-drop at r), start .pre .4)
 
 add-k : tie.Need-add-k Inv-loop μ-loop
 add-k c = omega arith
@@ -55,8 +56,9 @@ loop-less c = omega arith
 loop-again : tie.Need-loop-again Inv-loop μ-loop
 unfolding blocks
 loop-again c =
-    let l = c .before .before .before .loop in
-    let x = c .before .before .before .before .before .before .args in
+    let turn = c .before .before .before in
+    let l = turn .loop in
+    let x = turn .before .before .before .before .args in
     let p = now (x .prefix) in
     let r = now (x .rest) in
     let at = 64 * l .k - length p in
@@ -69,7 +71,7 @@ loop-again c =
 returns : tie.Need-returns Inv-loop μ-loop
 returns c =
     let l = c .before .loop in
-    let x = c .before .before .before .before .args in
+    let x = c .before .before .before .before .before .args in
     let e : l .k ≡ max (x .from) (x .to) = omega arith in
     rw e at (l .inv .2)
 
