@@ -79,9 +79,9 @@ faults:
 	@tools/progress check serve >&2
 	@tools/faults
 
-# Stock clients against the server, and the client against four servers. Last line: 'interop: N of N'.
+# Stock clients against the server, and the client against five servers. Last line: 'interop: N of N'.
 interop:
-	@tools/progress check serve transfer >&2
+	@tools/progress check serve receiver transfer >&2
 	@tools/interop
 
 # The formats of docs/ARCHIVE.md, written, damaged and read by showlog and by the auditor. Last line: 'archive-test: N of N'.

@@ -1,12 +1,14 @@
 #!/usr/bin/env python3
-"""interop_transfer.py: the program `transfer` against four servers, for tools/interop: this project's, the original's, Debian's obexftpd and obex_test, the example
-server of libopenobex. Files of 0 bytes, 1 byte, 48 KiB and 1 MiB are put and got, a missing one is asked for, a Put and a Get are aborted in the middle, and a server
-that wants a password is given it, a wrong one, and none.
+"""interop_transfer.py: the program `transfer` against five servers, for tools/interop: this project's `serve` and `receiver`, the original's, Debian's obexftpd and
+obex_test, the example server of libopenobex. Files of 0 bytes, 1 byte, 48 KiB and 1 MiB are put and got, a missing one is asked for, a Put and a Get are aborted in the
+middle, and a server that wants a password is given it, a wrong one, and none. At the receiver a Put is a record of its archive, 1 MiB is over its limit, and a Get is of a
+rule file.
 
-Usage: interop_transfer.py serve|original|obexftpd|obex_test WORK      prints a line for each step: 'ok ..', 'failed ..' or 'skipped ..'
+Usage: interop_transfer.py serve|receiver|original|obexftpd|obex_test WORK      prints a line for each step: 'ok ..', 'failed ..' or 'skipped ..'
 
 WORK is a folder for files and logs. obexftpd and obex_test listen at port 650 alone and end with their session, so each transfer has its own."""
-import os, shutil, socket, struct, subprocess, sys, time
+import glob, os, shutil, socket, struct, subprocess, sys, time
+import audit
 
 TOOLS = os.path.dirname(os.path.abspath(__file__))
 ORACLE = os.path.join(TOOLS, '..', 'oracle', 'target', 'release', 'oracle')
@@ -121,6 +123,44 @@ class Steps:
         z.server.stop()
 
 
+class FiledSteps(Steps):
+    """The steps against the receiver: what is put is a record of the archive, if it is within the limit, and what is got is a rule file."""
+    LIMIT = 49152
+
+    def stored(z, name):
+        return os.path.join(z.server.folder, 'rules', name)
+
+    def records(z):
+        return {p for p in glob.glob(os.path.join(z.server.folder, 'archive', '*', '*')) if os.path.basename(p).isdigit()}
+
+    def filed(z, name, path, **more):
+        """Puts a file. Returns whether it was done, the bodies of the records that were filed then, and what was told."""
+        before = z.records()
+        done, said = z.transfer('put', name, path, **more)
+        return done, [audit.body_of(audit.read(os.path.join(p, 'body'))) for p in sorted(z.records() - before)], said
+
+    def put(z, size):
+        name = 'put-%d.bin' % size
+        path = z.make(name, size)
+        done, bodies, said = z.filed(name, path)
+        if size > z.LIMIT:
+            z.say('put of %d bytes, which is over the limit' % size, not done and 'put 4d' in said.lower() and bodies == [], said)
+        else:
+            z.say('put of %d bytes' % size, done and bodies == [audit.read(path)], said)
+
+    def failures(z):
+        done, said = z.transfer('get', 'missing.bin', z.back)
+        z.say('get of a missing file', not done and 'get 44' in said and not os.path.exists(z.back), said)
+        done, bodies, said = z.filed('aborted.bin', z.make('aborted.bin', z.LIMIT), abort='2')
+        z.say('a Put aborted in the middle', not done and 'put aborted' in said and bodies == [], said)
+        done, said = z.transfer('get', 'get-1048576.bin', z.back, abort='3')
+        z.say('a Get aborted in the middle', not done and 'get aborted' in said and not os.path.exists(z.back), said)
+
+    def refused(z, what, password, asked):
+        done, bodies, said = z.filed('secret.bin', z.make('secret.bin', 5000), password=password)
+        z.say(what, not done and said.count('connect 41') == asked and bodies == [], said)
+
+
 def run_tool(port, words):
     """A transfer by tools/transfer. Returns what was told."""
     done = subprocess.run([os.path.join(TOOLS, 'transfer'), '--port', str(port)] + words, stderr=subprocess.PIPE, timeout=120)
@@ -143,6 +183,24 @@ def serve(work):
     steps = Steps(Server('serve', work, 6501, [os.path.join(TOOLS, 'serve'), '--port', '6501', '--dir', '{folder}']), work)
     steps.all()
     steps.skip('passwords', 'it has none; pair plays the engine with them')
+
+
+def receiver(work):
+    def steps(name, port, conf, words):
+        server = Server(name, work, port, [os.path.join(TOOLS, 'receiver'), '--port', str(port), '--dir', '{folder}'])
+        for inner in ('archive', 'rules'):
+            os.mkdir(os.path.join(server.folder, inner))
+        for file, text in (('conf', conf), ('users', '\t%s\n' % PASSWORD)):
+            with open(os.path.join(server.folder, file), 'w') as f:
+                f.write(text)
+        return FiledSteps(server, work, words)
+    steps('receiver', 6504, 'packet 8192\n', {}).all()
+    asks = steps('receiver with a password', 6505, 'password required\n', {'password': PASSWORD})
+    asks.put(49152)
+    asks.get(49152)
+    asks.refused('a wrong password', 'wrong', 2)
+    asks.refused('no password', None, 1)
+    asks.server.stop()
 
 
 def original(work):
@@ -175,7 +233,7 @@ def obex_test(work):
     steps.skip('passwords', 'it has none')
 
 
-SERVERS = {'serve': serve, 'original': original, 'obexftpd': obexftpd, 'obex_test': obex_test}
+SERVERS = {'serve': serve, 'receiver': receiver, 'original': original, 'obexftpd': obexftpd, 'obex_test': obex_test}
 NEEDED = {'obexftpd': 'obexftp', 'obex_test': 'openobex-apps'}
 
 if __name__ == '__main__':

@@ -22,3 +22,7 @@ letterVerdict l = pick (checkAllowed (lastLetters l)) Allowed (pick (hasOpen l) 
 -- The letter of a check, by whether it was stopped and whether the password was right.
 unfoldable pub letterFor : CheckMade → ℕ
 letterFor c = pick (c .stopped) stopLetter (pick (c .right) rightLetter wrongLetter)
+
+-- A letter that is to be on the disk before the client is told: that of a wrong check, so that a power cut buys no further try.
+abbrev pub isLasting : ℕ → Bool
+isLasting letter = eqb letter wrongLetter

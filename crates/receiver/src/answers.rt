@@ -9,6 +9,9 @@ use crate::path::PATH;
 use crate::path::in_folder;
 use crate::path::part;
 use crate::record;
+use crate::record::Tried;
+use crate::record::filing_of;
+use crate::record::no_record;
 use crate::rules;
 use crate::rules::Opened;
 use crate::session::Session;
@@ -34,15 +37,17 @@ use reception::decide::plain_answer;
 use server::Body;
 use server::HostRequest;
 use table::targets::Target;
+ghost use Rattle.receiver.specs.Filing.{DecidesPut, DecidesOn};
 
-// What was decided. The bytes of the work store from `from` to `to` go with the call, and those from `told` to `to` with its note. The session is
-// that after it, and `check` the check of a password that is being made.
+// What was decided. The bytes of the work store from `from` to `to` go with the call, and with its note. The session is that after it, `check` the
+// check of a password that is being made, and `tried` what became of the record of a Put.
 pub(crate) struct Decided {
     pub decision: Decision,
     pub from: usize,
     pub to: usize,
     pub check: Try,
     pub session: Session,
+    pub tried: Tried,
 }
 
 // Returns a decision to make a call, with the bytes of the work store from `from` to `to`.
@@ -53,6 +58,7 @@ fn make(answer: Answer, from: usize, to: usize, session: Session) -> Decided {
         to,
         check: checks::no_check(),
         session,
+        tried: no_record(),
     }
 }
 
@@ -142,6 +148,7 @@ fn password(s: Session, user: &[u8], work: &mut [u8; WORK]) -> Decided {
             to: 0,
             check,
             session: s,
+            tried: no_record(),
         };
     }
     let n = read_file(id, b"users", work);
@@ -152,6 +159,7 @@ fn password(s: Session, user: &[u8], work: &mut [u8; WORK]) -> Decided {
         to: end_of(found),
         check,
         session: s,
+        tried: no_record(),
     }
 }
 
@@ -166,6 +174,7 @@ fn nonce(s: Session, said: Said, work: &mut [u8; WORK]) -> Decided {
         to: n,
         check: checks::no_check(),
         session: s,
+        tried: no_record(),
     }
 }
 
@@ -217,12 +226,25 @@ fn put_record(
     headers: &[u8; 65535],
     body: &[u8; BODY],
     work: &mut [u8; WORK],
-) -> Decided {
+) -> Decided
+    ensures { λ r. ⌜ DecidesPut content (r .tried) (r .decision) ⌝ }
+{
     let is_taken = is_taken(said, target);
     let done = record::file(s, is_taken, kept, content, target, headers, body, work);
-    let after = done.session;
-    let filing = done.filing;
-    make(after_filing(is_taken, filing), 0, 0, after)
+    let session = done.session;
+    let outcome = done.outcome;
+    let answer = after_filing(is_taken, filing_of(outcome));
+    Decided {
+        decision: Decision::Make(answer),
+        from: 0,
+        to: 0,
+        check: checks::no_check(),
+        session,
+        tried: Tried {
+            taken: is_taken,
+            outcome,
+        },
+    }
 }
 
 // Decides on a request of the engine's. Any request but a Put and a Read ends the rule file that is being sent. SetPath is granted and does
@@ -236,7 +258,9 @@ pub(crate) fn decide(
     headers: &[u8; 65535],
     body: &[u8; BODY],
     work: &mut [u8; WORK],
-) -> Decided {
+) -> Decided
+    ensures { λ r. ⌜ DecidesOn request (r .tried) (r .decision) ⌝ }
+{
     match request {
         HostRequest::Put {
             kept,

@@ -13,7 +13,7 @@ use libc::SEEK_CUR;
 use libc::SEEK_SET;
 use lines::output::least;
 ghost use mathlib.Core.Path.{_≡_};
-ghost use Rattle.receiver.specs.Checks.{hasOpen, letterVerdict, letterFor};
+ghost use Rattle.receiver.specs.Checks.{hasOpen, letterVerdict, letterFor, isLasting};
 
 // How many letters count.
 const WINDOW: usize = 64;
@@ -190,13 +190,20 @@ pub(crate) fn begin() -> Try {
     }
 }
 
+// Tells whether a letter is synchronised: a wrong one, so that a power cut buys no further try.
+fn is_lasting(letter: u8) -> bool
+    ensures { λ r. ⌜ r ≡ isLasting letter ⌝ }
+{
+    letter == b'w'
+}
+
 // Puts the letter of a check at its place. A wrong one is synchronised. Returns 0, or the number of the error.
 fn put_letter(t: Try, letter: u8) -> i32 {
     let one = [letter];
     if libc::pwrite(t.fd, &one, t.place) != 1 {
         return error();
     }
-    if letter == b'w' {
+    if is_lasting(letter) {
         if libc::fsync(t.fd) != 0 {
             return error();
         }

@@ -13,6 +13,8 @@ use filing::payload::OpenNumbers;
 use server::Settings;
 use std::num::wrapping_add_usize;
 use table::targets::Target;
+ghost use mathlib.Core.Path.{_≡_};
+ghost use Rattle.receiver.specs.Opening.{settingsBy};
 
 // How long the file `conf` may be.
 pub(crate) const TEXT: usize = 2048;
@@ -44,7 +46,9 @@ pub(crate) fn read_text(text: &mut [u8; TEXT]) -> Held {
 }
 
 // Returns the engine's settings, by the numbers and flags that the first frame of the log has.
-pub(crate) fn settings_of(numbers: OpenNumbers, flags: OpenFlags) -> Settings {
+pub(crate) fn settings_of(numbers: OpenNumbers, flags: OpenFlags) -> Settings
+    ensures { λ r. ⌜ r ≡ settingsBy numbers flags ⌝ }
+{
     Settings {
         max_object_size: numbers.limit,
         max_packet_length: numbers.packet,

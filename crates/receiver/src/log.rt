@@ -17,7 +17,7 @@ ghost use mathlib.Core.Path.{_≡_};
 ghost use Prim.Native.Nat.{_≤_};
 ghost use lib.ListN.{length};
 ghost use Rattle.archive.specs.Writing.{writing};
-ghost use Rattle.receiver.specs.Log.{frameLaid};
+ghost use Rattle.receiver.specs.Log.{frameLaid, framedBy};
 
 // How long the store is in which frames and blocks are made and files are read.
 pub(crate) const WORK: usize = 262144;
@@ -85,13 +85,10 @@ fn lay_frame(log: Log, kind: Kind, clock: u32, payload: &[u8], work: &mut [u8]) 
 }
 
 // Lays the next frame at the front of the store.
-pub(crate) fn lay(
-    log: Log,
-    kind: Kind,
-    clock: u32,
-    payload: &[u8],
-    work: &mut [u8; WORK],
-) -> Framed {
+pub(crate) fn lay(log: Log, kind: Kind, clock: u32, payload: &[u8], work: &mut [u8; WORK]) -> Framed
+    ensures value { λ r. ⌜ r ≡ framedBy (frameLaid log kind clock (now (payload .entry)) (now (work .entry)) .answer) ⌝ }
+    ensures store { λ r. ⌜ now (work .exit) ≡ frameLaid log kind clock (now (payload .entry)) (now (work .entry)) .target ⌝ }
+{
     match lay_frame(log, kind, clock, payload, work) {
         Wrote::Written(n) => Framed::Bytes(n),
         _ => Framed::TooLong,

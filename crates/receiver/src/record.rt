@@ -15,6 +15,7 @@ use crate::session::with_record;
 use crate::system;
 use crate::tell;
 use archive::block;
+use archive::block::Wrote;
 use digest::md5::digest;
 use digest::md5::octets;
 use files::error::is_full;
@@ -36,7 +37,8 @@ use std::num::wrapping_sub_u32;
 use table::targets::Target;
 use table::targets::is_named;
 ghost use mathlib.Core.Path.{_≡_};
-ghost use Rattle.receiver.specs.Filing.{isFiled, Carried};
+ghost use Rattle.files.specs.Errors.{isError};
+ghost use Rattle.receiver.specs.Filing.{isFiled, bodyThere, Carried, notBegun, filingOf};
 
 // How long the payload of a frame `file` is without the Target.
 const ROW: usize = 49;
@@ -44,10 +46,23 @@ const ROW: usize = 49;
 // How many records a session has names for.
 const MOST: u32 = 999999;
 
-// How a filing came out: its last step, and the number of the error of that, or 0.
+// How many steps a plan has at most.
+const STEPS: usize = 8;
+
+// How a filing came out: its last step, the number of the error of that, or 0, whether that was for want of room, and what the steps answered that
+// were carried out, which are the first `count` of `answers`.
 pub(crate) struct Outcome {
     pub step: Step,
     pub error: i32,
+    pub full: bool,
+    pub count: usize,
+    pub answers: [i32; STEPS],
+}
+
+// What became of a record that was handed over: whether records are taken under its Target, and how its filing came out.
+pub(crate) struct Tried {
+    pub taken: bool,
+    pub outcome: Outcome,
 }
 
 // ---- the steps
@@ -117,6 +132,16 @@ fn is_filed(step: Step) -> bool
     }
 }
 
+// Tells whether a step went well, by what it answered.
+fn is_well(error: i32) -> bool
+    ensures { λ r. ⌜ r ≡ isError error 0 ⌝ }
+{
+    match error {
+        0 => true,
+        _ => false,
+    }
+}
+
 // Carries out the steps of the plan, each only if the one before went well.
 fn carry_all(
     has_body: bool,
@@ -130,15 +155,52 @@ fn carry_all(
     ensures { λ r. ⌜ Carried «has_body» r ⌝ }
 {
     let mut step = Step::MakePart;
+    let mut answers = [0i32; STEPS];
+    let mut count = 0;
     loop {
         if is_filed(step) {
-            return Outcome { step, error: 0 };
+            return Outcome {
+                step,
+                error: 0,
+                full: false,
+                count,
+                answers,
+            };
         }
         let error = carry_out(step, session, number, log, headers, blocks, text);
-        if error != 0 {
-            return Outcome { step, error };
+        answers[count] = error;
+        count += 1;
+        if !is_well(error) {
+            return Outcome {
+                step,
+                error,
+                full: is_full(error),
+                count,
+                answers,
+            };
         }
         step = next_step(step, has_body);
+    }
+}
+
+// Returns the outcome of a filing of which no step is carried out, since what `step` needs is not there.
+fn not_begun(step: Step, error: i32) -> Outcome
+    ensures { λ r. ⌜ r ≡ notBegun step error ⌝ }
+{
+    Outcome {
+        step,
+        error,
+        full: is_full(error),
+        count: 0,
+        answers: [0i32; STEPS],
+    }
+}
+
+// Returns what became of a record that none was.
+pub(crate) fn no_record() -> Tried {
+    Tried {
+        taken: false,
+        outcome: not_begun(Step::MakePart, 0),
     }
 }
 
@@ -154,7 +216,9 @@ pub(crate) struct Handed {
 }
 
 // Tells whether a record has a body.
-fn has_body(body: Body) -> bool {
+fn has_body(body: Body) -> bool
+    ensures { λ r. ⌜ r ≡ bodyThere body ⌝ }
+{
     match body {
         Body::Bytes(_) => true,
         Body::Missing => false,
@@ -166,14 +230,6 @@ fn body_length(body: Body) -> usize {
     match body {
         Body::Bytes(n) => n,
         Body::Missing => 0,
-    }
-}
-
-// Makes the blocks of a body at the front of the store, and returns how many bytes they are.
-fn make_blocks(body: &[u8], work: &mut [u8; WORK]) -> usize {
-    match block::write(body, work) {
-        block::Wrote::Written(n) => n,
-        _ => 0,
     }
 }
 
@@ -216,7 +272,7 @@ fn note_filing(s: Session, clock: u32, payload: &[u8], work: &mut [u8; WORK]) ->
     with_log(s, noted)
 }
 
-// Puts the note of a record whose frame is the log's last at the front of `text`, and returns how long it is.
+// Writes the note of a record whose frame is the log's last to the front of `text`.
 fn put_note(
     text: &mut [u8],
     id: SessionId,
@@ -224,7 +280,7 @@ fn put_note(
     clock: u32,
     payload: &[u8],
     blocks: &[u8],
-) -> usize {
+) -> Wrote {
     let name = session_name(id.clock, id.high, id.low);
     let check = octets(log.check);
     let sum = digest(blocks);
@@ -233,13 +289,10 @@ fn put_note(
         frame: wrapping_sub_u32(log.number, 1),
         bytes: log.length,
     };
-    match write_note(text, &name, place, payload, &check, &sum) {
-        block::Wrote::Written(n) => n,
-        _ => 0,
-    }
+    write_note(text, &name, place, payload, &check, &sum)
 }
 
-// Files a record whose frame stands in the log.
+// Files a record whose frame stands in the log. If the log has failed, or blocks or note have no room in their store, no step is carried out.
 fn file_steps(
     s: Session,
     r: Handed,
@@ -247,19 +300,22 @@ fn file_steps(
     headers: &[u8],
     body: &[u8],
     work: &mut [u8; WORK],
-) -> Outcome {
+) -> Outcome
+    ensures { λ o. ⌜ Carried (bodyThere (r .body)) o ⌝ }
+{
     let log = s.log;
     let id = s.id;
-    if log.error != 0 {
-        return Outcome {
-            step: Step::SyncLog,
-            error: log.error,
-        };
-    }
-    let n = make_blocks(body, work);
-    let mut text = [0u8; 1024];
-    let k = put_note(&mut text, id, log, r.clock, payload, front(work, n));
     let content = r.body;
+    if log.error != 0 {
+        return not_begun(Step::SyncLog, log.error);
+    }
+    let Wrote::Written(n) = block::write(body, work) else {
+        return not_begun(Step::WriteBody, libc::EFBIG);
+    };
+    let mut text = [0u8; 1024];
+    let Wrote::Written(k) = put_note(&mut text, id, log, r.clock, payload, front(work, n)) else {
+        return not_begun(Step::WriteNote, libc::EFBIG);
+    };
     carry_all(
         has_body(content),
         id,
@@ -297,11 +353,13 @@ pub(crate) fn put_failure(out: &mut [u8], n: usize, o: Outcome) -> usize {
 }
 
 // Returns what the code of the reply depends on.
-pub(crate) fn filing_of(o: Outcome) -> Filing {
+pub(crate) fn filing_of(o: Outcome) -> Filing
+    ensures { λ r. ⌜ r ≡ filingOf o ⌝ }
+{
     let step = o.step;
     Filing {
         filed: is_filed(step),
-        full: is_full(o.error),
+        full: o.full,
     }
 }
 
@@ -325,7 +383,7 @@ fn after(s: Session, o: Outcome, work: &mut [u8; WORK]) -> Session {
 // What became of a record: the session after it, and how its filing came out.
 pub(crate) struct Answered {
     pub session: Session,
-    pub filing: Filing,
+    pub outcome: Outcome,
 }
 
 // Tells whether a record is filed at all: records are taken under its Target, and there is a name for its number.
@@ -346,15 +404,14 @@ pub(crate) fn file(
     headers: &[u8],
     body: &[u8],
     work: &mut [u8; WORK],
-) -> Answered {
+) -> Answered
+    ensures { λ r. ⌜ Carried (bodyThere content) (r .outcome) ⌝ }
+{
     let counted = with_record(s);
     if !is_named_record(is_taken, counted.records) {
         return Answered {
             session: counted,
-            filing: Filing {
-                filed: false,
-                full: false,
-            },
+            outcome: not_begun(Step::MakePart, 0),
         };
     }
     let r = Handed {
@@ -375,6 +432,6 @@ pub(crate) fn file(
     let session = after(noted, o, work);
     Answered {
         session,
-        filing: filing_of(o),
+        outcome: o,
     }
 }

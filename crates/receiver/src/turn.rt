@@ -21,6 +21,8 @@ use crate::log::WORK;
 use crate::log::lay;
 use crate::log::write_out;
 use crate::path::part;
+use crate::record::Tried;
+use crate::record::no_record;
 use crate::session;
 use crate::session::NO_BITS;
 use crate::session::Session;
@@ -56,39 +58,55 @@ use server::Outcome;
 use server::end_number;
 use server::refusal_number;
 use std::num::wrapping_add_usize;
+ghost use mathlib.Core.List.{[]};
+ghost use mathlib.Core.Path.{_≡_};
+ghost use Rattle.model.specs.Step.{stores};
+ghost use Rattle.model.specs.Runs.{handed};
+ghost use Rattle.server.specs.declared.Outcome.the-variants as outcome;
+ghost use Rattle.reception.specs.Answers.{lending};
+ghost use Rattle.receiver.specs.Turning.{Turned, Run};
 
-// Where a session stands: what the last call returned, the input that is left, what the session keeps, the text of its settings, and the
-// receiver's own number of the end, or 0.
+// Where a session stands: what the last call returned, the input that is left, what the session keeps, the text of its settings, what became of
+// the record that waited before the last call, and the receiver's own number of the end, or 0.
 pub(crate) struct Receiving {
     pub took: CallResult,
     pub rest: Rest,
     pub session: Session,
     pub said: Said,
+    pub tried: Tried,
     pub left: u8,
 }
 
 // Returns where the session stands after a call.
-fn after(s: Receiving, took: CallResult, rest: Rest, session: Session) -> Receiving {
+fn after(s: Receiving, took: CallResult, rest: Rest, session: Session, tried: Tried) -> Receiving
+    ensures took { λ r. ⌜ r .took ≡ took ⌝ }
+    ensures tried { λ r. ⌜ r .tried ≡ tried ⌝ }
+{
     let said = s.said;
     Receiving {
         took,
         rest,
         session,
         said,
+        tried,
         left: 0,
     }
 }
 
 // Returns where the session stands once it is left without a call.
-fn leave(s: Receiving, session: Session, number: u8) -> Receiving {
+fn leave(s: Receiving, session: Session, number: u8) -> Receiving
+    ensures { λ r. ⌜ r .took ≡ s .took ⌝ }
+{
     let took = s.took;
     let rest = s.rest;
     let said = s.said;
+    let tried = s.tried;
     Receiving {
         took,
         rest,
         session,
         said,
+        tried,
         left: number,
     }
 }
@@ -170,7 +188,12 @@ fn hear(
     headers: &mut [u8; 65535],
     body: &mut [u8; BODY],
     reply: &mut [u8; 65535],
-) -> Receiving {
+) -> Receiving
+    requires { ⌜ handed (s .took .outcome) (stores (now packet) (now headers) (now body) (now reply)) ≡ [] ⌝ }
+    ensures { λ r. ⌜ Turned (s .took) (stores (now (packet .entry)) (now (headers .entry)) (now (body .entry)) (now (reply .entry)))
+        (now (tables .entry)) r (stores (now (packet .exit)) (now (headers .exit)) (now (body .exit)) (now (reply .exit)))
+        (now (tables .exit)) ⌝ }
+{
     let keeps = s.session;
     let last = s.took;
     let rest = s.rest;
@@ -199,7 +222,7 @@ fn hear(
         at: wrapping_add_usize(at, took.taken),
         end,
     };
-    after(s, took, left, noted)
+    after(s, took, left, noted, no_record())
 }
 
 // ---- replies
@@ -232,7 +255,12 @@ fn send(
     headers: &mut [u8; 65535],
     body: &mut [u8; BODY],
     reply: &mut [u8; 65535],
-) -> Receiving {
+) -> Receiving
+    requires { ⌜ handed (s .took .outcome) (stores (now packet) (now headers) (now body) (now reply)) ≡ [] ⌝ }
+    ensures { λ r. ⌜ Turned (s .took) (stores (now (packet .entry)) (now (headers .entry)) (now (body .entry)) (now (reply .entry)))
+        (now (tables .entry)) r (stores (now (packet .exit)) (now (headers .exit)) (now (body .exit)) (now (reply .exit)))
+        (now (tables .exit)) ⌝ }
+{
     let keeps = s.session;
     let last = s.took;
     let rest = s.rest;
@@ -250,7 +278,13 @@ fn send(
                 work,
             );
             let took = call(e, answer, b"", tables, packet, headers, body, reply);
-            after(s, took, rest, note_sent(keeps, framed, e, took, work))
+            after(
+                s,
+                took,
+                rest,
+                note_sent(keeps, framed, e, took, work),
+                no_record(),
+            )
         }
         Decision::Leave(number) => {
             tell::no_output(id, error());
@@ -300,7 +334,12 @@ fn answer(
     headers: &mut [u8; 65535],
     body: &mut [u8; BODY],
     reply: &mut [u8; 65535],
-) -> Receiving {
+) -> Receiving
+    requires { ⌜ s .took .outcome ≡ outcome.Request request ⌝ }
+    ensures { λ r. ⌜ Turned (s .took) (stores (now (packet .entry)) (now (headers .entry)) (now (body .entry)) (now (reply .entry)))
+        (now (tables .entry)) r (stores (now (packet .exit)) (now (headers .exit)) (now (body .exit)) (now (reply .exit)))
+        (now (tables .exit)) ⌝ }
+{
     let last = s.took;
     let rest = s.rest;
     let e = last.engine;
@@ -313,6 +352,7 @@ fn answer(
     let check = d.check;
     let from = d.from;
     let to = d.to;
+    let tried = d.tried;
     match decision {
         Decision::Make(a) => {
             let took = call(
@@ -329,7 +369,7 @@ fn answer(
             let mut path = [0u8; 400];
             let n = put(&mut path, 0, part(work, from, to));
             let noted = note_call(session, a, e, took, front(&path, n), packet, work);
-            after(s, took, rest, noted)
+            after(s, took, rest, noted, tried)
         }
         Decision::Leave(number) => leave(s, session, number),
     }
@@ -345,7 +385,11 @@ fn turn(
     headers: &mut [u8; 65535],
     body: &mut [u8; BODY],
     reply: &mut [u8; 65535],
-) -> Receiving {
+) -> Receiving
+    ensures { λ r. ⌜ Turned (s .took) (stores (now (packet .entry)) (now (headers .entry)) (now (body .entry)) (now (reply .entry)))
+        (now (tables .entry)) r (stores (now (packet .exit)) (now (headers .exit)) (now (body .exit)) (now (reply .exit)))
+        (now (tables .exit)) ⌝ }
+{
     let last = s.took;
     let outcome = last.outcome;
     match outcome {
@@ -382,8 +426,8 @@ fn end(s: Receiving, number: u8, work: &mut [u8; WORK]) {
     tell::end(id, number);
 }
 
-// Receives in one session. A proved loop has to end, and nothing says that the input does, so the turns are counted down from a number that no
-// run uses up.
+// Receives in one session, and returns where it stands at its end. A proved loop has to end, and nothing says that the input does, so the turns are
+// counted down from a number that no run uses up.
 fn receive(
     first: Receiving,
     input: &mut [u8; INPUT],
@@ -393,18 +437,24 @@ fn receive(
     headers: &mut [u8; 65535],
     body: &mut [u8; BODY],
     reply: &mut [u8; 65535],
-) {
+) -> Receiving
+    requires { ⌜ handed (first .took .outcome) (stores (now packet) (now headers) (now body) (now reply)) ≡ [] ⌝ }
+    ensures { λ r. ⌜ Run (lending (first .took .engine) (stores (now (packet .entry)) (now (headers .entry)) (now (body .entry))
+        (now (reply .entry))) (now (tables .entry))) r (stores (now (packet .exit)) (now (headers .exit)) (now (body .exit))
+        (now (reply .exit))) (now (tables .exit)) ⌝ }
+{
     let mut s = first;
     let mut left = u64::MAX;
     while left > 0 {
         let number = end_of(s);
         if number != 0 {
             end(s, number, work);
-            return;
+            return s;
         }
         s = turn(s, input, work, tables, packet, headers, body, reply);
         left -= 1;
     }
+    s
 }
 
 // Begins a session with these settings, and receives in it. Without random bits for its name nothing is taken.
@@ -451,6 +501,7 @@ fn begin(
         rest: Rest { at: 0, end: 0 },
         session: keeps,
         said,
+        tried: no_record(),
         left: 0,
     };
     receive(first, input, work, tables, packet, headers, body, reply);
