@@ -84,12 +84,12 @@ interop:
 	@tools/progress check serve receiver transfer >&2
 	@tools/interop
 
-# The formats of docs/ARCHIVE.md, written, damaged and read by showlog and by the auditor. Last line: 'archive-test: N of N'.
+# The formats of docs/ARCHIVE.md, written, damaged and read by showlog and by both auditors. Last line: 'archive-test: N of N'.
 filing:
-	@tools/progress check showlog >&2
+	@tools/progress check showlog audit >&2
 	@tools/archive-test
 
-# The sessions below DIR, audited by all frames and by packets alone (docs/AUDIT.md). Last line: 'audit: N sessions, M lines differ'.
+# The sessions below DIR, audited by all frames, by packets alone and, if it is built, by the program `audit` (docs/AUDIT.md). Last line: 'audit: N sessions, M lines differ'.
 audit:
 	@tools/audit "$(DIR)"
 

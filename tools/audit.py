@@ -365,6 +365,9 @@ class Log:
             if kind not in ('recv', 'sent', 'answ', 'objt', 'pass', 'nonc', 'clos', 'part', 'file', 'fail', 'done'):
                 self.fault = 'kind at frame %d' % i
                 return
+            # What is said of a record stands before the next packet.
+            if kind in ('recv', 'part'):
+                self.waiting = None
             if kind == 'file' and self.waiting is not None:
                 self.filed[self.waiting] = (i, at, clock, p)
             play(kind, p)

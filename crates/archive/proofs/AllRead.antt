@@ -11,7 +11,7 @@ use lib.Seq.{drop-drop, length-take-le}
 use borrow.Author.Tests.{eq-eqb, ne-eqb, eqb-true, eqb-false, lt-ltb, le-ltb}
 use Rattle.archive.specs.Block.{longest, isLastBlock, used, payloadOf, faultOf}
 use Rattle.archive.specs.Writing.{front}
-use Rattle.archive.specs.Reading.{Judged, judged, judge, judgedAll, bodyOf, faultIn, refusedFor, reading, readInto}
+use Rattle.archive.specs.Reading.{Judged, judged, judge, judgedAll, bodyOf, faultIn, soundFrom, soundIn, refusedFor, reading, readInto}
 use Rattle.archive.specs.declared.block.Body.the-variants.{Bytes, Short}
 use Rattle.archive.proofs.OneBlock.{sound, most, length-payload}
 
@@ -27,6 +27,15 @@ module _ (m k : ℕ) (ended : Bool) (b x : List ℕ) where
       → judge (suc m) k ended b x ≡ judged (faultOf k ended (length b) (take 512 x)) ended b
   unfolding judge
   step-faulty e = rw (ne-eqb (faultOf k ended (length b) (take 512 x)) 0 e)
+
+  pub count-sound : faultOf k ended (length b) (take 512 x) ≡ 0
+      → soundFrom (suc m) k ended b x ≡ soundFrom m (k + 1) (isLastBlock (take 512 x)) (b ++ payloadOf (take 512 x)) (drop 512 x)
+  unfolding soundFrom
+  count-sound e = rw (eq-eqb (faultOf k ended (length b) (take 512 x)) 0 e)
+
+  pub count-faulty : (faultOf k ended (length b) (take 512 x) ≡ 0 → ⊥) → soundFrom (suc m) k ended b x ≡ k
+  unfolding soundFrom
+  count-faulty e = rw (ne-eqb (faultOf k ended (length b) (take 512 x)) 0 e)
 
   -- blocks of which none is faulty begin with one that is not
   pub first-sound : judge (suc m) k ended b x .fault ≡ 0 → faultOf k ended (length b) (take 512 x) ≡ 0
@@ -50,12 +59,18 @@ pub record Passed (x : List ℕ) (k : ℕ) (ended : Bool) (b : List ℕ) : Type 
   pub short : length b ≤ longest
   pub most : length b ≤ 490 * k
   pub left : judgedAll x ≡ judge (length x / 512 - k) k ended b (drop (512 * k) x)
+  pub count : soundIn x ≡ soundFrom (length x / 512 - k) k ended b (drop (512 * k) x)
 
 pub passed-none : (x : List ℕ) → Passed x 0 false []
-unfolding judgedAll
+unfolding judgedAll soundIn
 passed-none x =
     let e : length x / 512 ≡ length x / 512 - 0 = omega arith in
-    record { short = omega arith; most = omega arith; left = ap (λ (n : ℕ). judge n 0 false [] x) e }
+    record {
+      short = omega arith;
+      most = omega arith;
+      left = ap (λ (n : ℕ). judge n 0 false [] x) e;
+      count = ap (λ (n : ℕ). soundFrom n 0 false [] x) e;
+    }
 
 module _ (x : List ℕ) (k : ℕ) (ended : Bool) (b : List ℕ) (p : Passed x k ended b) (h : k < length x / 512) where
   abbrev this : List ℕ
@@ -65,6 +80,11 @@ module _ (x : List ℕ) (k : ℕ) (ended : Bool) (b : List ℕ) (p : Passed x k 
   here =
       let e : length x / 512 - k ≡ suc (length x / 512 - (k + 1)) = omega arith in
       p .left ∙ ap (λ (n : ℕ). judge n k ended b (drop (512 * k) x)) e
+
+  counted : soundIn x ≡ soundFrom (suc (length x / 512 - (k + 1))) k ended b (drop (512 * k) x)
+  counted =
+      let e : length x / 512 - k ≡ suc (length x / 512 - (k + 1)) = omega arith in
+      p .count ∙ ap (λ (n : ℕ). soundFrom n k ended b (drop (512 * k) x)) e
 
   pub passed-one : faultOf k ended (length b) this ≡ 0 → Passed x (k + 1) (isLastBlock this) (b ++ payloadOf this)
   passed-one e =
@@ -79,6 +99,8 @@ module _ (x : List ℕ) (k : ℕ) (ended : Bool) (b : List ℕ) (p : Passed x k 
         most = omega arith;
         left = here ∙ step-sound (length x / 512 - (k + 1)) k ended b (drop (512 * k) x) e
             ∙ ap (judge (length x / 512 - (k + 1)) (k + 1) (isLastBlock this) (b ++ payloadOf this)) (drop-drop 512 (512 * k) x ∙ ap (λ (i : ℕ). drop i x) j);
+        count = counted ∙ count-sound (length x / 512 - (k + 1)) k ended b (drop (512 * k) x) e
+            ∙ ap (soundFrom (length x / 512 - (k + 1)) (k + 1) (isLastBlock this) (b ++ payloadOf this)) (drop-drop 512 (512 * k) x ∙ ap (λ (i : ℕ). drop i x) j);
       }
 
   -- a faulty block decides
@@ -86,6 +108,9 @@ module _ (x : List ℕ) (k : ℕ) (ended : Bool) (b : List ℕ) (p : Passed x k 
   unfolding faultIn
   passed-faulty e =
       rw (here, step-faulty (length x / 512 - (k + 1)) k ended b (drop (512 * k) x) e, ne-eqb (faultOf k ended (length b) this) 0 e)
+
+  pub faulty-count : (faultOf k ended (length b) this ≡ 0 → ⊥) → soundIn x ≡ k
+  faulty-count e = counted ∙ count-faulty (length x / 512 - (k + 1)) k ended b (drop (512 * k) x) e
 
   -- an input without a fault has no faulty block
   pub passed-sound : faultIn x ≡ 0 → faultOf k ended (length b) this ≡ 0
@@ -136,6 +161,12 @@ module _ (x : List ℕ) (k : ℕ) (ended : Bool) (b : List ℕ) (p : Passed x k 
   passed-all =
       let e : length x / 512 - k ≡ 0 = omega arith in
       p .left ∙ ap (λ (n : ℕ). judge n k ended b (drop (512 * k) x)) e
+
+  pub all-count : soundIn x ≡ k
+  unfolding soundFrom
+  all-count =
+      let e : length x / 512 - k ≡ 0 = omega arith in
+      p .count ∙ ap (λ (n : ℕ). soundFrom n k ended b (drop (512 * k) x)) e
 
   pub fault-left-over : (length x % 512 ≡ 0 → ⊥) → faultIn x ≡ 13
   unfolding faultIn

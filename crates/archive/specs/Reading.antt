@@ -42,6 +42,17 @@ bodyOf x = judgedAll x .body
 unfoldable pub faultIn : List ℕ → ℕ
 faultIn x = pick (eqb (judgedAll x .fault) 0) (pick (eqb (length x % 512) 0 && judgedAll x .ended) 0 13) (judgedAll x .fault)
 
+-- The number of the first faulty one of `m` blocks at the front of `x`, which are counted from `k`, or of the block behind them.
+unfoldable pub soundFrom : ℕ → ℕ → Bool → List ℕ → List ℕ → ℕ
+soundFrom zero k ended b x = k
+soundFrom (suc m) k ended b x =
+    let y = take 512 x in
+    pick (eqb (faultOf k ended (length b) y) 0) (soundFrom m (k + 1) (isLastBlock y) (b ++ payloadOf y) (drop 512 x)) k
+
+-- How many whole blocks of the input `x` stand before the first faulty one.
+unfoldable pub soundIn : List ℕ → ℕ
+soundIn x = soundFrom (length x / 512) 0 false [] x
+
 -- The number of an answer (docs/DECISIONS.md, part B).
 abbrev pub bodyNumber : Body → ℕ
 bodyNumber (Bytes n) = 0

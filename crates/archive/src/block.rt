@@ -7,7 +7,7 @@ ghost use lib.ListN.{length};
 ghost use lib.Seq.{paste};
 ghost use Rattle.archive.specs.Block.{lengthField, headOf, checked, block, same, rightCheck, isLastBlock, used, rightLength, allZero, rightForm, faultOf, longest};
 ghost use Rattle.archive.specs.Writing.{blockCount, blocksOf, front, wroteNumber, written, writing};
-ghost use Rattle.archive.specs.Reading.{faultIn, bodyOf, bodyNumber, refusedFor, reading, readInto};
+ghost use Rattle.archive.specs.Reading.{faultIn, soundIn, bodyOf, bodyNumber, refusedFor, reading, readInto};
 use base::be16_at;
 use base::copy_into;
 use digest::md5::digest;
@@ -300,16 +300,21 @@ fn fault_of(block: &[u8], k: usize, is_ended: bool, before: usize) -> u8
 
 // ---- reading
 
-// What the blocks are found to be: the number of their fault, and, if they have none, the length of the body.
-struct Judgement {
-    fault: u8,
-    total: usize,
+// What the blocks are found to be: the number of their fault, how many blocks stand before the first faulty one, and, if there is no fault, the
+// length of the body.
+pub struct Judgement {
+    pub fault: u8,
+    pub sound: usize,
+    pub total: usize,
 }
 
 // Judges the blocks one after the other, and then whether bytes are left over and whether the last block came. The first faulty block
 // decides.
-fn judge(blocks: &[u8]) -> Judgement
-    ensures { λ r. ⌜ (r .fault ≡ faultIn (now (blocks .entry))) × (r .fault ≡ 0 → r .total ≡ length (bodyOf (now (blocks .entry)))) ⌝ }
+pub fn judge(blocks: &[u8]) -> Judgement
+    ensures { λ r.
+        ⌜ (r .fault ≡ faultIn (now (blocks .entry)))
+        × (r .sound ≡ soundIn (now (blocks .entry)))
+        × (r .fault ≡ 0 → r .total ≡ length (bodyOf (now (blocks .entry)))) ⌝ }
 {
     let count = blocks.len() / BLOCK;
     let mut k = 0;
@@ -320,7 +325,11 @@ fn judge(blocks: &[u8]) -> Judgement
         let block = &blocks[at..at + BLOCK];
         let fault = fault_of(block, k, is_ended, total);
         if fault != SOUND {
-            return Judgement { fault, total: 0 };
+            return Judgement {
+                fault,
+                sound: k,
+                total: 0,
+            };
         }
         is_ended = is_last_block(block);
         total += used_in(block);
@@ -329,17 +338,20 @@ fn judge(blocks: &[u8]) -> Judgement
     if blocks.len() % BLOCK != 0 {
         return Judgement {
             fault: WRONG_FORM,
+            sound: k,
             total: 0,
         };
     }
     if !is_ended {
         return Judgement {
             fault: WRONG_FORM,
+            sound: k,
             total: 0,
         };
     }
     Judgement {
         fault: SOUND,
+        sound: k,
         total,
     }
 }

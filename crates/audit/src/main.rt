@@ -1,137 +1,106 @@
-// Prints the records for which the log of a session stands (docs/ARCHIVE.md#the-log), by the proved code of the journal, then how the log ends
-// and how many records there are. The log comes on standard input (docs/AUDIT.md).
+// Audits sessions as a receiver files them (docs/ARCHIVE.md#as-a-receiver-files-it): reads the log of each, computes by the proved code of the
+// journal which records must have been handed over, and compares them with what is filed (docs/AUDIT.md).
+mod compare;
 mod entry;
+mod filed;
+mod path;
 mod place;
+mod session;
 mod shown;
+mod verdict;
+mod waiting;
 
-use crate::entry::Audit;
 use crate::entry::BODY;
-use crate::entry::before_first;
-use crate::entry::take_frame;
-use crate::place::Place;
+use crate::filed::FILED;
+use crate::path::FOLDER;
+use crate::path::Task;
 use crate::place::STORE;
-use crate::place::at_start;
-use crate::place::behind;
-use crate::place::letters_at;
-use crate::place::over;
-use crate::place::payload_at;
-use crate::place::read_more;
-use crate::shown::print_all;
-use files::path::front;
-use filing::frame::Turn;
-use filing::frame::read_frame;
+use crate::session::audit_session;
+use crate::shown::OUT;
+use crate::shown::print_totals;
+use crate::verdict::Counts;
+use crate::verdict::added;
+use check::same;
+use libc::STDERR_FILENO;
+use std::num::wrapping_add_usize;
 
-// Where the program stands in the log, and what the frames before it say.
-struct Reading {
-    place: Place,
-    audit: Audit,
+// Tells whether the first argument asks that grave records are extracted.
+fn is_extracting() -> bool {
+    let mut word = [0u8; FOLDER];
+    let n = os::arg(1, &mut word);
+    same(&word[..n], b"--extract")
 }
 
-// Takes the frame at `place`, whose payload has `n` bytes.
-fn pass(
-    r: Reading,
-    n: usize,
-    log: &[u8],
-    packet: &mut [u8; 65535],
-    headers: &mut [u8; 65535],
-    body: &mut [u8; BODY],
-    tables: &mut [u64; 320],
-) -> Reading {
-    let place = r.place;
-    let before = r.audit;
-    let letters = letters_at(log, place.at);
-    let payload = payload_at(log, place.at, n);
-    let number = place.number;
-    let audit = take_frame(
-        before,
-        number,
-        letters,
-        payload,
-        packet,
-        headers,
-        body,
-        tables,
-    );
-    Reading {
-        place: behind(place, n),
-        audit,
+// Returns the first task: the arguments behind the options are sessions.
+fn first_task() -> Task {
+    if is_extracting() {
+        return Task {
+            session: 3,
+            extract: 2,
+            file: -1,
+        };
+    }
+    Task {
+        session: 1,
+        extract: 0,
+        file: -1,
     }
 }
 
-// Takes the next frame, reads on or ends, by what stands at the place.
-fn step(
-    r: Reading,
+// Audits all sessions of the task, and prints the counts of all.
+fn audit_all(
+    first: Task,
     store: &mut [u8; STORE],
     packet: &mut [u8; 65535],
     headers: &mut [u8; 65535],
     body: &mut [u8; BODY],
     tables: &mut [u64; 320],
-) -> Reading {
-    let place = r.place;
-    let audit = r.audit;
-    let have = place.have;
-    match read_frame(front(store, have), place.at, place.number) {
-        Turn::Frame(n) => pass(r, n, front(store, have), packet, headers, body, tables),
-        Turn::End => Reading {
-            place: read_more(store, place),
-            audit,
-        },
-        Turn::Cut => Reading {
-            place: read_more(store, place),
-            audit,
-        },
-        Turn::Damaged => Reading {
-            place: over(place, 11),
-            audit,
-        },
-        Turn::Misplaced => Reading {
-            place: over(place, 12),
-            audit,
-        },
-        Turn::Malformed => Reading {
-            place: over(place, 13),
-            audit,
-        },
-    }
-}
-
-// Reads the log to its end. A proved loop has to end, and nothing says that the input does, so the steps are counted down from a number that no
-// run uses up.
-fn run(
-    store: &mut [u8; STORE],
-    packet: &mut [u8; 65535],
-    headers: &mut [u8; 65535],
-    body: &mut [u8; BODY],
-    tables: &mut [u64; 320],
+    filed: &mut [u8; FILED],
+    out: &mut [u8; OUT],
 ) {
-    let mut r = Reading {
-        place: at_start(),
-        audit: before_first(),
+    let count = os::arg_count();
+    let mut counts = Counts {
+        records: 0,
+        same: 0,
+        grave: 0,
     };
-    let mut left = u64::MAX;
-    while left > 0 {
-        r = step(r, store, packet, headers, body, tables);
-        let place = r.place;
-        if place.end != 0 {
-            let audit = r.audit;
-            print_all(place, audit);
-            return;
-        }
-        left -= 1;
+    let mut i = first.session;
+    let mut sessions = 0;
+    while i < count {
+        let task = Task {
+            session: i,
+            extract: first.extract,
+            file: -1,
+        };
+        let found = audit_session(task, store, packet, headers, body, tables, filed, out);
+        counts = added(counts, found);
+        sessions = wrapping_add_usize(sessions, 1);
+        i += 1;
     }
+    print_totals(sessions, counts);
 }
 
 fn main() {
+    let task = first_task();
+    if os::arg_count() <= task.session {
+        io::write_all(STDERR_FILENO, b"usage: audit [--extract DIR] SESSION ..\n");
+        return;
+    }
     let mut store = [0u8; STORE];
     let mut packet = [0u8; 65535];
     let mut headers = [0u8; 65535];
     let mut body = [0u8; BODY];
     let mut tables = [0u64; 320];
-    run(
+    let mut filed = [0u8; FILED];
+    let mut out = [0u8; OUT];
+    audit_all(
+        task,
         &mut store,
         &mut packet,
         &mut headers,
         &mut body,
         &mut tables,
+        &mut filed,
+        &mut out,
     );
 }

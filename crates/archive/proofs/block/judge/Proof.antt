@@ -9,7 +9,7 @@ use borrow.Author.Tests.{not-true, not-false}
 use borrow.Author.Needs.{needs}
 use Rattle.archive.specs.Reading.{Judged}
 use Rattle.archive.specs.Block.{payloadOf}
-use Rattle.archive.proofs.AllRead.{blockAt, length-block-at, Passed, passed-none, passed-faulty, Next, next, cut-block, passed-all, fault-left-over, fault-no-last, fault-none}
+use Rattle.archive.proofs.AllRead.{blockAt, length-block-at, Passed, passed-none, passed-faulty, faulty-count, all-count, Next, next, cut-block, passed-all, fault-left-over, fault-no-last, fault-none}
 use Rattle.archive.proofs.block.judge.Statement.{statement}
 use Rattle.archive.proofs.block.judge.Tie as tie
 
@@ -63,7 +63,12 @@ returns c =
     let x = c .before .before .before .before in
     let p = x .loop .inv .1 in
     let e = rw (cut-block (x .loop .k), ← p .1) at (c .before .fault-of .ensures) in
-    (e ∙ sym (passed-faulty (x .before .before .args .blocks .now) (x .loop .k) (x .loop .is-ended) (p .0) (p .2) (omega arith) (rw e at (c .if1 .taken))), λ z. absurd (c .if1 .taken z))
+    let s = x .before .before .args .blocks .now in
+    let n = rw e at (c .if1 .taken) in (
+      e ∙ sym (passed-faulty s (x .loop .k) (x .loop .is-ended) (p .0) (p .2) (omega arith) n),
+      sym (faulty-count s (x .loop .k) (x .loop .is-ended) (p .0) (p .2) (omega arith) n),
+      λ z. absurd (c .if1 .taken z),
+    )
 
 is-last-block-requires : tie.Need-is-last-block-requires Inv-loop μ-loop
 is-last-block-requires c κs =
@@ -98,7 +103,11 @@ returns-2 : tie.Need-returns-2 Inv-loop μ-loop
 returns-2 c =
     let x = c .before .before in
     let p = x .loop .inv .1 in
-    (sym (fault-left-over (x .before .before .args .blocks .now) (x .loop .k) (x .loop .is-ended) (p .0) (p .2) (omega arith) (c .if2 .taken)), λ z. omega arith)
+    let s = x .before .before .args .blocks .now in (
+      sym (fault-left-over s (x .loop .k) (x .loop .is-ended) (p .0) (p .2) (omega arith) (c .if2 .taken)),
+      sym (all-count s (x .loop .k) (x .loop .is-ended) (p .0) (p .2) (omega arith)),
+      λ z. omega arith,
+    )
 
 returns-3 : tie.Need-returns-3 Inv-loop μ-loop
 returns-3 c =
@@ -106,6 +115,7 @@ returns-3 c =
     let p = x .loop .inv .1 in (
       sym (fault-no-last (x .before .before .args .blocks .now) (x .loop .k) (x .loop .is-ended) (p .0) (p .2) (omega arith)
           (not-true (x .loop .is-ended) (c .if3 .taken)) (c .before .if2 .left)),
+      sym (all-count (x .before .before .args .blocks .now) (x .loop .k) (x .loop .is-ended) (p .0) (p .2) (omega arith)),
       λ z. omega arith,
     )
 
@@ -116,6 +126,7 @@ returns-4 c =
     let p = x .loop .inv .1 in
     let e = passed-all s (x .loop .k) (x .loop .is-ended) (p .0) (p .2) (omega arith) in (
       sym (fault-none s (x .loop .k) (x .loop .is-ended) (p .0) (p .2) (omega arith) (not-false (x .loop .is-ended) (c .if3 .left)) (c .before .if2 .left)),
+      sym (all-count s (x .loop .k) (x .loop .is-ended) (p .0) (p .2) (omega arith)),
       λ z. sym (p .1) ∙ sym (ap (λ (v : Judged). length (v .body)) e),
     )
 

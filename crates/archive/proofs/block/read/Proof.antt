@@ -37,7 +37,7 @@ returns-3 c =
     let j = c .before .before .before .before .before in
     let a = j .before .before .before .before .args in
     let f = c .before .before .before .before .if2 .left in
-    rw (j .judge .ensures .1 f, c .before .before .copy-body .ensures)
+    rw (j .judge .ensures .2 f, c .before .before .copy-body .ensures)
     (read-done (a .blocks .now) (a .body .now) (omega arith) (sym (j .judge .ensures .0) ∙ f))
 
 pub read-spec : {M : Type 1} → statement M

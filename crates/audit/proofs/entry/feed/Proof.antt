@@ -1,7 +1,7 @@
 -- `audit::entry::feed` meets its contract: each arm calls the function of its entry, and a function that is not lent a store leaves it. Assumes
 -- nothing.
 use borrow.Author.Needs.{needs}
-use mathlib.Core.Path.{_≡_, sym, ap, _∙_}
+use mathlib.Core.Path.{_≡_, refl, sym, ap, _∙_}
 use mathlib.Core.List.{List}
 use Prim.Native.Nat.{ℕ}
 use Rattle.filing.specs.ReadBack.{entryWith}
@@ -88,9 +88,6 @@ stream-ended-requires c κs = search needs
 enum-told-6 : tie.Need-enum-told-6
 enum-told-6 c = search needs
 
-unhanded-requires : tie.Need-unhanded-requires
-unhanded-requires c κs = search needs
-
 returns : tie.Need-returns
 returns c =
     let u = c .before .before .before .before .before in
@@ -139,8 +136,8 @@ returns-8 c =
 
 returns-9 : tie.Need-returns-9
 returns-9 c =
-    let a = c .before .before .before .before in
-    made a says.Nothing _ (c .before .enum-told6 .given .1) (ap (beside a) (c .unhanded .ensures))
+    let a = c .before .before .before in
+    made a says.Nothing _ (c .enum-told6 .given .1) refl
 
 pub feed-spec : {M : Type 1} → statement M
 feed-spec =
@@ -164,7 +161,6 @@ feed-spec =
     enum-told-5
     stream-ended-requires
     enum-told-6
-    unhanded-requires
     returns
     returns-2
     returns-3
