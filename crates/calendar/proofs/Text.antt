@@ -100,7 +100,8 @@ pair-back : (x : ℕ) → x < 100 → (0 * 10 + (0x30 + x / 10 % 10 - 0x30)) * 1
 pair-back x h = omega arith
 
 year-back : (x : ℕ) → x < 10000
-    → (((0 * 10 + (0x30 + x / 10 / 10 / 10 % 10 - 0x30)) * 10 + (0x30 + x / 10 / 10 % 10 - 0x30)) * 10 + (0x30 + x / 10 % 10 - 0x30)) * 10 + (0x30 + x % 10 - 0x30) ≡ x
+    → (((0 * 10 + (0x30 + x / 10 / 10 / 10 % 10 - 0x30)) * 10 + (0x30 + x / 10 / 10 % 10 - 0x30)) * 10 + (0x30 + x / 10 % 10 - 0x30))
+    * 10 + (0x30 + x % 10 - 0x30) ≡ x
 year-back x h = omega arith
 
 -- the numbers of an instant have as many digits as their places in a text

@@ -50,7 +50,8 @@ beside-last : (x : ℕ) (l t : List ℕ) (at y : ℕ)
     → beside x (l ++ (y ∷ [])) t at ≡ beside x l t at ++ pick (eqb x y) [] (getD t (at + length l) 0 ∷ [])
 unfolding beside
 beside-last x [] t at y = let z : at ≡ at + 0 = omega arith in ap (λ (n : ℕ). pick (eqb x y) [] (getD t n 0 ∷ [])) z
-beside-last x (u ∷ l) t at y = go (eqb x u) (beside-last x l t (at + 1) y ∙ ap (λ (n : ℕ). beside x l t (at + 1) ++ pick (eqb x y) [] (getD t n 0 ∷ [])) (next at l))
+beside-last x (u ∷ l) t at y =
+    go (eqb x u) (beside-last x l t (at + 1) y ∙ ap (λ (n : ℕ). beside x l t (at + 1) ++ pick (eqb x y) [] (getD t n 0 ∷ [])) (next at l))
   where
     next : (k : ℕ) (m : List ℕ) → k + 1 + length m ≡ k + suc (length m)
     next k m = omega arith
@@ -72,8 +73,11 @@ unfolding beside
 moved-none t at x = record { count = refl; store = refl }
 
 pub moved-bounds : (t₀ : List ℕ) (at x i : ℕ) (t : List ℕ) (kept : ℕ) → Moved t₀ at x i t kept → (kept ≤ i) × (length t ≡ length t₀)
-moved-bounds t₀ at x i t kept m =
-    (omega (arith, m .count, beside-shorter x (take i t₀) t₀ at, length-take i t₀), ap length (m .store) ∙ length-sets t₀ at (beside x (take i t₀) t₀ at))
+moved-bounds t₀ at x i t kept m = (
+  omega (arith, m .count, beside-shorter x (take i t₀) t₀ at, length-take i t₀),
+  ap length (m .store)
+      ∙ length-sets t₀ at (beside x (take i t₀) t₀ at),
+)
 
 module _ (t₀ : List ℕ) (at x i : ℕ) (t : List ℕ) (kept : ℕ) (h : at + i < length t₀) (k : i < at) (m : Moved t₀ at x i t kept) where
   abbrev moved : List ℕ

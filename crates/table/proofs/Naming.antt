@@ -39,7 +39,8 @@ pub pasted-zeros : (v : List ℕ) → length v ≤ 16
 pasted-zeros v h =
     let n : length v ≡ 0 + length v = omega arith in
     let m : 16 ≡ length v + (16 - length v) = omega arith in
-    let l : length (v ++ replicate (16 - length v) 0) ≡ 16 = omega (arith, length-append v (replicate (16 - length v) 0), length-replicate {A = ℕ} (16 - length v) 0) in
+    let l : length (v ++ replicate (16 - length v) 0) ≡ 16 =
+    omega (arith, length-append v (replicate (16 - length v) 0), length-replicate {A = ℕ} (16 - length v) 0) in
     ap (λ (y : List ℕ). take 16 (y ++ drop (0 + length v) (replicate 16 0))) (take-length v)
     ∙ ap (λ (k : ℕ). take 16 (v ++ drop k (replicate 16 0))) (sym n)
     ∙ ap (λ (y : List ℕ). take 16 (v ++ y)) (ap (λ (k : ℕ). drop (length v) (replicate k 0)) m ∙ dropped (length v) (16 - length v))
@@ -127,7 +128,8 @@ pushed-behind : (at x : ℕ) (t : List ℕ) → at + 32 ≤ length t → drop (a
 pushed-behind at x t h =
     let n : length (take at t) ≡ at = length-take-le at t (omega arith) in
     let q = pushed x (take 32 (drop at t)) in
-    let m : length q ≡ 32 = omega (arith, length-take (length (take 32 (drop at t))) (x ∷ take 32 (drop at t)), length-take 32 (drop at t), length-drop at t) in
+    let m : length q ≡ 32 =
+    omega (arith, length-take (length (take 32 (drop at t))) (x ∷ take 32 (drop at t)), length-take 32 (drop at t), length-drop at t) in
     ap (λ (k : ℕ). drop (k + 32) (pushedAt at x t)) (sym n) ∙ drop-append-add (take at t) (q ++ drop 32 (drop at t)) 32
     ∙ drop-at q (drop 32 (drop at t)) 32 m ∙ drop-drop 32 at t
 

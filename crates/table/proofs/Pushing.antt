@@ -32,7 +32,9 @@ pub moved-one : (s₀ : List ℕ) (x i : ℕ) (s : List ℕ) (carry : ℕ) → i
 moved-one s₀ x i s carry h m =
     let z : 0 + i ≡ i = zero-add i in
     record {
-      list = rw (add-one i, m .list, m .hand) (subst (λ (k : ℕ). set (paste s₀ 0 (x ∷ s₀) i) k (getD (x ∷ s₀) i 0) ≡ paste s₀ 0 (x ∷ s₀) (suc i)) z (paste-suc s₀ 0 (x ∷ s₀) i 0 (omega arith) (omega arith)));
+      list = rw (add-one i, m .list, m .hand)
+          (subst (λ (k : ℕ). set (paste s₀ 0 (x ∷ s₀) i) k (getD (x ∷ s₀) i 0) ≡ paste s₀ 0 (x ∷ s₀) (suc i)) z
+          (paste-suc s₀ 0 (x ∷ s₀) i 0 (omega arith) (omega arith)));
       hand = rw (add-one i, m .list) (behind s₀ x i h);
     }
 

@@ -130,7 +130,8 @@ module _ (n : Octets16) (t : List ℕ) (r : 128 ≤ length t) where
       let u = rememberedWith n t in
       let w : 128 ≤ length u = omega (arith, remembered-length) in
       ap₂ joined
-      (part-before m 64 96 u (omega arith) (omega arith) ∙ ap (λ (z : List ℕ). take m (drop 64 z)) (before 96 (n .second) firsts (omega (arith, long)))
+      (part-before m 64 96 u (omega arith) (omega arith)
+      ∙ ap (λ (z : List ℕ). take m (drop 64 z)) (before 96 (n .second) firsts (omega (arith, long)))
       ∙ sym (part-before m 64 96 firsts (omega arith) (omega (arith, long))) ∙ at-front 64 (n .first) t (omega arith) m l)
       (at-front 96 (n .second) firsts (omega (arith, long)) m l
       ∙ ap (λ (z : List ℕ). take m (n .second ∷ z)) (behind 64 (n .first) t (omega arith)))

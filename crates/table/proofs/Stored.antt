@@ -21,7 +21,8 @@ pub stored-at : (v l : List ℕ) (i k : ℕ) → k < length v → i + length v �
 stored-at [] l i k h r = absurd (omega arith)
 stored-at (x ∷ v) l i zero h r =
     let z : i + 0 ≡ i = omega arith in
-    ap (λ (n : ℕ). getD (sets (set l i x) (suc i) v) n 0) z ∙ stored-before v (set l i x) (suc i) i (omega arith) ∙ getD-set-same l i x 0 (omega arith)
+    ap (λ (n : ℕ). getD (sets (set l i x) (suc i) v) n 0) z ∙ stored-before v (set l i x) (suc i) i (omega arith)
+    ∙ getD-set-same l i x 0 (omega arith)
 stored-at (x ∷ v) l i (suc k) h r =
     let z : i + suc k ≡ suc i + k = omega arith in
     ap (λ (n : ℕ). getD (sets (set l i x) (suc i) v) n 0) z ∙ stored-at v (set l i x) (suc i) k (omega arith) (omega (arith, length-set l i x))

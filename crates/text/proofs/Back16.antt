@@ -191,7 +191,8 @@ octets-drop s n o k = rw (getD-drop n s k 0) (o (n + k))
 -- bytes whose first unit is not zero, with what holds of shorter ones
 module _ (a b : ℕ) (r : List ℕ) (o : Octets (a ∷ b ∷ r)) (w : whole (pieces16 (a ∷ b ∷ r)) (length (a ∷ b ∷ r)) ≡ true) where
   turn : (a * 256 + b ≡ 0 → ⊥)
-      → ((k : ℕ) → 1 ≤ k → whole (pieces16 (drop k (a ∷ b ∷ r))) (length (drop k (a ∷ b ∷ r))) ≡ true → utf16be (codes (pieces16 (drop k (a ∷ b ∷ r)))) ≡ drop k (a ∷ b ∷ r))
+      → ((k : ℕ) → 1 ≤ k → whole (pieces16 (drop k (a ∷ b ∷ r))) (length (drop k (a ∷ b ∷ r))) ≡ true
+      → utf16be (codes (pieces16 (drop k (a ∷ b ∷ r)))) ≡ drop k (a ∷ b ∷ r))
       → utf16be (codes (pieces16 (a ∷ b ∷ r))) ≡ a ∷ b ∷ r
   unfolding joined codes units
   turn nz shorter =

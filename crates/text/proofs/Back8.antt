@@ -290,8 +290,10 @@ module _ (P Q : ℕ → Type 0) (each : (b c d e : ℕ) → P b → Q (first8 b 
   unfolding codes split8 start8
   split-each zero s h = tt
   split-each (suc n) [] h = tt
-  split-each (suc n) (b ∷ r) h =
-      (each b (getD r 0 0) (getD r 1 0) (getD r 2 0) (h .0), split-each n (drop (start8 (b ∷ r) .size) (b ∷ r)) (each-drop P (start8 (b ∷ r) .size) (b ∷ r) h))
+  split-each (suc n) (b ∷ r) h = (
+    each b (getD r 0 0) (getD r 1 0) (getD r 2 0) (h .0),
+    split-each n (drop (start8 (b ∷ r) .size) (b ∷ r)) (each-drop P (start8 (b ∷ r) .size) (b ∷ r) h),
+  )
 
 anything : (s : List ℕ) → Each (λ (c : ℕ). Unit {0}) s
 anything [] = tt
@@ -309,7 +311,8 @@ scalars8-valid s = lossy-valid (upToZero s)
 pub scalars8-nonzero : (s : List ℕ) → NoZero (scalars8 s)
 unfolding scalars8 lossy pieces8
 scalars8-nonzero s =
-    split-each (λ (c : ℕ). 0 < c) (λ (c : ℕ). 0 < c) (λ b c d e nz. nonzero-of b c d e (first8 b c d e) (view8 b c d e) nz) (length (upToZero s)) (upToZero s)
+    split-each (λ (c : ℕ). 0 < c) (λ (c : ℕ). 0 < c) (λ b c d e nz. nonzero-of b c d e (first8 b c d e) (view8 b c d e) nz) (length (upToZero s))
+    (upToZero s)
     (cut-nonzero s)
 
 -- ---- read and written

@@ -29,7 +29,8 @@ unit-none s at h = rw (units-short (drop at s) (omega (arith, length-drop at s))
 pub unit-some : (s : List ℕ) (at : ℕ) → at + 2 ≤ length s → getD s at 0 * 256 + getD s (at + 1) 0 ≡ getD (units (drop at s)) 0 0
 unfolding units
 unit-some s at h =
-    sym (ap (λ (l : List ℕ). getD (units l) 0 0) (drop-cons s at 0 (omega arith) ∙ ap (λ (l : List ℕ). getD s at 0 ∷ l) (drop-cons s (suc at) 0 (omega arith)))
+    sym (ap (λ (l : List ℕ). getD (units l) 0 0)
+    (drop-cons s at 0 (omega arith) ∙ ap (λ (l : List ℕ). getD s at 0 ∷ l) (drop-cons s (suc at) 0 (omega arith)))
     ∙ rw (add-one at))
 
 units-rest : (r : List ℕ) → units (drop 2 r) ≡ drop 1 (units r)
@@ -135,7 +136,8 @@ front-by a b r nz low false e =
       scalar = rw f (single-low s u low);
     }
 
-pub front16 : (t : List ℕ) → (getD (units t) 0 0 ≡ 0 → ⊥) → getD (units t) 0 0 < 65536 → Front t (first16 (getD (units t) 0 0) (getD (units (drop 2 t)) 0 0))
+pub front16 : (t : List ℕ) → (getD (units t) 0 0 ≡ 0 → ⊥) → getD (units t) 0 0 < 65536
+    → Front t (first16 (getD (units t) 0 0) (getD (units (drop 2 t)) 0 0))
 unfolding units
 front16 [] nz low = absurd (nz refl)
 front16 (a ∷ []) nz low = absurd (nz refl)

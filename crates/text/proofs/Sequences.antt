@@ -131,24 +131,67 @@ pub record Sized (c d e : ℕ) (p : Piece) : Type 0 where
 module _ (b c d e : ℕ) where
   sized-by : (p : Piece) → View8 b c d e p → Sized c d e p
   sized-by p (bad1 q) =
-      rw q (record { some = omega arith; four-most = omega arith; has-c = λ h. omega arith; has-d = λ h. omega arith; has-e = λ h. omega arith; scalar = omega arith })
+      rw q (record {
+        some = omega arith;
+        four-most = omega arith;
+        has-c = λ h. omega arith;
+        has-d = λ h. omega arith;
+        has-e = λ h. omega arith;
+        scalar = omega arith;
+      })
   sized-by p (bad2 hc q) =
-      rw q (record { some = omega arith; four-most = omega arith; has-c = λ h. hc; has-d = λ h. omega arith; has-e = λ h. omega arith; scalar = omega arith })
+      rw q (record {
+        some = omega arith;
+        four-most = omega arith;
+        has-c = λ h. hc;
+        has-d = λ h. omega arith;
+        has-e = λ h. omega arith;
+        scalar = omega
+            arith;
+      })
   sized-by p (bad3 hc hd q) =
       rw q (record { some = omega arith; four-most = omega arith; has-c = λ h. hc; has-d = λ h. hd; has-e = λ h. omega arith; scalar = omega arith })
   sized-by p (one h q) =
-      rw q (record { some = omega arith; four-most = omega arith; has-c = λ h. omega arith; has-d = λ h. omega arith; has-e = λ h. omega arith; scalar = omega arith })
+      rw q (record {
+        some = omega arith;
+        four-most = omega arith;
+        has-c = λ h. omega arith;
+        has-d = λ h. omega arith;
+        has-e = λ h. omega arith;
+        scalar = omega arith;
+      })
   sized-by p (two h l s q) =
       let z = s .least in
-      rw q (record { some = omega arith; four-most = omega arith; has-c = λ h. omega arith; has-d = λ h. omega arith; has-e = λ h. omega arith; scalar = omega arith })
+      rw q (record {
+        some = omega arith;
+        four-most = omega arith;
+        has-c = λ h. omega arith;
+        has-d = λ h. omega arith;
+        has-e = λ h. omega arith;
+        scalar = omega arith;
+      })
   sized-by p (three h l s d₁ d₂ q) =
       let z = s .least in
-      rw q (record { some = omega arith; four-most = omega arith; has-c = λ h. omega arith; has-d = λ h. omega arith; has-e = λ h. omega arith; scalar = omega arith })
+      rw q (record {
+        some = omega arith;
+        four-most = omega arith;
+        has-c = λ h. omega arith;
+        has-d = λ h. omega arith;
+        has-e = λ h. omega arith;
+        scalar = omega arith;
+      })
   sized-by p (four h l s d₁ d₂ e₁ e₂ q) =
       let z = s .least in
       let y = s .most in
       let x = s .toF4 (omega arith) in
-      rw q (record { some = omega arith; four-most = omega arith; has-c = λ h. omega arith; has-d = λ h. omega arith; has-e = λ h. omega arith; scalar = omega arith })
+      rw q (record {
+        some = omega arith;
+        four-most = omega arith;
+        has-c = λ h. omega arith;
+        has-d = λ h. omega arith;
+        has-e = λ h. omega arith;
+        scalar = omega arith;
+      })
 
   pub sized8 : Sized c d e (first8 b c d e)
   sized8 = sized-by (first8 b c d e) (view8 b c d e)

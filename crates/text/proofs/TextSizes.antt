@@ -30,7 +30,8 @@ is-encoded t = refl
 
 -- ---- a scalar value of UTF-16 is two bytes or more, and four bytes of UTF-8 at most
 
-pick-most : (p q r : Bool) (a b c d : List ℕ) → length a ≤ 4 → length b ≤ 4 → length c ≤ 4 → length d ≤ 4 → length (pick p a (pick q b (pick r c d))) ≤ 4
+pick-most : (p q r : Bool) (a b c d : List ℕ) → length a ≤ 4 → length b ≤ 4 → length c ≤ 4 → length d ≤ 4
+    → length (pick p a (pick q b (pick r c d))) ≤ 4
 pick-most true q r a b c d ha hb hc hd = ha
 pick-most false true r a b c d ha hb hc hd = hb
 pick-most false false true a b c d ha hb hc hd = hc
@@ -100,7 +101,14 @@ split-most (suc n) [] = omega arith
 split-most (suc n) (b ∷ r) =
     let p = start8 (b ∷ r) in
     let t = drop (p .size) (b ∷ r) in
-    omega (arith, split-most n t, start-most (b ∷ r), start-within (b ∷ r) (omega arith), length-drop (p .size) (b ∷ r), length-append (utf16 (p .code)) (utf16be (codes (split8 n t))))
+    omega (
+      arith,
+      split-most n t,
+      start-most (b ∷ r),
+      start-within (b ∷ r) (omega arith),
+      length-drop (p .size) (b ∷ r),
+      length-append (utf16 (p .code)) (utf16be (codes (split8 n t))),
+    )
 
 pub encoded-most : (t : List ℕ) → length (unicodeBytes t) ≤ 2 * length t
 unfolding unicodeBytes lossy pieces8

@@ -43,7 +43,9 @@ module _ (f : Form) (s : List ℕ) where
 
     pub whole-replaced : p .kept ≡ false → wholeAt f s at ≡ false
     unfolding wholeAt
-    whole-replaced k = ap (λ (ps : List Piece). wholeOf ps at (length s)) (r .first) ∙ replaced-ends p (piecesOf f (drop (at + p .size) s)) at (length s) k
+    whole-replaced k =
+        ap (λ (ps : List Piece). wholeOf ps at (length s)) (r .first)
+        ∙ replaced-ends p (piecesOf f (drop (at + p .size) s)) at (length s) k
 
   pub whole-end : (at : ℕ) → piecesOf f (drop at s) ≡ [] → wholeAt f s at ≡ eqb at (length s)
   unfolding wholeAt allKept sizes

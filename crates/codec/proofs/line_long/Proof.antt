@@ -23,4 +23,12 @@ returns : tie.Need-returns
 returns c = search needs
 
 pub line-long-spec : {M : Type 1} → statement M
-line-long-spec = tie.close (tie.spec slice-aggregate-words slice-aggregate-words-2 slice-aggregate-words-3 slice-aggregate-words-4 words-requires returns)
+line-long-spec =
+    tie.close
+    (tie.spec
+    slice-aggregate-words
+    slice-aggregate-words-2
+    slice-aggregate-words-3
+    slice-aggregate-words-4
+    words-requires
+    returns)

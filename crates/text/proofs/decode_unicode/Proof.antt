@@ -11,7 +11,9 @@ same-length : tie.Need-same-length
 same-length c = search needs
 
 returns : tie.Need-returns
-returns c = rw (← is-unicode (c .before .before .before .before .before .before .args .payload .now)) (c .before .before .recode .ensures)
+returns c =
+    let r = c .before .before in
+    rw (← is-unicode (r .before .before .before .before .args .payload .now)) (r .recode .ensures)
 
 pub decode-unicode-spec : {M : Type 1} → statement M
 decode-unicode-spec = tie.close (tie.spec recode-requires same-length returns)

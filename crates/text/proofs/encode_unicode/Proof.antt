@@ -11,7 +11,9 @@ same-length : tie.Need-same-length
 same-length c = search needs
 
 returns : tie.Need-returns
-returns c = rw (← is-encoded (c .before .before .before .before .before .before .args .text .now)) (c .before .before .recode .ensures)
+returns c =
+    let r = c .before .before in
+    rw (← is-encoded (r .before .before .before .before .args .text .now)) (r .recode .ensures)
 
 pub encode-unicode-spec : {M : Type 1} → statement M
 encode-unicode-spec = tie.close (tie.spec recode-requires same-length returns)

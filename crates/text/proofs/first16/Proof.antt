@@ -41,7 +41,8 @@ kept-requires c κs = search needs
 
 returns : tie.Need-returns
 returns c =
-    let x = c .before .before .before .args in c .kept .ensures ∙ sym (first-pair (x .u) (x .v) (sym (c .before .before .is-pair .ensures) ∙ c .before .if1 .taken))
+    let x = c .before .before .before .args in
+    c .kept .ensures ∙ sym (first-pair (x .u) (x .v) (sym (c .before .before .is-pair .ensures) ∙ c .before .if1 .taken))
 
 kept-requires-2 : tie.Need-kept-requires-2
 kept-requires-2 c κs = search needs

@@ -11,13 +11,22 @@ use Rattle.text.proofs.first8.Statement.{statement}
 use Rattle.text.proofs.first8.Tie as tie
 
 -- in terms of the bytes: whether each later one is in its range
-second-is : (c : tie.After-is-inside) → let x = c .before .before .before .before .before .before .args in c .is-inside .result ≡ inside (low (x .b)) (high (x .b)) (x .c)
+second-is : (c : tie.After-is-inside) → let z = c .before .before .before in
+    let x = z .before .before .before .args in
+    c .is-inside .result ≡ inside (low (x .b)) (high (x .b)) (x .c)
 second-is c = c .is-inside .ensures ∙ rw (c .before .highest .ensures, c .before .before .lowest .ensures)
 
-third-is : (c : tie.After-is-inside2) → let x = c .before .before .before .before .before .before .before .before .before .args in c .is-inside2 .result ≡ inside 0x80 0xBF (x .d)
+third-is : (c : tie.After-is-inside2) → let i = c .before .before .before in
+    let z = i .before .before .before in
+    let x = z .before .before .before .args in
+    c .is-inside2 .result ≡ inside 0x80 0xBF (x .d)
 third-is c = c .is-inside2 .ensures
 
-fourth-is : (c : tie.After-is-inside3) → let x = c .before .before .before .before .before .before .before .before .before .before .before .before .args in c .is-inside3 .result ≡ inside 0x80 0xBF (x .e)
+fourth-is : (c : tie.After-is-inside3) → let d = c .before .before .before in
+    let i = d .before .before .before in
+    let z = i .before .before .before in
+    let x = z .before .before .before .args in
+    c .is-inside3 .result ≡ inside 0x80 0xBF (x .e)
 fourth-is c = c .is-inside3 .ensures
 
 -- what each test has ruled out, once it is passed
@@ -27,31 +36,47 @@ no-0 c = ne-eqb (need (c .before .before .args .b)) 0 (λ e. c .if1 .left (c .be
 no-1 : (c : tie.Else2) → eqb (need (c .before .before .before .args .b)) 1 ≡ false
 no-1 c = ne-eqb (need (c .before .before .before .args .b)) 1 (λ e. c .if2 .left (c .before .before .needed .ensures ∙ e))
 
-in-2 : (c : tie.Else3) → let x = c .before .before .before .before .before .before .before .args in inside (low (x .b)) (high (x .b)) (x .c) ≡ true
+in-2 : (c : tie.Else3) → let z = c .before .before .before .before in
+    let x = z .before .before .before .args in
+    inside (low (x .b)) (high (x .b)) (x .c) ≡ true
 in-2 c = sym (second-is (c .before)) ∙ not-false _ (c .if3 .left)
 
-no-2 : (c : tie.Else4) → eqb (need (c .before .before .before .before .before .before .before .before .args .b)) 2 ≡ false
-no-2 c = ne-eqb (need (c .before .before .before .before .before .before .before .before .args .b)) 2 (λ e. c .if4 .left (c .before .before .before .before .before .before .before .needed .ensures ∙ e))
+no-2 : (c : tie.Else4) → let z = c .before .before .before .before .before in eqb (need (z .before .before .before .args .b)) 2 ≡ false
+no-2 c =
+    let z = c .before .before .before .before .before in
+    ne-eqb (need (z .before .before .before .args .b)) 2 (λ e. c .if4 .left (z .before .before .needed .ensures ∙ e))
 
-in-3 : (c : tie.Else5) → let x = c .before .before .before .before .before .before .before .before .before .before .args in inside 0x80 0xBF (x .d) ≡ true
+in-3 : (c : tie.Else5) → let i = c .before .before .before .before in
+    let z = i .before .before .before in
+    let x = z .before .before .before .args in
+    inside 0x80 0xBF (x .d) ≡ true
 in-3 c = sym (third-is (c .before)) ∙ not-false _ (c .if5 .left)
 
-no-3 : (c : tie.Else6) → eqb (need (c .before .before .before .before .before .before .before .before .before .before .before .args .b)) 3 ≡ false
-no-3 c = ne-eqb (need (c .before .before .before .before .before .before .before .before .before .before .before .args .b)) 3 (λ e. c .if6 .left (c .before .before .before .before .before .before .before .before .before .before .needed .ensures ∙ e))
+no-3 : (c : tie.Else6) → let i = c .before .before .before .before .before in
+    let z = i .before .before .before in
+    eqb (need (z .before .before .before .args .b)) 3 ≡ false
+no-3 c =
+    let i = c .before .before .before .before .before in
+    let z = i .before .before .before in
+    ne-eqb (need (z .before .before .before .args .b)) 3 (λ e. c .if6 .left (z .before .before .needed .ensures ∙ e))
 
 -- before the last test
-passed : (c : tie.After-is-inside3)
-    → let x = c .before .before .before .before .before .before .before .before .before .before .before .before .args in
+passed : (c : tie.After-is-inside3) → let d = c .before .before .before in
+    let i = d .before .before .before in
+    let z = i .before .before .before in
+    let x = z .before .before .before .args in
     first8 (x .b) (x .c) (x .d) (x .e)
     ≡ pick (not (inside 0x80 0xBF (x .e))) (replaces 3)
     (keeps (x .b % 0x08 * 0x40000 + x .c % 0x40 * 0x1000 + x .d % 0x40 * 0x40 + x .e % 0x40) 4)
 unfolding first8
 passed c =
+    let t = c .before .before .before .before in
+    let z = t .before .before .before .before .before in
     rw (
-      no-0 (c .before .before .before .before .before .before .before .before .before .before),
-      no-1 (c .before .before .before .before .before .before .before .before .before),
-      in-2 (c .before .before .before .before .before),
-      no-2 (c .before .before .before .before),
+      no-0 (z .before),
+      no-1 z,
+      in-2 (t .before),
+      no-2 t,
       in-3 (c .before .before),
       no-3 (c .before),
     )
@@ -75,7 +100,8 @@ returns-2 : tie.Need-returns-2
 unfolding first8
 returns-2 c =
     let k = c .before in
-    rw (no-0 (k .before), eq-eqb (need (k .before .before .before .args .b)) 1 (sym (k .before .before .needed .ensures) ∙ k .if2 .taken)) (c .kept .ensures)
+    rw (no-0 (k .before), eq-eqb (need (k .before .before .before .args .b)) 1 (sym (k .before .before .needed .ensures) ∙ k .if2 .taken))
+    (c .kept .ensures)
 
 lowest-requires : tie.Need-lowest-requires
 lowest-requires c κs = search needs
@@ -113,11 +139,12 @@ returns-4 : tie.Need-returns-4
 unfolding first8
 returns-4 c =
     let k = c .before in
+    let z = k .before .before .before .before .before in
     rw (
-      no-0 (k .before .before .before .before .before .before),
-      no-1 (k .before .before .before .before .before),
+      no-0 (z .before),
+      no-1 z,
       in-2 (k .before),
-      eq-eqb (need (k .before .before .before .before .before .before .before .before .args .b)) 2 (sym (k .before .before .before .before .before .before .before .needed .ensures) ∙ k .if4 .taken),
+      eq-eqb (need (z .before .before .before .args .b)) 2 (sym (z .before .before .needed .ensures) ∙ k .if4 .taken),
     )
     (c .kept2 .ensures)
 
@@ -131,9 +158,11 @@ returns-5 : tie.Need-returns-5
 unfolding first8
 returns-5 c =
     let k = c .before in
+    let t = k .before .before in
+    let z = t .before .before .before .before .before in
     rw (
-      no-0 (k .before .before .before .before .before .before .before .before),
-      no-1 (k .before .before .before .before .before .before .before),
+      no-0 (z .before),
+      no-1 z,
       in-2 (k .before .before .before),
       no-2 (k .before .before),
       sym (third-is (k .before)) ∙ not-true _ (k .if5 .taken),
@@ -159,13 +188,15 @@ returns-6 : tie.Need-returns-6
 unfolding first8
 returns-6 c =
     let k = c .before in
+    let t = k .before .before .before in
+    let z = t .before .before .before .before .before in
     rw (
-      no-0 (k .before .before .before .before .before .before .before .before .before),
-      no-1 (k .before .before .before .before .before .before .before .before),
+      no-0 (z .before),
+      no-1 z,
       in-2 (k .before .before .before .before),
       no-2 (k .before .before .before),
       in-3 (k .before),
-      eq-eqb (need (k .before .before .before .before .before .before .before .before .before .before .before .args .b)) 3 (sym (k .before .before .before .before .before .before .before .before .before .before .needed .ensures) ∙ k .if6 .taken),
+      eq-eqb (need (z .before .before .before .args .b)) 3 (sym (z .before .before .needed .ensures) ∙ k .if6 .taken),
     )
     (c .kept3 .ensures)
 

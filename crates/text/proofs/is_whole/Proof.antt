@@ -50,7 +50,8 @@ enum-known-p c = search needs
 returns : tie.Need-returns Inv-loop μ-loop
 returns c =
     let k = c .before .before .before in
-    let e = k .before .before .before .loop .inv .1 ∙ whole-replaced (form k) (S k) (at k) (P k) (was-read k) (not-true (P k .kept) (c .if1 .taken)) in
+    let e = k .before .before .before .loop .inv .1
+    ∙ whole-replaced (form k) (S k) (at k) (P k) (was-read k) (not-true (P k .kept) (c .if1 .taken)) in
     sym e
 
 add-at : tie.Need-add-at Inv-loop μ-loop

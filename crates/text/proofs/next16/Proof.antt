@@ -35,7 +35,8 @@ returns-2 c =
     let x = c .before .before .before .before .before .args in
     let u = c .before .before .before .unit-at in
     let v = c .before .unit-at2 in
-    rw (c .first16 .ensures) (reads16 (x .s .now) (x .at) (u .result) (v .result) (u .ensures .0) (v .ensures .0) (c .before .before .if1 .left) (u .ensures .1))
+    rw (c .first16 .ensures) (reads16 (x .s .now) (x .at) (u .result) (v .result) (u .ensures .0) (v .ensures .0) (c .before .before .if1 .left)
+    (u .ensures .1))
 
 pub next16-spec : {M : Type 1} → statement M
 next16-spec =

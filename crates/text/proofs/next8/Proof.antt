@@ -35,9 +35,10 @@ first8-requires c κs = search needs
 
 returns-2 : tie.Need-returns-2
 returns-2 c =
-    let x = c .before .before .before .before .before .before .before .args in
+    let b = c .before .before .before .before in
+    let x = b .before .before .before .args in
     rw (c .first8 .ensures)
-    (reads8 (x .s .now) (x .at) _ _ _ _ (omega arith) (c .before .before .before .before .byte-at .ensures .0) (c .before .before .before .byte-at2 .ensures .0)
+    (reads8 (x .s .now) (x .at) _ _ _ _ (omega arith) (b .byte-at .ensures .0) (c .before .before .before .byte-at2 .ensures .0)
     (c .before .before .byte-at3 .ensures .0) (c .before .byte-at4 .ensures .0))
 
 pub next8-spec : {M : Type 1} → statement M

@@ -82,7 +82,8 @@ enum-told c = search needs
 returns-2 : tie.Need-returns-2 Inv-loop μ-loop
 returns-2 c =
     let x = c .before .before .before .before .before .args in
-    let e = rest-end (x .from) (x .to) (x .s .now) (c .before .before .before .loop .at) (rw (c .enum-told .given .1) at (c .before .before .next-piece .ensures)) in
+    let e = rest-end (x .from) (x .to) (x .s .now) (c .before .before .before .loop .at)
+    (rw (c .enum-told .given .1) at (c .before .before .next-piece .ensures)) in
     omega (arith, ap length e)
 
 pub text-len-spec : {M : Type 1} → statement M

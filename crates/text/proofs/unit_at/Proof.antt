@@ -40,9 +40,10 @@ add-result c = search needs
 
 returns-3 : tie.Need-returns-3
 returns-3 c =
-    let x = c .before .before .before .before .before .before .before .args in
-    let e : c .before .before .wide32 .result * 256 + c .wide322 .result ≡ getD (x .s .now) (x .at) 0 * 256 + getD (x .s .now) (x .at + 1) 0 =
-    rw (c .before .before .wide32 .ensures .0, c .wide322 .ensures .0) in
+    let w = c .before .before in
+    let x = w .before .before .before .before .before .args in
+    let e : w .wide32 .result * 256 + c .wide322 .result ≡ getD (x .s .now) (x .at) 0 * 256 + getD (x .s .now) (x .at + 1) 0 =
+    rw (w .wide32 .ensures .0, c .wide322 .ensures .0) in
     (e ∙ unit-some (x .s .now) (x .at) (omega arith), omega arith)
 
 pub unit-at-spec : {M : Type 1} → statement M

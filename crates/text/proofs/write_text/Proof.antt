@@ -1,4 +1,5 @@
--- `text::write_text` meets its contract. The invariant: n bytes of the text stand in the store, and those of the pieces from the place on are to come. Assumes nothing.
+-- `text::write_text` meets its contract. The invariant: n bytes of the text stand in the store, and those of the pieces from the place on are to
+-- come. Assumes nothing.
 use mathlib.Core.List.{List, _++_}
 use Prim.Native.Nat.{ℕ, _+_, _-_, _≤_}
 use native.Mathlib.Omega.{arith}
@@ -20,20 +21,23 @@ abbrev μ-loop : tie.MeasureT-loop
 
 -- what was read in a turn
 module _ (k : tie.After-p Inv-loop μ-loop) where
+  abbrev test : tie.At-loop Inv-loop μ-loop
+  test = k .before .before .before
+
   abbrev S : List ℕ
-  S = k .before .before .before .before .before .before .args .s .now
+  S = test .before .before .before .args .s .now
 
   abbrev D : List ℕ
-  D = k .before .before .before .before .before .before .args .d .now
+  D = test .before .before .before .args .d .now
 
   abbrev at : ℕ
-  at = k .before .before .before .loop .at
+  at = test .loop .at
 
   abbrev from : Form
-  from = k .before .before .before .before .before .before .args .from
+  from = test .before .before .before .args .from
 
   abbrev to : Form
-  to = k .before .before .before .before .before .before .args .to
+  to = test .before .before .before .args .to
 
   abbrev P : Piece
   P = k .p .given .0 .0
@@ -41,8 +45,12 @@ module _ (k : tie.After-p Inv-loop μ-loop) where
   was-read : ReadsOne from S at P
   was-read = rw (k .p .given .1) at (k .before .before .next-piece .ensures)
 
-  half : Half (recoded from to S) (encoded to (P .code) ++ rest from to S (at + P .size)) D (k .before .before .before .loop .d) (k .before .before .before .loop .n)
-  half = rw (rest-one from to S at P was-read) at (k .before .before .before .loop .inv .1)
+  half : Half (recoded from to S) (encoded to (P .code) ++ rest from to S (at + P .size)) D (test .loop .d) (test .loop .n)
+  half = rw (rest-one from to S at P was-read) at (test .loop .inv .1)
+
+-- what was read, from where it is put
+abbrev piece : tie.After-put Inv-loop μ-loop → tie.After-p Inv-loop μ-loop
+piece w = w .before .before .before
 
 loop-holds : tie.Need-loop-holds Inv-loop μ-loop
 loop-holds c =
@@ -58,26 +66,27 @@ enum-known-p c = search needs
 put-requires : tie.Need-put-requires Inv-loop μ-loop
 put-requires c κs =
     let k = c .before .before in
-    let l = k .before .before .before .loop in (
-      half-room (recoded (from k) (to k) (S k)) (D k) (l .d) (l .n) (k .before .before .before .before .before .before .pre) (encoded (to k) (P k .code))
+    let l = test k .loop in (
+      half-room (recoded (from k) (to k) (S k)) (D k) (l .d) (l .n) (test k .before .before .before .pre) (encoded (to k) (P k .code))
           (rest (from k) (to k) (S k) (at k + P k .size)) (half k),
       was-read k .scalar,
     )
 
 add-at : tie.Need-add-at Inv-loop μ-loop
-add-at c = omega (arith, was-read (c .before .before .before .before .before .before) .within)
+add-at c = omega (arith, was-read (piece (c .before .before .before)) .within)
 
 loop-less : tie.Need-loop-less Inv-loop μ-loop
-loop-less c = let r = was-read (c .before .before .before .before .before .before) in omega (arith, r .within, r .some)
+loop-less c = let r = was-read (piece (c .before .before .before)) in omega (arith, r .within, r .some)
 
 loop-again : tie.Need-loop-again Inv-loop μ-loop
 loop-again c =
-    let k = c .before .before .before .before .before .before in
-    let l = k .before .before .before .loop in
-    let e = c .before .before .before .put .ensures in (
+    let w = c .before .before .before in
+    let k = piece w in
+    let l = test k .loop in
+    let e = w .put .ensures in (
       was-read k .within,
       rw (e .1, e .0)
-          (half-more (recoded (from k) (to k) (S k)) (D k) (l .d) (l .n) (k .before .before .before .before .before .before .pre) (encoded (to k) (P k .code))
+          (half-more (recoded (from k) (to k) (S k)) (D k) (l .d) (l .n) (test k .before .before .before .pre) (encoded (to k) (P k .code))
           (rest (from k) (to k) (S k) (at k + P k .size)) (half k)),
     )
 
@@ -89,9 +98,10 @@ same-length c = c .before .before .before .loop .inv .1 .same
 
 returns : tie.Need-returns Inv-loop μ-loop
 returns c =
-    let x = c .before .before .before .before .before .before in
+    let h = c .before .before .before in
+    let x = h .before .before .before in
     let a = x .args in
-    let l = c .before .before .before .loop in
+    let l = h .loop in
     let t = recoded (a .from) (a .to) (a .s .now) in
     let e = rest-end (a .from) (a .to) (a .s .now) (l .at) (rw (c .enum-told .given .1) at (c .before .before .next-piece .ensures)) in
     let h = half-end t (a .d .now) (l .d) (l .n) (x .pre) (rw e at (l .inv .1)) in

@@ -1,4 +1,5 @@
--- `text::zero_at` meets its contract. The invariant: what stands before the first zero is i elements, and what stands before it from i on. Assumes nothing.
+-- `text::zero_at` meets its contract. The invariant: what stands before the first zero is i elements, and what stands before it from i on. Assumes
+-- nothing.
 use mathlib.Core.Path.{_≡_}
 use Prim.Native.Nat.{_+_, _-_, _≤_}
 use native.Mathlib.Omega.{arith}
@@ -22,7 +23,8 @@ shared-slice-read-if1 c = omega arith
 
 returns : tie.Need-returns Inv-loop μ-loop
 returns c =
-    let l = c .before .before .before in omega (arith, cut-zero (l .before .args .s .now) (l .loop .i) (c .before .before .loop-test .taken) (c .if1 .taken))
+    let l = c .before .before .before in
+    omega (arith, cut-zero (l .before .args .s .now) (l .loop .i) (c .before .before .loop-test .taken) (c .if1 .taken))
 
 add-i : tie.Need-add-i Inv-loop μ-loop
 add-i c = omega arith

@@ -38,19 +38,23 @@ number-at-requires-4 c κs =
     let x = c .before .before .before .before in
     in-date (x .args .text .now) (form (x .args .text .now) (x .pre)) _ (omega arith)
 
+-- the start, from where the numbers of the date are read
+abbrev start : tie.After-number-at4 → tie.Start
+start d = d .before .before .before .before .before
+
 number-at-requires-5 : tie.Need-number-at-requires-5
 number-at-requires-5 c κs =
-    let x = c .before .before .before .before .before in
+    let x = start c in
     in-clock (x .args .text .now) (form (x .args .text .now) (x .pre)) _ (omega arith) (omega arith)
 
 number-at-requires-6 : tie.Need-number-at-requires-6
 number-at-requires-6 c κs =
-    let x = c .before .before .before .before .before .before in
+    let x = start (c .before) in
     in-clock (x .args .text .now) (form (x .args .text .now) (x .pre)) _ (omega arith) (omega arith)
 
 number-at-requires-7 : tie.Need-number-at-requires-7
 number-at-requires-7 c κs =
-    let x = c .before .before .before .before .before .before .before in
+    let x = start (c .before .before) in
     in-clock (x .args .text .now) (form (x .args .text .now) (x .pre)) _ (omega arith) (omega arith)
 
 returns : tie.Need-returns
@@ -65,7 +69,7 @@ returns c =
       c .before .before .number-at5 .ensures,
       c .before .number-at6 .ensures,
       c .number-at7 .ensures,
-      century (a .before .before .before .before .before .args .text .now),
+      century (start a .args .text .now),
     )
 
 pub instant-in-spec : {M : Type 1} → statement M

@@ -64,19 +64,21 @@ digit-requires-14 c κs = search needs
 
 returns : tie.Need-returns
 returns c =
-    let a = c .before .before .before .before .before .before .before in
-    let s = a .before .before .before .before .before .before .before in
+    let d = c .before .before .before .before in
+    let a = d .before .before .before in
+    let b = a .before .before .before in
+    let s = b .before .before .before .before in
     rw (
-      a .before .before .before .before .before .before .digit .ensures,
-      a .before .before .before .before .before .digit2 .ensures,
-      a .before .before .before .before .digit3 .ensures,
-      a .before .before .before .digit4 .ensures,
+      b .before .before .before .digit .ensures,
+      b .before .before .digit2 .ensures,
+      b .before .digit3 .ensures,
+      b .digit4 .ensures,
       a .before .before .digit5 .ensures,
       a .before .digit6 .ensures,
       a .digit7 .ensures,
-      c .before .before .before .before .before .before .digit8 .ensures,
-      c .before .before .before .before .before .digit9 .ensures,
-      c .before .before .before .before .digit10 .ensures,
+      d .before .before .digit8 .ensures,
+      d .before .digit9 .ensures,
+      d .digit10 .ensures,
       c .before .before .before .digit11 .ensures,
       c .before .before .digit12 .ensures,
       c .before .digit13 .ensures,

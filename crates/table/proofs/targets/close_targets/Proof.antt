@@ -20,9 +20,10 @@ same-length c = search needs
 returns : tie.Need-returns
 unfolding targetsClosed
 returns c =
-    let second = c .before .before .before .before .before .before in
+    let third = c .before .before in
+    let second = third .before .before .before .before in
     let first = second .before .before .before .before in
-    rw (c .before .before .close-column3 .ensures, second .close-column2 .ensures, first .close-column .ensures) refl
+    rw (third .close-column3 .ensures, second .close-column2 .ensures, first .close-column .ensures) refl
 
 pub close-targets-spec : {M : Type 1} → statement M
 close-targets-spec =

@@ -32,9 +32,12 @@ octets16-at-requires c κs = search needs
 returns-2 : tie.Need-returns-2
 unfolding targetBy
 returns-2 c =
-    let x = c .before .before .before .before .before .before .before .args .s .now in
-    let h = c .before .before .before .before .before .if1 .left in
-    simp (le-leb _ _ h) (ap (λ (o : Octets16). target (length x) o) (rw (c .octets16-at .ensures, c .before .before .before .copy-into .ensures) (ap numbers16 (pasted-zeros x h))))
+    let e = c .before .before .before .before .before in
+    let x = e .before .before .args .s .now in
+    let h = e .if1 .left in
+    simp (le-leb _ _ h)
+    (ap (λ (o : Octets16). target (length x) o)
+    (rw (c .octets16-at .ensures, c .before .before .before .copy-into .ensures) (ap numbers16 (pasted-zeros x h))))
 
 pub target-of-spec : {M : Type 1} → statement M
 target-of-spec =

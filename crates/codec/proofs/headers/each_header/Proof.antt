@@ -1,9 +1,9 @@
--- codec::each_header meets its contract. Each turn passes a header.
+-- `codec::headers::each_header` meets its contract. Each turn passes a header.
 use borrow.Author.Needs.{needs}
 use Prim.Native.Nat.{_-_, _≤_}
 use lib.ListN.{length}
-use Rattle.codec.proofs.each_header.Statement.{statement}
-use Rattle.codec.proofs.each_header.Tie as tie
+use Rattle.codec.proofs.headers.each_header.Statement.{statement}
+use Rattle.codec.proofs.headers.each_header.Tie as tie
 
 abbrev Inv-loop : tie.InvT-loop
 Inv-loop s is-rewritten at₀ at = at ≤ length s

@@ -1,8 +1,8 @@
--- `codec::show_long` meets its contract: the stores have the lengths that they are made with. Assumes nothing.
+-- `codec::headers::show_long` meets its contract: the stores have the lengths that they are made with. Assumes nothing.
 use borrow.Author.Needs.{needs}
 use Rattle.lines.proofs.Filled.{filled}
-use Rattle.codec.proofs.show_long.Statement.{statement}
-use Rattle.codec.proofs.show_long.Tie as tie
+use Rattle.codec.proofs.headers.show_long.Statement.{statement}
+use Rattle.codec.proofs.headers.show_long.Tie as tie
 
 slice-aggregate-show : tie.Need-slice-aggregate-show
 slice-aggregate-show c = filled 200000 0

@@ -1,9 +1,9 @@
--- codec::put_tags meets its contract. Each turn passes a tag.
+-- `codec::headers::put_tags` meets its contract. Each turn passes a tag.
 use borrow.Author.Needs.{needs}
 use Prim.Native.Nat.{_-_, _≤_}
 use lib.ListN.{length}
-use Rattle.codec.proofs.put_tags.Statement.{statement}
-use Rattle.codec.proofs.put_tags.Tie as tie
+use Rattle.codec.proofs.headers.put_tags.Statement.{statement}
+use Rattle.codec.proofs.headers.put_tags.Tie as tie
 
 abbrev Inv-loop : tie.InvT-loop
 Inv-loop s separator at₀ t8 at = at ≤ length s

@@ -1,10 +1,10 @@
--- `codec::steps` meets its contract: each turn passes a step, and no store changes its length. Assumes nothing.
+-- `codec::unsent::steps` meets its contract: each turn passes a step, and no store changes its length. Assumes nothing.
 use borrow.Author.Needs.{needs}
 use Prim.Native.Nat.{_-_}
 use mathlib.Core.Path.{_≡_}
 use lib.ListN.{length}
-use Rattle.codec.proofs.steps.Statement.{statement}
-use Rattle.codec.proofs.steps.Tie as tie
+use Rattle.codec.proofs.unsent.steps.Statement.{statement}
+use Rattle.codec.proofs.unsent.steps.Tie as tie
 
 abbrev Inv-loop : tie.InvT-loop
 Inv-loop limit text headers₀ body₀ reply₀ now₀ at₀ headers body reply now at =
