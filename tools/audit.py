@@ -541,6 +541,9 @@ class Session:
             self.say(str(e), True)
             return
         self.clocks, self.frames = [c for _, c, _, _ in log.frames if c], log.frames
+        if not os.path.isdir(folder):
+            self.say('no such folder', True)
+            return
         # A session that was cut before its first frame has no log yet, or an empty one, and no record.
         if not data:
             self.say('no log' if data is None else 'log is empty', False)

@@ -193,6 +193,13 @@ pub(crate) fn found_of(
     Found::Absent
 }
 
+// Tells whether the session's folder is there.
+pub(crate) fn is_session(task: Task) -> bool {
+    let mut path = [0u8; PATH];
+    let n = below(task.session, b".", &mut path);
+    is_there(&path[0..n])
+}
+
 // Tells whether something has the name of record `number`.
 pub(crate) fn is_taken(task: Task, number: u32) -> bool {
     let name = record_name(number);

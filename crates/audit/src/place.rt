@@ -19,7 +19,7 @@ pub(crate) const STORE: usize = 131072;
 const ROW: usize = 16;
 
 // How the reading ends, beside the numbers 11 to 13 of a frame that is wrong: the log is whole, breaks off, has a frame that is longer than the
-// store, or is not there.
+// store, or is not there; or the session's folder is not there.
 pub(crate) const WHOLE: u8 = 1;
 
 pub(crate) const CUT: u8 = 2;
@@ -27,6 +27,8 @@ pub(crate) const CUT: u8 = 2;
 pub(crate) const LONG: u8 = 3;
 
 pub(crate) const NO_LOG: u8 = 4;
+
+pub(crate) const NO_FOLDER: u8 = 5;
 
 // Where the program stands in the log.
 pub(crate) struct Place {

@@ -8,12 +8,14 @@ use crate::entry::take_frame;
 use crate::filed::FILED;
 use crate::filed::found_of;
 use crate::filed::is_extracted;
+use crate::filed::is_session;
 use crate::filed::is_taken;
 use crate::path::MOST;
 use crate::path::PATH;
 use crate::path::Task;
 use crate::path::below;
 use crate::place::CUT;
+use crate::place::NO_FOLDER;
 use crate::place::NO_LOG;
 use crate::place::Place;
 use crate::place::STORE;
@@ -344,6 +346,11 @@ fn open_log(i: usize) -> i32 {
     os::open_read(&path[0..n])
 }
 
+// Returns what is missing of a session that has no log: the log alone, or its folder.
+fn missing(task: Task) -> u8 {
+    if is_session(task) { NO_LOG } else { NO_FOLDER }
+}
+
 // Audits a session, prints its lines, and returns its counts.
 pub(crate) fn audit_session(
     task: Task,
@@ -364,7 +371,8 @@ pub(crate) fn audit_session(
     };
     if file < 0 {
         let none = begun(opened);
-        return print_all(moved(none, over(at_start(), NO_LOG), before_first()), out);
+        let place = over(at_start(), missing(opened));
+        return print_all(moved(none, place, before_first()), out);
     }
     let r = read_log(opened, store, packet, headers, body, tables, filed, out);
     libc::close(file);

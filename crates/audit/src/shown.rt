@@ -10,6 +10,7 @@ use crate::path::FOLDER;
 use crate::path::base_of;
 use crate::place::CUT;
 use crate::place::LONG;
+use crate::place::NO_FOLDER;
 use crate::place::NO_LOG;
 use crate::place::Place;
 use crate::place::WHOLE;
@@ -272,6 +273,10 @@ pub(crate) fn print_log(place: Place, audit: Audit) {
     }
     if place.end == NO_LOG {
         print_text(b"no log\n");
+        return;
+    }
+    if place.end == NO_FOLDER {
+        print_text(b"no such folder\n");
         return;
     }
     if place.number != 0 {
