@@ -54,7 +54,7 @@ fn put_named_nonce(n: Named) {
 }
 
 // Answers with the parts of a challenge.
-pub fn challenge(v: &[u8]) {
+pub(crate) fn challenge(v: &[u8]) {
     let DigestChallenge::Challenge {
         nonce,
         user_id_required,
@@ -76,7 +76,7 @@ pub fn challenge(v: &[u8]) {
 }
 
 // Answers with the parts of the response to a challenge.
-pub fn response_list(v: &[u8]) {
+pub(crate) fn response_list(v: &[u8]) {
     let DigestResponse::Response {
         digest,
         user,
@@ -95,7 +95,7 @@ pub fn response_list(v: &[u8]) {
 }
 
 // Answers whether the response to a challenge is right for a password.
-pub fn verify(challenge: &[u8], response: &[u8], password: &[u8]) {
+pub(crate) fn verify(challenge: &[u8], response: &[u8], password: &[u8]) {
     let DigestChallenge::Challenge {
         nonce,
         user_id_required: _,
@@ -123,7 +123,7 @@ pub fn verify(challenge: &[u8], response: &[u8], password: &[u8]) {
 }
 
 // Answers with the response to a challenge.
-pub fn respond(challenge: &[u8], has_user: bool, user: &[u8], password: &[u8]) {
+pub(crate) fn respond(challenge: &[u8], has_user: bool, user: &[u8], password: &[u8]) {
     let DigestChallenge::Challenge {
         nonce,
         user_id_required: _,
@@ -140,7 +140,7 @@ pub fn respond(challenge: &[u8], has_user: bool, user: &[u8], password: &[u8]) {
 }
 
 // Answers with the bytes of a challenge. The first byte of `realm` is its charset.
-pub fn write_challenge(
+pub(crate) fn write_challenge(
     nonce: &[u8],
     user_id_required: bool,
     read_only: bool,
@@ -169,7 +169,7 @@ pub fn write_challenge(
 }
 
 // Answers with the digest of a nonce and a password.
-pub fn digest(nonce: &[u8], password: &[u8]) {
+pub(crate) fn digest(nonce: &[u8], password: &[u8]) {
     if nonce.len() != 16 {
         put(b"bad nonce");
         return;

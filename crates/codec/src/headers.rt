@@ -30,14 +30,14 @@ enum Kind {
 }
 
 // A header or a tag of a list, with the place of its value. Nothing is there if it ends no later than it was looked for.
-pub struct Piece {
+pub(crate) struct Piece {
     pub id: u8,
     pub start: usize,
     pub end: usize,
 }
 
 // Returns the piece from `start` to `end`, or an empty one if these are no places among `len` bytes in their order.
-pub fn piece_at(len: usize, id: u8, start: usize, end: usize) -> Piece
+pub(crate) fn piece_at(len: usize, id: u8, start: usize, end: usize) -> Piece
     ensures { λ r. ⌜ (r .start ≤ r .end) × (r .end ≤ len) ⌝ }
 {
     if len < end {
@@ -58,7 +58,7 @@ pub fn piece_at(len: usize, id: u8, start: usize, end: usize) -> Piece
 }
 
 // Returns the sum of two lengths, or 0 if one of them is a million or more.
-pub fn sum(a: usize, b: usize) -> usize {
+pub(crate) fn sum(a: usize, b: usize) -> usize {
     if a < 1000000 {
         if b < 1000000 {
             return a + b;
@@ -111,7 +111,7 @@ fn put_tags(s: &[u8], separator: &[u8]) {
 }
 
 // Answers with the tags of a list.
-pub fn tags(s: &[u8]) {
+pub(crate) fn tags(s: &[u8]) {
     if tlv::is_tag_list(s) {
         put_tags(s, b" ");
     } else {
@@ -342,7 +342,7 @@ fn put_read_headers(n: usize, s: &[u8]) {
 }
 
 // Answers with the headers of `s`.
-pub fn put_headers(s: &[u8]) {
+pub(crate) fn put_headers(s: &[u8]) {
     match walk::len(s, 0) {
         Count::Headers(n) => put_read_headers(n, s),
         Count::Unreadable => put(b"unreadable"),

@@ -28,7 +28,7 @@ ghost use lib.ListN.{length};
 // ---- bytes that name things
 
 // Answers a question on the first byte of a request: opcode, Final bit, and the byte that the two make again.
-pub fn first(byte: u8) {
+pub(crate) fn first(byte: u8) {
     let FirstByte::Known {
         opcode: op,
         is_final,
@@ -47,7 +47,7 @@ pub fn first(byte: u8) {
 }
 
 // Answers a question on a response code. The Final bit of `byte` is taken away first, as the original does.
-pub fn code(byte: u8) {
+pub(crate) fn code(byte: u8) {
     let b = byte & 0x7F;
     if !response::is_code(b) {
         put(b"unknown");
@@ -63,7 +63,7 @@ pub fn code(byte: u8) {
 }
 
 // Answers with the length that the front of a packet states.
-pub fn packet_length(s: &[u8]) {
+pub(crate) fn packet_length(s: &[u8]) {
     match packets::packet_length(s) {
         Length::Known(n) => put_number(n),
         Length::Missing => put(b"none"),
@@ -113,7 +113,7 @@ fn put_request(op: Opcode, is_final: bool, p: &[u8], left: usize, headers: &[u8]
 }
 
 // Answers with the request at the front of `s`.
-pub fn parsed(s: &[u8]) {
+pub(crate) fn parsed(s: &[u8]) {
     let Parsed::Request {
         opcode,
         is_final,
@@ -141,7 +141,7 @@ fn front_len(s: &[u8]) -> usize
 }
 
 // Answers a question on a response, to a Connect or to another request.
-pub fn answered(s: &[u8], connect: bool) {
+pub(crate) fn answered(s: &[u8], connect: bool) {
     let n = front_len(s);
     let ParsedResponse::Response {
         code,
@@ -178,7 +178,7 @@ fn u16_at(s: &[u8], at: usize) -> u16
 }
 
 // Returns the fields that a word names: four bytes are a Connect's, one is a SetPath's, and `is_default` asks for the defaults.
-pub fn fields_of(b: &[u8], is_default: bool) -> Fields {
+pub(crate) fn fields_of(b: &[u8], is_default: bool) -> Fields {
     if is_default {
         return Fields::Default;
     }
@@ -209,7 +209,7 @@ fn parameters_of(b: &[u8], is_none: bool) -> ConnectParameters {
 }
 
 // Answers with the bytes of a request. `byte` names an opcode only if it is the opcode's own value.
-pub fn request(byte: u8, is_final: bool, fields: Fields, headers: &[u8]) {
+pub(crate) fn request(byte: u8, is_final: bool, fields: Fields, headers: &[u8]) {
     let FirstByte::Known {
         opcode: op,
         is_final: _,
@@ -242,7 +242,7 @@ fn prefix(is_none: bool) -> usize {
 }
 
 // Answers with the bytes of a response. `is_none` says that the response has no Connect parameters; otherwise `parameters` are their bytes.
-pub fn reply(byte: u8, is_none: bool, parameters: &[u8], headers: &[u8]) {
+pub(crate) fn reply(byte: u8, is_none: bool, parameters: &[u8], headers: &[u8]) {
     let code = byte & 0x7F;
     if !response::is_code(code) {
         put(b"unknown");

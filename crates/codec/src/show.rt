@@ -9,23 +9,23 @@ use packet::opcode::Opcode;
 use packet::tlv::Wrote;
 
 // Writes `s` to standard output.
-pub fn put(s: &[u8]) {
+pub(crate) fn put(s: &[u8]) {
     io::write_all(STDOUT_FILENO, s);
 }
 
 // Puts `n` in decimal.
-pub fn put_number(n: usize) {
+pub(crate) fn put_number(n: usize) {
     io::print_decimal(STDOUT_FILENO, n as u64);
 }
 
 // Puts a byte as two hexadecimal digits.
-pub fn put_byte(b: u8) {
+pub(crate) fn put_byte(b: u8) {
     let two = pair(b);
     put(&two);
 }
 
 // Puts a number as four bytes in hexadecimal, the highest first.
-pub fn put_u32(n: u32) {
+pub(crate) fn put_u32(n: u32) {
     put_byte((n / 16777216 % 256) as u8);
     put_byte((n / 65536 % 256) as u8);
     put_byte((n / 256 % 256) as u8);
@@ -33,7 +33,7 @@ pub fn put_u32(n: u32) {
 }
 
 // Puts sixteen bytes in hexadecimal.
-pub fn put_octets(n: Octets16) {
+pub(crate) fn put_octets(n: Octets16) {
     let bytes = md5::octets(n);
     let mut out = [0u8; 32];
     let n = digits(&bytes, &mut out);
@@ -41,7 +41,7 @@ pub fn put_octets(n: Octets16) {
 }
 
 // Puts the bytes `s` in hexadecimal; of more than 512, how many there are and their MD5.
-pub fn put_digits(s: &[u8]) {
+pub(crate) fn put_digits(s: &[u8]) {
     if 512 < s.len() {
         put(b"#");
         put_number(s.len());
@@ -56,7 +56,7 @@ pub fn put_digits(s: &[u8]) {
 }
 
 // Puts the bytes `s` in hexadecimal, or a dash if there are none.
-pub fn put_hex(s: &[u8]) {
+pub(crate) fn put_hex(s: &[u8]) {
     if s.len() == 0 {
         put(b"-");
     }
@@ -64,13 +64,13 @@ pub fn put_hex(s: &[u8]) {
 }
 
 // Puts a name, and bytes in hexadecimal.
-pub fn put_named(name: &[u8], v: &[u8]) {
+pub(crate) fn put_named(name: &[u8], v: &[u8]) {
     put(name);
     put_hex(v);
 }
 
 // Puts 1 for true and 0 for false.
-pub fn put_flag(b: bool) {
+pub(crate) fn put_flag(b: bool) {
     if b {
         put(b"1");
     } else {
@@ -79,7 +79,7 @@ pub fn put_flag(b: bool) {
 }
 
 // Puts whether the Final bit is set.
-pub fn put_final(is_final: bool) {
+pub(crate) fn put_final(is_final: bool) {
     if is_final {
         put(b"final");
     } else {
@@ -111,13 +111,13 @@ fn line_of(op: Opcode) -> usize {
 }
 
 // Puts the name of an opcode.
-pub fn put_name(op: Opcode) {
+pub(crate) fn put_name(op: Opcode) {
     let names = b"connect\ndisconnect\nput\nget\nset_path\naction\nsession\nabort\nuser_defined\n";
     put_line(names, line_of(op));
 }
 
 // Puts what became of a packet or a tag list: its bytes, or which length is refused.
-pub fn put_done(done: Wrote, store: &[u8], refusal: &[u8], size: usize) {
+pub(crate) fn put_done(done: Wrote, store: &[u8], refusal: &[u8], size: usize) {
     match done {
         Wrote::Written(n) => {
             if n <= store.len() {

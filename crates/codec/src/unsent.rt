@@ -267,7 +267,7 @@ fn steps(
 }
 
 // Answers with a word for each step on what is still to be sent of `headers` and a body.
-pub fn queue(limit: usize, headers: &[u8], has_body: bool, body: &[u8], text: &[u8]) {
+pub(crate) fn queue(limit: usize, headers: &[u8], has_body: bool, body: &[u8], text: &[u8]) {
     if !header::is_readable(headers, 0) {
         put(b"unreadable");
         return;
