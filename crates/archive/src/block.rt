@@ -11,7 +11,7 @@ use base::{be16_at, copy_into};
 use digest::md5::digest;
 
 // What `write` answers; `wrote_number` gives the number of each.
-#[derive(Drop)]
+#[derive(Clone, Copy)]
 pub enum Wrote {
     // The blocks stand at the front of the target; they are so many bytes.
     Written(usize),
@@ -22,7 +22,7 @@ pub enum Wrote {
 }
 
 // What `read` answers; `body_number` gives the number of each.
-#[derive(Drop)]
+#[derive(Clone, Copy)]
 pub enum Body {
     // The body stands at the front of the target; it has so many bytes.
     Bytes(usize),
@@ -302,7 +302,7 @@ fn fault_of(block: &[u8], k: usize, is_ended: bool, before: usize) -> u8
 
 // What the blocks are found to be: the number of their fault, how many blocks stand before the first faulty one, and, if there is no fault, the
 // length of the body.
-#[derive(Drop)]
+#[derive(Clone, Copy)]
 pub struct Judgement {
     pub fault: u8,
     pub sound: usize,

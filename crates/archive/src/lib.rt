@@ -1,2 +1,3 @@
 // Records for the archive (request (a)).
+#![tactic(auto)]
 pub mod block;

@@ -14,7 +14,7 @@ use filing::note::write_note;
 use table::targets::{Target, is_named};
 
 // What a filed record is beside the log's.
-#[derive(Drop)]
+#[derive(Clone, Copy)]
 pub(crate) enum What {
     Same,
     // The headers differ, first at this byte.

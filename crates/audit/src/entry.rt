@@ -41,7 +41,7 @@ pub(crate) const KIND: u8 = 3;
 pub(crate) const LENGTH: u8 = 4;
 
 // What the frames say.
-#[derive(Drop)]
+#[derive(Clone, Copy)]
 pub(crate) struct Audit {
     pub state: State,
     // The record that was handed over last, if it is not judged yet.
@@ -58,7 +58,7 @@ pub(crate) struct Audit {
 }
 
 // What is done with a frame.
-#[derive(Drop)]
+#[derive(Clone, Copy)]
 enum Act {
     // It is passed over.
     Pass,

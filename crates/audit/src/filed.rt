@@ -16,7 +16,7 @@ use filing::names::record_name;
 pub(crate) const FILED: usize = 1096192;
 
 // A file that was to be read: whether it is there, and how many bytes of the store it fills.
-#[derive(Drop)]
+#[derive(Clone, Copy)]
 struct Held {
     is_there: bool,
     length: usize,

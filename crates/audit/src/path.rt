@@ -16,7 +16,7 @@ pub(crate) const MOST: u32 = 999999;
 
 // What the program was asked to do: the arguments that name the session's folder and the folder for what is extracted (0: nothing is), and the log's
 // file.
-#[derive(Drop)]
+#[derive(Clone, Copy)]
 pub(crate) struct Task {
     pub session: usize,
     pub extract: usize,

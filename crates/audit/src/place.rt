@@ -28,7 +28,7 @@ pub(crate) const NO_LOG: u8 = 4;
 pub(crate) const NO_FOLDER: u8 = 5;
 
 // Where the program stands in the log.
-#[derive(Drop)]
+#[derive(Clone, Copy)]
 pub(crate) struct Place {
     // Where the next frame begins in the store, and how many bytes stand there.
     pub at: usize,
@@ -42,7 +42,7 @@ pub(crate) struct Place {
 }
 
 // A frame as it stands in the log, except for its payload.
-#[derive(Drop)]
+#[derive(Clone, Copy)]
 pub(crate) struct Here {
     pub number: u32,
     // The four letters as one number.

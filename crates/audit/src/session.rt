@@ -21,7 +21,7 @@ use std::num::wrapping_add_u32;
 const BEHIND: u32 = 100;
 
 // Where the program stands in the log, what the frames before it say, what was counted, and how many bytes of lines are collected.
-#[derive(Drop)]
+#[derive(Clone, Copy)]
 struct Reading {
     task: Task,
     place: Place,

@@ -9,7 +9,7 @@ use std::num::wrapping_add_usize;
 const SUCCESS: usize = 0x20;
 
 // What is found of a record below the session's folder.
-#[derive(Drop)]
+#[derive(Clone, Copy)]
 pub(crate) enum Found {
     // Neither its folder nor a part of it.
     Absent,
@@ -20,7 +20,7 @@ pub(crate) enum Found {
 }
 
 // The verdict.
-#[derive(Drop)]
+#[derive(Clone, Copy)]
 pub(crate) enum Word {
     // The client was told success, and the record is not there.
     Missing,
@@ -34,7 +34,7 @@ pub(crate) enum Word {
 }
 
 // How many records there are, how many are as the log has them, and how many grave words were said.
-#[derive(Drop)]
+#[derive(Clone, Copy)]
 pub(crate) struct Counts {
     pub records: usize,
     pub same: usize,

@@ -20,7 +20,7 @@ pub(crate) const NO_CODE: usize = 256;
 pub(crate) const KEPT: usize = 80;
 
 // How far a record is.
-#[derive(Drop)]
+#[derive(Clone, Copy)]
 pub(crate) enum Phase {
     // There is none, or it is judged.
     Nothing,
@@ -31,7 +31,7 @@ pub(crate) enum Phase {
 }
 
 // The frame `file` of a record, if there is one: how long its payload is, the first bytes of that, where the frame stands, and its check.
-#[derive(Drop)]
+#[derive(Clone, Copy)]
 pub(crate) struct FileFrame {
     pub is_there: bool,
     pub size: usize,
@@ -41,7 +41,7 @@ pub(crate) struct FileFrame {
 }
 
 // A record, and what is said of it.
-#[derive(Drop)]
+#[derive(Clone, Copy)]
 pub(crate) struct Waiting {
     pub phase: Phase,
     // How many bytes of the stores are its headers and its body, and whether it has a body.

@@ -4,7 +4,7 @@ ghost use Rattle.calendar.specs.Day.{leap, days_in, year_days, is_date, is_last,
 ghost use Rattle.calendar.specs.Day.{next_day, rolled_date, rolled_number, rolling, rolled_by, month_from, date_from};
 
 // A date by its numbers. There may be no such day.
-#[derive(Drop)]
+#[derive(Clone, Copy)]
 pub struct Date {
     pub year: u16,
     pub month: u8,
@@ -12,7 +12,7 @@ pub struct Date {
 }
 
 // What rolling a date forward gives: the number of its answer, and the date afterwards.
-#[derive(Drop)]
+#[derive(Clone, Copy)]
 pub struct Rolling {
     pub number: u8,
     pub date: Date,

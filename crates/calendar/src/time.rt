@@ -7,7 +7,7 @@ use crate::date::{Date, date_after_epoch, day_number, is_date};
 use base::copy_into;
 
 // A date and a time of day, by their numbers. There may be no such time.
-#[derive(Drop)]
+#[derive(Clone, Copy)]
 struct Instant {
     date: Date,
     hour: u8,
@@ -16,7 +16,7 @@ struct Instant {
 }
 
 // What a text converts to; `legacy_number` gives the number of each.
-#[derive(Drop)]
+#[derive(Clone, Copy)]
 pub enum Legacy {
     Seconds(u32),
     // The text has not the form YYYYMMDDTHHMMSSZ.
@@ -28,7 +28,7 @@ pub enum Legacy {
 }
 
 // What `write_time` answers; `wrote_number` gives the number of each.
-#[derive(Drop)]
+#[derive(Clone, Copy)]
 pub enum Wrote {
     Written,
     // The target is shorter than a text.

@@ -279,7 +279,7 @@ pub fn body_given(
 }
 
 // What the client does once the user has taken a part.
-#[derive(Drop)]
+#[derive(Clone, Copy)]
 enum TakenTurn {
     // The part was the last one, and this is the server's code.
     Over { code: u8 },
@@ -346,7 +346,7 @@ pub fn part_taken(
 }
 
 // What the client does once the user has aborted.
-#[derive(Drop)]
+#[derive(Clone, Copy)]
 enum AbortTurn {
     // A response is due, and comes first.
     First,

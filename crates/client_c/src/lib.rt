@@ -2,6 +2,7 @@
 // the state there, does what the client's call of that name does with the stores that it is lent, and leaves there the state, how many bytes
 // were taken, and the outcome, and nothing else: the numbers afterwards are those of the result, all 32. Whatever the numbers are, they are
 // some state, so no call requires anything. A start refuses numbers that are no settings.
+#![tactic(auto)]
 ghost use Rattle.std.specs.Prelude.{◌≡◌};
 ghost use Rattle.text.specs.Unicode.{Octets};
 ghost use Rattle.client_model.specs.Step.{stepped, stores};

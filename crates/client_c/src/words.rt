@@ -17,7 +17,7 @@ use outgoing::object::{Chunk, Outgoing};
 pub const VERSION: u64 = 1;
 
 // A kind and up to three numbers.
-#[derive(Drop)]
+#[derive(Clone, Copy)]
 pub struct Four {
     pub kind: u64,
     pub a: u64,
@@ -26,7 +26,7 @@ pub struct Four {
 }
 
 // A kind and the twelve numbers of an operation.
-#[derive(Drop)]
+#[derive(Clone, Copy)]
 pub struct Numbers {
     pub kind: u64,
     pub a: u64,

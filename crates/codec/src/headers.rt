@@ -10,7 +10,7 @@ use packet::{header, tlv};
 use walk::Count;
 
 // How a header's value is shown and written.
-#[derive(Drop)]
+#[derive(Clone, Copy)]
 enum Kind {
     Unicode,
     Type,
@@ -22,7 +22,7 @@ enum Kind {
 }
 
 // A header or a tag of a list, with the place of its value. Nothing is there if it ends no later than it was looked for.
-#[derive(Drop)]
+#[derive(Clone, Copy)]
 pub(crate) struct Piece {
     pub id: u8,
     pub start: usize,

@@ -1,4 +1,5 @@
 // Answers stored questions on the records below the engine, a line each, in the words of the original's `oracle leaf`.
+#![tactic(auto)]
 mod digests;
 mod headers;
 mod packets;
@@ -15,7 +16,7 @@ use show::put;
 use unsent::queue;
 
 // What a line asks about.
-#[derive(Drop)]
+#[derive(Clone, Copy)]
 enum Question {
     First,
     Code,

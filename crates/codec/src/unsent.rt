@@ -16,7 +16,7 @@ use packet::tlv::Wrote;
 
 // What is still to be sent of an object: the headers from `sent` up to `total` of one store, and the body from `given` up to `end` of
 // another. The packet that was made last and not put back is `made` bytes long.
-#[derive(Drop)]
+#[derive(Clone, Copy)]
 struct Unsent {
     sent: usize,
     total: usize,

@@ -18,7 +18,7 @@ use table::targets::{Target, close_targets, find_place, put_target};
 const INVALID_ID: u32 = 0xFFFFFFFF;
 
 // The nonce of the challenge that was sent and not yet answered.
-#[derive(Drop)]
+#[derive(Clone, Copy)]
 pub enum Challenge {
     Stored(Octets16),
     Absent,
@@ -26,7 +26,7 @@ pub enum Challenge {
 
 // What Connect and Disconnect change. The open ids are not here: they are the first `count` numbers of the table store, which the host
 // lends to the calls that look at them, so that a state of few bytes goes from call to call.
-#[derive(Drop)]
+#[derive(Clone, Copy)]
 pub struct Peer {
     pub count: usize,
     // How many nonces the table store remembers, at most 32; nothing clears them.
@@ -45,14 +45,14 @@ pub struct Peer {
 }
 
 // An id that a header names, or that goes in front of an answer.
-#[derive(Drop)]
+#[derive(Clone, Copy)]
 pub enum ConnectionId {
     Id(u32),
     Missing,
 }
 
 // An id that the search found.
-#[derive(Drop)]
+#[derive(Clone, Copy)]
 pub struct NewId {
     pub id: u32,
     // The counter, one past the id.
@@ -60,14 +60,14 @@ pub struct NewId {
 }
 
 // What opening an id leads to: with 64 ids open a further one is not opened, and the peer stays as it was.
-#[derive(Drop)]
+#[derive(Clone, Copy)]
 pub struct Opening {
     pub full: bool,
     pub peer: Peer,
 }
 
 // What the host's answer to a Connect leads to, with the id that goes in front of it.
-#[derive(Drop)]
+#[derive(Clone, Copy)]
 pub struct Answer {
     pub opening: Opening,
     pub front: ConnectionId,

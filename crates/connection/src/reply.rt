@@ -14,21 +14,21 @@ use packet::response::{CONTINUE_BYTE, INTERNAL_SERVER_ERROR, to_byte};
 use packet::srm::ENABLE;
 
 // What sending leads to: a reply of that many bytes stands in the store, or the reply is too large (7).
-#[derive(Drop)]
+#[derive(Clone, Copy)]
 pub enum Sent {
     Reply(usize),
     TooLarge,
 }
 
 // A reply that was begun: whether its headers are to follow, and what sending then leads to.
-#[derive(Drop)]
+#[derive(Clone, Copy)]
 pub struct Begun {
     pub whole: bool,
     pub sent: Sent,
 }
 
 // What becomes of a reply by its length: it goes whole, it is replaced, or it is too large for any packet.
-#[derive(Drop)]
+#[derive(Clone, Copy)]
 pub enum Fit {
     Whole,
     Replaced,

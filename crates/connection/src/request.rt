@@ -12,7 +12,7 @@ use walk::step;
 
 // Where the headers start, and where the values of four of them stand, of each the first. If not all headers can be read, none is found,
 // and `from` is the packet's end.
-#[derive(Drop)]
+#[derive(Clone, Copy)]
 pub struct ConnectRequest {
     pub from: usize,
     pub target: Found,

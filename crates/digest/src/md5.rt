@@ -17,7 +17,7 @@ const CONSTANTS: [u32; 64] = [
     0x6fa87e4f, 0xfe2ce6e0, 0xa3014314, 0x4e0811a1, 0xf7537e82, 0xbd3af235, 0x2ad7d2bb, 0xeb86d391,
 ];
 
-#[derive(Drop)]
+#[derive(Clone, Copy)]
 struct Regs {
     pub a: u32,
     pub b: u32,
@@ -26,7 +26,7 @@ struct Regs {
 }
 
 // The sixteen bytes of a nonce or a digest: `first` holds bytes 0 to 7, the high-order one first, and `second` bytes 8 to 15.
-#[derive(Drop)]
+#[derive(Clone, Copy)]
 pub struct Octets16 {
     pub first: u64,
     pub second: u64,
@@ -441,7 +441,7 @@ fn most(x: usize, y: usize) -> usize
 }
 
 // The bytes of a part that fall into a block: `count` bytes go to `place` of the block, behind `skip` bytes of the part.
-#[derive(Drop)]
+#[derive(Clone, Copy)]
 struct Span {
     pub place: usize,
     pub skip: usize,

@@ -1,11 +1,12 @@
 // The digests for C and Rust.
+#![tactic(auto)]
 ghost use Rattle.std.specs.Prelude.{◌≡◌};
 ghost use Rattle.digest.specs.Md5.{digest_of, octets16, numbers16, request_digest};
 
 use digest::md5::Octets16;
 
 #[repr(C)]
-#[derive(Drop)]
+#[derive(Clone, Copy)]
 pub struct Value {
     pub first: u64,
     pub second: u64,

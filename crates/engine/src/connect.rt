@@ -270,7 +270,7 @@ pub(crate) fn connect_answer(
 }
 
 // The client's response to the server's challenge: missing, unreadable, or readable, with the place of its user id in the packet.
-#[derive(Drop)]
+#[derive(Clone, Copy)]
 pub(crate) enum Answered {
     Missing,
     Unreadable,
@@ -311,7 +311,7 @@ fn client_response(p: &[u8]) -> Answered
 }
 
 // What the engine asks the host, and what it waits for then.
-#[derive(Drop)]
+#[derive(Clone, Copy)]
 pub(crate) struct Question {
     pub awaits: Await,
     pub request: HostRequest,

@@ -29,7 +29,7 @@ use server::{Await, CallResult, End, Engine, HostRequest, Operation, Outcome};
 use table::targets::{Target, find_place, target_at, unnamed};
 
 // The parts of a readable packet that decide its way.
-#[derive(Drop)]
+#[derive(Clone, Copy)]
 pub(crate) struct Heading {
     pub survey: Survey,
     pub opcode: Opcode,
@@ -44,7 +44,7 @@ pub(crate) struct Heading {
 }
 
 // A step that needs no more of the packet than its heading.
-#[derive(Drop)]
+#[derive(Clone, Copy)]
 pub(crate) enum Simple {
     // The engine asks the host, and no operation stays open.
     Ask { awaits: Await, request: HostRequest },
@@ -58,7 +58,7 @@ pub(crate) enum Simple {
 }
 
 // The way of a packet.
-#[derive(Drop)]
+#[derive(Clone, Copy)]
 pub(crate) enum Route {
     Plain(Simple),
     Connect,
@@ -77,14 +77,14 @@ pub(crate) enum Route {
 }
 
 // The way of a packet, and the Target under which it goes.
-#[derive(Drop)]
+#[derive(Clone, Copy)]
 pub(crate) struct Routed {
     pub route: Route,
     pub target: Target,
 }
 
 // Whether the engine admits a packet that opens an operation, or the code with which it turns the packet away.
-#[derive(Drop)]
+#[derive(Clone, Copy)]
 pub(crate) enum Admission {
     Admits,
     Rejects(u8),

@@ -176,7 +176,7 @@ pub(crate) fn is_sound(e: Engine) -> bool
 }
 
 // What the guard says of a call.
-#[derive(Drop)]
+#[derive(Clone, Copy)]
 pub(crate) enum Guarded {
     Proceed,
     Refuse(Refusal),

@@ -126,7 +126,7 @@ pub(crate) fn either(a: bool, b: bool) -> bool
 }
 
 // What the engine does once the host has sent the reply.
-#[derive(Drop)]
+#[derive(Clone, Copy)]
 enum Turn {
     Send {
         outgoing: Outgoing,

@@ -21,7 +21,7 @@ use packet::response::REQUESTED_ENTITY_TOO_LARGE_BYTE;
 use server::{Await, Body, End, Engine, HostRequest, Operation, Settings};
 
 // The kinds of operations whose packets the engine gathers.
-#[derive(Drop)]
+#[derive(Clone, Copy)]
 pub(crate) enum GatherKind {
     Put,
     Get,
@@ -29,7 +29,7 @@ pub(crate) enum GatherKind {
 }
 
 // The flags of a packet that the engine gathers: what the packet says and what its operation has agreed on so far.
-#[derive(Drop)]
+#[derive(Clone, Copy)]
 pub(crate) struct GatherFlags {
     // The packet is the last one of its request.
     pub is_final: bool,

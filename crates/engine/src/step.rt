@@ -19,7 +19,7 @@ use server::{Await, CallResult, End, Engine, HostRequest, Operation, Outcome, Se
 use table::targets::{Target, unnamed};
 
 // A reply of a few bytes, written when the plan is carried out.
-#[derive(Drop)]
+#[derive(Clone, Copy)]
 pub(crate) enum ShortReply {
     Silent,
     // The first byte, with no headers.
@@ -31,7 +31,7 @@ pub(crate) enum ShortReply {
 }
 
 // What a call leads to, decided without the stores: the next state, what the call answers, and a short reply if one is due.
-#[derive(Drop)]
+#[derive(Clone, Copy)]
 pub(crate) struct Plan {
     pub engine: Engine,
     pub outcome: Outcome,

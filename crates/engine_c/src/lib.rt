@@ -2,6 +2,7 @@
 // reads the state there, does what the engine's call of that name does with the stores that it is lent, and leaves there the state, how
 // many bytes were taken, and the outcome, and nothing else: the numbers afterwards are those of the result, all 64. Whatever the numbers
 // are, they are some state, so no call requires anything.
+#![tactic(auto)]
 ghost use Rattle.std.specs.Prelude.{◌≡◌};
 ghost use Rattle.packet.specs.AuthWrite.{given};
 ghost use Rattle.connection.specs.Pieces.{credentials_of};

@@ -25,7 +25,7 @@ use table::targets::Target;
 pub const VERSION: u64 = 2;
 
 // A kind and the numbers that it holds.
-#[derive(Drop)]
+#[derive(Clone, Copy)]
 pub struct Numbers {
     pub kind: u64,
     pub a: u64,

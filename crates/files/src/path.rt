@@ -12,7 +12,7 @@ use table::targets::{Target, is_named};
 pub const LONGEST_FOLDER: usize = 40;
 
 // The name of a folder: the first `length` bytes of `name`. A folder without a name is the one in which the others stand.
-#[derive(Drop)]
+#[derive(Clone, Copy)]
 pub struct Folder {
     pub name: [u8; LONGEST_FOLDER],
     pub length: usize,

@@ -13,7 +13,7 @@ use packet::tlv::Found;
 use table::targets::{Target, is_named};
 
 // What a text of settings says.
-#[derive(Drop)]
+#[derive(Clone, Copy)]
 pub struct Conf {
     // The number of the first line that is wrong, counted from 1, or 0 if each is right. The settings hold only if it is 0.
     pub wrong: usize,
@@ -237,7 +237,7 @@ fn first_wrong(text: &[u8]) -> usize
 }
 
 // Where the realm stands, and how many of its bytes count.
-#[derive(Drop)]
+#[derive(Clone, Copy)]
 struct Realm {
     at: usize,
     length: u8,

@@ -13,7 +13,7 @@ use archive::block::Wrote;
 use base::copy_into;
 
 // What is logged, and which parts it has.
-#[derive(Drop)]
+#[derive(Clone, Copy)]
 pub enum Event {
     // The session began. The parts are its name, the realm, and what is known of the client.
     Opened(OpenNumbers, OpenFlags),

@@ -9,7 +9,7 @@ use crate::frame::Kind;
 use base::wide32;
 
 // What four letters are.
-#[derive(Drop)]
+#[derive(Clone, Copy)]
 pub enum KindRead {
     Known(Kind),
     // No frame has these letters.
@@ -17,7 +17,7 @@ pub enum KindRead {
 }
 
 // What a payload says; what has no number here is the payload, or a part of it.
-#[derive(Drop)]
+#[derive(Clone, Copy)]
 pub enum EntryRead {
     // Bytes of the client: the payload.
     Packet,
@@ -40,7 +40,7 @@ pub enum EntryRead {
 }
 
 // The settings of a session, so far as they decide which records there are.
-#[derive(Drop)]
+#[derive(Clone, Copy)]
 pub struct SettingsRead {
     pub limit: u32,
     pub srm: bool,

@@ -9,7 +9,7 @@ use digest::md5::digest;
 use packet::header::be32_at;
 
 // A record's number, and what is there of it.
-#[derive(Drop)]
+#[derive(Clone, Copy)]
 pub struct RecordMarks {
     pub number: u32,
     pub has_body: bool,
@@ -18,7 +18,7 @@ pub struct RecordMarks {
 
 // The numbers of a payload: the record's, the lengths of headers and body, the blocks of the body, and the byte in front of the Target, which is its
 // length, or 255 if there is none.
-#[derive(Drop)]
+#[derive(Clone, Copy)]
 pub struct FileNumbers {
     pub number: u32,
     pub headers: u32,
@@ -28,7 +28,7 @@ pub struct FileNumbers {
 }
 
 // What `read_file` finds.
-#[derive(Drop)]
+#[derive(Clone, Copy)]
 pub enum FileRead {
     // The MD5 of the headers stands at place 16, that of the body at 32, and the Target from 49 on.
     Row(FileNumbers),

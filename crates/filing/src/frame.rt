@@ -13,7 +13,7 @@ use digest::md5::digest;
 use packet::header::be32_at;
 
 // What a frame is; `letters_of` gives the four letters of each.
-#[derive(Drop)]
+#[derive(Clone, Copy)]
 pub enum Kind {
     // The first frame: the settings.
     Open,
@@ -38,7 +38,7 @@ pub enum Kind {
 }
 
 // What is known of a frame except for its payload.
-#[derive(Drop)]
+#[derive(Clone, Copy)]
 pub struct Head {
     pub kind: Kind,
     pub number: u32,
@@ -47,7 +47,7 @@ pub struct Head {
 }
 
 // What `read_frame` finds; `turnNumber` gives the number of each.
-#[derive(Drop)]
+#[derive(Clone, Copy)]
 pub enum Turn {
     // The log ends here.
     End,

@@ -16,7 +16,7 @@ use base::{copy_into, wide32};
 use calendar::time::write_time;
 
 // Where the frame `file` of a record stands.
-#[derive(Drop)]
+#[derive(Clone, Copy)]
 pub struct LogPlace {
     // The receiver's clock, in seconds since 1970.
     pub clock: u32,

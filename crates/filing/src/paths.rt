@@ -10,7 +10,7 @@ use files::path::{front, join, service_folder};
 use table::targets::Target;
 
 // What names a session: the clock at its start, and 64 random bits.
-#[derive(Drop)]
+#[derive(Clone, Copy)]
 pub struct SessionId {
     pub clock: u32,
     pub high: u32,
@@ -18,7 +18,7 @@ pub struct SessionId {
 }
 
 // What has a path below a receiver's folder.
-#[derive(Drop)]
+#[derive(Clone, Copy)]
 pub enum Place {
     // The folder of all sessions, that of one session, and its log.
     Archive,
@@ -34,7 +34,7 @@ pub enum Place {
 }
 
 // A path below a receiver's folder: the first `length` bytes of `path`.
-#[derive(Drop)]
+#[derive(Clone, Copy)]
 struct Below {
     path: [u8; 61],
     length: usize,

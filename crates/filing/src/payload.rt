@@ -4,7 +4,7 @@ ghost use Rattle.journal.specs.Checks.{bit};
 ghost use Rattle.filing.specs.Kinds.{check_pair, flags_in, open_row};
 
 // The flags of the first frame.
-#[derive(Drop)]
+#[derive(Clone, Copy)]
 pub struct OpenFlags {
     pub srm: bool,
     pub authentication: bool,
@@ -16,7 +16,7 @@ pub struct OpenFlags {
 }
 
 // The numbers of the first frame: its limits, the realm's charset and the realm's length.
-#[derive(Drop)]
+#[derive(Clone, Copy)]
 pub struct OpenNumbers {
     pub limit: u32,
     pub packet: u16,
@@ -25,7 +25,7 @@ pub struct OpenNumbers {
 }
 
 // How a check of a password came out: it was right or not, and it was refused because of too many wrong ones or not.
-#[derive(Drop)]
+#[derive(Clone, Copy)]
 pub struct CheckMade {
     pub right: bool,
     pub stopped: bool,

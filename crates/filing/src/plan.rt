@@ -5,7 +5,7 @@ ghost use Rattle.filing.specs.Plan.{next_step, code_for};
 use packet::response::{DATABASE_FULL, DATABASE_LOCKED, SUCCESS};
 
 // A step of a filing.
-#[derive(Drop)]
+#[derive(Clone, Copy)]
 pub enum Step {
     // The part folder is made.
     MakePart,
@@ -25,7 +25,7 @@ pub enum Step {
 }
 
 // How a filing came out.
-#[derive(Drop)]
+#[derive(Clone, Copy)]
 pub struct Filing {
     // Every step was carried out and went well.
     pub filed: bool,

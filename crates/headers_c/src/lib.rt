@@ -1,6 +1,7 @@
 // Headers for C and Rust: the first header of an id, the text of a Name or a Type, the headers that a user writes, and the answer to a
 // challenge. These are the readers and writers of `packet` and `text`; each function tells what they answer as numbers, and no call requires
 // anything.
+#![tactic(auto)]
 ghost use Rattle.std.specs.Prelude.{◌≡◌, [], ◌∷◌, ◌++◌};
 ghost use Rattle.base.specs.Bytes.{bytes32};
 ghost use Rattle.text.specs.Unicode.{lossy};
@@ -20,7 +21,7 @@ use text::Decoded;
 
 // A place in a list of bytes: `found` is 1 and the bytes are those from `start` up to `end`, or all three are 0.
 #[repr(C)]
-#[derive(Drop)]
+#[derive(Clone, Copy)]
 pub struct Place {
     pub found: u64,
     pub start: usize,
@@ -29,7 +30,7 @@ pub struct Place {
 
 // An answer: `number` is 0 and bytes were written up to `end`, or nothing was written and `number` says why: 7, 8 or 10.
 #[repr(C)]
-#[derive(Drop)]
+#[derive(Clone, Copy)]
 pub struct Answer {
     pub number: u64,
     pub end: usize,
@@ -38,7 +39,7 @@ pub struct Answer {
 // A challenge: whether it could be read, its nonce in two halves of eight bytes each, the first byte the highest, its options, and the place of
 // its realm, the charset byte included. All are 0 if it could not be read.
 #[repr(C)]
-#[derive(Drop)]
+#[derive(Clone, Copy)]
 pub struct Challenge {
     pub readable: u64,
     pub first: u64,

@@ -9,7 +9,7 @@ use packet::response::{NOT_IMPLEMENTED, SUCCESS};
 use server::{CallResult, Engine, HostRequest};
 
 // Which call answers a request.
-#[derive(Drop)]
+#[derive(Clone, Copy)]
 pub enum Kind {
     Reply(u8),
     Acknowledge,
@@ -21,7 +21,7 @@ pub enum Kind {
 }
 
 // Sixteen bytes of the kernel's, or none.
-#[derive(Drop)]
+#[derive(Clone, Copy)]
 enum Drawn {
     Fresh(Octets16),
     Missing,

@@ -10,14 +10,14 @@ use libc::{STDERR_FILENO, STDIN_FILENO};
 use server::{CallResult, Engine, Outcome, end_number, refusal_number};
 
 // The part of the input store that was read and that the engine has not taken yet.
-#[derive(Drop)]
+#[derive(Clone, Copy)]
 pub struct Rest {
     pub at: usize,
     pub end: usize,
 }
 
 // What the last call returned, and the input that is left.
-#[derive(Drop)]
+#[derive(Clone, Copy)]
 pub struct Step {
     pub took: CallResult,
     pub rest: Rest,

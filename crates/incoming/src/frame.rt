@@ -8,7 +8,7 @@ ghost use Rattle.incoming.specs.Frame.{frame_end, framed, frames, placed_in, com
 use base::{be16_at, copy_into};
 
 // How far a packet has come.
-#[derive(Drop)]
+#[derive(Clone, Copy)]
 pub enum Frame {
     // The packet goes on.
     More,
@@ -19,7 +19,7 @@ pub enum Frame {
 }
 
 // Bytes that were taken: how many stand in the packet store now, how many of those offered were taken, and how far the packet has come.
-#[derive(Drop)]
+#[derive(Clone, Copy)]
 pub struct Framed {
     pub begun: usize,
     pub taken: usize,

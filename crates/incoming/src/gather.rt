@@ -15,7 +15,7 @@ use packet::limits::MAX_PACKET;
 use walk::step;
 
 // Which headers of an operation's packets are kept.
-#[derive(Drop)]
+#[derive(Clone, Copy)]
 pub enum Keep {
     // All but the body headers and the headers of Single Response Mode (SRM); body bytes go to the body store.
     Put,
@@ -26,7 +26,7 @@ pub enum Keep {
 }
 
 // An operation's kept headers and body, as counts of bytes in their stores.
-#[derive(Drop)]
+#[derive(Clone, Copy)]
 pub struct Gathered {
     // How many bytes of kept headers there are.
     pub kept: usize,

@@ -11,7 +11,7 @@ use packet::srm::{ENABLE, requests_additional_packet, requests_wait};
 use walk::step;
 
 // What the engine asks of the headers of every packet.
-#[derive(Drop)]
+#[derive(Clone, Copy)]
 pub struct Survey {
     // The first ConnectionID, or 0 if there is none.
     pub id: u32,
@@ -28,7 +28,7 @@ pub struct Survey {
 }
 
 // What was found of the three headers up to a place; of each the first counts.
-#[derive(Drop)]
+#[derive(Clone, Copy)]
 struct Noted {
     id: u32,
     has_id: bool,

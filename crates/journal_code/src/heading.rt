@@ -18,7 +18,7 @@ use packet::tlv::Found;
 use table::targets::{Target, find_place, target_at, target_of, unnamed};
 
 // The connection that a packet names.
-#[derive(Drop)]
+#[derive(Clone, Copy)]
 pub(crate) struct Link {
     // The first ConnectionID.
     pub named: ConnectionId,
@@ -29,7 +29,7 @@ pub(crate) struct Link {
 }
 
 // The parts of a readable packet on which the records depend.
-#[derive(Drop)]
+#[derive(Clone, Copy)]
 pub(crate) struct Heading {
     pub opcode: Opcode,
     pub is_final: bool,
@@ -48,7 +48,7 @@ pub(crate) struct Heading {
 }
 
 // A packet as read.
-#[derive(Drop)]
+#[derive(Clone, Copy)]
 pub(crate) enum Reading {
     Unreadable,
     Read(Heading),

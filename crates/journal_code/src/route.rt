@@ -7,7 +7,7 @@ use crate::state::{Open, State};
 use packet::opcode::{Opcode, same};
 
 // The way of a packet.
-#[derive(Drop)]
+#[derive(Clone, Copy)]
 pub(crate) enum Route {
     // It interrupts the operation that is open, and the session ends.
     Stop,

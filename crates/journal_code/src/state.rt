@@ -11,7 +11,7 @@ use table::TABLE_LENGTH;
 use table::targets::{Target, unnamed};
 
 // What the first frame of a log says of the settings.
-#[derive(Drop)]
+#[derive(Clone, Copy)]
 pub struct Settings {
     // The Put limit.
     pub limit: usize,
@@ -24,7 +24,7 @@ pub struct Settings {
 }
 
 // What is open (docs/PROTOCOL.md#journal).
-#[derive(Drop)]
+#[derive(Clone, Copy)]
 pub enum Open {
     Nothing,
     // The packets that trail a Put that was too long are refused.
@@ -39,7 +39,7 @@ pub enum Open {
 }
 
 // What of the last packet decides what the host's reply to it does.
-#[derive(Drop)]
+#[derive(Clone, Copy)]
 pub enum Last {
     Other,
     Connect {
@@ -54,7 +54,7 @@ pub enum Last {
 }
 
 // The journal, as far as the records depend on it.
-#[derive(Drop)]
+#[derive(Clone, Copy)]
 pub struct State {
     pub settings: Settings,
     pub peer: Peer,
@@ -74,7 +74,7 @@ pub struct State {
 }
 
 // The four lengths of the stores.
-#[derive(Drop)]
+#[derive(Clone, Copy)]
 pub struct Lengths {
     pub packet: usize,
     pub headers: usize,

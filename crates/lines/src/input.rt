@@ -8,7 +8,7 @@ use crate::word::find;
 use libc::STDIN_FILENO;
 
 // A line of standard input, as a place in the store that it was read into, or the reason why there is none.
-#[derive(Drop)]
+#[derive(Clone, Copy)]
 pub struct Line {
     // Where the line starts and where it ends, without its end of line.
     pub start: usize,

@@ -7,7 +7,7 @@ use base::wide;
 use check::same;
 
 // How far hexadecimal digits are read: their place, how many bytes they gave, and where the last group starts.
-#[derive(Drop)]
+#[derive(Clone, Copy)]
 struct Scan {
     at: usize,
     n: usize,
@@ -15,7 +15,7 @@ struct Scan {
 }
 
 // Where a line stands in a text, without the end of the line.
-#[derive(Drop)]
+#[derive(Clone, Copy)]
 pub struct Place {
     pub start: usize,
     pub end: usize,

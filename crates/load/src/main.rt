@@ -1,6 +1,7 @@
 // Plays a session on standard input to the engine many times and counts what comes back, for its throughput: load COUNT READ [1]. With a
 // READ of 0 a read ends where a packet does, and goes straight into the packet store unless a 1 follows. Every other read goes into the
 // input store.
+#![tactic(auto)]
 ghost use Rattle.std.specs.Prelude.{◌≤◌};
 
 use base::{be16_at, copy_into};
@@ -31,7 +32,7 @@ const OBJECT: usize = 1048576;
 const CALLS: usize = 1000000000000;
 
 // What the peer and the host have done, and what came back.
-#[derive(Drop)]
+#[derive(Clone, Copy)]
 struct Progress {
     // Whether a read goes straight into the packet store.
     placing: bool,

@@ -1,6 +1,7 @@
 // Plays Puts or Gets between a client and the engine in one process, many times, and counts what came back, for the throughput of both: load_link
 // put|get COUNT LIMIT. A Put has a body of 48 KiB, an object one of 1 MiB, and both ends take packets of LIMIT bytes. A packet goes from one end's
 // store to the other end in one piece.
+#![tactic(auto)]
 use client::calls;
 use client_model::Outcome;
 use engine::calls as serving;
@@ -30,7 +31,7 @@ const OBJECT: usize = 1048576;
 const TURNS: usize = 1000000000000;
 
 // What is to be done, and what came back.
-#[derive(Drop)]
+#[derive(Clone, Copy)]
 struct Progress {
     is_put: bool,
     // How many operations are still to be called, and how many body bytes of the last one are still to be given.
@@ -43,7 +44,7 @@ struct Progress {
 }
 
 // What is done next: the user calls, the host answers, a packet goes up, a reply goes down, or nothing.
-#[derive(Drop)]
+#[derive(Clone, Copy)]
 enum Turn {
     User,
     Host(HostRequest),

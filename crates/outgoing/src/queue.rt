@@ -102,7 +102,7 @@ pub fn insert_early(headers: &mut [u8], n: usize, header: &[u8]) -> Wrote
 // ---- a packet that is put back
 
 // What of a packet's headers goes back into a store.
-#[derive(Drop)]
+#[derive(Clone, Copy)]
 enum Part {
     // All headers.
     All,
@@ -114,14 +114,14 @@ enum Part {
 }
 
 // What of one header goes back: the bytes from `from` up to `to`, where the next header starts.
-#[derive(Drop)]
+#[derive(Clone, Copy)]
 struct Piece {
     from: usize,
     to: usize,
 }
 
 // What became of a packet that was to be put back. Each case has its number in `rewound_number` (specs/Queue).
-#[derive(Drop)]
+#[derive(Clone, Copy)]
 pub enum Rewound {
     // The packet was put back: so many bytes of headers and of the body are to be sent now.
     Back { headers: usize, pending: usize },

@@ -44,14 +44,14 @@ const OPTION_USER_ID_REQUIRED: u8 = 0x01;
 const OPTION_READ_ONLY: u8 = 0x02;
 
 // The nonce that a response names: the standard lets it name one if several challenges were sent.
-#[derive(Drop)]
+#[derive(Clone, Copy)]
 pub enum Named {
     Nonce(Octets16),
     Missing,
 }
 
 // The digest-response that an Authenticate Response header carries.
-#[derive(Drop)]
+#[derive(Clone, Copy)]
 pub enum DigestResponse {
     Response {
         digest: Octets16,
@@ -62,7 +62,7 @@ pub enum DigestResponse {
 }
 
 // The digest-challenge that an Authenticate Challenge header carries.
-#[derive(Drop)]
+#[derive(Clone, Copy)]
 pub enum DigestChallenge {
     Challenge {
         nonce: Octets16,

@@ -27,7 +27,7 @@ use text::{
 };
 
 // The encoding of a header's value, which the two top bits of its id select. So every header can be read, user defined and future ones too.
-#[derive(Drop)]
+#[derive(Clone, Copy)]
 pub enum HeaderEncoding {
     // UTF-16 text with a 16-bit length, top bits 00.
     Unicode,
@@ -40,7 +40,7 @@ pub enum HeaderEncoding {
 }
 
 // What stands at a place of a packet.
-#[derive(Drop)]
+#[derive(Clone, Copy)]
 pub enum HeaderAt {
     // A whole header, whose value stands from `start` up to `end`; the next header starts at `end`.
     At {
@@ -180,7 +180,7 @@ pub fn header_at(s: &[u8], at: usize) -> HeaderAt
 }
 
 // A place in a packet, from which headers are read.
-#[derive(Drop)]
+#[derive(Clone, Copy)]
 pub struct Cursor {
     pub at: usize,
 }
@@ -362,7 +362,7 @@ pub fn put_u32(store: &mut [u8], at: usize, id: u8, value: u32) -> Wrote
 // ---- writing text, which is given in UTF-8; what is ill-formed is replaced
 
 // How the text of a header is laid out.
-#[derive(Drop)]
+#[derive(Clone, Copy)]
 enum TextForm {
     // UTF-16, with a zero unit behind it unless the text is empty.
     Wide,

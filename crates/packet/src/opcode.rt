@@ -4,7 +4,7 @@ ghost use Rattle.std.specs.Prelude.{◌≡◌};
 ghost use Rattle.packet.specs.FirstByte.{named, first_byte, first_byte_table, entry_says, value_of, always_final, byte_of, kind_of, same_opcode};
 
 // The operation that a request belongs to.
-#[derive(Drop)]
+#[derive(Clone, Copy)]
 pub enum Opcode {
     Connect,
     Disconnect,
@@ -19,7 +19,7 @@ pub enum Opcode {
 }
 
 // What the first byte of a request says: an opcode and the Final bit, or nothing that is known.
-#[derive(Drop)]
+#[derive(Clone, Copy)]
 pub enum FirstByte {
     Known { opcode: Opcode, is_final: bool },
     Unknown,

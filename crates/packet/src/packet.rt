@@ -30,14 +30,14 @@ const BACKUP: u8 = 0x01;
 const NO_CREATE: u8 = 0x02;
 
 // The length of a packet, or that its length field has not come.
-#[derive(Drop)]
+#[derive(Clone, Copy)]
 pub enum Length {
     Known(usize),
     Missing,
 }
 
 // What stands before a packet's headers, which start at `headers`.
-#[derive(Drop)]
+#[derive(Clone, Copy)]
 pub enum Head {
     Known {
         opcode: Opcode,
@@ -48,7 +48,7 @@ pub enum Head {
 }
 
 // A packet as read.
-#[derive(Drop)]
+#[derive(Clone, Copy)]
 pub enum Parsed {
     // The headers stand from `headers` up to the packet's end at `length`.
     Request {
@@ -61,7 +61,7 @@ pub enum Parsed {
 }
 
 // A response as read.
-#[derive(Drop)]
+#[derive(Clone, Copy)]
 pub enum ParsedResponse {
     // The code stands without the Final bit; the headers stand from `headers` up to the packet's end at `length`.
     Response {
@@ -74,7 +74,7 @@ pub enum ParsedResponse {
 }
 
 // The flags of a SetPath request.
-#[derive(Drop)]
+#[derive(Clone, Copy)]
 pub struct SetPathFlags {
     // The path goes up a level before the name is applied, like `cd ..`.
     pub backup: bool,
@@ -248,7 +248,7 @@ pub fn set_path_flags(p: &[u8]) -> SetPathFlags
 
 // The operation specific fields of a request that is to be written. The writer ignores fields of another operation, and gives missing ones
 // their defaults.
-#[derive(Drop)]
+#[derive(Clone, Copy)]
 pub enum Fields {
     Default,
     Connect {
@@ -263,7 +263,7 @@ pub enum Fields {
 }
 
 // The fields of a response to a Connect. Such a response cannot be told from any other by its bytes alone.
-#[derive(Drop)]
+#[derive(Clone, Copy)]
 pub enum ConnectParameters {
     Parameters {
         version: u8,

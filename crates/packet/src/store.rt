@@ -5,7 +5,7 @@ ghost use Rattle.packet.specs.Placed.{overlong_for, room_of};
 use crate::tlv::Wrote;
 
 // The length field that says how long a thing is.
-#[derive(Drop)]
+#[derive(Clone, Copy)]
 pub enum LengthField {
     // One byte: the value of a tag is at most 255 bytes long.
     OneByte,

@@ -10,7 +10,7 @@ use crate::store::{LengthField, room};
 use base::{copy_into, wide};
 
 // What stands at a place of a payload.
-#[derive(Drop)]
+#[derive(Clone, Copy)]
 pub enum TagAt {
     // A whole tag, with the places where its value starts and where the next tag does.
     At { tag: u8, start: usize, next: usize },
@@ -21,14 +21,14 @@ pub enum TagAt {
 }
 
 // Where a value stands.
-#[derive(Drop)]
+#[derive(Clone, Copy)]
 pub enum Found {
     At { start: usize, end: usize },
     Missing,
 }
 
 // What became of bytes that were to be written. Each case has its number in `wrote_number` (specs/Placed).
-#[derive(Drop)]
+#[derive(Clone, Copy)]
 pub enum Wrote {
     // The bytes were written, and end at this place.
     Written(usize),

@@ -13,7 +13,7 @@ use server::HostRequest;
 pub const ANSWERS: usize = 1179648;
 
 // The kinds of lines.
-#[derive(Drop)]
+#[derive(Clone, Copy)]
 pub enum Kind {
     Connect,
     Put,
@@ -28,7 +28,7 @@ pub enum Kind {
 }
 
 // The calls on the engine that answer a request. Header bytes, a password and a nonce stand at the front of the word store.
-#[derive(Drop)]
+#[derive(Clone, Copy)]
 pub enum Answer {
     Reply(u8),
     Object { has_body: bool, fails: bool },
@@ -41,7 +41,7 @@ pub enum Answer {
 }
 
 // An answer, how many bytes of headers it hands over, and how many body bytes an object has behind them.
-#[derive(Drop)]
+#[derive(Clone, Copy)]
 pub struct Answered {
     pub answer: Answer,
     pub headers: usize,

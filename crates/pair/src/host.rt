@@ -13,7 +13,7 @@ use lines::output::least;
 use server::{Body, CallResult, Engine, HostRequest, Outcome, Settings};
 
 // What a call returned, and the state after it.
-#[derive(Drop)]
+#[derive(Clone, Copy)]
 pub struct Called {
     pub took: CallResult,
     pub state: State,
@@ -192,7 +192,7 @@ fn after_answer(s: State, a: Answered, request: HostRequest) -> State {
 // ---- records
 
 // A record that a call has handed over: how many bytes of the header store and of the body store.
-#[derive(Drop)]
+#[derive(Clone, Copy)]
 enum Record {
     Bytes { kept: usize, size: usize },
     NoBody { kept: usize },

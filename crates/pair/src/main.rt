@@ -1,6 +1,7 @@
 // Plays a client and the engine in one process by a script on standard input, and prints what the client's user sees: packets, parts, codes
 // and numbers, and at the end of each session the records that the engine's host got (docs/PROTOCOL.md#link). `pair shuffle SEED` cuts the
 // streams anywhere and lets the ends go on in any order, by random numbers from SEED; it prints the same.
+#![tactic(auto)]
 mod answers;
 mod host;
 mod script;
@@ -30,7 +31,7 @@ use user::with_close;
 const INPUT: usize = 2359296;
 
 // What the last calls returned, and the state after them.
-#[derive(Drop)]
+#[derive(Clone, Copy)]
 struct Pair {
     client: client_model::CallResult,
     server: server::CallResult,
@@ -183,7 +184,7 @@ fn take_line(
 // ---- a turn
 
 // What a turn does.
-#[derive(Drop)]
+#[derive(Clone, Copy)]
 enum Step {
     Line,
     StartClient(client_model::Settings),

@@ -5,7 +5,7 @@ use lines::output::least;
 use lines::word::{byte_at, line_number, number, unhex, value, word_of};
 use server::{Settings, default_settings};
 
-#[derive(Drop)]
+#[derive(Clone, Copy)]
 pub enum Command {
     Session,
     Client,
@@ -19,7 +19,7 @@ pub enum Command {
 }
 
 // Which words of a line are the headers and the body bytes that a call hands over. A number that no word has stands for no bytes.
-#[derive(Drop)]
+#[derive(Clone, Copy)]
 pub struct Places {
     pub headers: usize,
     pub body: usize,

@@ -10,7 +10,7 @@ use lines::output::{put, put_byte, put_hex, put_line_at, put_number};
 const LONGEST: usize = 512;
 
 // What stands behind the words of a line.
-#[derive(Drop)]
+#[derive(Clone, Copy)]
 pub enum Value {
     Nothing,
     Number(usize),
@@ -25,7 +25,7 @@ pub enum Value {
 }
 
 // A line: the number of its words in `put_words`, and what stands behind them.
-#[derive(Drop)]
+#[derive(Clone, Copy)]
 pub struct Line {
     pub words: usize,
     pub value: Value,

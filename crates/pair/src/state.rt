@@ -5,7 +5,7 @@ use server::{Settings, default_settings};
 use std::num::wrapping_add_usize;
 
 // The calls on the client. The bytes that a call hands over stand in the word store, or wait on the way down.
-#[derive(Drop)]
+#[derive(Clone, Copy)]
 pub enum Call {
     Connect,
     Disconnect,
@@ -20,7 +20,7 @@ pub enum Call {
 }
 
 // What the next turn does.
-#[derive(Drop)]
+#[derive(Clone, Copy)]
 pub enum Due {
     // Carries out the next line.
     Line,
@@ -35,14 +35,14 @@ pub enum Due {
 }
 
 // What the next turn does, as a field of the state.
-#[derive(Drop)]
+#[derive(Clone, Copy)]
 pub struct Next {
     pub due: Due,
 }
 
 // The lines that stand in the input store: where the next one starts, and how far the store is filled. `is_cut` says that the next line's
 // start was dropped because the line is longer than the store, `is_over` that the input has ended.
-#[derive(Drop)]
+#[derive(Clone, Copy)]
 pub struct Lines {
     pub at: usize,
     pub end: usize,
@@ -51,14 +51,14 @@ pub struct Lines {
 }
 
 // The bytes of a store from `from` up to `to`.
-#[derive(Drop)]
+#[derive(Clone, Copy)]
 pub struct Range {
     pub from: usize,
     pub to: usize,
 }
 
 // How much of each store is lent to the client.
-#[derive(Drop)]
+#[derive(Clone, Copy)]
 pub struct Lent {
     pub packet: usize,
     pub headers: usize,
@@ -67,7 +67,7 @@ pub struct Lent {
 }
 
 // The moments at which a user may abort: what the client waits for.
-#[derive(Drop)]
+#[derive(Clone, Copy)]
 pub enum Moment {
     Sent,
     Bytes,
@@ -78,7 +78,7 @@ pub enum Moment {
 
 // When the user aborts: at the moment with the number `number`, counted from 0 in the operation. `seen` is how many of them there were,
 // `is_due` that the user aborts now.
-#[derive(Drop)]
+#[derive(Clone, Copy)]
 pub struct Abort {
     pub moment: Moment,
     pub number: usize,
@@ -88,14 +88,14 @@ pub struct Abort {
 
 // The body bytes in the word store that are still to be given, by the user in a Put and by the host in a Get. `piece` is how many the user
 // gives at a time, 0 for as many as are asked for. If `fails`, the host cannot read on behind them.
-#[derive(Drop)]
+#[derive(Clone, Copy)]
 pub struct Content {
     pub left: Range,
     pub piece: usize,
     pub fails: bool,
 }
 
-#[derive(Drop)]
+#[derive(Clone, Copy)]
 pub struct State {
     pub next: Next,
     pub lines: Lines,

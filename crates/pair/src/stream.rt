@@ -13,7 +13,7 @@ pub const WAY: usize = 196608;
 const ENOUGH: usize = 65536;
 
 // What may happen next while an operation is open.
-#[derive(Drop)]
+#[derive(Clone, Copy)]
 pub enum Move {
     // So many bytes on the way are offered to the client, or to the server.
     Down(usize),
@@ -27,7 +27,7 @@ pub enum Move {
 }
 
 // What each end waits for, and how many bytes are on each way.
-#[derive(Drop)]
+#[derive(Clone, Copy)]
 pub struct Ends {
     pub client: Waits,
     pub server: Waits,
@@ -36,7 +36,7 @@ pub struct Ends {
 }
 
 // What an end waits for. An end that puts a packet on its way needs room there.
-#[derive(Drop)]
+#[derive(Clone, Copy)]
 pub enum Waits {
     Bytes,
     Packet,

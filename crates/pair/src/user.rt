@@ -64,7 +64,7 @@ fn offer(
 }
 
 // Which of the functions above makes a call.
-#[derive(Drop)]
+#[derive(Clone, Copy)]
 enum Family {
     Begins,
     GoesOn,
@@ -216,7 +216,7 @@ fn send(
 }
 
 // Where the bytes stand that a call hands over: in the word store, or on the way down.
-#[derive(Drop)]
+#[derive(Clone, Copy)]
 enum Source {
     Words(Range),
     Down(Range),
@@ -406,7 +406,7 @@ fn after_call(s: State, call: Call, before: Outcome, took: CallResult) -> State 
 }
 
 // What a call returned, and the state after it.
-#[derive(Drop)]
+#[derive(Clone, Copy)]
 pub struct Called {
     pub took: CallResult,
     pub state: State,

@@ -24,7 +24,7 @@ use table::targets::Target;
 
 // What was decided. The bytes of the work store from `from` to `to` go with the call, and with its note. The session is that after it, `check` the
 // check of a password that is being made, and `tried` what became of the record of a Put.
-#[derive(Drop)]
+#[derive(Clone, Copy)]
 pub(crate) struct Decided {
     pub decision: Decision,
     pub from: usize,
@@ -163,7 +163,7 @@ fn nonce(s: Session, said: Said, work: &mut [u8; WORK]) -> Decided {
 }
 
 // Where the line of `own` has its user id, which is its first `user` bytes, and its password.
-#[derive(Drop)]
+#[derive(Clone, Copy)]
 struct OwnLine {
     user: usize,
     password: Found,

@@ -19,7 +19,7 @@ const WINDOW: usize = 64;
 const TRIES: usize = 1000;
 
 // A check that is being made: the file, the place of its letter, whether it is allowed, and the number of the error by which there is none, or 0.
-#[derive(Drop)]
+#[derive(Clone, Copy)]
 pub(crate) struct Try {
     pub place: i64,
     pub fd: i32,
@@ -28,7 +28,7 @@ pub(crate) struct Try {
 }
 
 // What the letters in front of a check say.
-#[derive(Drop)]
+#[derive(Clone, Copy)]
 pub(crate) enum Verdict {
     Allowed,
     Stopped,

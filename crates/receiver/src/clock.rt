@@ -30,7 +30,7 @@ pub(crate) fn now() -> u32 {
 }
 
 // 64 random bits, or none.
-#[derive(Drop)]
+#[derive(Clone, Copy)]
 pub(crate) enum Bits {
     Fresh { high: u32, low: u32 },
     Missing,

@@ -15,7 +15,7 @@ use table::targets::Target;
 pub(crate) const TEXT: usize = 2048;
 
 // The text of the settings, as long as a session lasts: the first `length` bytes, and where the realm stands in them.
-#[derive(Drop)]
+#[derive(Clone, Copy)]
 pub(crate) struct Said {
     pub text: [u8; TEXT],
     pub length: usize,

@@ -16,7 +16,7 @@ pub(crate) const INPUT: usize = 67584;
 const TRIES: usize = 1000;
 
 // The part of the input store that was read and that the engine has not taken yet.
-#[derive(Drop)]
+#[derive(Clone, Copy)]
 pub(crate) struct Rest {
     pub at: usize,
     pub end: usize,

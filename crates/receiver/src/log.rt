@@ -22,7 +22,7 @@ const ROW: usize = 16;
 const SHORT: usize = 1024;
 
 // A log: its file, the number of the error that ended it, or 0, the number of the next frame, the bytes so far, and the last check.
-#[derive(Drop)]
+#[derive(Clone, Copy)]
 pub(crate) struct Log {
     pub fd: i32,
     pub error: i32,
@@ -58,7 +58,7 @@ pub(crate) fn failed(log: Log, number: i32) -> Log {
 }
 
 // A frame that is laid in the store behind the check of the one before: it has so many bytes, or it has no room.
-#[derive(Drop)]
+#[derive(Clone, Copy)]
 pub(crate) enum Framed {
     Bytes(usize),
     TooLong,

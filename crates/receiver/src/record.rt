@@ -34,7 +34,7 @@ const STEPS: usize = 8;
 
 // How a filing came out: its last step, the number of the error of that, or 0, whether that was for want of room, and what the steps answered that
 // were carried out, which are the first `count` of `answers`.
-#[derive(Drop)]
+#[derive(Clone, Copy)]
 pub(crate) struct Outcome {
     pub step: Step,
     pub error: i32,
@@ -44,7 +44,7 @@ pub(crate) struct Outcome {
 }
 
 // What became of a record that was handed over: whether records are taken under its Target, and how its filing came out.
-#[derive(Drop)]
+#[derive(Clone, Copy)]
 pub(crate) struct Tried {
     pub taken: bool,
     pub outcome: Outcome,
@@ -192,7 +192,7 @@ pub(crate) fn no_record() -> Tried {
 // ---- a record
 
 // A record that was handed over: how many bytes of the stores it has, the Target, its number, and when that was.
-#[derive(Drop)]
+#[derive(Clone, Copy)]
 pub(crate) struct Handed {
     pub kept: usize,
     pub body: Body,
@@ -367,7 +367,7 @@ fn after(s: Session, o: Outcome, work: &mut [u8; WORK]) -> Session {
 }
 
 // What became of a record: the session after it, and how its filing came out.
-#[derive(Drop)]
+#[derive(Clone, Copy)]
 pub(crate) struct Answered {
     pub session: Session,
     pub outcome: Outcome,

@@ -13,7 +13,7 @@ use packet::response::{FORBIDDEN, INTERNAL_SERVER_ERROR};
 use table::targets::Target;
 
 // A rule file: it is open and has so many bytes, or the code of the reply.
-#[derive(Drop)]
+#[derive(Clone, Copy)]
 pub(crate) enum Opened {
     File { fd: i32, size: u32 },
     Code(u8),
@@ -90,7 +90,7 @@ fn open_plain(path: &[u8]) -> Opened {
 }
 
 // The path of a rule file: the first `length` bytes of the store, and from `below` on it is the path below `rules`.
-#[derive(Drop)]
+#[derive(Clone, Copy)]
 pub(crate) struct RulePath {
     pub below: usize,
     pub length: usize,

@@ -9,7 +9,7 @@ use filing::names::session_name;
 use filing::paths::{Place, SessionId};
 
 // What a session keeps from call to call.
-#[derive(Drop)]
+#[derive(Clone, Copy)]
 pub(crate) struct Session {
     pub log: Log,
     // What names the session.
@@ -21,7 +21,7 @@ pub(crate) struct Session {
 }
 
 // A folder that was made, by what names it, or the number of the error: 0 if there is none, `NO_BITS` if the kernel has no random bits.
-#[derive(Drop)]
+#[derive(Clone, Copy)]
 pub(crate) struct Made {
     pub id: SessionId,
     pub error: i32,

@@ -60,7 +60,7 @@ pub(crate) fn rename(from: &[u8], to: &[u8]) -> i32 {
 }
 
 // What a file of the receiver's folder holds.
-#[derive(Drop)]
+#[derive(Clone, Copy)]
 pub(crate) enum Held {
     // So many bytes, which stand at the front of the store.
     Bytes(usize),

@@ -33,7 +33,7 @@ use std::num::wrapping_add_usize;
 
 // Where a session stands: what the last call returned, the input that is left, what the session keeps, the text of its settings, what became of
 // the record that waited before the last call, and the receiver's own number of the end, or 0.
-#[derive(Drop)]
+#[derive(Clone, Copy)]
 pub(crate) struct Receiving {
     pub took: CallResult,
     pub rest: Rest,

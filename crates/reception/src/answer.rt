@@ -2,7 +2,7 @@
 use digest::md5::Octets16;
 
 // What is known of the password that is asked for.
-#[derive(Drop)]
+#[derive(Clone, Copy)]
 pub enum Secret {
     // The user is known, and the password is what is lent.
     Known,
@@ -13,7 +13,7 @@ pub enum Secret {
 }
 
 // The call that is made next. The bytes that go with it are lent beside it.
-#[derive(Drop)]
+#[derive(Clone, Copy)]
 pub enum Answer {
     // The bytes that are lent came from the client.
     Offer,
@@ -42,7 +42,7 @@ pub enum Answer {
 }
 
 // What is done next.
-#[derive(Drop)]
+#[derive(Clone, Copy)]
 pub enum Decision {
     // This call is made.
     Make(Answer),

@@ -11,7 +11,7 @@ use packet::limits::MAX_PACKET;
 use server::{CallResult, End, Engine, Outcome};
 
 // The bytes that go with an event.
-#[derive(Drop)]
+#[derive(Clone, Copy)]
 pub enum Part {
     // There are none.
     Nothing,
@@ -26,7 +26,7 @@ pub enum Part {
 }
 
 // What is noted.
-#[derive(Drop)]
+#[derive(Clone, Copy)]
 pub enum Note {
     Nothing,
     Event(Event, Part),

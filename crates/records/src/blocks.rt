@@ -10,7 +10,7 @@ use lines::word::{after, find, unhex};
 const LARGEST: usize = 1048576;
 
 // What a call told: the number of its answer, and the length of its result.
-#[derive(Drop)]
+#[derive(Clone, Copy)]
 struct Told {
     number: usize,
     length: usize,

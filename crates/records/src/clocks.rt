@@ -111,7 +111,7 @@ pub(crate) fn legacy(digits: &[u8]) {
 }
 
 // What three words name: a date, or none if a word is no number or a number is too large for its field.
-#[derive(Drop)]
+#[derive(Clone, Copy)]
 enum Asked {
     Day(Date),
     Malformed,

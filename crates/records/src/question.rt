@@ -4,7 +4,7 @@ ghost use Rattle.std.specs.Prelude.{◌<◌};
 use check::same;
 use lines::word::{line_number, number};
 
-#[derive(Drop)]
+#[derive(Clone, Copy)]
 pub enum Question {
     Write,
     Read,
@@ -17,7 +17,7 @@ pub enum Question {
 }
 
 // A decimal number of at most ten digits, or a word that is none.
-#[derive(Drop)]
+#[derive(Clone, Copy)]
 pub enum Number {
     Known(usize),
     Malformed,

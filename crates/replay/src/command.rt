@@ -6,7 +6,7 @@ use lines::output::least;
 use lines::word::{after, byte_at, find, line_number, number, unhex, value, word_of};
 use server::{Settings, default_settings};
 
-#[derive(Drop)]
+#[derive(Clone, Copy)]
 pub enum Command {
     Longest,
     Start,
@@ -26,7 +26,7 @@ pub enum Command {
 }
 
 // What a start names: the engine's settings, and what the program does. The realm's bytes stand in the realm store.
-#[derive(Drop)]
+#[derive(Clone, Copy)]
 pub struct Options {
     pub settings: Settings,
     pub realm_length: usize,
@@ -39,7 +39,7 @@ pub struct Options {
 }
 
 // A call on the engine.
-#[derive(Drop)]
+#[derive(Clone, Copy)]
 pub enum Call {
     Start(Options),
     Bytes,
@@ -62,14 +62,14 @@ pub enum Call {
 }
 
 // A call with the lengths of the two byte strings that it hands over, of which the second stands behind the first.
-#[derive(Drop)]
+#[derive(Clone, Copy)]
 pub struct Decoded {
     pub call: Call,
     pub first: usize,
     pub second: usize,
 }
 
-#[derive(Drop)]
+#[derive(Clone, Copy)]
 enum Key {
     MaxPacketLength,
     MaxObjectSize,

@@ -1,5 +1,6 @@
 // Reads a transcript of sessions, drives the engine with the calls in it, and prints what the engine does, in the words of the
 // original's `oracle engine`.
+#![tactic(auto)]
 mod command;
 mod drive;
 mod show;
@@ -202,7 +203,7 @@ fn is_due(s: Replay) -> bool {
 }
 
 // What the last call returned, and the state after it.
-#[derive(Drop)]
+#[derive(Clone, Copy)]
 struct Played {
     took: CallResult,
     state: Replay,

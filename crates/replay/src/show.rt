@@ -12,7 +12,7 @@ use server::{Body, HostRequest, Outcome, end_number, refusal_number};
 use table::targets::{Target, is_named};
 
 // The values of a form, with the letters that stand for them.
-#[derive(Drop)]
+#[derive(Clone, Copy)]
 pub struct Values {
     // %o, sixteen bytes in hexadecimal.
     octets: Octets16,
@@ -39,14 +39,14 @@ pub struct Values {
 }
 
 // A line: the number of its form, 0 for no line, and its values.
-#[derive(Drop)]
+#[derive(Clone, Copy)]
 pub struct Line {
     form: usize,
     values: Values,
 }
 
 // What stands in the place of a letter.
-#[derive(Drop)]
+#[derive(Clone, Copy)]
 enum Word {
     Number(usize),
     // The last bytes of sixteen, from one of them on.

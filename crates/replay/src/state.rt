@@ -6,7 +6,7 @@ use lines::word::{byte_at, number, piece_at, unhex, word_of};
 use server::Outcome;
 
 // How much of each store is lent to the engine.
-#[derive(Drop)]
+#[derive(Clone, Copy)]
 pub struct Lent {
     pub packet: usize,
     pub headers: usize,
@@ -16,7 +16,7 @@ pub struct Lent {
 }
 
 // How far the peer's bytes in the stream store were sent, read, and taken by the engine.
-#[derive(Drop)]
+#[derive(Clone, Copy)]
 pub struct Stream {
     pub taken: usize,
     pub read: usize,
@@ -24,20 +24,20 @@ pub struct Stream {
 }
 
 // The lines that stand in the input store: where the next one starts, and how far the store is filled.
-#[derive(Drop)]
+#[derive(Clone, Copy)]
 pub struct Lines {
     pub at: usize,
     pub end: usize,
 }
 
 // What a line prints that makes no call: the stores, or what of the state no transcript of the original has.
-#[derive(Drop)]
+#[derive(Clone, Copy)]
 pub struct Shown {
     pub stores: bool,
     pub own: bool,
 }
 
-#[derive(Drop)]
+#[derive(Clone, Copy)]
 pub struct Replay {
     // The call that is due with the lengths of its two byte strings, or none if the next line is due.
     pub due: Decoded,

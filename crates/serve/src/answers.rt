@@ -11,7 +11,7 @@ use server::{Body, CallResult, Engine, HostRequest};
 pub const CHUNK: usize = 65536;
 
 // What the answer's call returned, and the file that is being sent from then on, or -1.
-#[derive(Drop)]
+#[derive(Clone, Copy)]
 pub struct Answered {
     pub took: CallResult,
     pub file: i32,

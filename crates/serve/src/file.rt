@@ -188,7 +188,7 @@ pub(crate) fn put_body(folder: Folder, headers: &[u8], content: Body, body: &[u8
 
 // ---- a Get
 
-#[derive(Drop)]
+#[derive(Clone, Copy)]
 pub enum Opened {
     File(i32),
     Code(u8),

@@ -1,6 +1,7 @@
 // A server for a person: the peer's bytes come on standard input, and replies go to standard output. A Put writes a file of the working
 // folder, or of the folder of the service that its connection was opened for, and a Get reads one. The program tells what it does on
 // standard error, a line for each operation. With the argument `--keep` it refuses a Put whose Name a file has already.
+#![tactic(auto)]
 mod answers;
 mod file;
 mod folder;
@@ -15,7 +16,7 @@ use libc::{STDERR_FILENO, STDOUT_FILENO};
 use server::{CallResult, Engine, Operation, Outcome, Settings, default_settings};
 
 // The last step, the file that is being sent, or -1, and whether a reply could not be sent.
-#[derive(Drop)]
+#[derive(Clone, Copy)]
 struct Serving {
     step: Step,
     file: i32,

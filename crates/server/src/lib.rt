@@ -1,11 +1,12 @@
 // The types that a host sees: the state that it passes from call to call, and what each call answers. The calls themselves stand in
 // `engine::calls`.
+#![tactic(auto)]
 ghost use Rattle.std.specs.Prelude.{◌≡◌};
 ghost use Rattle.server.specs.Settings.{default_settings};
 ghost use Rattle.server.specs.Numbers.{end_number, refusal_number, await_number};
 
 // The settings at the start (docs/PROTOCOL.md#settings).
-#[derive(Drop)]
+#[derive(Clone, Copy)]
 pub struct Settings {
     // The Put limit: the most body bytes that one Put may carry.
     pub max_object_size: u32,
@@ -48,7 +49,7 @@ pub fn default_settings(max_object_size: u32) -> Settings
 }
 
 // The operation that is open, with what the engine has gathered of it.
-#[derive(Drop)]
+#[derive(Clone, Copy)]
 pub enum Operation {
     // No operation is open.
     Nothing,
@@ -94,7 +95,7 @@ pub enum Operation {
 }
 
 // What the engine waits for: every other call is refused with `WrongMoment`.
-#[derive(Drop)]
+#[derive(Clone, Copy)]
 pub enum Await {
     // Bytes from the client, or the end of its stream.
     Bytes,
@@ -125,7 +126,7 @@ pub enum Await {
 }
 
 // The kinds of calls, by what they answer. `fits` of model/specs/Guard says at which moment each of them may come.
-#[derive(Drop)]
+#[derive(Clone, Copy)]
 pub enum CallKind {
     // Bytes from the client, and the end of its stream.
     FromPeer,
@@ -141,7 +142,7 @@ pub enum CallKind {
 }
 
 // The engine's state. A host hands the state that one call returned to the next call.
-#[derive(Drop)]
+#[derive(Clone, Copy)]
 pub struct Engine {
     pub settings: Settings,
     pub peer: connection::peer::Peer,
@@ -157,7 +158,7 @@ pub struct Engine {
 }
 
 // The body of a Put: so many bytes of the body store, or none if no body header came, which differs from a body of 0 bytes.
-#[derive(Drop)]
+#[derive(Clone, Copy)]
 pub enum Body {
     Bytes(usize),
     Missing,
@@ -166,7 +167,7 @@ pub enum Body {
 // What the engine asks the host, by the names of the source's handler methods. docs/EMBEDDING.md says which call answers each request.
 // A `length` is that of the client's packet at the front of the packet store, a `kept` that of the kept headers at the front of the
 // header store; a user id and a realm are places in the packet store.
-#[derive(Drop)]
+#[derive(Clone, Copy)]
 pub enum HostRequest {
     Connect {
         length: usize,
@@ -220,7 +221,7 @@ pub enum HostRequest {
 }
 
 // Why the engine has ended. Each end has a number (`end_number`, docs/PROTOCOL.md#ends).
-#[derive(Drop)]
+#[derive(Clone, Copy)]
 pub enum End {
     // 1: the client's stream ended between two packets.
     Disconnected,
@@ -239,7 +240,7 @@ pub enum End {
 }
 
 // Why a call was refused, changing nothing. Each refusal has a number (`refusal_number`, docs/PROTOCOL.md#refusals).
-#[derive(Drop)]
+#[derive(Clone, Copy)]
 pub enum Refusal {
     // 8: the answer is none that a host may give.
     BadAnswer,
@@ -258,7 +259,7 @@ pub enum Refusal {
 }
 
 // What a call tells the host to do next.
-#[derive(Drop)]
+#[derive(Clone, Copy)]
 pub enum Outcome {
     // Offer more bytes, or say that the stream has ended.
     WantsBytes,
@@ -273,7 +274,7 @@ pub enum Outcome {
 }
 
 // What a call returns: the state for the next call, how many of the offered bytes it took, and what the host is to do.
-#[derive(Drop)]
+#[derive(Clone, Copy)]
 pub struct CallResult {
     pub engine: Engine,
     pub taken: usize,

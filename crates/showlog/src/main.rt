@@ -1,4 +1,5 @@
 // Prints the log of a session (docs/ARCHIVE.md#the-log) that comes on standard input: a line for each frame, and last how the log ends.
+#![tactic(auto)]
 ghost use Rattle.std.specs.Prelude.{◌≤◌, length};
 
 use calendar::time::write_time;
@@ -20,7 +21,7 @@ const LEAST: usize = 32;
 const LONGEST: usize = 64;
 
 // Where the program stands in the log.
-#[derive(Drop)]
+#[derive(Clone, Copy)]
 struct Place {
     // Where the next frame begins in the store, and how many bytes stand there.
     at: usize,

@@ -1,7 +1,7 @@
 // The words of a question: which one is asked, 32-bit numbers, and Single Response Mode (SRM) on or off.
 use lines::word::{line_number, number, piece_at};
 
-#[derive(Drop)]
+#[derive(Clone, Copy)]
 pub enum Question {
     Get,
     Range,
@@ -10,14 +10,14 @@ pub enum Question {
 }
 
 // A decimal number of 32 bits, or a word that is none.
-#[derive(Drop)]
+#[derive(Clone, Copy)]
 pub enum Number {
     Known(u32),
     Malformed,
 }
 
 // SRM on or off, or a word that is neither.
-#[derive(Drop)]
+#[derive(Clone, Copy)]
 pub enum Mode {
     Known(bool),
     Malformed,

@@ -17,7 +17,7 @@ const SECONDS: usize = 256;
 
 // The Target of a connection: `length` bytes of the sixteen, which are filled up with zeros. A `length` over 16 is the mark: the Connect
 // had no Target, or one of over 16 bytes.
-#[derive(Drop)]
+#[derive(Clone, Copy)]
 pub struct Target {
     pub length: usize,
     pub bytes: Octets16,

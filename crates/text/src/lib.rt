@@ -1,5 +1,6 @@
 // The text of headers (docs/PROTOCOL.md#text; the source's header.rs): UTF-16 and UTF-8 are taken apart into scalar values and written into
 // a lent store in the other form.
+#![tactic(auto)]
 ghost use Rattle.std.specs.Prelude.{◌≡◌, ◌+◌, ◌-◌, ◌<◌, ◌≤◌, ◌^◌, min, length, get_or, drop};
 ghost use Rattle.std.proofs.lemmas.List.Edits.{sets};
 ghost use Rattle.text.specs.Unicode.{up_to_zero_of, keeps, replaces, units, is_pair, first16, need, low, high, inside, first8, utf8, utf16, whole, well_formed16, well_formed8};
@@ -7,7 +8,7 @@ ghost use Rattle.text.specs.Text.{pieces_of, encoded, recoded, unicode_text, asc
 ghost use Rattle.text.specs.Pieces.{Reads};
 
 // How text is laid out in bytes. UTF-16 has the high-order byte of a unit first and ends before a zero unit.
-#[derive(Drop)]
+#[derive(Clone, Copy)]
 enum Form {
     Utf8,
     Utf16,
@@ -15,7 +16,7 @@ enum Form {
 
 // A scalar value that was read: its `code`, how many bytes it was read from, and whether these were well-formed. If they were not, the code
 // is U+FFFD.
-#[derive(Drop)]
+#[derive(Clone, Copy)]
 struct Piece {
     code: u32,
     size: usize,
@@ -23,14 +24,14 @@ struct Piece {
 }
 
 // What a reader finds at a place: the text's end, or a scalar value.
-#[derive(Drop)]
+#[derive(Clone, Copy)]
 enum Next {
     End,
     One(Piece),
 }
 
 // What became of a text that was to be stored: its length, or `Short` if the store is shorter than the text, and then nothing was written.
-#[derive(Drop)]
+#[derive(Clone, Copy)]
 pub enum Decoded {
     Written(usize),
     Short,

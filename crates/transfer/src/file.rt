@@ -31,7 +31,7 @@ fn put_part(store: &mut [u8]) -> usize
 }
 
 // What is written: a descriptor, and the path of the file.
-#[derive(Drop)]
+#[derive(Clone, Copy)]
 pub struct Part {
     pub fd: i32,
     pub length: usize,

@@ -1,6 +1,7 @@
 // Puts a file to an OBEX server, or gets one: `transfer put|get NAME FILE [target HEX] [user TEXT] [password TEXT] [abort N]`. The server's
 // bytes come on standard input, and requests go to standard output. What became of each request is told on standard error. With `abort N`
 // the user aborts at the packet or the part with the number N, counted from 0.
+#![tactic(auto)]
 mod file;
 mod order;
 mod say;
@@ -24,7 +25,7 @@ const STORE: usize = 65535;
 const PATH: usize = 4096;
 
 // Which request the program waits for.
-#[derive(Drop)]
+#[derive(Clone, Copy)]
 pub enum Stage {
     Connecting,
     // The Connect that answers a challenge.
@@ -34,12 +35,12 @@ pub enum Stage {
 }
 
 // The stage, as a field of the state.
-#[derive(Drop)]
+#[derive(Clone, Copy)]
 pub struct At {
     stage: Stage,
 }
 
-#[derive(Drop)]
+#[derive(Clone, Copy)]
 pub struct State {
     at: At,
     // What of the input store was read, and not taken by the client.
@@ -59,14 +60,14 @@ pub struct State {
 }
 
 // What a call returned, and the state after it.
-#[derive(Drop)]
+#[derive(Clone, Copy)]
 struct Turned {
     took: CallResult,
     state: State,
 }
 
 // What the program does next.
-#[derive(Drop)]
+#[derive(Clone, Copy)]
 enum Step {
     Connect,
     // Answers a challenge, if the response has one.

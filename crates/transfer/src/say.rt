@@ -5,7 +5,7 @@ use libc::STDERR_FILENO;
 use lines::output::{least, put, put_byte, put_line_at, put_number};
 
 // What a line says behind the operation's name.
-#[derive(Drop)]
+#[derive(Clone, Copy)]
 enum Said {
     Code { words: usize, code: u8 },
     Number { words: usize, number: u8 },

@@ -42,7 +42,7 @@ pub(crate) fn put_target(store: &mut [u8]) -> usize {
 }
 
 // What the server's challenge says, if it can be read.
-#[derive(Drop)]
+#[derive(Clone, Copy)]
 pub enum Demand {
     Nonce(Octets16),
     Nothing,

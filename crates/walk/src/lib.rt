@@ -1,5 +1,6 @@
 // The walk over headers, as a struct that holds the packet's bytes and its place. The work is `header_at`'s, the cursor form, which takes a
 // plain slice; each function here takes the struct apart or makes one.
+#![tactic(auto)]
 ghost use Rattle.std.specs.Prelude.{◌≡◌};
 ghost use Rattle.packet.specs.Header.{header_at_of, read_headers};
 ghost use Rattle.walk.specs.Walk.{walk_at, count_of};
@@ -7,7 +8,7 @@ ghost use Rattle.walk.specs.Walk.{walk_at, count_of};
 use packet::header::{HeaderAt, header_at};
 
 // The packet's bytes, and the place in them where the walk stands.
-#[derive(Drop)]
+#[derive(Clone, Copy)]
 pub struct Walk<'a> {
     pub packet: &'a [u8],
     pub at: usize,
@@ -35,7 +36,7 @@ pub fn step(packet: &[u8], at: usize) -> HeaderAt
 }
 
 // How many headers there are, or that they cannot be read.
-#[derive(Drop)]
+#[derive(Clone, Copy)]
 pub enum Count {
     Headers(usize),
     Unreadable,
