@@ -1,7 +1,7 @@
 -- The journal's records are those of the Put forms among the packets that it reads. No engine is in it. Assumes nothing.
 use mathlib.Core.Path.{◌≡◌, refl, sym, ap, ap₂, ◌∙◌, subst}
 use mathlib.Core.List.{List, [], ◌∷◌, ◌++◌, map}
-use mathlib.Core.Bool.{Bool, true, false, ◌&&◌, ◌||◌, not, and_false, false≢true}
+use mathlib.Core.Bool.{Bool, true, false, ◌&&◌, ◌||◌, not, and-false, false≢true}
 use mathlib.Core.Option.{Option, none, some}
 use Prim.Native.Nat.{ℕ, ◌+◌, ◌≤◌}
 use native.Mathlib.Omega.{arith}
@@ -286,9 +286,9 @@ module _ (j : Journal) (fs : List Fed) (h : j.ended ≡ false) (ih : (d : Journa
       where
         go : (t a : Bool) → trails r ≡ t → same_opcode r.opcode Abort ≡ a → Here p trailing at n false (read_at trailing (some r) j)
         go false a e f = simp (k, e) (simp k at (judged trailing r k))
-        go true true e f = simp (k, e, f, and_false (admitted j.settings j.standing r)) (drops at late r)
+        go true true e f = simp (k, e, f, and-false (admitted j.settings j.standing r)) (drops at late r)
         go true false e f =
-            simp (k, e, f, and_false (admitted j.settings j.standing r)) (calm at late (some r) _ (carrying-pick r.final _ _ refl refl))
+            simp (k, e, f, and-false (admitted j.settings j.standing r)) (calm at late (some r) _ (carrying-pick r.final _ _ refl refl))
 
     in_a_put : (c : Record) (s : Bool) (q : Option Request) → request_of p ≡ q → Here p (putting c s) at n false (read_at (putting c s) q j)
     unfolding readable_put

@@ -1,7 +1,7 @@
 -- A packet between operations: what the engine makes of it is what the journal does. Assumes nothing.
 use mathlib.Core.Path.{◌≡◌, refl, sym, ap, ap₂, ◌∙◌, subst}
 use mathlib.Core.List.{List, [], ◌∷◌}
-use mathlib.Core.Bool.{Bool, true, false, ◌&&◌, ◌||◌, not, and_false, and_true, true≢false}
+use mathlib.Core.Bool.{Bool, true, false, ◌&&◌, ◌||◌, not, and-false, and-true, true≢false}
 use mathlib.Core.Option.{Option, none, some}
 use Prim.Native.Nat.{ℕ, ◌≤◌}
 use native.Mathlib.Omega.{arith}
@@ -113,7 +113,7 @@ module _ (ts : List ℕ) (e : Engine) (s : Stores) (j : Journal) (f : Fixed ts e
       go false = drops code
 
   turned_down : (code : ℕ) → drains r.opcode ≡ false → Told ts (rejected e r code s) (dropped j r)
-  turned_down code d = rw (d, and_false e.peer.srm_enabled) (drops code)
+  turned_down code d = rw (d, and-false e.peer.srm_enabled) (drops code)
 
   -- admitted or not, the journal keeps nothing of it
   either_way : (x : Rejection) (y : Entry) → Told ts (dispatches r.opcode e r v s) y → ((code : ℕ) → Told ts (rejected e r code s) y)
@@ -188,7 +188,7 @@ module _ (ts : List ℕ) (e : Engine) (s : Stores) (j : Journal) (f : Fixed ts e
         go : (v : Option (List ℕ)) → response_in v ≡ some x → (leb most_wrong (ones named.window) && present v) ≡ false
             → leb most_wrong (ones named.window) ≡ false
         go none c n = absurd (let z : ◌≡◌ {A = ℕ} 0 1 = cc in omega arith)
-        go (some v) c n = sym (and_true (leb most_wrong (ones named.window))) ∙ n
+        go (some v) c n = sym (and-true (leb most_wrong (ones named.window))) ∙ n
 
     verifies-told : r.opcode ≡ op.Connect → stops named (last_headers e s) ≡ false → (c : Challenge) (x : Option Response) → client_response e s ≡ x
         → Told ts (verifies e named c x s) (dropped j r)

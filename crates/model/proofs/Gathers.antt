@@ -2,7 +2,7 @@
 -- Assumes nothing.
 use mathlib.Core.Path.{◌≡◌, refl, sym, ap, ap₂, ◌∙◌, subst}
 use mathlib.Core.List.{List, [], ◌∷◌, ◌++◌}
-use mathlib.Core.Bool.{Bool, true, false, not, or_true}
+use mathlib.Core.Bool.{Bool, true, false, not, or-true}
 use mathlib.Core.Option.{Option, none, some}
 use Prim.Native.Nat.{ℕ, ◌≤◌, ◌<◌}
 use native.Mathlib.Omega.{arith}
@@ -106,7 +106,7 @@ module _ (ts : List ℕ) (e : Engine) (s : Stores) (j : Journal) (f : Fixed ts e
         (held_after Nothing nothing (with_gathered s x) refl, still_after op.Put nothing o (λ a b y z. refl, refl))
         (put-handed i) refl)
     put-told v true confirm t false o i k =
-        simp (w.full, k, within_test t i, or_true (not t))
+        simp (w.full, k, within_test t i, or-true (not t))
         (told-pick ts v.additional _ _ _
         (λ m. told-replies ts e e.peer (with_gathered s x) (after j (some r) (putting c true)) (Putting x.got true) (continue_bytes false) refl
         (held_after (Putting x.got true) (putting c true) (with_gathered s x) (put-open true)))

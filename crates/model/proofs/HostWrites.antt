@@ -2,7 +2,7 @@
 -- packet, and every step hands the store on as it is (`On`). The guard looks at the store's length. Assumes nothing.
 use mathlib.Core.Path.{◌≡◌, refl, sym, ap, ◌∙◌, subst}
 use mathlib.Core.List.{List, [], ◌∷◌, ◌++◌, append-nil}
-use mathlib.Core.Bool.{Bool, true, false, ◌&&◌, ◌||◌, not, and_false, false≢true}
+use mathlib.Core.Bool.{Bool, true, false, ◌&&◌, ◌||◌, not, and-false, false≢true}
 use mathlib.Core.Option.{Option, none, some}
 use Prim.Native.Nat.{ℕ, ◌+◌, ◌≤◌}
 use native.Mathlib.Omega.{arith}
@@ -634,7 +634,7 @@ module _ (s : State) (q : List ℕ) (h : take (counting s.engine) q ≡ take (co
   by_moment c true f = same-pick (sound e && true) _ _ _ _ (at_moment_lem c f) (refused-same refusal.WrongMoment)
   by_moment c false f =
       subst (λ (t : Bool). SameCall (pick t (go_for s c) (refuses refusal.WrongMoment s)) (pick t (go_for y c) (refuses refusal.WrongMoment y)))
-      (sym (and_false (sound e))) (refused-same refusal.WrongMoment)
+      (sym (and-false (sound e))) (refused-same refusal.WrongMoment)
 
   call_same : (c : Call) → SameCall (step_of s c) (step_of y c)
   call_same c =

@@ -3,7 +3,7 @@
 -- Assumes nothing.
 use mathlib.Core.Path.{◌≡◌, refl, sym, ap, ap₂, ◌∙◌, subst}
 use mathlib.Core.List.{List}
-use mathlib.Core.Bool.{Bool, true, false, ◌&&◌, ◌||◌, not, and_false, true≢false}
+use mathlib.Core.Bool.{Bool, true, false, ◌&&◌, ◌||◌, not, and-false, true≢false}
 use Prim.Native.Nat.{ℕ, ◌≤◌}
 use native.Mathlib.Omega.{arith}
 use lib.ListN.{length, get_or, take}
@@ -389,5 +389,5 @@ module _ (w : Known) (s : State) (h : Seated s) (k : Knows w s) (c : Call) where
       go : (t : Bool) → ranged ≡ t → Agree w s c (verdict_at w s j c) (step_of s c)
       go true i = at _ _ (verdict_by j true i) (step_by true i) (f i j y)
       go false i =
-          at (refused 9) _ (verdict_by j false i ∙ ap (λ (x : Bool). pick x (judged c w j) (refused 9)) (and_false (allowed c j))) (step_by false i)
+          at (refused 9) _ (verdict_by j false i ∙ ap (λ (x : Bool). pick x (judged c w j) (refused 9)) (and-false (allowed c j))) (step_by false i)
           (agree_refused refusal.WrongMoment)

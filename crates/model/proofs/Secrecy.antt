@@ -2,7 +2,7 @@
 -- Credentials that nobody asked for are refused whatever they are. Assumes nothing.
 use mathlib.Core.Path.{◌≡◌, refl, sym, ap, ap₂, ◌∙◌, subst}
 use mathlib.Core.List.{List, [], ◌∷◌}
-use mathlib.Core.Bool.{Bool, true, false, and_false, true≢false}
+use mathlib.Core.Bool.{Bool, true, false, and-false, true≢false}
 use mathlib.Core.Option.{Option, some}
 use Prim.Native.Nat.{ℕ}
 use Rattle.base.specs.Pick.{pick}
@@ -41,7 +41,7 @@ same-guarded k e s g h f = go (fits k e.awaits) refl
   where
     go : (t : Bool) → fits k e.awaits ≡ t → guarded k e s g ≡ guarded k e s h
     go true i = ap (guarded k e s) (f i)
-    go false i = simp (i, and_false (sound e))
+    go false i = simp (i, and-false (sound e))
 
 -- what waits is no credentials
 abbrev apart : Waits → Bool

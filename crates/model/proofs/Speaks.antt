@@ -2,7 +2,7 @@
 -- what `Packets` says of records. Assumes nothing.
 use mathlib.Core.Path.{◌≡◌, refl, sym, ap, ap₂, ◌∙◌, subst}
 use mathlib.Core.List.{List, [], ◌++◌}
-use mathlib.Core.Bool.{Bool, true, false, ◌&&◌, ◌||◌, not, and_false, true≢false}
+use mathlib.Core.Bool.{Bool, true, false, ◌&&◌, ◌||◌, not, and-false, true≢false}
 use mathlib.Core.Option.{Option, none, some}
 use Prim.Native.Nat.{ℕ, ◌≤◌}
 use native.Mathlib.Omega.{arith}
@@ -264,7 +264,7 @@ module _ (ts : List ℕ) (e : Engine) (s : Stores) (j : Journal) (f : Fixed ts e
       (spoken_both (j.standing.srm && not r.final) _ _ silent speaks n (unsaid e s (Draining code) s n tt) (drops code))
 
   turned_down : (code : ℕ) → drains r.opcode ≡ false → Spoken (rejected e r code s) speaks n
-  turned_down code d = rw (d, and_false e.peer.srm_enabled) (drops code)
+  turned_down code d = rw (d, and-false e.peer.srm_enabled) (drops code)
 
   connect_spoken : Spoken (connect_packet e s) speaks n
   unfolding connect_packet

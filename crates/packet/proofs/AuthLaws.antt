@@ -1,6 +1,6 @@
 -- The laws of digest authentication: the walk of the readers, and what the parts that they read say of the whole. Assumes nothing.
 use mathlib.Core.Path.{◌≡◌, refl, sym, ap, ap₂, ◌∙◌}
-use mathlib.Core.Bool.{Bool, true, false, ◌&&◌, and_false}
+use mathlib.Core.Bool.{Bool, true, false, ◌&&◌, and-false}
 use mathlib.Core.List.{List, [], ◌∷◌, ◌++◌}
 use mathlib.Core.Option.{Option, none, some}
 use Prim.Native.Nat.{ℕ, zero, suc, ◌+◌, ◌-◌, ◌≤◌, ◌<◌, ◌^◌}
@@ -33,7 +33,7 @@ use Rattle.packet.proofs.TagWrites.{Within, last_within, last-under-bytes}
 
 sixteen-push : (t : Tag) (r : Tags) → sixteen_in (push t r) ≡ (sixteen_or t.tag (length t.value) && sixteen_in r)
 unfolding all_sixteen
-sixteen-push t unreadable = sym (and_false (sixteen_or t.tag (length t.value)))
+sixteen-push t unreadable = sym (and-false (sixteen_or t.tag (length t.value)))
 sixteen-push t (tag_list ts) = refl
 
 pub sixteen-here : (s : List ℕ) (at t b n : ℕ) → Here s at t b n

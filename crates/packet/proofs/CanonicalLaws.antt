@@ -1,6 +1,6 @@
 -- Canonical headers: those of which each value is as the writer gives it. Assumes nothing.
 use mathlib.Core.Path.{◌≡◌, refl, sym, ap, ◌∙◌, subst}
-use mathlib.Core.Bool.{Bool, true, false, ◌&&◌, and-eq-true_iff, and_false}
+use mathlib.Core.Bool.{Bool, true, false, ◌&&◌, and-eq-true_iff, and-false}
 use mathlib.Core.List.{List, [], ◌∷◌, ◌++◌, map}
 use mathlib.Core.Option.{Option, none, some}
 use Prim.Native.Nat.{ℕ, ◌+◌, ◌-◌, ◌≤◌, ◌<◌}
@@ -225,7 +225,7 @@ canonical_list s o = by (read_headers s 0) refl
 pub push-written : (h : Header) (r : Option (List Header)) → all_written (push h r)
     ≡ (same (rewritten h.id h.value) h.value && all_written r)
 unfolding as_written
-push-written h none = sym (and_false (same (rewritten h.id h.value) h.value))
+push-written h none = sym (and-false (same (rewritten h.id h.value) h.value))
 push-written h (some hs) = refl
 
 -- ---- what the writer wrote is canonical

@@ -1,6 +1,6 @@
 -- UTF-16: what the unit at a place starts, and the pieces after it. Assumes nothing.
 use mathlib.Core.Path.{◌≡◌, refl, sym, ap, ◌∙◌}
-use mathlib.Core.Bool.{Bool, true, false, ◌&&◌, and-eq-true_iff, and_false}
+use mathlib.Core.Bool.{Bool, true, false, ◌&&◌, and-eq-true_iff, and-false}
 use mathlib.Core.List.{List, [], ◌∷◌}
 use Prim.Native.Nat.{ℕ, zero, suc, ◌+◌, ◌-◌, ◌*◌, ◌≤◌, ◌<◌}
 use native.Mathlib.Numerals.{add-one}
@@ -51,7 +51,7 @@ pair_range u v e =
 
 pub no_pair : (u : ℕ) → is_pair u 0 ≡ false
 unfolding is_pair
-no_pair u = and_false (leb 0xD800 u && ltb u 0xDC00)
+no_pair u = and-false (leb 0xD800 u && ltb u 0xDC00)
 
 -- what a unit starts, by whether it is in a pair
 pub first-pair : (u v : ℕ) → is_pair u v ≡ true → first16 u v ≡ keeps (0x10000 + (u - 0xD800) * 0x400 + (v - 0xDC00)) 4

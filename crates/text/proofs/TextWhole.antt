@@ -1,6 +1,6 @@
 -- Whether all bytes are said by kept pieces, piece after piece. Assumes nothing.
 use mathlib.Core.Path.{◌≡◌, refl, sym, ap, ◌∙◌}
-use mathlib.Core.Bool.{Bool, true, false, ◌&&◌, and_false}
+use mathlib.Core.Bool.{Bool, true, false, ◌&&◌, and-false}
 use mathlib.Core.List.{List, [], ◌∷◌}
 use Prim.Native.Nat.{ℕ, zero, suc, ◌+◌, ◌≤◌, ◌<◌}
 use native.Mathlib.Omega.{arith}
@@ -73,7 +73,7 @@ pub cut-some : (s : List ℕ) → length (up_to_zero_of s) < length s → well_f
 unfolding well_formed8 whole
 cut-some s h =
     rw (ne_eqb (sizes (pieces8 (up_to_zero_of s))) (length s) (λ (e : sizes (pieces8 (up_to_zero_of s)) ≡ length s). omega (arith, sizes8 (up_to_zero_of s))))
-    (and_false (all_kept (pieces8 (up_to_zero_of s))))
+    (and-false (all_kept (pieces8 (up_to_zero_of s))))
 
 pub cut-nothing : (s : List ℕ) → length s ≤ length (up_to_zero_of s) → whole (pieces8 s) (length s) ≡ well_formed8 s
 unfolding well_formed8

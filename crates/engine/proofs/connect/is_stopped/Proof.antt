@@ -1,5 +1,5 @@
 -- `engine::connect::is_stopped` meets its contract: a response that is not missing is carried, readable or not. Assumes nothing.
-use mathlib.Core.Bool.{and_false, and_true}
+use mathlib.Core.Bool.{and-false, and-true}
 use mathlib.Core.Path.{sym, ◌∙◌}
 use lib.Count.{ones}
 use lib.Dec.{leb}
@@ -18,12 +18,12 @@ too-many-requires c κs = search rules
 
 returns : tie.Need-returns
 unfolding stops_by
-returns c = rw c.enum_told.given.1 (sym (and_false (leb most_wrong (ones c.before.before.args.window))))
+returns c = rw c.enum_told.given.1 (sym (and-false (leb most_wrong (ones c.before.before.args.window))))
 
 returns-2 : tie.Need-returns-2
 unfolding stops_by
 returns-2 c =
-    rw (is_carried _ c.before.match.keys2) (c.too_many.ensures.0 ∙ sym (and_true (leb most_wrong (ones c.before.before.args.window))))
+    rw (is_carried _ c.before.match.keys2) (c.too_many.ensures.0 ∙ sym (and-true (leb most_wrong (ones c.before.before.args.window))))
 
 pub is-stopped-spec : {M : Type 1} → statement M
 is-stopped-spec = tie.close (tie.spec enum_told too-many-requires returns returns-2)

@@ -1,0 +1,9 @@
+-- `text::encode_unicode` meets its contract, as `recode` from UTF-8 to UTF-16. Assumes nothing.
+use Rattle.text.proofs.TextSizes.{is_encoded}
+use borrow.Author.Rules.{rules}
+use Rattle.text.proofs.encode_unicode.Goals as goal
+
+pub returns : goal.returns
+returns c =
+    let r = c in
+    rw (← is_encoded c.args.text.now) c.recode.ensures

@@ -1,0 +1,14 @@
+-- `text::is_well_formed8` meets its contract: with a zero the pieces before it are not all bytes; with none they are. Assumes nothing.
+use mathlib.Core.Path.{sym, ◌∙◌}
+use native.Mathlib.Omega.{arith}
+use Rattle.text.proofs.TextWhole.{cut-some, cut-nothing}
+use borrow.Author.Rules.{rules}
+use Rattle.text.proofs.is_well_formed8.Goals as goal
+
+pub returns-then-zero_at-s : goal.returns-then-zero_at-s
+returns-then-zero_at-s c = sym (cut-some c.args.s.now (omega (arith, c.if-zero_at-s.true, c.zero_at.ensures)))
+
+pub returns : goal.returns
+returns c =
+    c.is_whole.ensures
+    ∙ cut-nothing c.args.s.now (omega (arith, c.if-zero_at-s.false, c.zero_at.ensures))
