@@ -38,6 +38,8 @@ class Fn:
         for pre in ("overflow-", "fits-"):
             if old.startswith(pre):
                 opts.append(old[len(pre):])
+        if old.startswith("slice-bounds-"):
+            opts.append("part-" + old[len("slice-bounds-"):])
         for o in opts:
             for i, (a, b) in enumerate(self.needs):
                 if norm(a) == o:
@@ -203,6 +205,8 @@ def turn_walk(fn, text):
         m = re.match(r"^(\S+) : tie\.Need-(\S+)((?: .*)?)$", sig)
         if m:
             i = fn.need(m[2], 0)
+            if i is None and re.search(r"= search rules\s*$", body):
+                continue
             if i is None:
                 res.append("-- left: " + body.replace("\n", "\n-- "))
                 continue
@@ -333,10 +337,11 @@ def turn(fn, text):
                 ans.append("-- left: " + body.replace("\n", "\n-- "))
                 continue
             newname, vars_, ch = L
-            ps = mm[1].split()
+            ps = [p for p in mm[1].split() if not re.fullmatch(r"t\d+", p)] if re.search(r" t\d+( |$)", mm[1]) else mm[1].split()
             names = {}
             order = [("initial." + v if c else v) for v, c in zip(vars_, ch)] + [v for v, c in zip(vars_, ch) if c]
             if len(ps) != len(order):
+                fn.left.append(f"{ps} for {order}")
                 ans.append("-- left (parameters): " + body.replace("\n", "\n-- "))
                 continue
             for p, o in zip(ps, order):
@@ -424,7 +429,7 @@ def main(argv):
             continue
         key = f"Rattle-{crate}-proofs." + path.replace("/", ".") + ".Lts"
         text = open(os.path.join(folder, "Proof.antt"), encoding="utf-8").read()
-        if "tie.close" not in text or key not in names:
+        if "tie.close" not in text or "needs" not in names.get(key, {}):
             print(f"by hand: {path}" + ("" if key in names else " (no names)"))
             continue
         fn = Fn(crate, path, names[key])

@@ -1,3 +1,4 @@
 // Records for the archive (request (a)).
 #![tactic(auto)]
+
 pub mod block;

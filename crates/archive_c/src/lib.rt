@@ -1,6 +1,7 @@
 // Blocks for the archive, for C and Rust. Each function returns the number of the answer, 0 for a result at the front of `target`. A
 // result's length follows from its blocks: 512 bytes for each 490 of the body that are begun.
 #![tactic(auto)]
+
 ghost use Rattle.std.specs.Prelude.{◌≡◌};
 ghost use Rattle.archive.specs.Reading.{read_into};
 ghost use Rattle.archive.specs.Writing.{written};

@@ -1,6 +1,7 @@
 // Audits sessions as a receiver files them (docs/ARCHIVE.md#as-a-receiver-files-it): reads the log of each, computes by the proved code of the
 // journal which records must have been handed over, and compares them with what is filed (docs/AUDIT.md).
 #![tactic(auto)]
+
 mod compare;
 mod entry;
 mod filed;

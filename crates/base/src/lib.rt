@@ -1,5 +1,6 @@
 // What every layer shares: reading bytes as numbers, and copying bytes into a lent store.
 #![tactic(auto)]
+
 ghost use Rattle.std.specs.Prelude.{◌≡◌, ◌+◌, ◌≤◌, ◌<◌, length};
 ghost use Rattle.std.proofs.Math.Seq.{paste};
 ghost use Rattle.base.specs.Bytes.{be16};

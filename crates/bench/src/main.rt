@@ -1,5 +1,6 @@
 // Plays one session: the peer's bytes come on standard input, and the program prints a line for each thing that the engine does.
 #![tactic(auto)]
+
 mod shown;
 
 use engine::calls;

@@ -3,6 +3,7 @@
 // were taken, and the outcome, and nothing else: the numbers afterwards are those of the result, all 32. Whatever the numbers are, they are
 // some state, so no call requires anything. A start refuses numbers that are no settings.
 #![tactic(auto)]
+
 ghost use Rattle.std.specs.Prelude.{◌≡◌};
 ghost use Rattle.text.specs.Unicode.{Octets};
 ghost use Rattle.client_model.specs.Step.{stepped, stores};

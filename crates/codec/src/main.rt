@@ -1,5 +1,6 @@
 // Answers stored questions on the records below the engine, a line each, in the words of the original's `oracle leaf`.
 #![tactic(auto)]
+
 mod digests;
 mod headers;
 mod packets;

@@ -1,5 +1,6 @@
 // The digests for C and Rust.
 #![tactic(auto)]
+
 ghost use Rattle.std.specs.Prelude.{◌≡◌};
 ghost use Rattle.digest.specs.Md5.{digest_of, octets16, numbers16, request_digest};
 

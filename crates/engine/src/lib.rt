@@ -1,5 +1,6 @@
 // The server engine: a state machine over lent stores (the source's engine/server.rs). A host needs `calls`, and the types of `server`.
 #![tactic(auto)]
+
 pub mod calls;
 mod close;
 mod connect;

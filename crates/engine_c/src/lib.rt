@@ -3,6 +3,7 @@
 // many bytes were taken, and the outcome, and nothing else: the numbers afterwards are those of the result, all 64. Whatever the numbers
 // are, they are some state, so no call requires anything.
 #![tactic(auto)]
+
 ghost use Rattle.std.specs.Prelude.{◌≡◌};
 ghost use Rattle.packet.specs.AuthWrite.{given};
 ghost use Rattle.connection.specs.Pieces.{credentials_of};

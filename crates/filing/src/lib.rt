@@ -1,5 +1,6 @@
 // What a receiver files, in which order, and what its log says.
 #![tactic(auto)]
+
 pub mod conf;
 pub mod content;
 pub mod entry;

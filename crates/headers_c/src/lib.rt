@@ -2,6 +2,7 @@
 // challenge. These are the readers and writers of `packet` and `text`; each function tells what they answer as numbers, and no call requires
 // anything.
 #![tactic(auto)]
+
 ghost use Rattle.std.specs.Prelude.{◌≡◌, [], ◌∷◌, ◌++◌};
 ghost use Rattle.base.specs.Bytes.{bytes32};
 ghost use Rattle.text.specs.Unicode.{lossy};

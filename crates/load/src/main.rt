@@ -2,6 +2,7 @@
 // READ of 0 a read ends where a packet does, and goes straight into the packet store unless a 1 follows. Every other read goes into the
 // input store.
 #![tactic(auto)]
+
 ghost use Rattle.std.specs.Prelude.{◌≤◌};
 
 use base::{be16_at, copy_into};

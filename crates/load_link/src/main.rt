@@ -2,6 +2,7 @@
 // put|get COUNT LIMIT. A Put has a body of 48 KiB, an object one of 1 MiB, and both ends take packets of LIMIT bytes. A packet goes from one end's
 // store to the other end in one piece.
 #![tactic(auto)]
+
 use client::calls;
 use client_model::Outcome;
 use engine::calls as serving;

@@ -1,6 +1,7 @@
 // Packets of the object exchange protocol (IrOBEX 1.5), leaves first: bytes that name things, tag lists, headers, whole packets, and digest
 // authentication.
 #![tactic(auto)]
+
 pub mod action;
 pub mod auth;
 pub mod flags;

@@ -2,6 +2,7 @@
 // and numbers, and at the end of each session the records that the engine's host got (docs/PROTOCOL.md#link). `pair shuffle SEED` cuts the
 // streams anywhere and lets the ends go on in any order, by random numbers from SEED; it prints the same.
 #![tactic(auto)]
+
 mod answers;
 mod host;
 mod script;

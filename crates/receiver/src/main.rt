@@ -1,6 +1,7 @@
 // A receiver of records: the client's bytes come on standard input, and replies go to standard output, for one connection. Each record is filed with
 // its packets before the client is told success, rule files are given out, and passwords are checked (docs/RECEIVER.md).
 #![tactic(auto)]
+
 mod answers;
 mod checks;
 mod clock;

@@ -1,6 +1,7 @@
 // Answers questions about the parts of a record, one question a line and one answer a line. A line that is no question of these, or has not
 // its form, is answered `bad question`.
 #![tactic(auto)]
+
 mod answer;
 mod blocks;
 mod clocks;

@@ -1,6 +1,7 @@
 // Reads a transcript of sessions, drives the engine with the calls in it, and prints what the engine does, in the words of the
 // original's `oracle engine`.
 #![tactic(auto)]
+
 mod command;
 mod drive;
 mod show;

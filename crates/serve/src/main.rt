@@ -2,6 +2,7 @@
 // folder, or of the folder of the service that its connection was opened for, and a Get reads one. The program tells what it does on
 // standard error, a line for each operation. With the argument `--keep` it refuses a Put whose Name a file has already.
 #![tactic(auto)]
+
 mod answers;
 mod file;
 mod folder;

@@ -1,6 +1,7 @@
 // The types that a host sees: the state that it passes from call to call, and what each call answers. The calls themselves stand in
 // `engine::calls`.
 #![tactic(auto)]
+
 ghost use Rattle.std.specs.Prelude.{◌≡◌};
 ghost use Rattle.server.specs.Settings.{default_settings};
 ghost use Rattle.server.specs.Numbers.{end_number, refusal_number, await_number};

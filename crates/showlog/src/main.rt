@@ -1,5 +1,6 @@
 // Prints the log of a session (docs/ARCHIVE.md#the-log) that comes on standard input: a line for each frame, and last how the log ends.
 #![tactic(auto)]
+
 ghost use Rattle.std.specs.Prelude.{◌≤◌, length};
 
 use calendar::time::write_time;

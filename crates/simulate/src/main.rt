@@ -4,6 +4,7 @@
 // plays the Get under each of ten limits, and is answered by a line `LIMIT PACKETS REQUESTS` for each. A refusal shows its number, with 0 for
 // both counts. A line that is no question of these, or has not its form, is answered `bad question`.
 #![tactic(auto)]
+
 mod answer;
 mod question;
 

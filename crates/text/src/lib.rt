@@ -1,6 +1,7 @@
 // The text of headers (docs/PROTOCOL.md#text; the source's header.rs): UTF-16 and UTF-8 are taken apart into scalar values and written into
 // a lent store in the other form.
 #![tactic(auto)]
+
 ghost use Rattle.std.specs.Prelude.{◌≡◌, ◌+◌, ◌-◌, ◌<◌, ◌≤◌, ◌^◌, min, length, get_or, drop};
 ghost use Rattle.std.proofs.lemmas.List.Edits.{sets};
 ghost use Rattle.text.specs.Unicode.{up_to_zero_of, keeps, replaces, units, is_pair, first16, need, low, high, inside, first8, utf8, utf16, whole, well_formed16, well_formed8};

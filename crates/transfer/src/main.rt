@@ -2,6 +2,7 @@
 // bytes come on standard input, and requests go to standard output. What became of each request is told on standard error. With `abort N`
 // the user aborts at the packet or the part with the number N, counted from 0.
 #![tactic(auto)]
+
 mod file;
 mod order;
 mod say;

@@ -1,5 +1,6 @@
 // Answers stored questions, a line each: a word and bytes in hexadecimal. What it writes is compared with the original's answers.
 #![tactic(auto)]
+
 use digest::md5;
 use libc::STDOUT_FILENO;
 use lines::input::{before_first, bytes_of, next_line};

@@ -1,6 +1,7 @@
 // The walk over headers, as a struct that holds the packet's bytes and its place. The work is `header_at`'s, the cursor form, which takes a
 // plain slice; each function here takes the struct apart or makes one.
 #![tactic(auto)]
+
 ghost use Rattle.std.specs.Prelude.{◌≡◌};
 ghost use Rattle.packet.specs.Header.{header_at_of, read_headers};
 ghost use Rattle.walk.specs.Walk.{walk_at, count_of};

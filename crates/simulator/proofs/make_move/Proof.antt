@@ -25,99 +25,91 @@ due : (a : tie.Start) (x : Move) (m : Called) → a.args.v ≡ x → m ≡ step_
     → m ≡ step_of (state_at a) (call_for a.args.v a.args.bytes.now)
 due a x m e h = subst (λ (v : Move). m ≡ step_of (state_at a) (call_for v a.args.bytes.now)) (sym e) h
 
-enum_told : tie.Need-enum-told
+enum_told : tie.Need-enum_told-1
 enum_told c = search rules
 
-slice-aggregate-bytes-offered : tie.Need-slice-aggregate-bytes-offered
-slice-aggregate-bytes-offered c = search rules
-
-bytes-offered-requires : tie.Need-bytes-offered-requires
+bytes-offered-requires : tie.Need-bytes_offered-requires
 bytes-offered-requires c κs = search rules
 
-enum-told-2 : tie.Need-enum-told-2
+enum-told-2 : tie.Need-enum_told-in-Take
 enum-told-2 c = search rules
 
-reply-taken-requires : tie.Need-reply-taken-requires
+reply-taken-requires : tie.Need-reply_taken-requires
 reply-taken-requires c κs = search rules
 
-enum-told-3 : tie.Need-enum-told-3
+enum-told-3 : tie.Need-enum_told-in-GiveObject
 enum-told-3 c = search rules
 
-slice-aggregate-object-given : tie.Need-slice-aggregate-object-given
-slice-aggregate-object-given c = search rules
-
-object-given-requires : tie.Need-object-given-requires
+object-given-requires : tie.Need-object_given-requires
 object-given-requires c κs = search rules
 
-enum-known-v : tie.Need-enum-known-v
+enum-known-v : tie.Need-enum_known-v
 enum-known-v c = search rules
 
-smaller-requires : tie.Need-smaller-requires
+smaller-requires : tie.Need-smaller-n-requires
 smaller-requires c κs = search rules
 
-slice-aggregate-body-given : tie.Need-slice-aggregate-body-given
+slice-aggregate-body-given : tie.Need-slice_bounds-body_given-end
 slice-aggregate-body-given c =
-    let n = c.before.smaller in
-    let told = c.before.before.before in
-    let a = told.before.before.before in
+    let n = c.smaller-n in
+    let told = c.before in
+    let a = told.before.before in
     omega (arith, length-take n.result a.args.bytes.now, n.ensures)
 
-body-given-requires : tie.Need-body-given-requires
+body-given-requires : tie.Need-body_given-requires
 body-given-requires c κs = search rules
 
-enum-told-4 : tie.Need-enum-told-4
+enum-told-4 : tie.Need-enum_told-in-Stop
 enum-told-4 c = search rules
 
-stream-ended-requires : tie.Need-stream-ended-requires
+stream-ended-requires : tie.Need-stream_ended-requires
 stream-ended-requires c κs = search rules
 
-returns : tie.Need-returns
+returns : tie.Need-returns-in-Ask
 returns c =
     let t = c.before.before.before.before.before in
     let u = t.before.before in
-    let a = u.before.before.before in
-    due a move.Ask _ u.enum_told.given.1 (ap (λ (m : Stepped). called m a.args.tables.now) c.bytes-offered.ensures.0)
+    let a = u.before.before in
+    due a move.Ask _ u.in-Ask.is (ap (λ (m : Stepped). called m a.args.tables.now) c.bytes_offered.ensures.0)
 
-returns-2 : tie.Need-returns-2
+returns-2 : tie.Need-returns-in-Take
 returns-2 c =
     let u = c.before.before.before.before.before in
-    let a = u.before.before.before in
-    due a move.Take _ u.enum-told2.given.1 (ap (λ (m : Stepped). called m a.args.tables.now) c.reply-taken.ensures)
+    let a = u.before.before in
+    due a move.Take _ u.in-Take.is (ap (λ (m : Stepped). called m a.args.tables.now) c.reply_taken.ensures)
 
-returns-3 : tie.Need-returns-3
+returns-3 : tie.Need-returns-in-GiveObject
 returns-3 c =
     let t = c.before.before.before.before.before in
     let u = t.before in
-    let a = u.before.before.before in
-    due a move.GiveObject _ u.enum-told3.given.1 (ap (λ (m : Stepped). called m a.args.tables.now) c.object-given.ensures)
+    let a = u.before.before in
+    due a move.GiveObject _ u.in-GiveObject.is (ap (λ (m : Stepped). called m a.args.tables.now) c.object_given.ensures)
 
-returns-4 : tie.Need-returns-4
+returns-4 : tie.Need-returns-in-GiveBody
 returns-4 c =
     let t = c.before.before.before.before.before in
-    let u = t.before.before.before in
-    let a = u.before.before.before in
+    let u = t.before in
+    let a = u.before.before in
     due a (move.GiveBody _) _ u.v.given.1
-    (ap (λ (m : Stepped). called m a.args.tables.now) c.body-given.ensures
+    (ap (λ (m : Stepped). called m a.args.tables.now) c.body_given.ensures
     ∙ ap (λ (d : List ℕ). step_of (state_at a) (body_given_of d))
-    (ap (λ (n : ℕ). take n a.args.bytes.now) t.before.smaller.ensures ∙ take_min _ a.args.bytes.now))
+    (ap (λ (n : ℕ). take n a.args.bytes.now) t.smaller-n.ensures ∙ take_min _ a.args.bytes.now))
 
-returns-5 : tie.Need-returns-5
+returns-5 : tie.Need-returns-in-Stop
 returns-5 c =
     let u = c.before.before.before.before.before in
-    let a = u.before.before.before in
-    due a move.Stop _ u.enum-told4.given.1 (ap (λ (m : Stepped). called m a.args.tables.now) c.stream-ended.ensures)
+    let a = u.before.before in
+    due a move.Stop _ u.in-Stop.is (ap (λ (m : Stepped). called m a.args.tables.now) c.stream_ended.ensures)
 
-pub make-move-spec : {M : Type 1} → statement M
-make-move-spec =
+pub make_move_spec : {M : Type 1} → statement M
+make_move_spec =
     tie.close
     (tie.spec
     enum_told
-    slice-aggregate-bytes-offered
     bytes-offered-requires
     enum-told-2
     reply-taken-requires
     enum-told-3
-    slice-aggregate-object-given
     object-given-requires
     enum-known-v
     smaller-requires

@@ -13,102 +13,102 @@ use Rattle.text.proofs.TextRoom.{rest, rest-start, rest-one, rest_end, Half, hal
 use Rattle.text.proofs.write_text.Statement.{statement}
 use Rattle.text.proofs.write_text.Tie as tie
 
-abbrev invariant-loop : tie.invariant-loop
+abbrev invariant-loop : tie.invariant-loop-p
 invariant-loop s from to d₀ at₀ n₀ d at n = (at ≤ length s) × Half (recoded from to s) (rest from to s at) d₀ d n
 
-abbrev decreases-loop : tie.decreases-loop
+abbrev decreases-loop : tie.decreases-loop-p
 decreases-loop s from to d₀ at₀ n₀ d at n = length s - at
 
 -- what was read in a turn
-module _ (k : tie.After-p invariant-loop decreases-loop) where
-  abbrev test : tie.At-loop invariant-loop decreases-loop
-  test = k.before.before.before
+module _ (k : tie.In-One invariant-loop decreases-loop) where
+  abbrev test : tie.At-loop-p invariant-loop decreases-loop
+  test = k.before.before
 
   abbrev S : List ℕ
-  S = test.before.before.before.args.s.now
+  S = test.args.s.now
 
   abbrev D : List ℕ
-  D = test.before.before.before.args.d.now
+  D = test.args.d.now
 
   abbrev at : ℕ
-  at = test.loop.at
+  at = test.loop-p.at
 
   abbrev from : Form
-  from = test.before.before.before.args.from
+  from = test.args.from
 
   abbrev to : Form
-  to = test.before.before.before.args.to
+  to = test.args.to
 
   abbrev P : Piece
-  P = k.p.given.0.0
+  P = k.in-One.p
 
   was_read : ReadsOne from S at P
-  was_read = rw k.p.given.1 at k.before.before.next-piece.ensures
+  was_read = rw k.in-One.is at k.next_piece.ensures
 
-  half : Half (recoded from to S) (encoded to P.code ++ rest from to S (at + P.size)) D test.loop.d test.loop.n
-  half = rw (rest-one from to S at P was_read) at test.loop.inv.1
+  half : Half (recoded from to S) (encoded to P.code ++ rest from to S (at + P.size)) D test.loop-p.d test.loop-p.n
+  half = rw (rest-one from to S at P was_read) at test.loop-p.inv.1
 
 -- what was read, from where it is put
-abbrev piece : tie.After-put invariant-loop decreases-loop → tie.After-p invariant-loop decreases-loop
-piece w = w.before.before.before
+abbrev piece : tie.After-put-n invariant-loop decreases-loop → tie.In-One invariant-loop decreases-loop
+piece w = w.before.before
 
-loop-holds : tie.Need-loop-init invariant-loop decreases-loop
+loop-holds : tie.Need-loop-p-init invariant-loop decreases-loop
 loop-holds c =
-    let x = c.before.before.args in
+    let x = c.args in
     (omega arith, rw (← rest-start x.from x.to x.s.now) (half_start (recoded x.from x.to x.s.now) x.d.now))
 
-next-piece-requires : tie.Need-next-piece-requires invariant-loop decreases-loop
+next-piece-requires : tie.Need-next_piece-requires invariant-loop decreases-loop
 next-piece-requires c κs = search rules
 
-enum-known-p : tie.Need-enum-known-p invariant-loop decreases-loop
+enum-known-p : tie.Need-enum_known-p invariant-loop decreases-loop
 enum-known-p c = search rules
 
-put-requires : tie.Need-put-requires invariant-loop decreases-loop
+put-requires : tie.Need-put-n-requires invariant-loop decreases-loop
 put-requires c κs =
-    let k = c.before.before in
+    let k = c.before in
     let l = (test k).loop in (
       half_room (recoded (from k) (to k) (S k)) (D k) l.d l.n (test k).before.before.before.requires (encoded (to k) (P k).code)
           (rest (from k) (to k) (S k) (at k + (P k).size)) (half k),
       (was_read k).scalar,
     )
 
-add_at : tie.Need-overflow-add-at invariant-loop decreases-loop
+add_at : tie.Need-overflow_add-at invariant-loop decreases-loop
 add_at c = omega (arith, (was_read (piece c.before.before.before)).within)
 
-loop-less : tie.Need-loop-smaller invariant-loop decreases-loop
+loop-less : tie.Need-loop-p-smaller invariant-loop decreases-loop
 loop-less c = let r = was_read (piece c.before.before.before) in omega (arith, r.within, r.some)
 
-loop-again : tie.Need-loop-preserved invariant-loop decreases-loop
+loop-again : tie.Need-loop-p-preserved invariant-loop decreases-loop
 loop-again c =
     let w = c.before.before.before in
     let k = piece w in
     let l = (test k).loop in
-    let e = w.put.ensures in (
+    let e = w.put-n.ensures in (
       (was_read k).within,
       rw (e.1, e.0)
           (half_more (recoded (from k) (to k) (S k)) (D k) l.d l.n (test k).before.before.before.pre (encoded (to k) (P k).code)
           (rest (from k) (to k) (S k) (at k + (P k).size)) (half k)),
     )
 
-enum_told : tie.Need-enum-told invariant-loop decreases-loop
+enum_told : tie.Need-enum_told-1 invariant-loop decreases-loop
 enum_told c = search rules
 
-same_length : tie.Need-same-length invariant-loop decreases-loop
-same_length c = c.before.before.before.loop.invariant.1.same
+same_length : tie.Need-shape_of-d-in-End invariant-loop decreases-loop
+same_length c = c.loop-p.invariant.1.same
 
-returns : tie.Need-returns invariant-loop decreases-loop
+returns : tie.Need-returns-in-End invariant-loop decreases-loop
 returns c =
-    let h = c.before.before.before in
+    let h = c.before.before in
     let x = h.before.before.before in
     let a = x.args in
-    let l = h.loop in
+    let l = h.loop-p in
     let t = recoded a.from a.to a.s.now in
-    let e = rest_end a.from a.to a.s.now l.at (rw c.enum_told.given.1 at c.before.before.next-piece.ensures) in
+    let e = rest_end a.from a.to a.s.now l.at (rw c.in-End.is at c.next_piece.ensures) in
     let h = half_end t a.d.now l.d l.n x.requires (rw e at l.invariant.1) in
     stored-whole t a.d.now l.d l.n x.requires h.0 h.1
 
-pub write-text-spec : {M : Type 1} → statement M
-write-text-spec =
+pub write_text_spec : {M : Type 1} → statement M
+write_text_spec =
     tie.close
     (tie.spec
     invariant-loop

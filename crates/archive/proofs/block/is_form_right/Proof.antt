@@ -12,82 +12,82 @@ use Rattle.archive.proofs.block.is_form_right.Statement.{statement}
 use Rattle.archive.proofs.block.is_form_right.Tie as tie
 
 -- behind the test of the length
-right : (c : tie.Else2)
-    → let a = c.before.before.before.before.before.before.args in right_length a.k (is_last_block a.block.now) (used a.block.now) ≡ true
+right : (c : tie.Else-not-is_length_right)
+    → let a = c.args in right_length a.k (is_last_block a.block.now) (used a.block.now) ≡ true
 right c =
     let x = c.before in
-    rw (x.before.is-last-block.ensures, x.before.before.used-in.ensures) at (sym x.is-length-right.ensures ∙ not-false x.is-length-right.result c.if2.false)
+    rw (x.is_last_block.ensures, x.used_in-used.ensures) at (sym x.is_length_right.ensures ∙ not-false x.is_length_right.result c.if-not-is_length_right.false)
 
 -- so that the padding lies in the block
-used-most : (c : tie.Else2) → c.before.before.before.used-in.result ≤ 490
+used-most : (c : tie.Else-not-is_length_right) → c.used_in-used.result ≤ 490
 used-most c =
     let h = length_most _ _ _ (right c) in
     omega arith
 
-returns : tie.Need-returns
+returns : tie.Need-returns-then-is_ended
 unfolding right_form
-returns c = rw c.if1.true
+returns c = rw c.if-is_ended.true
 
-used-in-requires : tie.Need-used-in-requires
+used-in-requires : tie.Need-used_in-used-requires
 used-in-requires c κs = search rules
 
-is-last-block-requires : tie.Need-is-last-block-requires
+is-last-block-requires : tie.Need-is_last_block-requires
 is-last-block-requires c κs = search rules
 
-is-length-right-requires : tie.Need-is-length-right-requires
+is-length-right-requires : tie.Need-is_length_right-requires
 is-length-right-requires c κs = search rules
 
-returns-2 : tie.Need-returns-2
+returns-2 : tie.Need-returns-then-not-is_length_right
 returns-2 c =
     let x = c.before in
-    let a = x.before.before.before.before.before.args in
-    let e = rw (x.before.is-last-block.ensures, x.before.before.used-in.ensures) at (sym x.is-length-right.ensures ∙ not-true x.is-length-right.result c.if2.true) in
-    rw x.before.before.before.if1.false (form-length a.k a.before a.block.now e)
+    let a = x.args in
+    let e = rw (x.is_last_block.ensures, x.used_in-used.ensures) at (sym x.is_length_right.ensures ∙ not-true x.is_length_right.result c.if-not-is_length_right.true) in
+    rw x.if-is_ended.false (form-length a.k a.before a.block.now e)
 
-add-is-zero : tie.Need-overflow-add-is-zero
+add-is-zero : tie.Need-overflow_add-used
 add-is-zero c = search rules
 
-sub-is-zero : tie.Need-overflow-sub-is-zero
+sub-is-zero : tie.Need-slice_bounds-is_zero-count
 sub-is-zero c =
     let h = used-most c in
     omega arith
 
-part-is-zero-start : tie.Need-slice-bounds-is-zero-start
+part-is-zero-start : tie.Need-slice_bounds-is_zero-start
 part-is-zero-start c =
     let h = used-most c in
     omega arith
 
-part-is-zero-end : tie.Need-slice-bounds-is-zero-end
+part-is-zero-end : tie.Need-slice_bounds-is_zero-end
 part-is-zero-end c = search rules
 
-is-zero-requires : tie.Need-is-zero-requires
+is-zero-requires : tie.Need-is_zero-requires
 is-zero-requires c κs = search rules
 
-returns-3 : tie.Need-returns-3
+returns-3 : tie.Need-returns-then-not-is_zero
 returns-3 c =
     let e = c.before.before.before in
     let x = e.before in
-    let u = x.before.before.used-in in
-    let a = x.before.before.before.before.before.args in
-    rw x.before.before.before.if1.false
+    let u = x.used_in-used in
+    let a = x.args in
+    rw x.if-is_ended.false
     (form_padding a.k a.before a.block.now (right e) u.result u.ensures
-    (sym c.before.is_zero.ensures ∙ not-true c.before.is_zero.result c.if3.true))
+    (sym c.is_zero.ensures ∙ not-true c.is_zero.result c.if-not-is_zero.true))
 
-sub-result : tie.Need-overflow-sub-result
+sub-result : tie.Need-overflow_sub-result
 sub-result c = search rules
 
-returns-4 : tie.Need-returns-4
+returns-4 : tie.Need-returns
 returns-4 c =
     let e = c.before.before.before in
     let x = e.before in
-    let u = x.before.before.used-in in
-    let a = x.before.before.before.before.before.args in
-    rw x.before.before.before.if1.false
+    let u = x.used_in-used in
+    let a = x.args in
+    rw x.if-is_ended.false
     (form-total a.k a.before a.block.now (right e) u.result u.ensures (omega arith)
-    (sym c.before.is_zero.ensures ∙ not-false c.before.is_zero.result c.if3.false))
+    (sym c.is_zero.ensures ∙ not-false c.is_zero.result c.if-not-is_zero.false))
 
-pub is-form-right-spec : {M : Type 1} → statement M
-is-form-right-spec =
+pub is_form_right_spec : {M : Type 1} → statement M
+is_form_right_spec =
     tie.close
     (tie.spec
     returns

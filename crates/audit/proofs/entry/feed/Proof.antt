@@ -31,113 +31,113 @@ behind : (a : tie.Start) (code : ℕ) (hs rest : List ℕ) (y : Tabled) → y �
     → y ≡ answered_step a.args.s code rest a.args.tables.now
 behind a code hs rest y e h = e ∙ ap (λ (l : List ℕ). answered_step a.args.s code l a.args.tables.now) h
 
-enum_told : tie.Need-enum-told
+enum_told : tie.Need-enum_told-1
 enum_told c = search rules
 
 received-requires : tie.Need-received-requires
 received-requires c κs = search rules
 
-enum-known-entry : tie.Need-enum-known-entry
+enum-known-entry : tie.Need-enum_known-entry
 enum-known-entry c = search rules
 
 sent-requires : tie.Need-sent-requires
 sent-requires c κs = search rules
 
-enum-known-entry-2 : tie.Need-enum-known-entry-2
+enum-known-entry-2 : tie.Need-enum_known-entry-in-Answer-1
 enum-known-entry-2 c = search rules
 
-behind-first-requires : tie.Need-behind-first-requires
+behind-first-requires : tie.Need-behind_first-requires
 behind-first-requires c κs = search rules
 
 answered-requires : tie.Need-answered-requires
 answered-requires c κs = search rules
 
-enum-told-2 : tie.Need-enum-told-2
+enum-told-2 : tie.Need-enum_told-in-Object
 enum-told-2 c = search rules
 
 object-requires : tie.Need-object-requires
 object-requires c κs = search rules
 
-enum-known-entry-3 : tie.Need-enum-known-entry-3
+enum-known-entry-3 : tie.Need-enum_known-entry-in-Check-1
 enum-known-entry-3 c = search rules
 
 checked-requires : tie.Need-checked-requires
 checked-requires c κs = search rules
 
-enum-told-3 : tie.Need-enum-told-3
+enum-told-3 : tie.Need-enum_told-in-Nonce
 enum-told-3 c = search rules
 
 nonce-requires : tie.Need-nonce-requires
 nonce-requires c κs = search rules
 
-enum-told-4 : tie.Need-enum-told-4
+enum-told-4 : tie.Need-enum_told-in-Ids
 enum-told-4 c = search rules
 
 closed-requires : tie.Need-closed-requires
 closed-requires c κs = search rules
 
-enum-told-5 : tie.Need-enum-told-5
+enum-told-5 : tie.Need-enum_told-in-End
 enum-told-5 c = search rules
 
-stream-ended-requires : tie.Need-stream-ended-requires
+stream-ended-requires : tie.Need-stream_ended-requires
 stream-ended-requires c κs = search rules
 
-enum-told-6 : tie.Need-enum-told-6
+enum-told-6 : tie.Need-enum_told-in-Nothing
 enum-told-6 c = search rules
 
-returns : tie.Need-returns
+returns : tie.Need-returns-in-Packet
 returns c =
     let u = c.before.before.before.before.before in
     let t = u.before in
-    let a = t.before.before.before in
-    made a says.Packet _ t.enum_told.given.1
+    let a = t.before.before in
+    made a says.Packet _ t.in-Packet.is
     (ap (λ (y : Came). held_came y a.args.tables.now) c.received.ensures)
 
-returns-2 : tie.Need-returns-2
+returns-2 : tie.Need-returns-in-Reply
 returns-2 c =
-    let a = c.before.before.before.before.before in
-    made a (says.Reply _) _ c.before.before.entry.given.1 (ap (beside a) c.sent.ensures)
+    let a = c.before.before.before in
+    made a (says.Reply _) _ c.in-Reply.is (ap (beside a) c.sent.ensures)
 
-returns-3 : tie.Need-returns-3
+returns-3 : tie.Need-returns-in-Answer
 returns-3 c =
-    let u = c.before.before.before.before in
-    let a = u.before.before.before in
-    made a (says.Answer _) _ u.entry2.given.1
-    (ap (λ (y : Tabled). held_tabled y (storesAt a)) (behind a _ _ _ _ c.answered.ensures c.before.before.behind-first.ensures))
+    let u = c.before.before.before in
+    let a = u.before.before in
+    made a (says.Answer _) _ u.in-Answer.is
+    (ap (λ (y : Tabled). held_tabled y (storesAt a)) (behind a _ _ _ _ c.answered.ensures c.behind_first.ensures))
 
-returns-4 : tie.Need-returns-4
+returns-4 : tie.Need-returns-in-Object
 returns-4 c =
-    let a = c.before.before.before.before in
-    made a says.Object _ c.before.enum-told2.given.1 (ap (beside a) c.object.ensures)
+    let a = c.before.before.before in
+    made a says.Object _ c.in-Object.is (ap (beside a) c.object.ensures)
 
-returns-5 : tie.Need-returns-5
+returns-5 : tie.Need-returns-in-Check
 returns-5 c =
-    let a = c.before.before.before.before.before in
-    made a (says.Check _) _ c.before.before.entry3.given.1 (ap (beside a) c.checked.ensures)
+    let a = c.before.before.before in
+    made a (says.Check _) _ c.in-Check.is (ap (beside a) c.checked.ensures)
 
-returns-6 : tie.Need-returns-6
+returns-6 : tie.Need-returns-in-Nonce
 returns-6 c =
-    let a = c.before.before.before.before in
-    made a says.Nonce _ c.before.enum-told3.given.1 (ap (beside a) c.nonce.ensures)
+    let a = c.before.before.before in
+    made a says.Nonce _ c.in-Nonce.is (ap (beside a) c.nonce.ensures)
 
-returns-7 : tie.Need-returns-7
+returns-7 : tie.Need-returns-in-Ids
 returns-7 c =
-    let a = c.before.before.before.before.before in
-    made a says.Ids _ c.before.before.enum-told4.given.1
+    let a = c.before.before.before.before in
+    made a says.Ids _ c.in-Ids.is
     (ap (λ (y : Tabled). held_tabled y (storesAt a)) c.closed.ensures)
 
-returns-8 : tie.Need-returns-8
+returns-8 : tie.Need-returns-in-End
 returns-8 c =
-    let a = c.before.before.before.before in
-    made a says.End _ c.before.enum-told5.given.1 (ap (beside a) c.stream-ended.ensures)
-
-returns-9 : tie.Need-returns-9
-returns-9 c =
     let a = c.before.before.before in
-    made a says.Nothing _ c.enum-told6.given.1 refl
+    made a says.End _ c.in-End.is (ap (beside a) c.stream_ended.ensures)
 
-pub feed-spec : {M : Type 1} → statement M
-feed-spec =
+returns-9 : tie.Need-returns-in-Nothing
+returns-9 c =
+    let a = c.before.before in
+    made a says.Nothing _ c.in-Nothing.is refl
+
+pub feed_spec : {M : Type 1} → statement M
+feed_spec =
     tie.close
     (tie.spec
     enum_told

@@ -10,7 +10,7 @@ use Rattle.connection.proofs.Challenges.{read_first, not-answered, answered_at}
 use Rattle.connection.proofs.challenge.answered_challenge.Statement.{statement}
 use Rattle.connection.proofs.challenge.answered_challenge.Tie as tie
 
-are-known-requires : tie.Need-are-known-requires
+are-known-requires : tie.Need-are_known-requires
 are-known-requires c κs = search rules
 
 -- the answer by the place found
@@ -18,57 +18,57 @@ answered : (s : List ℕ) (from : ℕ) (b : Bool) (f g : Found) → b ≡ known_
     → read_first (bytes_at s g) ≡ answered_in (headers_from s from)
 answered s from b f g k t p q = sym (answered_at s from (sym k ∙ t) ∙ ap (λ (f : Found). read_first (bytes_at s f)) (sym p ∙ q))
 
-returns : tie.Need-returns
+returns : tie.Need-returns-then-not-are_known
 returns c =
-    let x = c.before.before.before.args in
-    sym (not-answered (read_headers x.packet.now x.from) (sym c.before.are-known.ensures ∙ not-true c.before.are-known.result c.if1.true))
+    let x = c.args in
+    sym (not-answered (read_headers x.packet.now x.from) (sym c.are_known.ensures ∙ not-true c.are_known.result c.if-not-are_known.true))
 
-first-header-requires : tie.Need-first-header-requires
+first-header-requires : tie.Need-first_header-requires
 first-header-requires c κs = search rules
 
-enum-known-start : tie.Need-enum-known-start
+enum-known-start : tie.Need-enum_known-start
 enum-known-start c = search rules
 
-enum_told : tie.Need-enum-told
+enum_told : tie.Need-enum_told-1
 enum_told c = search rules
 
-returns-2 : tie.Need-returns-2
+returns-2 : tie.Need-returns-in_default
 returns-2 c =
-    let f = c.before.before in
+    let f = c.before in
     let k = f.before.before in
-    let x = k.before.before.args in
-    answered x.packet.now x.from k.are-known.result f.first-header.result _ k.are-known.ensures
-    (not-false k.are-known.result f.before.if1.false) f.first-header.ensures c.enum_told.given.1
+    let x = k.args in
+    answered x.packet.now x.from k.are_known.result f.first_header.result _ k.are_known.ensures
+    (not-false k.are_known.result f.if-not-are_known.false) f.first_header.ensures c.in_default.is
 
 -- the header found stands in the packet
-here : (c : tie.After-known-told) → let v = c.before.start.given.0 in
-    FoundIn 0x4D c.before.before.before.before.before.before.before.args.packet.now v.0 v.1.0
-here c = first_found 0x4D _ _ _ _ (sym c.before.before.before.first-header.ensures ∙ c.before.start.given.1)
+here : (c : tie.In-At) → let v = c.start-1.given.0 in
+    FoundIn 0x4D c.args.packet.now v.0 v.1.0
+here c = first_found 0x4D _ _ _ _ (sym c.first_header.ensures ∙ c.in-At.is)
 
-sub-read-challenge : tie.Need-overflow-sub-read-challenge
+sub-read-challenge : tie.Need-slice_bounds-read_challenge-count
 sub-read-challenge c = (here c).stands.past
 
-part-read-challenge-start : tie.Need-slice-bounds-read-challenge-start
+part-read-challenge-start : tie.Need-slice_bounds-read_challenge-start
 part-read-challenge-start c = (here c).stands.past
 
-part-read-challenge-end : tie.Need-slice-bounds-read-challenge-end
+part-read-challenge-end : tie.Need-slice_bounds-read_challenge-end
 part-read-challenge-end c = (here c).stands.ranges
 
-read-challenge-requires : tie.Need-read-challenge-requires
+read-challenge-requires : tie.Need-read_challenge-requires
 read-challenge-requires c κs = search rules
 
-returns-3 : tie.Need-returns-3
+returns-3 : tie.Need-returns
 returns-3 c =
-    let s = c.before.before.before in
-    let f = s.before.before in
+    let s = c.before.before in
+    let f = s.before in
     let k = f.before.before in
-    let x = k.before.before.args in
-    c.read-challenge.ensures
-    ∙ answered x.packet.now x.from k.are-known.result f.first-header.result _ k.are-known.ensures
-    (not-false k.are-known.result f.before.if1.false) f.first-header.ensures s.start.given.1
+    let x = k.args in
+    c.read_challenge.ensures
+    ∙ answered x.packet.now x.from k.are_known.result f.first_header.result _ k.are_known.ensures
+    (not-false k.are_known.result f.if-not-are_known.false) f.first_header.ensures s.in-At.is
 
-pub answered-challenge-spec : {M : Type 1} → statement M
-answered-challenge-spec =
+pub answered_challenge_spec : {M : Type 1} → statement M
+answered_challenge_spec =
     tie.close
     (tie.spec
     are-known-requires

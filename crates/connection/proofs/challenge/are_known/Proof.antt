@@ -12,48 +12,48 @@ use Rattle.connection.proofs.Challenges.{known_step}
 use Rattle.connection.proofs.challenge.are_known.Statement.{statement}
 use Rattle.connection.proofs.challenge.are_known.Tie as tie
 
-abbrev invariant-loop : tie.invariant-loop
+abbrev invariant-loop : tie.invariant-loop-id
 invariant-loop packet from at₀ at = known_in (read_headers packet from) ≡ known_in (read_headers packet at)
 
-abbrev decreases-loop : tie.decreases-loop
+abbrev decreases-loop : tie.decreases-loop-id
 decreases-loop packet from at₀ at = length packet - at
 
-loop-holds : tie.Need-loop-init invariant-loop decreases-loop
+loop-holds : tie.Need-loop-id-init invariant-loop decreases-loop
 loop-holds c = refl
 
-header-at-requires : tie.Need-header-at-requires invariant-loop decreases-loop
+header-at-requires : tie.Need-header_at-requires invariant-loop decreases-loop
 header-at-requires c κs = search rules
 
-enum-known-id : tie.Need-enum-known-id invariant-loop decreases-loop
+enum-known-id : tie.Need-enum_known-id invariant-loop decreases-loop
 enum-known-id c = search rules
 
 -- in a turn that goes on, a header stands at the place
-here : (c : tie.After-known-told invariant-loop decreases-loop) →
-    let v = c.before.id.given.0 in
-    let l = c.before.before.before.before in
-    Here l.before.before.args.packet.now l.loop.at v.0 v.1.0 v.1.1.0 v.1.1.1.0
-here c = by_cursor_lem _ _ _ (sym c.before.before.before.header_at.ensures ∙ c.before.id.given.1)
+here : (c : tie.In-At invariant-loop decreases-loop) →
+    let v = c.id-1.given.0 in
+    let l = c.before.before in
+    Here l.args.packet.now l.loop-id.at v.0 v.1.0 v.1.1.0 v.1.1.1.0
+here c = by_cursor_lem _ _ _ (sym c.header_at.ensures ∙ c.in-At.is)
 
-sub-is-known : tie.Need-overflow-sub-is-known invariant-loop decreases-loop
+sub-is-known : tie.Need-slice_bounds-is_known-count invariant-loop decreases-loop
 sub-is-known c = let h = here c in omega arith
 
-part-is-known-start : tie.Need-slice-bounds-is-known-start invariant-loop decreases-loop
+part-is-known-start : tie.Need-slice_bounds-is_known-start invariant-loop decreases-loop
 part-is-known-start c = let h = here c in omega arith
 
-part-is-known-end : tie.Need-slice-bounds-is-known-end invariant-loop decreases-loop
+part-is-known-end : tie.Need-slice_bounds-is_known-end invariant-loop decreases-loop
 part-is-known-end c = let h = here c in omega arith
 
-is-known-requires : tie.Need-is-known-requires invariant-loop decreases-loop
+is-known-requires : tie.Need-is_known-requires invariant-loop decreases-loop
 is-known-requires c κs = search rules
 
 -- what the header there adds to the answer
-turn : (c : tie.After-known-told invariant-loop decreases-loop) (b : Bool) → let v = c.before.id.given.0 in
-    let s = c.before.before.before.before.before.before.args.packet.now in
+turn : (c : tie.In-At invariant-loop decreases-loop) (b : Bool) → let v = c.id-1.given.0 in
+    let s = c.args.packet.now in
     known_header v.0 (part s v.1.1.0 v.1.1.1.0) ≡ b
-    → known_in (read_headers s c.before.before.before.before.loop.at) ≡ pick b (known_in (read_headers s v.1.1.1.0)) false
+    → known_in (read_headers s c.loop-id.at) ≡ pick b (known_in (read_headers s v.1.1.1.0)) false
 turn c b e =
-    let v = c.before.id.given.0 in
-    let s = c.before.before.before.before.before.before.args.packet.now in
+    let v = c.id-1.given.0 in
+    let s = c.args.packet.now in
     ap known_in (here c).list
     ∙ known_step v.0 (part s v.1.1.0 v.1.1.1.0) (read_headers s v.1.1.1.0)
     ∙ ap (λ (b : Bool). pick b (known_in (read_headers s v.1.1.1.0)) false) e
@@ -63,39 +63,39 @@ none_left : (r : Option (List Header)) → r ≡ some [] → known_in r ≡ true
 unfolding challenges
 none_left r e = rw e
 
-returns : tie.Need-returns invariant-loop decreases-loop
+returns : tie.Need-returns-then-not-is_known invariant-loop decreases-loop
 returns c =
     let k = c.before.before.before in
-    let l = k.before.before.before.before in
-    sym (l.loop.invariant ∙ turn k false (sym c.before.is_Known.ensures ∙ not-true c.before.is_Known.result c.if1.true))
+    let l = k.before.before in
+    sym (l.loop-id.invariant ∙ turn k false (sym c.is_Known.ensures ∙ not-true c.is_Known.result c.if-not-is_known.true))
 
-loop-less : tie.Need-loop-smaller invariant-loop decreases-loop
+loop-less : tie.Need-loop-id-smaller invariant-loop decreases-loop
 loop-less c = let h = here c.before.before.before in omega arith
 
-loop-again : tie.Need-loop-preserved invariant-loop decreases-loop
+loop-again : tie.Need-loop-id-preserved invariant-loop decreases-loop
 loop-again c =
     let k = c.before.before.before in
-    let l = k.before.before.before.before in
-    l.loop.invariant ∙ turn k true (sym c.before.is_Known.ensures ∙ not-false c.before.is_Known.result c.if1.false)
+    let l = k.before.before in
+    l.loop-id.invariant ∙ turn k true (sym c.is_Known.ensures ∙ not-false c.is_Known.result c.if-not-is_known.false)
 
-enum_told : tie.Need-enum-told invariant-loop decreases-loop
+enum_told : tie.Need-enum_told-1 invariant-loop decreases-loop
 enum_told c = search rules
 
-returns-2 : tie.Need-returns-2 invariant-loop decreases-loop
+returns-2 : tie.Need-returns-in-Unreadable invariant-loop decreases-loop
 returns-2 c =
-    let l = c.before.before.before in
-    sym (l.loop.invariant ∙ ap known_in (by_cursor_lem _ _ Unreadable (sym c.before.before.header_at.ensures ∙ c.enum_told.given.1)))
+    let l = c.before.before in
+    sym (l.loop-id.invariant ∙ ap known_in (by_cursor_lem _ _ Unreadable (sym c.header_at.ensures ∙ c.in-Unreadable.is)))
 
-enum-told-2 : tie.Need-enum-told-2 invariant-loop decreases-loop
+enum-told-2 : tie.Need-enum_told-in-End invariant-loop decreases-loop
 enum-told-2 c = search rules
 
-returns-3 : tie.Need-returns-3 invariant-loop decreases-loop
+returns-3 : tie.Need-returns-in-End invariant-loop decreases-loop
 returns-3 c =
-    let l = c.before.before.before in
-    sym (l.loop.invariant ∙ none_left _ (by_cursor_lem _ _ End (sym c.before.before.header_at.ensures ∙ c.enum-told2.given.1)).1)
+    let l = c.before.before in
+    sym (l.loop-id.invariant ∙ none_left _ (by_cursor_lem _ _ End (sym c.header_at.ensures ∙ c.in-End.is)).1)
 
-pub are-known-spec : {M : Type 1} → statement M
-are-known-spec =
+pub are_known_spec : {M : Type 1} → statement M
+are_known_spec =
     tie.close
     (tie.spec
     invariant-loop

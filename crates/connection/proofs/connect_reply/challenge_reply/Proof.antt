@@ -17,76 +17,76 @@ bytes x =
     bytes_of
     (challenge_header (octets16 x.args.nonce) (flag_bits x.args.user-id-required x.args.read_only) (given x.args.has-realm (x.args.charset ∷ x.args.realm.now)))
 
-challenge-size-requires : tie.Need-challenge-size-requires
+challenge-size-requires : tie.Need-challenge_size-size-requires
 challenge-size-requires c κs =
     let x = c.before.before in
     realm-small x.args.has-realm x.args.charset x.args.realm.now x.requires.1
 
 -- the size is that of these bytes
-size : (c : tie.After-challenge-size) → c.challenge-size.result ≡ length (bytes c.before.before.before)
+size : (c : tie.After-challenge_size-size) → c.challenge_size-size.result ≡ length (bytes c.before.before.before)
 size c =
     let x = c.before.before.before in
-    c.challenge-size.ensures ∙ challenge-bytes-length x.args.nonce _ x.args.has-realm x.args.charset x.args.realm.now
+    c.challenge_size-size.ensures ∙ challenge-bytes-length x.args.nonce _ x.args.has-realm x.args.charset x.args.realm.now
 
-begin-connect-requires : tie.Need-begin-connect-requires
+begin-connect-requires : tie.Need-begin_connect-begun-requires
 begin-connect-requires c κs = search rules
 
-module _ (c : tie.After-begin-connect) (k : c.begin-connect.result.whole ≡ true) where
-  fits_whole : 7 + c.before.before.challenge-size.result ≤ 65535
+module _ (c : tie.After-begin_connect-begun) (k : c.begin_connect-begun.result.whole ≡ true) where
+  fits_whole : 7 + c.challenge_size-size.result ≤ 65535
   fits_whole =
       let s = c.before.before in
       let x = s.before.before.before in
-      begun-fits x.args.reply.now (bytes x) x.args.remote 0x41 x.args.limit s.challenge-size.result (size s) _ _ c.begin-connect.ensures k
+      begun-fits x.args.reply.now (bytes x) x.args.remote 0x41 x.args.limit s.challenge_size-size.result (size s) _ _ c.begin_connect-begun.ensures k
 
   -- the header has its place
-  room : Room c.begin-connect.new.0 7 (bytes c.before.before.before.before.before)
+  room : Room c.begin_connect-begun.new.0 7 (bytes c.before.before.before.before.before)
   room =
       let s = c.before.before in
       let x = s.before.before.before in
-      begun-room x.args.reply.now (bytes x) x.args.remote 0x41 x.args.limit s.challenge-size.result (size s) _ _ c.begin-connect.ensures k x.requires.0
+      begun-room x.args.reply.now (bytes x) x.args.remote 0x41 x.args.limit s.challenge_size-size.result (size s) _ _ c.begin_connect-begun.ensures k x.requires.0
 
-sub-put-lead : tie.Need-overflow-sub-put-lead
+sub-put-lead : tie.Need-overflow_sub-size
 sub-put-lead c = search rules
 
-put-lead-requires : tie.Need-put-lead-requires
+put-lead-requires : tie.Need-put_lead-requires
 put-lead-requires c κs =
     let t = c.before in
     let b = t.before.before.before in
-    let r = room b t.if1.true in
+    let r = room b t.if-begun.true in
     let s = b.before.before in
-    (omega (arith, r.store), omega (arith, fits_whole b t.if1.true, s.challenge-size.ensures))
+    (omega (arith, r.store), omega (arith, fits_whole b t.if-begun.true, s.challenge_size-size.ensures))
 
-write-challenge-requires : tie.Need-write-challenge-requires
+write-challenge-requires : tie.Need-write_challenge-requires
 write-challenge-requires c κs = search rules
 
-same_length : tie.Need-same-length
+same_length : tie.Need-shape_of-reply-then-begun
 same_length c = search rules
 
-returns : tie.Need-returns
+returns : tie.Need-returns-then-begun
 returns c =
     let l = c.before.before.before.before.before.before in
     let t = l.before.before in
     let b = t.before.before.before in
     let s = b.before.before in
     let x = s.before.before.before in
-    begun-whole x.args.reply.now (bytes x) x.args.remote 0x41 x.args.limit s.challenge-size.result (size s) _ _
-    b.begin-connect.ensures t.if1.true x.requires.0 _
-    (challenge-laid b.begin-connect.new.0 _ _ x.args.nonce _ x.args.has-realm x.args.charset x.args.realm.now s.challenge-size.result _ x.requires.1
-    s.challenge-size.ensures (room b t.if1.true) l.put-lead.ensures c.before.before.write-challenge.ensures)
+    begun-whole x.args.reply.now (bytes x) x.args.remote 0x41 x.args.limit s.challenge_size-size.result (size s) _ _
+    b.begin_connect-begun.ensures t.if-begun.true x.requires.0 _
+    (challenge-laid b.begin_connect-begun.new.0 _ _ x.args.nonce _ x.args.has-realm x.args.charset x.args.realm.now s.challenge_size-size.result _ x.requires.1
+    s.challenge_size-size.ensures (room b t.if-begun.true) l.put_lead.ensures c.write_challenge.ensures)
 
-same-length-2 : tie.Need-same-length-2
+same-length-2 : tie.Need-shape_of-reply-else-begun
 same-length-2 c = search rules
 
-returns-2 : tie.Need-returns-2
+returns-2 : tie.Need-returns-else-begun
 returns-2 c =
     let b = c.before.before.before in
     let s = b.before.before in
     let x = s.before.before.before in
-    begun-sent x.args.reply.now (bytes x) x.args.remote 0x41 x.args.limit s.challenge-size.result (size s) _ _
-    b.begin-connect.ensures c.if1.false
+    begun-sent x.args.reply.now (bytes x) x.args.remote 0x41 x.args.limit s.challenge_size-size.result (size s) _ _
+    b.begin_connect-begun.ensures c.if-begun.false
 
-pub challenge-reply-spec : {M : Type 1} → statement M
-challenge-reply-spec =
+pub challenge_reply_spec : {M : Type 1} → statement M
+challenge_reply_spec =
     tie.close
     (tie.spec
     challenge-size-requires

@@ -15,73 +15,73 @@ pieces x =
     named_bytes x.args.front (bytes_at x.args.packet.now x.args.who) x.args.headers.now
     ++ added_bytes x.args.nonce (given x.args.has-user x.args.user.now) x.args.password.now x.args.srm
 
-connect-size-requires : tie.Need-connect-size-requires
+connect-size-requires : tie.Need-connect_size-size-requires
 connect-size-requires c κs =
     let x = c.before.before.before.before.before in
     (x.requires.2, inside-ordered x.args.packet.now x.args.who x.requires.3 x.requires.1, user-small x.args.has-user x.args.user.now x.requires.4)
 
 -- the size is that of these bytes
-size : (c : tie.After-connect-size) → c.connect-size.result ≡ length (pieces c.before.before.before.before.before.before)
+size : (c : tie.After-connect_size-size) → c.connect_size-size.result ≡ length (pieces c.before.before.before.before.before.before)
 size c =
     let x = c.before.before.before.before.before.before in
     let a = x.args in
-    c.connect-size.ensures
+    c.connect_size-size.ensures
     ∙ pieces-length a.packet.now a.headers.now a.user.now a.password.now a.front a.who a.nonce a.has-user a.srm x.requires.3
 
-begin-connect-requires : tie.Need-begin-connect-requires
+begin-connect-requires : tie.Need-begin_connect-begun-requires
 begin-connect-requires c κs = search rules
 
 -- the pieces have their place
-room : (c : tie.After-begin-connect) → c.begin-connect.result.whole ≡ true →
+room : (c : tie.After-begin_connect-begun) → c.begin_connect-begun.result.whole ≡ true →
     let s = c.before.before in
-    Room c.begin-connect.new.0 7 (pieces s.before.before.before.before.before.before)
+    Room c.begin_connect-begun.new.0 7 (pieces s.before.before.before.before.before.before)
 room c k =
     let s = c.before.before in
     let x = s.before.before.before.before.before.before in
-    begun-room x.args.reply.now (pieces x) x.args.remote x.args.code x.args.limit s.connect-size.result (size s) _ _
-    c.begin-connect.ensures k x.requires.0
+    begun-room x.args.reply.now (pieces x) x.args.remote x.args.code x.args.limit s.connect_size-size.result (size s) _ _
+    c.begin_connect-begun.ensures k x.requires.0
 
-put-named-requires : tie.Need-put-named-requires
+put-named-requires : tie.Need-put_named-next-requires
 put-named-requires c κs =
     let b = c.before.before.before.before in
     let x = b.before.before.before.before.before.before.before.before in
-    (room-left _ _ _ 7 (room b c.before.if1.true), x.requires.3)
+    (room-left _ _ _ 7 (room b c.if-begun.true), x.requires.3)
 
-put-added-requires : tie.Need-put-added-requires
+put-added-requires : tie.Need-put_added-requires
 put-added-requires c κs =
     let n = c.before.before.before in
     let t = n.before.before in
     let b = t.before.before.before in
     let x = b.before.before.before.before.before.before.before.before in
-    (room-right _ _ _ _ 7 _ (room b t.if1.true) n.put-named.ensures, x.requires.4)
+    (room-right _ _ _ _ 7 _ (room b t.if-begun.true) n.put_named-next.ensures, x.requires.4)
 
-same_length : tie.Need-same-length
+same_length : tie.Need-shape_of-reply-then-begun
 same_length c = search rules
 
-returns : tie.Need-returns
+returns : tie.Need-returns-then-begun
 returns c =
     let n = c.before.before.before.before.before.before in
     let t = n.before.before in
     let b = t.before.before.before in
     let s = b.before.before in
     let x = s.before.before.before.before.before.before in
-    begun-whole x.args.reply.now (pieces x) x.args.remote x.args.code x.args.limit s.connect-size.result (size s) _ _
-    b.begin-connect.ensures t.if1.true x.requires.0 _
-    (puts-more _ _ _ _ _ 7 _ _ (room b t.if1.true) n.put-named.ensures (record { next_is = refl; store = c.before.before.put-added.ensures })).store
+    begun-whole x.args.reply.now (pieces x) x.args.remote x.args.code x.args.limit s.connect_size-size.result (size s) _ _
+    b.begin_connect-begun.ensures t.if-begun.true x.requires.0 _
+    (puts-more _ _ _ _ _ 7 _ _ (room b t.if-begun.true) n.put_named-next.ensures (record { next_is = refl; store = c.put_added.ensures })).store
 
-same-length-2 : tie.Need-same-length-2
+same-length-2 : tie.Need-shape_of-reply-else-begun
 same-length-2 c = search rules
 
-returns-2 : tie.Need-returns-2
+returns-2 : tie.Need-returns-else-begun
 returns-2 c =
     let b = c.before.before.before in
     let s = b.before.before in
     let x = s.before.before.before.before.before.before in
-    begun-sent x.args.reply.now (pieces x) x.args.remote x.args.code x.args.limit s.connect-size.result (size s) _ _
-    b.begin-connect.ensures c.if1.false
+    begun-sent x.args.reply.now (pieces x) x.args.remote x.args.code x.args.limit s.connect_size-size.result (size s) _ _
+    b.begin_connect-begun.ensures c.if-begun.false
 
-pub send-pieces-spec : {M : Type 1} → statement M
-send-pieces-spec =
+pub send_pieces_spec : {M : Type 1} → statement M
+send_pieces_spec =
     tie.close
     (tie.spec
     connect-size-requires

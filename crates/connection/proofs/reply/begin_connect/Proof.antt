@@ -7,65 +7,65 @@ use Rattle.connection.proofs.reply.begin_connect.Tie as tie
 fits-requires : tie.Need-fits-requires
 fits-requires c κs = search rules
 
-enum_told : tie.Need-enum-told
+enum_told : tie.Need-enum_told-1
 enum_told c = search rules
 
-enum-told-2 : tie.Need-enum-told-2
+enum-told-2 : tie.Need-enum_told-in-Replaced
 enum-told-2 c = search rules
 
-to-byte-requires : tie.Need-to-byte-requires
+to-byte-requires : tie.Need-to_byte-requires
 to-byte-requires c κs = search rules
 
-put-connect-prefix-requires : tie.Need-put-connect-prefix-requires
+put-connect-prefix-requires : tie.Need-put_connect_prefix-requires
 put-connect-prefix-requires c κs = search rules
 
-enum-told-3 : tie.Need-enum-told-3
+enum-told-3 : tie.Need-enum_told-in-Whole
 enum-told-3 c = search rules
 
-to-byte-requires-2 : tie.Need-to-byte-requires-2
+to-byte-requires-2 : tie.Need-to_byte-requires-in-Whole
 to-byte-requires-2 c κs = search rules
 
 -- a whole reply fits
-bound : (c : tie.After-enum-told3) → 7 + c.before.before.before.before.args.size ≤ 65535
+bound : (c : tie.In-Whole) → 7 + c.args.size ≤ 65535
 bound c =
-    let f = c.before.before in
-    let x = f.before.before.args in
-    whole-bound x.remote (7 + x.size) (sym c.enum-told3.given.1 ∙ f.fits2.ensures)
+    let f = c.before in
+    let x = f.args in
+    whole-bound x.remote (7 + x.size) (sym c.in-Whole.is ∙ f.fits2.ensures)
 
-add-put-connect-prefix : tie.Need-overflow-add-put-connect-prefix
+add-put-connect-prefix : tie.Need-overflow_add-size
 add-put-connect-prefix c = omega (arith, bound c.before.before)
 
-put-connect-prefix-requires-2 : tie.Need-put-connect-prefix-requires-2
+put-connect-prefix-requires-2 : tie.Need-put_connect_prefix-requires-in-Whole
 put-connect-prefix-requires-2 c κs =
     let k = c.before.before in
-    (omega (arith, bound k), k.before.before.before.before.requires)
+    (omega (arith, bound k), k.requires)
 
-add-t18 : tie.Need-overflow-add-t18
+add-t18 : tie.Need-overflow_add-result
 add-t18 c = omega (arith, bound c.before.before.before.before.before)
 
-returns : tie.Need-returns
-returns c = rw (← c.before.before.fits2.ensures, c.enum_told.given.1)
+returns : tie.Need-returns-in-TooLarge
+returns c = rw (← c.fits2.ensures, c.in-TooLarge.is)
 
-same_length : tie.Need-same-length
+same_length : tie.Need-shape_of-reply-in-Replaced
 same_length c = search rules
 
-returns-2 : tie.Need-returns-2
+returns-2 : tie.Need-returns-in-Replaced
 returns-2 c =
     let p = c.before.before in
     let k = p.before.before.before in
-    rw (← k.before.before.fits2.ensures, k.enum-told2.given.1, p.put-connect-prefix.ensures, p.before.to-byte.ensures)
+    rw (← k.fits2.ensures, k.in-Replaced.is, p.put_connect_prefix.ensures, p.to_byte.ensures)
 
-same-length-2 : tie.Need-same-length-2
+same-length-2 : tie.Need-shape_of-reply-in-Whole
 same-length-2 c = search rules
 
-returns-3 : tie.Need-returns-3
+returns-3 : tie.Need-returns-in-Whole
 returns-3 c =
     let p = c.before.before in
     let k = p.before.before.before in
-    rw (← k.before.before.fits2.ensures, k.enum-told3.given.1, p.put-connect-prefix2.ensures, p.before.to-byte2.ensures)
+    rw (← k.fits2.ensures, k.in-Whole.is, p.put_connect_prefix-in-Whole.ensures, p.to_byte-in-Whole.ensures)
 
-pub begin-connect-spec : {M : Type 1} → statement M
-begin-connect-spec =
+pub begin_connect_spec : {M : Type 1} → statement M
+begin_connect_spec =
     tie.close
     (tie.spec
     fits-requires

@@ -19,40 +19,40 @@ abbrev lent : tie.After-guard → Stores
 lent k = let a = (start k).args in stores a.packet.now a.headers.now a.body.now a.reply.now
 
 -- the guard says that the call may proceed
-abbrev passed : tie.After-enum-told → tie.After-guard
-passed z = z.before.before
+abbrev passed : tie.In_default → tie.After-guard
+passed z = z.before
 
-goes : (z : tie.After-enum-told) → Goes kind.FromBody (start (passed z)).args.e (lent (passed z))
-goes z = going kind.FromBody _ _ _ (passed z).guard.ensures z.enum_told.given.1
+goes : (z : tie.In_default) → Goes kind.FromBody (start (passed z)).args.e (lent (passed z))
+goes z = going kind.FromBody _ _ _ (passed z).guard.ensures z.in_default.is
 
 guard-requires : tie.Need-guard-requires
 guard-requires c κs = search rules
 
-enum-known-refusal : tie.Need-enum-known-refusal
+enum-known-refusal : tie.Need-enum_known-refusal
 enum-known-refusal c = search rules
 
 refuse-requires : tie.Need-refuse-requires
 refuse-requires c κs = search rules
 
-returns : tie.Need-returns
+returns : tie.Need-returns-in-Refuse
 unfolding body_failed_step
 returns c =
-    let k = c.before.before.before.before in
-    refused-call kind.FromBody (start k).args.e (lent k) _ _ _ _ c.refuse.ensures k.guard.ensures c.before.before.refusal.given.1
+    let k = c.before.before in
+    refused-call kind.FromBody (start k).args.e (lent k) _ _ _ _ c.refuse.ensures k.guard.ensures c.in-Refuse.is
 
-enum_told : tie.Need-enum-told
+enum_told : tie.Need-enum_told-1
 enum_told c = search rules
 
 code-requires : tie.Need-code-requires
 code-requires c κs = search rules
 
-carry-out-requires : tie.Need-carry-out-requires
+carry-out-requires : tie.Need-carry_out-requires
 carry-out-requires c κs = omega (arith, (goes c.before.before).room.reply)
 
-same_length : tie.Need-same-length
+same_length : tie.Need-shape_of-reply
 same_length c = search rules
 
-returns-2 : tie.Need-returns-2
+returns-2 : tie.Need-returns
 unfolding body_failed_step
 returns-2 c =
     let o = c.before.before in
@@ -60,10 +60,10 @@ returns-2 c =
     let z = p.before in
     let e = (start (passed z)).args.e in
     let s = lent (passed z) in
-    carried-call kind.FromBody e s _ _ _ _ (goes z) o.carry-out.ensures p.code.ensures (code-planned e e.peer await.Taken 0xD0 s)
+    carried-call kind.FromBody e s _ _ _ _ (goes z) o.carry_out.ensures p.code.ensures (code-planned e e.peer await.Taken 0xD0 s)
 
-pub body-failed-spec : {M : Type 1} → statement M
-body-failed-spec =
+pub body_failed_spec : {M : Type 1} → statement M
+body_failed_spec =
     tie.close
     (tie.spec
     guard-requires

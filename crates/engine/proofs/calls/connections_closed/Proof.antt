@@ -9,83 +9,83 @@ use borrow.Author.Rules.{rules}
 use Rattle.engine.proofs.calls.connections_closed.Statement.{statement}
 use Rattle.engine.proofs.calls.connections_closed.Tie as tie
 
-abbrev start : tie.After-guard-close → tie.Start
+abbrev start : tie.After-guard_close → tie.Start
 start k = k.before.before.before
 
 -- the guard says that the call may proceed
-abbrev passed : tie.After-enum-told → tie.After-guard-close
-passed z = z.before.before
+abbrev passed : tie.In_default → tie.After-guard_close
+passed z = z.before
 
-goes : (z : tie.After-enum-told) → let a = (start (passed z)).args in Closable a.e a.tables.now
-goes z = let k = passed z in guard_passed (start k).args.e (start k).args.tables.now _ k.guard-close.ensures z.enum_told.given.1
+goes : (z : tie.In_default) → let a = (start (passed z)).args in Closable a.e a.tables.now
+goes z = let k = passed z in guard_passed (start k).args.e (start k).args.tables.now _ k.guard-close.ensures z.in_default.is
 
-guard-close-requires : tie.Need-guard-close-requires
+guard-close-requires : tie.Need-guard_close-requires
 guard-close-requires c κs = search rules
 
-enum-known-refusal : tie.Need-enum-known-refusal
+enum-known-refusal : tie.Need-enum_known-refusal
 enum-known-refusal c = search rules
 
 refuse-requires : tie.Need-refuse-requires
 refuse-requires c κs = search rules
 
-returns : tie.Need-returns
+returns : tie.Need-returns-in-Refuse
 returns c =
-    let k = c.before.before.before.before in
+    let k = c.before.before in
     let a = (start k).args in
     ap (λ (r : CallResult). closed r a.tables.now) c.refuse.ensures
-    ∙ guard_turned a.e a.tables.now _ k.guard-close.ensures a.ids.now _ c.before.before.refusal.given.1
+    ∙ guard_turned a.e a.tables.now _ k.guard_close.ensures a.ids.now _ c.in-Refuse.is
 
-enum_told : tie.Need-enum-told
+enum_told : tie.Need-enum_told-1
 enum_told c = search rules
 
 judge-requires : tie.Need-judge-requires
-judge-requires c κs = let g = goes c.before.before in (g.few, omega (arith, g.few, g.room))
+judge-requires c κs = let g = goes c.before in (g.few, omega (arith, g.few, g.room))
 
-enum-known-refusal-2 : tie.Need-enum-known-refusal-2
+enum-known-refusal-2 : tie.Need-enum_known-refusal-in-Refuse-judge
 enum-known-refusal-2 c = search rules
 
-refuse-requires-2 : tie.Need-refuse-requires-2
+refuse-requires-2 : tie.Need-refuse-requires-in-Refuse-judge
 refuse-requires-2 c κs = search rules
 
-same_length : tie.Need-same-length
+same_length : tie.Need-shape_of-tables-in-Refuse-judge
 same_length c = search rules
 
-returns-2 : tie.Need-returns-2
+returns-2 : tie.Need-returns-in-Refuse-judge
 returns-2 c =
-    let j = c.before.before.before.before in
-    let z = j.before.before.before in
+    let j = c.before.before in
+    let z = j.before.before in
     let a = (start (passed z)).args in
-    ap (λ (r : CallResult). closed r a.tables.now) c.refuse2.ensures
-    ∙ judge-turned a.e a.ids.now a.tables.now _ j.judge.ensures _ c.before.before.refusal2.given.1
+    ap (λ (r : CallResult). closed r a.tables.now) c.refuse-in-Refuse-judge.ensures
+    ∙ judge-turned a.e a.ids.now a.tables.now _ j.judge.ensures _ c.in-Refuse-judge.is
     ∙ sym ((goes z).whole a.ids.now)
 
-enum-told-2 : tie.Need-enum-told-2
+enum-told-2 : tie.Need-enum_told-in_default-judge
 enum-told-2 c = search rules
 
-close-all-requires : tie.Need-close-all-requires
-close-all-requires c κs = let g = goes c.before.before.before.before.before.before in (g.few, g.room)
+close-all-requires : tie.Need-close_all-left-requires
+close-all-requires c κs = let g = goes c.before.before.before.before in (g.few, g.room)
 
-closed-peer-requires : tie.Need-closed-peer-requires
+closed-peer-requires : tie.Need-closed_peer-requires
 closed-peer-requires c κs = search rules
 
-go-on-with-requires : tie.Need-go-on-with-requires
+go-on-with-requires : tie.Need-go_on_with-requires
 go-on-with-requires c κs = search rules
 
-same-length-2 : tie.Need-same-length-2
+same-length-2 : tie.Need-shape_of-tables
 same-length-2 c = search rules
 
-returns-3 : tie.Need-returns-3
+returns-3 : tie.Need-returns
 returns-3 c =
     let f = c.before.before.before.before in
     let y = f.before.before in
-    let j = y.before.before in
-    let z = j.before.before.before in
+    let j = y.before in
+    let z = j.before.before in
     let a = (start (passed z)).args in
-    all_closed a.e a.ids.now a.tables.now _ j.judge.ensures (goes z) y.enum-told2.given.1 _ _ f.close-all.ensures _
-    c.before.closed-peer.ensures _ c.go-on-with.ensures
+    all_closed a.e a.ids.now a.tables.now _ j.judge.ensures (goes z) y.in_default-judge.is _ _ f.close_all-left.ensures _
+    c.closed_peer.ensures _ c.go_on_with.ensures
 
-pub connections-closed-spec : {M : Type 1} → statement M
-connections-closed-spec =
+pub connections_closed_spec : {M : Type 1} → statement M
+connections_closed_spec =
     tie.close
     (tie.spec
     guard-close-requires

@@ -25,101 +25,101 @@ abbrev lent : tie.After-guard → Stores
 lent k = let a = (start k).args in stores a.packet.now a.headers.now a.body.now a.reply.now
 
 -- the guard says that the call may proceed
-abbrev passed : tie.After-enum-told → tie.After-guard
-passed z = z.before.before
+abbrev passed : tie.In_default → tie.After-guard
+passed z = z.before
 
-goes : (z : tie.After-enum-told) → Goes kind.ObjectGiven (start (passed z)).args.e (lent (passed z))
-goes z = going kind.ObjectGiven _ _ _ (passed z).guard.ensures z.enum_told.given.1
+goes : (z : tie.In_default) → Goes kind.ObjectGiven (start (passed z)).args.e (lent (passed z))
+goes z = going kind.ObjectGiven _ _ _ (passed z).guard.ensures z.in_default.is
 
-abbrev waits : tie.Else1 → tie.After-enum-told
-waits u = u.before.before.before.before.before
+abbrev waits : tie.Else-is_bad_headers → tie.In_default
+waits u = u.before.before.before
 
 -- good header bytes fit in their store
-fits : (u : tie.Else1) → length (start (passed (waits u))).args.header-bytes.now ≤ length (start (passed (waits u))).args.headers.now
+fits : (u : tie.Else-is_bad_headers) → length (start (passed (waits u))).args.header-bytes.now ≤ length (start (passed (waits u))).args.headers.now
 fits u =
-    let l = good_length (start (passed (waits u))).args.header-bytes.now _ u.before.is-bad-headers.ensures u.if1.false in
+    let l = good_length (start (passed (waits u))).args.header-bytes.now _ u.is_bad_headers.ensures u.if-is_bad_headers.false in
     omega (arith, l, (goes (waits u)).room.headers)
 
 guard-requires : tie.Need-guard-requires
 guard-requires c κs = search rules
 
-enum-known-refusal : tie.Need-enum-known-refusal
+enum-known-refusal : tie.Need-enum_known-refusal
 enum-known-refusal c = search rules
 
 refuse-requires : tie.Need-refuse-requires
 refuse-requires c κs = search rules
 
-returns : tie.Need-returns
+returns : tie.Need-returns-in-Refuse
 unfolding object_given_step
 returns c =
-    let k = c.before.before.before.before in
-    refused-call kind.ObjectGiven (start k).args.e (lent k) _ _ _ _ c.refuse.ensures k.guard.ensures c.before.before.refusal.given.1
+    let k = c.before.before in
+    refused-call kind.ObjectGiven (start k).args.e (lent k) _ _ _ _ c.refuse.ensures k.guard.ensures c.in-Refuse.is
 
-enum_told : tie.Need-enum-told
+enum_told : tie.Need-enum_told-1
 enum_told c = search rules
 
-enum-known-operation : tie.Need-enum-known-operation
+enum-known-operation : tie.Need-enum_known-operation
 enum-known-operation c = search rules
 
-refuse-requires-2 : tie.Need-refuse-requires-2
+refuse-requires-2 : tie.Need-refuse-requires-in_default-operation
 refuse-requires-2 c κs = search rules
 
-returns-2 : tie.Need-returns-2
+returns-2 : tie.Need-returns-in_default-operation
 unfolding object_given_step
 returns-2 c =
     let z = c.before.before in
     let k = (start (passed z)).args in
     let s = lent (passed z) in
-    ap (λ (r : CallResult). stepped r s) c.refuse2.ensures
-    ∙ object-other k.e.operation k.e k.header-bytes.now k.has_body s c.before.match2.keys2
+    ap (λ (r : CallResult). stepped r s) c.refuse-in_default-operation.ensures
+    ∙ object-other k.e.operation k.e k.header-bytes.now k.has_body s c.in_default-operation.keys2
     ∙ sym ((goes z).whole _)
 
-is-bad-headers-requires : tie.Need-is-bad-headers-requires
+is-bad-headers-requires : tie.Need-is_bad_headers-requires
 is-bad-headers-requires c κs = search rules
 
-refuse-requires-3 : tie.Need-refuse-requires-3
+refuse-requires-3 : tie.Need-refuse-requires-then-is_bad_headers
 refuse-requires-3 c κs = search rules
 
-returns-3 : tie.Need-returns-3
+returns-3 : tie.Need-returns-then-is_bad_headers
 unfolding object_given_step
 returns-3 c =
     let b = c.before.before in
-    let o = b.before.before in
-    let z = o.before.before in
+    let o = b.before in
+    let z = o.before in
     let k = (start (passed z)).args in
     let s = lent (passed z) in
-    ap (λ (r : CallResult). stepped r s) c.refuse3.ensures
-    ∙ object-bad k.e.operation _ _ _ _ o.operation.given.1 k.e k.header-bytes.now _ b.is-bad-headers.ensures k.has_body s
-    c.before.if1.true
+    ap (λ (r : CallResult). stepped r s) c.refuse-then-is_bad_headers.ensures
+    ∙ object-bad k.e.operation _ _ _ _ o.in-Getting.is k.e k.header-bytes.now _ b.is_bad_headers.ensures k.has_body s
+    c.if-is_bad_headers.true
     ∙ sym ((goes z).whole _)
 
-copy-into-requires : tie.Need-copy-into-requires
+copy-into-requires : tie.Need-copy_into-requires
 copy-into-requires c κs = omega (arith, fits c.before)
 
-object-of-requires : tie.Need-object-of-requires
+object-of-requires : tie.Need-object_of-o-requires
 object-of-requires c κs = search rules
 
 either-requires : tie.Need-either-requires
 either-requires c κs = search rules
 
-sends-next-requires : tie.Need-sends-next-requires
+sends-next-requires : tie.Need-sends_next-requires
 sends-next-requires c κs =
     let w = c.before.before.before.before.before.before in
     let u = w.before.before in
     let z = waits u in
     let k = (start (passed z)).args in
-    let f = w.copy-into.ensures ∙ store-front k.header-bytes.now k.headers.now (fits u) in
+    let f = w.copy_into-arg-1.ensures ∙ store-front k.header-bytes.now k.headers.now (fits u) in
     let h = ap (λ (x : List ℕ). length x) f ∙ front_length k.header-bytes.now k.headers.now (fits u) in
-    let t = ap (λ (x : Outgoing). x.total) c.before.before.before.object_of.ensures in
+    let t = ap (λ (x : Outgoing). x.total) c.object_of-o.ensures in
     ((goes z).bounds.remote, omega (arith, h, t, fits u), (goes z).room.reply)
 
-same_length : tie.Need-same-length
+same_length : tie.Need-shape_of-headers
 same_length c = search rules
 
-same-length-2 : tie.Need-same-length-2
+same-length-2 : tie.Need-shape_of-reply
 same-length-2 c = search rules
 
-returns-4 : tie.Need-returns-4
+returns-4 : tie.Need-returns
 unfolding object_given_step
 returns-4 c =
     let n = c.before.before in
@@ -129,14 +129,14 @@ returns-4 c =
     let b = u.before in
     let z = waits u in
     let k = (start (passed z)).args in
-    object-goes k.e.operation _ _ _ _ b.before.before.operation.given.1
+    object-goes k.e.operation _ _ _ _ b.in-Getting.is
     k.e k.header-bytes.now _ b.is-bad-headers.ensures k.has_body (lent (passed z)) u.if1.false _ _ _ _
-    n.sends-next.ensures i.before.object_of.ensures i.either.ensures
-    (w.copy-into.ensures ∙ store-front k.header-bytes.now k.headers.now (fits u))
+    n.sends_next.ensures i.object_of-o.ensures i.either.ensures
+    (w.copy_into-arg-1.ensures ∙ store-front k.header-bytes.now k.headers.now (fits u))
     ∙ sym ((goes z).whole _)
 
-pub object-given-spec : {M : Type 1} → statement M
-object-given-spec =
+pub object_given_spec : {M : Type 1} → statement M
+object_given_spec =
     tie.close
     (tie.spec
     guard-requires

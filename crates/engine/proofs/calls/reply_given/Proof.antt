@@ -14,71 +14,71 @@ use borrow.Author.Rules.{rules}
 use Rattle.engine.proofs.calls.reply_given.Statement.{statement}
 use Rattle.engine.proofs.calls.reply_given.Tie as tie
 
-abbrev start : tie.After-guard-lent → tie.Start
+abbrev start : tie.After-guard_lent → tie.Start
 start k = k.before.before.before.before.before.before.before
 
 -- the stores that are lent
-abbrev lent : tie.After-guard-lent → Stores
+abbrev lent : tie.After-guard_lent → Stores
 lent k = let a = (start k).args in stores a.packet.now a.headers.now a.body.now a.reply.now
 
 -- the guard says that the call may proceed
-abbrev passed : tie.After-enum-told → tie.After-guard-lent
-passed z = z.before.before
+abbrev passed : tie.In_default → tie.After-guard_lent
+passed z = z.before
 
-goes : (z : tie.After-enum-told) → let a = (start (passed z)).args in GoesLent kind.ReplyGiven a.e (lent (passed z)) a.tables.now
-goes z = going-lent kind.ReplyGiven _ _ _ _ (passed z).guard-lent.ensures z.enum_told.given.1
+goes : (z : tie.In_default) → let a = (start (passed z)).args in GoesLent kind.ReplyGiven a.e (lent (passed z)) a.tables.now
+goes z = going-lent kind.ReplyGiven _ _ _ _ (passed z).guard-lent.ensures z.in_default.is
 
-guard-lent-requires : tie.Need-guard-lent-requires
+guard-lent-requires : tie.Need-guard_lent-requires
 guard-lent-requires c κs = search rules
 
-enum-known-refusal : tie.Need-enum-known-refusal
+enum-known-refusal : tie.Need-enum_known-refusal
 enum-known-refusal c = search rules
 
 refuse-requires : tie.Need-refuse-requires
 refuse-requires c κs = search rules
 
-returns : tie.Need-returns
+returns : tie.Need-returns-in-Refuse
 unfolding reply_given_step
 returns c =
-    let k = c.before.before.before.before in
+    let k = c.before.before in
     let a = (start k).args in
     ap (λ (r : CallResult). called (stepped r (lent k)) a.tables.now) c.refuse.ensures
     ∙ turned-lent kind.ReplyGiven a.e (lent k) a.tables.now (λ (q : Refusal). called (refuse q a.e (lent k)) a.tables.now) _ _ _
-    k.guard-lent.ensures
-    c.before.before.refusal.given.1
+    k.guard_lent.ensures
+    c.in-Refuse.is
 
-enum_told : tie.Need-enum-told
+enum_told : tie.Need-enum_told-1
 enum_told c = search rules
 
-is-bad-reply-requires : tie.Need-is-bad-reply-requires
+is-bad-reply-requires : tie.Need-is_bad_reply-requires
 is-bad-reply-requires c κs = search rules
 
-refuse-requires-2 : tie.Need-refuse-requires-2
+refuse-requires-2 : tie.Need-refuse-requires-then-is_bad_reply
 refuse-requires-2 c κs = search rules
 
-returns-2 : tie.Need-returns-2
+returns-2 : tie.Need-returns-then-is_bad_reply
 returns-2 c =
     let b = c.before.before in
     let z = b.before in
     let k = (start (passed z)).args in
-    reply-bad k.e (lent (passed z)) k.code k.header-bytes.now k.tables.now (goes z) _ b.is-bad-reply.ensures
-    c.before.if1.true _
-    c.refuse2.ensures
+    reply-bad k.e (lent (passed z)) k.code k.header-bytes.now k.tables.now (goes z) _ b.is_bad_reply.ensures
+    c.if-is_bad_reply.true _
+    c.refuse-then-is_bad_reply.ensures
 
-same-await-requires : tie.Need-same-await-requires
+same-await-requires : tie.Need-same_await-requires
 same-await-requires c κs = search rules
 
-slice-reshare-prefix-connect-answer : tie.Need-slice-reshare-prefix-connect-answer
+slice-reshare-prefix-connect-answer : tie.Need-slice_bounds-connect_answer-end
 slice-reshare-prefix-connect-answer c = (goes c.before.before.before.before).goes.last.inside
 
-slice-aggregate-connect-answer : tie.Need-slice-aggregate-connect-answer
-slice-aggregate-connect-answer c = (goes c.before.before.before.before.before).goes.last.count
+slice-aggregate-connect-answer : tie.Need-slice_bounds-connect_answer-end-then-same_await
+slice-aggregate-connect-answer c = (goes c.before.before.before.before).goes.last.count
 
-connect-answer-requires : tie.Need-connect-answer-requires
+connect-answer-requires : tie.Need-connect_answer-requires
 connect-answer-requires c κs =
     let u = c.before.before.before.before.before.before in
     let b = u.before in
-    let z = b.before in
+    let z = b in
     let k = (start (passed z)).args in
     let l = goes z in
     let g = l.goes in (
@@ -90,53 +90,53 @@ connect-answer-requires c κs =
       good-reply k.code k.header-bytes.now _ b.is-bad-reply.ensures u.if1.false,
     )
 
-same_length : tie.Need-same-length
+same_length : tie.Need-shape_of-tables-then-same_await
 same_length c = search rules
 
-same-length-2 : tie.Need-same-length-2
+same-length-2 : tie.Need-shape_of-packet-then-same_await
 same-length-2 c = search rules
 
-same-length-3 : tie.Need-same-length-3
+same-length-3 : tie.Need-shape_of-headers-then-same_await
 same-length-3 c = search rules
 
-same-length-4 : tie.Need-same-length-4
+same-length-4 : tie.Need-shape_of-reply-then-same_await
 same-length-4 c = search rules
 
-returns-3 : tie.Need-returns-3
+returns-3 : tie.Need-returns-then-same_await
 returns-3 c =
     let a = c.before.before.before.before.before.before in
     let t = a.before.before.before.before.before in
     let n = t.before in
     let u = n.before in
     let b = u.before in
-    let z = b.before in
+    let z = b in
     let k = (start (passed z)).args in
     reply_connect k.e (lent (passed z)) k.code k.header-bytes.now k.tables.now (goes z) _ b.is-bad-reply.ensures u.if1.false _
     n.same_await_lem.ensures t.if2.true _
-    a.connect-answer.ensures
+    a.connect_answer.ensures
 
-slice-reshare-prefix-handle-disconnect : tie.Need-slice-reshare-prefix-handle-disconnect
+slice-reshare-prefix-handle-disconnect : tie.Need-slice_bounds-handle_disconnect-end
 slice-reshare-prefix-handle-disconnect c = (goes c.before.before.before.before).goes.last.inside
 
-slice-aggregate-handle-disconnect : tie.Need-slice-aggregate-handle-disconnect
-slice-aggregate-handle-disconnect c = (goes c.before.before.before.before.before).goes.last.count
+slice-aggregate-handle-disconnect : tie.Need-slice_bounds-handle_disconnect-end-2
+slice-aggregate-handle-disconnect c = (goes c.before.before.before.before).goes.last.count
 
-handle-disconnect-requires : tie.Need-handle-disconnect-requires
-handle-disconnect-requires c κs = let g = goes c.before.before.before.before.before.before in (g.goes.bounds.count, g.tables)
+handle-disconnect-requires : tie.Need-handle_disconnect-peer-requires
+handle-disconnect-requires c κs = let g = goes c.before.before.before.before.before in (g.goes.bounds.count, g.tables)
 
 sends-requires : tie.Need-sends-requires
-sends-requires c κs = (goes c.before.before.before.before.before.before.before.before.before.before).goes.room.reply
+sends-requires c κs = (goes c.before.before.before.before.before.before.before.before.before).goes.room.reply
 
-same-length-5 : tie.Need-same-length-5
+same-length-5 : tie.Need-shape_of-tables
 same-length-5 c = search rules
 
-same-length-6 : tie.Need-same-length-6
+same-length-6 : tie.Need-shape_of-packet
 same-length-6 c = search rules
 
-same-length-7 : tie.Need-same-length-7
+same-length-7 : tie.Need-shape_of-reply
 same-length-7 c = search rules
 
-returns-4 : tie.Need-returns-4
+returns-4 : tie.Need-returns
 returns-4 c =
     let a = c.before.before in
     let p = a.before.before.before.before in
@@ -144,14 +144,14 @@ returns-4 c =
     let n = t.before in
     let u = n.before in
     let b = u.before in
-    let z = b.before in
+    let z = b in
     let k = (start (passed z)).args in
     reply_another k.e (lent (passed z)) k.code k.header-bytes.now k.tables.now (goes z) _ b.is-bad-reply.ensures u.if1.false _
     n.same_await_lem.ensures t.if2.false
-    (linked p.handle-disconnect.result _) _ p.handle-disconnect.ensures a.sends.ensures
+    (linked p.handle_disconnect-peer.result _) _ p.handle_disconnect-peer.ensures a.sends.ensures
 
-pub reply-given-spec : {M : Type 1} → statement M
-reply-given-spec =
+pub reply_given_spec : {M : Type 1} → statement M
+reply_given_spec =
     tie.close
     (tie.spec
     guard-lent-requires

@@ -19,55 +19,55 @@ abbrev lent : tie.After-guard → Stores
 lent k = let a = (start k).args in stores a.packet.now a.headers.now a.body.now a.reply.now
 
 -- the guard says that the call may proceed
-abbrev passed : tie.After-enum-told → tie.After-guard
-passed z = z.before.before
+abbrev passed : tie.In_default → tie.After-guard
+passed z = z.before
 
-goes : (z : tie.After-enum-told) → Goes kind.ReplyTaken (start (passed z)).args.e (lent (passed z))
-goes z = going kind.ReplyTaken _ _ _ (passed z).guard.ensures z.enum_told.given.1
+goes : (z : tie.In_default) → Goes kind.ReplyTaken (start (passed z)).args.e (lent (passed z))
+goes z = going kind.ReplyTaken _ _ _ (passed z).guard.ensures z.in_default.is
 
 guard-requires : tie.Need-guard-requires
 guard-requires c κs = search rules
 
-enum-known-refusal : tie.Need-enum-known-refusal
+enum-known-refusal : tie.Need-enum_known-refusal
 enum-known-refusal c = search rules
 
 refuse-requires : tie.Need-refuse-requires
 refuse-requires c κs = search rules
 
-returns : tie.Need-returns
+returns : tie.Need-returns-in-Refuse
 unfolding reply_taken_step
 returns c =
-    let k = c.before.before.before.before in
-    refused-call kind.ReplyTaken (start k).args.e (lent k) _ _ _ _ c.refuse.ensures k.guard.ensures c.before.before.refusal.given.1
+    let k = c.before.before in
+    refused-call kind.ReplyTaken (start k).args.e (lent k) _ _ _ _ c.refuse.ensures k.guard.ensures c.in-Refuse.is
 
-enum_told : tie.Need-enum-told
+enum_told : tie.Need-enum_told-1
 enum_told c = search rules
 
-turn-plan-requires : tie.Need-turn-plan-requires
-turn-plan-requires c κs = let g = goes c.before.before in (g.bounds.remote, g.bounds.operation, g.room.headers, g.room.reply)
+turn-plan-requires : tie.Need-turn_plan-plan-requires
+turn-plan-requires c κs = let g = goes c.before in (g.bounds.remote, g.bounds.operation, g.room.headers, g.room.reply)
 
-carry-out-requires : tie.Need-carry-out-requires
+carry-out-requires : tie.Need-carry_out-requires
 carry-out-requires c κs =
     let t = c.before.before.before in
-    omega (arith, (goes t.before.before.before).room.reply, c.before.before.reply.given)
+    omega (arith, (goes t.before.before).room.reply, c.reply-1.given)
 
-same_length : tie.Need-same-length
+same_length : tie.Need-shape_of-headers
 same_length c = search rules
 
-same-length-2 : tie.Need-same-length-2
+same-length-2 : tie.Need-shape_of-reply
 same-length-2 c = search rules
 
-returns-2 : tie.Need-returns-2
+returns-2 : tie.Need-returns
 returns-2 c =
     let y = c.before.before in
     let t = y.before.before.before.before in
-    let z = t.before.before.before in
+    let z = t.before.before in
     let k = (start (passed z)).args in
-    taken-call k.e (lent (passed z)) t.turn-plan.result t.turn-plan.new.1.1.0 _ (goes z) y.carry-out.ensures
-    (t.turn-plan.ensures k.packet.now k.body.now)
+    taken-call k.e (lent (passed z)) t.turn_plan-plan.result t.turn_plan-plan.new.1.1.0 _ (goes z) y.carry_out.ensures
+    (t.turn_plan-plan.ensures k.packet.now k.body.now)
 
-pub reply-taken-spec : {M : Type 1} → statement M
-reply-taken-spec =
+pub reply_taken_spec : {M : Type 1} → statement M
+reply_taken_spec =
     tie.close
     (tie.spec
     guard-requires

@@ -20,31 +20,31 @@ abbrev lent : tie.After-guard → Stores
 lent k = let a = (start k).args in stores a.packet.now a.headers.now a.body.now a.reply.now
 
 -- the guard says that the call may proceed
-abbrev passed : tie.After-enum-told → tie.After-guard
-passed z = z.before.before
+abbrev passed : tie.In_default → tie.After-guard
+passed z = z.before
 
-goes : (z : tie.After-enum-told) → Goes kind.FromPeer (start (passed z)).args.e (lent (passed z))
-goes z = going kind.FromPeer _ _ _ (passed z).guard.ensures z.enum_told.given.1
+goes : (z : tie.In_default) → Goes kind.FromPeer (start (passed z)).args.e (lent (passed z))
+goes z = going kind.FromPeer _ _ _ (passed z).guard.ensures z.in_default.is
 
 guard-requires : tie.Need-guard-requires
 guard-requires c κs = search rules
 
-enum-known-refusal : tie.Need-enum-known-refusal
+enum-known-refusal : tie.Need-enum_known-refusal
 enum-known-refusal c = search rules
 
 refuse-requires : tie.Need-refuse-requires
 refuse-requires c κs = search rules
 
-returns : tie.Need-returns
+returns : tie.Need-returns-in-Refuse
 unfolding stream_ended_step
 returns c =
-    let k = c.before.before.before.before in
-    refused-call kind.FromPeer (start k).args.e (lent k) _ _ _ _ c.refuse.ensures k.guard.ensures c.before.before.refusal.given.1
+    let k = c.before.before in
+    refused-call kind.FromPeer (start k).args.e (lent k) _ _ _ _ c.refuse.ensures k.guard.ensures c.in-Refuse.is
 
-enum_told : tie.Need-enum-told
+enum_told : tie.Need-enum_told-1
 enum_told c = search rules
 
-stream-end-requires : tie.Need-stream-end-requires
+stream-end-requires : tie.Need-stream_end-requires
 stream-end-requires c κs = search rules
 
 ends-requires : tie.Need-ends-requires
@@ -53,17 +53,17 @@ ends-requires c κs = search rules
 took-requires : tie.Need-took-requires
 took-requires c κs = search rules
 
-returns-2 : tie.Need-returns-2
+returns-2 : tie.Need-returns
 unfolding stream_ended_step ends_plan
 returns-2 c =
     let z = c.before.before.before in
     let e = (start (passed z)).args.e in
     let s = lent (passed z) in
     silent-call kind.FromPeer e s _ _ _ _ (goes z) c.took.ensures
-    (c.before.ends.ensures ∙ ap (λ (x : End). ends_plan e e.peer x) c.before.before.stream-end.ensures) refl (ends-planned e e.peer _ s)
+    (c.ends.ensures ∙ ap (λ (x : End). ends_plan e e.peer x) c.stream_end.ensures) refl (ends-planned e e.peer _ s)
 
-pub stream-ended-spec : {M : Type 1} → statement M
-stream-ended-spec =
+pub stream_ended_spec : {M : Type 1} → statement M
+stream_ended_spec =
     tie.close
     (tie.spec
     guard-requires

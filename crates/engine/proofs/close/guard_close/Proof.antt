@@ -10,62 +10,62 @@ use Rattle.engine.specs.Close.{guarded_close}
 use Rattle.engine.proofs.close.guard_close.Statement.{statement}
 use Rattle.engine.proofs.close.guard_close.Tie as tie
 
-returns : tie.Need-returns
+returns : tie.Need-returns-then-tables-lt-TABLE_LENGTH
 unfolding guarded_close
-returns c = simp (lt-ltb _ _ c.if1.true)
+returns c = simp (lt-ltb _ _ c.if-tables-lt-TABLE_LENGTH.true)
 
-is-sound-requires : tie.Need-is-sound-requires
+is-sound-requires : tie.Need-is_sound-requires
 is-sound-requires c κs = search rules
 
-returns-2 : tie.Need-returns-2
+returns-2 : tie.Need-returns-then-not-is_sound
 unfolding guarded_close
 returns-2 c =
     let s = c.before in
-    simp (le-ltb _ _ s.before.if1.false, sym s.is_sound.ensures ∙ not-true _ c.if2.true)
+    simp (le-ltb _ _ s.if-tables-lt-TABLE_LENGTH.false, sym s.is_sound.ensures ∙ not-true _ c.if-not-is_sound.true)
 
-same-await-requires : tie.Need-same-await-requires
+same-await-requires : tie.Need-same_await-requires
 same-await-requires c κs = search rules
 
-returns-3 : tie.Need-returns-3
+returns-3 : tie.Need-returns-then-not-same_await
 unfolding guarded_close
 returns-3 c =
     let a = c.before in
     let s = a.before.before in
     simp (
-      le-ltb _ _ s.before.if1.false,
-      sym s.is_sound.ensures ∙ not-false _ a.before.if2.false,
-      sym a.same_await_lem.ensures ∙ not-true _ c.if3.true,
+      le-ltb _ _ s.if-tables-lt-TABLE_LENGTH.false,
+      sym s.is_sound.ensures ∙ not-false _ a.if-not-is_sound.false,
+      sym a.same_await_lem.ensures ∙ not-true _ c.if-not-same_await.true,
     )
 
-is-busy-requires : tie.Need-is-busy-requires
+is-busy-requires : tie.Need-is_busy-requires
 is-busy-requires c κs = search rules
 
 -- past the tests before, the guard is decided by whether an operation is open
-decided : (b : tie.After-is-busy) (t : Bool) → b.is-busy.result ≡ t → let a = b.before.before.before.before.before.before.args in
+decided : (b : tie.After-is_busy) (t : Bool) → b.is_busy.result ≡ t → let a = b.args in
     pick t (Refuse refusal.WrongMoment) Proceed ≡ guarded_close a.e a.tables
 unfolding guarded_close
 decided b t h =
     let a = b.before.before in
     let s = a.before.before in
     simp (
-      le-ltb _ _ s.before.if1.false,
-      sym s.is_sound.ensures ∙ not-false _ a.before.if2.false,
-      sym a.same_await_lem.ensures ∙ not-false _ b.before.if3.false,
-      sym b.is-busy.ensures ∙ h,
+      le-ltb _ _ s.if-tables-lt-TABLE_LENGTH.false,
+      sym s.is_sound.ensures ∙ not-false _ a.if-not-is_sound.false,
+      sym a.same_await_lem.ensures ∙ not-false _ b.if-not-same_await.false,
+      sym b.is_busy.ensures ∙ h,
     ) (go t)
   where
     go : (t : Bool) → pick t (Refuse refusal.WrongMoment) Proceed ≡ pick (not t) Proceed (Refuse refusal.WrongMoment)
     go true = refl
     go false = refl
 
-returns-4 : tie.Need-returns-4
-returns-4 c = decided c.before true c.if4.true
+returns-4 : tie.Need-returns-then-is_busy
+returns-4 c = decided c.before true c.if-is_busy.true
 
-returns-5 : tie.Need-returns-5
-returns-5 c = decided c.before false c.if4.false
+returns-5 : tie.Need-returns
+returns-5 c = decided c.before false c.if-is_busy.false
 
-pub guard-close-spec : {M : Type 1} → statement M
-guard-close-spec =
+pub guard_close_spec : {M : Type 1} → statement M
+guard_close_spec =
     tie.close
     (tie.spec
     returns

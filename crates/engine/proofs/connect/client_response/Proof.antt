@@ -9,61 +9,61 @@ use Rattle.engine.proofs.connect.client_response.Statement.{statement}
 use Rattle.engine.proofs.connect.client_response.Tie as tie
 
 -- the response that is found stands in the packet
-here : (c : tie.After-known-told)
-    → let v = c.before.start.given.0 in FoundIn 0x4E c.before.before.before.before.before.args.p.now v.0 v.1.0
-here c = first_found 0x4E _ 7 _ _ (sym c.before.before.before.first-header.ensures ∙ c.before.start.given.1)
+here : (c : tie.In-At)
+    → let v = c.start-1.given.0 in FoundIn 0x4E c.args.p.now v.0 v.1.0
+here c = first_found 0x4E _ 7 _ _ (sym c.first_header.ensures ∙ c.in-At.is)
 
-first-header-requires : tie.Need-first-header-requires
+first-header-requires : tie.Need-first_header-requires
 first-header-requires c κs = search rules
 
-enum-known-start : tie.Need-enum-known-start
+enum-known-start : tie.Need-enum_known-start
 enum-known-start c = search rules
 
-enum_told : tie.Need-enum-told
+enum_told : tie.Need-enum_told-1
 enum_told c = search rules
 
-returns : tie.Need-returns
-returns c = not-answered _ c.before.before.before.before.requires (sym c.before.before.first-header.ensures ∙ c.enum_told.given.1)
+returns : tie.Need-returns-in_default
+returns c = not-answered _ c.requires (sym c.first_header.ensures ∙ c.in_default.is)
 
-sub-read-response : tie.Need-overflow-sub-read-response
+sub-read-response : tie.Need-slice_bounds-read_response-count
 sub-read-response c = (here c).stands.past
 
-part-read-response-start : tie.Need-slice-bounds-read-response-start
+part-read-response-start : tie.Need-slice_bounds-read_response-start
 part-read-response-start c = (here c).stands.past
 
-part-read-response-end : tie.Need-slice-bounds-read-response-end
+part-read-response-end : tie.Need-slice_bounds-read_response-end
 part-read-response-end c = (here c).stands.ranges
 
-read-response-requires : tie.Need-read-response-requires
+read-response-requires : tie.Need-read_response-requires
 read-response-requires c κs = search rules
 
-enum-known-user : tie.Need-enum-known-user
+enum-known-user : tie.Need-enum_known-user
 enum-known-user c = search rules
 
-enum-told-2 : tie.Need-enum-told-2
+enum-told-2 : tie.Need-enum_told-in_default-read_response
 enum-told-2 c = search rules
 
-returns-2 : tie.Need-returns-2
+returns-2 : tie.Need-returns-in_default-read_response
 returns-2 c =
-    let k = c.before.before.before.before.before in
-    answer-unread _ k.before.before.before.before.requires _ _ (sym k.before.before.first-header.ensures ∙ k.start.given.1)
-    (sym c.before.before.read-response.ensures ∙ c.enum-told2.given.1)
+    let k = c.before.before.before in
+    answer-unread _ k.requires _ _ (sym k.first_header.ensures ∙ k.in-At.is)
+    (sym c.read_response.ensures ∙ c.in_default-read_response.is)
 
 placed-requires : tie.Need-placed-requires
 placed-requires c κs =
-    let r = c.before.before.before in
-    user-below _ _ _ _ _ (sym r.read-response.ensures ∙ c.before.user.given.1) (omega (arith, (here r.before.before).stands.fits))
+    let r = c.before in
+    user-below _ _ _ _ _ (sym r.read_response.ensures ∙ c.in-Response.is) (omega (arith, (here r.before.before).stands.fits))
 
-returns-3 : tie.Need-returns-3
+returns-3 : tie.Need-returns
 returns-3 c =
-    let r = c.before.before.before.before in
-    let k = r.before.before.before in
+    let r = c.before.before in
+    let k = r.before.before in
     rw c.placed.ensures
-    (answer-read _ k.before.before.before.before.requires _ _ _ _ _ (sym k.before.before.first-header.ensures ∙ k.start.given.1)
-    (sym r.read-response.ensures ∙ c.before.before.user.given.1))
+    (answer-read _ k.requires _ _ _ _ _ (sym k.first_header.ensures ∙ k.in-At.is)
+    (sym r.read_response.ensures ∙ c.in-Response.is))
 
-pub client-response-spec : {M : Type 1} → statement M
-client-response-spec =
+pub client_response_spec : {M : Type 1} → statement M
+client_response_spec =
     tie.close
     (tie.spec
     first-header-requires

@@ -16,141 +16,141 @@ use Rattle.filing.proofs.frame.judge.Statement.{statement}
 use Rattle.filing.proofs.frame.judge.Tie as tie
 
 -- from the comparison back to the place where the stretch begins
-abbrev chain : tie.After-is-same → tie.After-chain-at
+abbrev chain : tie.After-is_same → tie.After-chain_at
 chain k = k.before.before.before.before.before
 
 -- where the check begins
-abbrev to : tie.After-is-same → ℕ
+abbrev to : tie.After-is_same → ℕ
 to k =
     let h = chain k in
-    let a = h.before.before.before.args in
-    a.at + 16 + a.n + h.before.filling.result
+    let a = h.args in
+    a.at + 16 + a.n + h.filling.result
 
-ends : (k : tie.After-is-same)
+ends : (k : tie.After-is_same)
     → let a = (chain k).before.before.before.args in
     to k ≡ a.at + 16 + a.n + filling a.n
 ends k =
     let a = (chain k).before.before.before.args in
     ap (λ (f : ℕ). a.at + 16 + a.n + f) (chain k).before.filling.ensures
 
-seen : (k : tie.After-is-same)
+seen : (k : tie.After-is_same)
     → let s = (chain k).before.before.before.args.log.now in
     let from = (chain k).chain-at.result in
     k.is_same.result ≡ same (digest_of (take (to k - from) (drop from s))) (take (to k + 16 - to k) (drop (to k) s))
 seen k =
     let s = (chain k).before.before.before.args.log.now in
-    k.is_same.ensures ∙ ap (λ (u : List ℕ). same u (take (to k + 16 - to k) (drop (to k) s))) k.before.before.before.digest.ensures
+    k.is_same.ensures ∙ ap (λ (u : List ℕ). same u (take (to k + 16 - to k) (drop (to k) s))) k.digest-check.ensures
 
-right : (c : tie.Else1)
+right : (c : tie.Else-not-is_same)
     → let k = c.before in
     let s = (chain k).before.before.before.args.log.now in
     let from = (chain k).chain-at.result in
     same (digest_of (take (to k - from) (drop from s))) (take (to k + 16 - to k) (drop (to k) s)) ≡ true
-right c = sym (seen c.before) ∙ not-false c.before.is_same.result c.if1.false
+right c = sym (seen c.before) ∙ not-false c.is_same.result c.if-not-is_same.false
 
-add-from : tie.Need-overflow-add-from
+add-from : tie.Need-overflow_add-from
 add-from c = search rules
 
-add-from-2 : tie.Need-overflow-add-from-2
+add-from-2 : tie.Need-overflow_add-from-2
 add-from-2 c = search rules
 
 filling-requires : tie.Need-filling-requires
 filling-requires c κs = search rules
 
-add-to : tie.Need-overflow-add-to
+add-to : tie.Need-overflow_add-to
 add-to c = search rules
 
-chain-at-requires : tie.Need-chain-at-requires
+chain-at-requires : tie.Need-chain_at-requires
 chain-at-requires c κs = search rules
 
-sub-digest : tie.Need-overflow-sub-digest
+sub-digest : tie.Need-slice_bounds-digest-count
 sub-digest c = search rules
 
-part-digest-start : tie.Need-slice-bounds-digest-start
+part-digest-start : tie.Need-slice_bounds-digest-start
 part-digest-start c = search rules
 
-part-digest-end : tie.Need-slice-bounds-digest-end
+part-digest-end : tie.Need-slice_bounds-digest-end
 part-digest-end c = search rules
 
-digest-requires : tie.Need-digest-requires
+digest-requires : tie.Need-digest-check-requires
 digest-requires c κs = search rules
 
-slice-aggregate-is-same : tie.Need-slice-aggregate-is-same
+slice-aggregate-is-same : tie.Need-slice_bounds-is_same-end
 slice-aggregate-is-same c = search rules
 
-add-is-same : tie.Need-overflow-add-is-same
+add-is-same : tie.Need-overflow_add-to-2
 add-is-same c = search rules
 
-sub-is-same : tie.Need-overflow-sub-is-same
+sub-is-same : tie.Need-slice_bounds-is_same-count
 sub-is-same c = search rules
 
-part-is-same-start : tie.Need-slice-bounds-is-same-start
+part-is-same-start : tie.Need-slice_bounds-is_same-start
 part-is-same-start c = search rules
 
-part-is-same-end : tie.Need-slice-bounds-is-same-end
+part-is-same-end : tie.Need-slice_bounds-is_same-end-2
 part-is-same-end c = search rules
 
-is-same-requires : tie.Need-is-same-requires
+is-same-requires : tie.Need-is_same-requires
 is-same-requires c κs = search rules
 
-returns : tie.Need-returns
+returns : tie.Need-returns-then-not-is_same
 returns c =
     let k = c.before in
     let h = chain k in
-    let a = h.before.before.before.args in
-    found_damaged a.log.now a.at a.number a.n h.chain-at.result (to k) h.before.before.before.pre.1
-    h.chain-at.ensures.0 h.chain-at.ensures.1 (ends k) (sym (seen k) ∙ not-true k.is_same.result c.if1.true)
+    let a = h.args in
+    found_damaged a.log.now a.at a.number a.n h.chain-at.result (to k) h.pre.1
+    h.chain-at.ensures.0 h.chain-at.ensures.1 (ends k) (sym (seen k) ∙ not-true k.is_same.result c.if-not-is_same.true)
 
-add-be32-at : tie.Need-overflow-add-be32-at
+add-be32-at : tie.Need-overflow_add-at
 add-be32-at c = search rules
 
-be32-at-requires : tie.Need-be32-at-requires
+be32-at-requires : tie.Need-be32_at-requires
 be32-at-requires c κs = search rules
 
-returns-2 : tie.Need-returns-2
+returns-2 : tie.Need-returns-then-be32_at-number
 returns-2 c =
     let k = c.before.before.before in
     let h = chain k in
-    let a = h.before.before.before.args in
-    found_misplaced a.log.now a.at a.number a.n h.chain-at.result (to k) h.before.before.before.pre.1
-    h.chain-at.ensures.0 h.chain-at.ensures.1 (ends k) (right c.before.before) (λ e. c.if2.true (c.before.be32-at.ensures ∙ e))
+    let a = h.args in
+    found_misplaced a.log.now a.at a.number a.n h.chain-at.result (to k) h.pre.1
+    h.chain-at.ensures.0 h.chain-at.ensures.1 (ends k) (right c.before.before) (λ e. c.if-be32_at-number.true (c.be32_at.ensures ∙ e))
 
-sub-is-zero : tie.Need-overflow-sub-is-zero
+sub-is-zero : tie.Need-slice_bounds-is_zero-count
 sub-is-zero c = search rules
 
-part-is-zero-start : tie.Need-slice-bounds-is-zero-start
+part-is-zero-start : tie.Need-slice_bounds-is_zero-start
 part-is-zero-start c = search rules
 
-part-is-zero-end : tie.Need-slice-bounds-is-zero-end
+part-is-zero-end : tie.Need-slice_bounds-is_zero-end
 part-is-zero-end c = search rules
 
-is-zero-requires : tie.Need-is-zero-requires
+is-zero-requires : tie.Need-is_zero-requires
 is-zero-requires c κs = search rules
 
-returns-3 : tie.Need-returns-3
+returns-3 : tie.Need-returns-then-not-is_zero
 returns-3 c =
     let b = c.before.before.before.before in
     let k = b.before.before in
     let h = chain k in
-    let a = h.before.before.before.args in
-    found_malformed a.log.now a.at a.number a.n h.chain-at.result (to k) h.before.before.before.pre.1
+    let a = h.args in
+    found_malformed a.log.now a.at a.number a.n h.chain-at.result (to k) h.pre.1
     h.chain-at.ensures.0 h.chain-at.ensures.1 (ends k) (right b.before)
-    (sym b.be32-at.ensures ∙ c.before.before.before.if2.false)
-    (sym c.before.is_zero.ensures ∙ not-true c.before.is_zero.result c.if3.true)
+    (sym b.be32_at.ensures ∙ c.if-be32_at-number.false)
+    (sym c.is_zero.ensures ∙ not-true c.is_zero.result c.if-not-is_zero.true)
 
-returns-4 : tie.Need-returns-4
+returns-4 : tie.Need-returns
 returns-4 c =
     let b = c.before.before.before.before in
     let k = b.before.before in
     let h = chain k in
-    let a = h.before.before.before.args in
-    found_frame a.log.now a.at a.number a.n h.chain-at.result (to k) h.before.before.before.pre.1
+    let a = h.args in
+    found_frame a.log.now a.at a.number a.n h.chain-at.result (to k) h.pre.1
     h.chain-at.ensures.0 h.chain-at.ensures.1 (ends k) (right b.before)
-    (sym b.be32-at.ensures ∙ c.before.before.before.if2.false)
-    (sym c.before.is_zero.ensures ∙ not-false c.before.is_zero.result c.if3.false)
+    (sym b.be32_at.ensures ∙ c.if-be32_at-number.false)
+    (sym c.is_zero.ensures ∙ not-false c.is_zero.result c.if-not-is_zero.false)
 
-pub judge-spec : {M : Type 1} → statement M
-judge-spec =
+pub judge_spec : {M : Type 1} → statement M
+judge_spec =
     tie.close
     (tie.spec
     add-from

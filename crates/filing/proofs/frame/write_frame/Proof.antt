@@ -14,67 +14,67 @@ use borrow.Author.Rules.{rules}
 use Rattle.filing.proofs.frame.write_frame.Statement.{statement}
 use Rattle.filing.proofs.frame.write_frame.Tie as tie
 
-has-room-requires : tie.Need-has-room-requires
+has-room-requires : tie.Need-has_room-requires
 has-room-requires c κs = search rules
 
 -- behind both tests there is room
-fits : (c : tie.Else2)
-    → let a = c.before.before.before.before.before.args in
+fits : (c : tie.Else-n-gt-LONGEST)
+    → let a = c.args in
     a.at + frame_length (length a.payload.now) ≤ length a.store.now
 fits c =
     let h = c.before.before in
-    let a = h.before.before.before.args in
+    let a = h.args in
     leb-true (a.at + frame_length (length a.payload.now)) (length a.store.now)
-    (sym h.has_room.ensures ∙ not-false h.has_room.result c.before.if1.false)
+    (sym h.has_room.ensures ∙ not-false h.has_room.result c.if-not-has_room.false)
 
-returns : tie.Need-returns
+returns : tie.Need-returns-then-not-has_room
 returns c =
     let h = c.before in
-    let a = h.before.before.before.args in
+    let a = h.args in
     written-short a.store.now a.at a.head.number (content_in a.head a.payload.now)
-    (sym h.has_room.ensures ∙ not-true h.has_room.result c.if1.true)
+    (sym h.has_room.ensures ∙ not-true h.has_room.result c.if-not-has_room.true)
 
-returns-2 : tie.Need-returns-2
+returns-2 : tie.Need-returns-then-n-gt-LONGEST
 returns-2 c =
     let h = c.before.before in
-    let a = h.before.before.before.args in
+    let a = h.args in
     written-long a.store.now a.at a.head.number (content_in a.head a.payload.now)
-    (sym h.has_room.ensures ∙ not-false h.has_room.result c.before.if1.false) c.if2.true
+    (sym h.has_room.ensures ∙ not-false h.has_room.result c.if-not-has_room.false) c.if-n-gt-LONGEST.true
 
-write-rows-requires : tie.Need-write-rows-requires
+write-rows-requires : tie.Need-write_rows-requires
 write-rows-requires c κs = fits c.before
 
-write-check-requires : tie.Need-write-check-requires
+write-check-requires : tie.Need-write_check-requires
 write-check-requires c κs =
     let r = c.before.before.before in
     let h = fits r.before.before in
     omega (arith, h)
 
-add-t8 : tie.Need-overflow-add-t8
+add-t8 : tie.Need-overflow_add-result
 add-t8 c = search rules
 
 filling-requires : tie.Need-filling-requires
 filling-requires c κs = search rules
 
-add-t16 : tie.Need-overflow-add-t16
+add-t16 : tie.Need-overflow_add-result-2
 add-t16 c = search rules
 
-same_length : tie.Need-same-length
+same_length : tie.Need-shape_of-store
 same_length c = search rules
 
-returns-3 : tie.Need-returns-3
+returns-3 : tie.Need-returns
 returns-3 c =
     let w = c.before.before.before in
     let r = w.before.before.before.before in
     let i = r.before.before in
     let h = i.before.before in
-    let a = h.before.before.before.args in
+    let a = h.args in
     frame_written_lem a.store.now a.at a.head.number (content_in a.head a.payload.now) _ _ c.filling.result refl
-    (sym h.has_room.ensures ∙ not-false h.has_room.result i.before.if1.false) i.if2.false c.filling.ensures
-    r.write-rows.ensures w.write-check.ensures
+    (sym h.has_room.ensures ∙ not-false h.has_room.result i.if-not-has_room.false) i.if-n-gt-LONGEST.false c.filling.ensures
+    r.write_rows.ensures w.write_check.ensures
 
-pub write-frame-spec : {M : Type 1} → statement M
-write-frame-spec =
+pub write_frame_spec : {M : Type 1} → statement M
+write_frame_spec =
     tie.close
     (tie.spec
     has-room-requires

@@ -14,11 +14,11 @@ use Rattle.incoming.specs.Frame.{framed, frames_at, frame_end}
 use Rattle.incoming.proofs.frame.read_on.Statement.{statement}
 use Rattle.incoming.proofs.frame.read_on.Tie as tie
 
-abbrev invariant-loop : tie.invariant-loop
+abbrev invariant-loop : tie.invariant-loop-i
 invariant-loop begun input packet₀ at₀ i₀ packet at i =
     (i ≤ length input) × (at < 65535) × (length packet ≡ length packet₀) × (framed packet₀ begun 0 input ≡ framed packet at i (drop i input))
 
-abbrev decreases-loop : tie.decreases-loop
+abbrev decreases-loop : tie.decreases-loop-i
 decreases-loop begun input packet₀ at₀ i₀ packet at i = length input - i
 
 -- a byte of the input, by where the frame stands after it
@@ -37,92 +37,92 @@ last p input at i h k =
     let d : drop i input ≡ drop (length input) input = ap (λ (n : ℕ). drop n input) e in
     rw (d, drop-length input)
 
-loop-holds : tie.Need-loop-init invariant-loop decreases-loop
+loop-holds : tie.Need-loop-i-init invariant-loop decreases-loop
 loop-holds c = (omega arith, omega arith, refl, refl)
 
-bulk-requires : tie.Need-bulk-requires invariant-loop decreases-loop
+bulk-requires : tie.Need-bulk-m-requires invariant-loop decreases-loop
 bulk-requires c κs = (omega arith, omega arith, omega arith)
 
-add_at : tie.Need-overflow-add-at invariant-loop decreases-loop
+add_at : tie.Need-overflow_add-at invariant-loop decreases-loop
 add_at c = omega arith
 
-add-i : tie.Need-overflow-add-i invariant-loop decreases-loop
+add-i : tie.Need-overflow_add-i invariant-loop decreases-loop
 add-i c = omega arith
 
-same_length : tie.Need-same-length invariant-loop decreases-loop
+same_length : tie.Need-shape_of-packet-then-input-i invariant-loop decreases-loop
 same_length c = omega arith
 
-returns : tie.Need-returns invariant-loop decreases-loop
+returns : tie.Need-returns-then-input-i invariant-loop decreases-loop
 returns c =
-    let b = c.before.before.before.bulk in
-    let l = c.before.before.before.before.before.loop in
-    (λ w. let z : ◌≡◌ {A = ℕ} 0 1 = cc in omega arith, sym (l.invariant.3 ∙ b.ensures.1 ∙ last _ _ _ _ b.ensures.0.0 c.if1.true))
+    let b = c.bulk-m in
+    let l = c.loop-i in
+    (λ w. let z : ◌≡◌ {A = ℕ} 0 1 = cc in omega arith, sym (l.invariant.3 ∙ b.ensures.1 ∙ last _ _ _ _ b.ensures.0.0 c.if-input-i.true))
 
-shared-slice-read-packet : tie.Need-shared-slice-read-packet invariant-loop decreases-loop
+shared-slice-read-packet : tie.Need-bounds-input-i invariant-loop decreases-loop
 shared-slice-read-packet c = search rules
 
-slice-write-packet : tie.Need-slice-write-packet invariant-loop decreases-loop
+slice-write-packet : tie.Need-bounds-packet-at invariant-loop decreases-loop
 slice-write-packet c = omega arith
 
-add-at-2 : tie.Need-overflow-add-at-2 invariant-loop decreases-loop
+add-at-2 : tie.Need-overflow_add-at-in-loop-i invariant-loop decreases-loop
 add-at-2 c = omega arith
 
-add-i-2 : tie.Need-overflow-add-i-2 invariant-loop decreases-loop
+add-i-2 : tie.Need-overflow_add-i-in-loop-i invariant-loop decreases-loop
 add-i-2 c = omega arith
 
-frame-end-requires : tie.Need-frame-end-requires invariant-loop decreases-loop
+frame-end-requires : tie.Need-frame_end-requires invariant-loop decreases-loop
 frame-end-requires c κs = simp length-set (omega arith)
 
 -- a turn's byte, by where the frame stands after it
-byte : (k : tie.After-frame-end invariant-loop decreases-loop) (f : Frame) → k.frame-end.result ≡ f → let b = k.before.before.before.before.before.before.bulk in
-    let l = k.before.before.before.before.before.before.before.before.loop in
-    let x = k.before.before.before.before.before.before.before.before.before.before.before.args in
+byte : (k : tie.After-frame_end invariant-loop decreases-loop) (f : Frame) → k.frame_end.result ≡ f → let b = k.bulk-m in
+    let l = k.loop-i in
+    let x = k.args in
     let at = l.at + b.result in
     let i = l.i + b.result in
     let q = set b.new.1.1.1.0 at (get_or x.input.now i 0) in
     framed x.packet.now x.begun 0 x.input.now ≡ frames_at f (at + 1) (i + 1) q (framed q (at + 1) (i + 1) (drop (i + 1) x.input.now))
 byte k f e =
-    let b = k.before.before.before.before.before.before.bulk in
-    let l = k.before.before.before.before.before.before.before.before.loop in
-    let x = k.before.before.before.before.before.before.before.before.before.before.before.args in
-    l.invariant.3 ∙ b.ensures.1 ∙ turn b.new.1.1.1.0 x.input.now (l.at + b.result) (l.i + b.result) f (omega arith) (sym e ∙ k.frame-end.ensures.0)
+    let b = k.bulk-m in
+    let l = k.loop-i in
+    let x = k.args in
+    l.invariant.3 ∙ b.ensures.1 ∙ turn b.new.1.1.1.0 x.input.now (l.at + b.result) (l.i + b.result) f (omega arith) (sym e ∙ k.frame_end.ensures.0)
 
-enum_told : tie.Need-enum-told invariant-loop decreases-loop
+enum_told : tie.Need-enum_told-1 invariant-loop decreases-loop
 enum_told c = search rules
 
-loop-less : tie.Need-loop-smaller invariant-loop decreases-loop
+loop-less : tie.Need-loop-i-smaller invariant-loop decreases-loop
 loop-less c = omega arith
 
-loop-again : tie.Need-loop-preserved invariant-loop decreases-loop
+loop-again : tie.Need-loop-i-preserved invariant-loop decreases-loop
 loop-again c =
-    let k = c.before.before in
-    let more = c.enum_told.given.1 in
-    (omega arith, k.frame-end.ensures.1.0 more, simp length-set (omega arith), byte k More more)
+    let k = c.before in
+    let more = c.in-More.is in
+    (omega arith, k.frame_end.ensures.1.0 more, simp length-set (omega arith), byte k More more)
 
-enum-told-2 : tie.Need-enum-told-2 invariant-loop decreases-loop
+enum-told-2 : tie.Need-enum_told-in-Whole invariant-loop decreases-loop
 enum-told-2 c = search rules
 
-same-length-2 : tie.Need-same-length-2 invariant-loop decreases-loop
+same-length-2 : tie.Need-shape_of-packet-in-Whole invariant-loop decreases-loop
 same-length-2 c = simp length-set (omega arith)
 
-returns-2 : tie.Need-returns-2 invariant-loop decreases-loop
+returns-2 : tie.Need-returns-in-Whole invariant-loop decreases-loop
 returns-2 c =
-    let k = c.before.before in
-    let whole = c.enum-told2.given.1 in
-    (λ w. (k.frame-end.ensures.1.1 whole, omega arith), sym (byte k Whole whole))
+    let k = c.before in
+    let whole = c.in-Whole.is in
+    (λ w. (k.frame_end.ensures.1.1 whole, omega arith), sym (byte k Whole whole))
 
-enum-told-3 : tie.Need-enum-told-3 invariant-loop decreases-loop
+enum-told-3 : tie.Need-enum_told-in-Short invariant-loop decreases-loop
 enum-told-3 c = search rules
 
-same-length-3 : tie.Need-same-length-3 invariant-loop decreases-loop
+same-length-3 : tie.Need-shape_of-packet-in-Short invariant-loop decreases-loop
 same-length-3 c = simp length-set (omega arith)
 
-returns-3 : tie.Need-returns-3 invariant-loop decreases-loop
+returns-3 : tie.Need-returns-in-Short invariant-loop decreases-loop
 returns-3 c =
-    (λ w. let z : ◌≡◌ {A = ℕ} 0 1 = cc in omega arith, sym (byte c.before.before Short c.enum-told3.given.1))
+    (λ w. let z : ◌≡◌ {A = ℕ} 0 1 = cc in omega arith, sym (byte c.before Short c.in-Short.is))
 
-pub read-on-spec : {M : Type 1} → statement M
-read-on-spec =
+pub read_on_spec : {M : Type 1} → statement M
+read_on_spec =
     tie.close
     (tie.spec
     invariant-loop

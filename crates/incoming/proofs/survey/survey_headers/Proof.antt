@@ -13,79 +13,79 @@ use Rattle.incoming.proofs.Notes.{survey_left, lengths, begins, goes_on, ends}
 use Rattle.incoming.proofs.survey.survey_headers.Statement.{statement}
 use Rattle.incoming.proofs.survey.survey_headers.Tie as tie
 
-abbrev invariant-loop : tie.invariant-loop
+abbrev invariant-loop : tie.invariant-loop-id
 invariant-loop p from n₀ at₀ n at = survey_of (read_headers p from) ≡ survey_left n (read_headers p at)
 
-abbrev decreases-loop : tie.decreases-loop
+abbrev decreases-loop : tie.decreases-loop-id
 decreases-loop p from n₀ at₀ n at = length p - at
 
-loop-holds : tie.Need-loop-init invariant-loop decreases-loop
-loop-holds c = begins (read_headers c.before.args.p.now c.before.args.from)
+loop-holds : tie.Need-loop-id-init invariant-loop decreases-loop
+loop-holds c = begins (read_headers c.args.p.now c.args.from)
 
 step-requires : tie.Need-step-requires invariant-loop decreases-loop
 step-requires c κs = search rules
 
-enum-known-id : tie.Need-enum-known-id invariant-loop decreases-loop
+enum-known-id : tie.Need-enum_known-id invariant-loop decreases-loop
 enum-known-id c = search rules
 
 -- in a turn that goes on, a header stands at the place
-here : (c : tie.After-known-told invariant-loop decreases-loop) →
-    let v = c.before.id.given.0 in
-    let l = c.before.before.before.before in
-    Here l.before.before.args.p.now l.loop.at v.0 v.1.0 v.1.1.0 v.1.1.1.0
-here c = by_cursor_lem _ _ _ (sym c.before.before.before.step.ensures ∙ c.before.id.given.1)
+here : (c : tie.In-At invariant-loop decreases-loop) →
+    let v = c.id-1.given.0 in
+    let l = c.before.before in
+    Here l.args.p.now l.loop-id.at v.0 v.1.0 v.1.1.0 v.1.1.1.0
+here c = by_cursor_lem _ _ _ (sym c.step.ensures ∙ c.in-At.is)
 
-sub-note : tie.Need-overflow-sub-note invariant-loop decreases-loop
+sub-note : tie.Need-slice_bounds-note-count invariant-loop decreases-loop
 sub-note c = let h = here c in omega arith
 
-part-note-start : tie.Need-slice-bounds-note-start invariant-loop decreases-loop
+part-note-start : tie.Need-slice_bounds-note-start invariant-loop decreases-loop
 part-note-start c = let h = here c in omega arith
 
-part-note-end : tie.Need-slice-bounds-note-end invariant-loop decreases-loop
+part-note-end : tie.Need-slice_bounds-note-end invariant-loop decreases-loop
 part-note-end c = let h = here c in omega arith
 
-note-requires : tie.Need-note-requires invariant-loop decreases-loop
+note-requires : tie.Need-note-n-requires invariant-loop decreases-loop
 note-requires c κs = lengths _ _ _ _ _ _ (here c.before).stands
 
-loop-less : tie.Need-loop-smaller invariant-loop decreases-loop
+loop-less : tie.Need-loop-id-smaller invariant-loop decreases-loop
 loop-less c = let h = here c.before.before in omega arith
 
-loop-again : tie.Need-loop-preserved invariant-loop decreases-loop
+loop-again : tie.Need-loop-id-preserved invariant-loop decreases-loop
 loop-again c =
     let k = c.before.before in
-    let l = k.before.before.before.before.loop in
-    let s = read_headers k.before.before.before.before.before.before.args.p.now k.before.id.given.0.1.1.1.0 in
-    l.invariant ∙ ap (survey_left l.n) (here k).list ∙ goes_on l.n _ s ∙ ap (λ (n : Noted). survey_left n s) (sym c.note.ensures)
+    let l = k.loop-id in
+    let s = read_headers k.args.p.now k.in-At.end in
+    l.invariant ∙ ap (survey_left l.n) (here k).list ∙ goes_on l.n _ s ∙ ap (λ (n : Noted). survey_left n s) (sym c.note-n.ensures)
 
-enum_told : tie.Need-enum-told invariant-loop decreases-loop
+enum_told : tie.Need-enum_told-1 invariant-loop decreases-loop
 enum_told c = search rules
 
 unreadable-requires : tie.Need-unreadable-requires invariant-loop decreases-loop
 unreadable-requires c κs = search rules
 
-returns : tie.Need-returns invariant-loop decreases-loop
+returns : tie.Need-returns-in-Unreadable invariant-loop decreases-loop
 unfolding survey_of
 returns c =
-    let k = c.before.before.before in
-    let l = k.before.loop in
-    let e = by_cursor_lem _ _ Unreadable (sym k.step.ensures ∙ c.before.enum_told.given.1) in
+    let k = c.before.before in
+    let l = k.loop-id in
+    let e = by_cursor_lem _ _ Unreadable (sym k.step.ensures ∙ c.in-Unreadable.is) in
     c.unreadable.ensures ∙ sym (l.invariant ∙ ap (survey_left l.n) e)
 
-enum-told-2 : tie.Need-enum-told-2 invariant-loop decreases-loop
+enum-told-2 : tie.Need-enum_told-in-End invariant-loop decreases-loop
 enum-told-2 c = search rules
 
 surveyed-requires : tie.Need-surveyed-requires invariant-loop decreases-loop
 surveyed-requires c κs = search rules
 
-returns-2 : tie.Need-returns-2 invariant-loop decreases-loop
+returns-2 : tie.Need-returns-in-End invariant-loop decreases-loop
 returns-2 c =
-    let k = c.before.before.before in
-    let l = k.before.loop in
-    let e = (by_cursor_lem _ _ End (sym k.step.ensures ∙ c.before.enum-told2.given.1)).1 in
+    let k = c.before.before in
+    let l = k.loop-id in
+    let e = (by_cursor_lem _ _ End (sym k.step.ensures ∙ c.in-End.is)).1 in
     c.surveyed.ensures ∙ sym (l.invariant ∙ ap (survey_left l.n) e ∙ ends l.n)
 
-pub survey-headers-spec : {M : Type 1} → statement M
-survey-headers-spec =
+pub survey_headers_spec : {M : Type 1} → statement M
+survey_headers_spec =
     tie.close
     (tie.spec
     invariant-loop

@@ -9,70 +9,70 @@ use Rattle.outgoing.proofs.Fitting.{Left, Goes, goes, stopped}
 use Rattle.outgoing.proofs.object.fill.Statement.{statement}
 use Rattle.outgoing.proofs.object.fill.Tie as tie
 
-abbrev invariant-loop : tie.invariant-loop
+abbrev invariant-loop : tie.invariant-loop-end
 invariant-loop capacity headers from start reply₀ sent₀ at₀ reply sent at =
     (at ≤ capacity + 3)
     × (length reply ≡ length reply₀)
     × Left capacity headers (fill (suc (length headers)) capacity headers from start reply₀) sent at reply
 
-abbrev decreases-loop : tie.decreases-loop
+abbrev decreases-loop : tie.decreases-loop-end
 decreases-loop capacity headers from start reply₀ sent₀ at₀ reply sent at = length headers - sent
 
-loop-holds : tie.Need-loop-init invariant-loop decreases-loop
-loop-holds c = (omega arith, refl, record { fuel = suc (length c.before.before.args.headers.now); enough = omega arith; is = refl })
+loop-holds : tie.Need-loop-end-init invariant-loop decreases-loop
+loop-holds c = (omega arith, refl, record { fuel = suc (length c.args.headers.now); enough = omega arith; is = refl })
 
-next-fit-requires : tie.Need-next-fit-requires invariant-loop decreases-loop
+next-fit-requires : tie.Need-next_fit-requires invariant-loop decreases-loop
 next-fit-requires c κs = search rules
 
-enum-known-end : tie.Need-enum-known-end invariant-loop decreases-loop
+enum-known-end : tie.Need-enum_known-end invariant-loop decreases-loop
 enum-known-end c = search rules
 
 -- in a turn that goes on, a header fits
-here : (c : tie.After-known-told invariant-loop decreases-loop) → let l = c.before.before.before.before in
-    let x = l.before.before.before.args in
+here : (c : tie.In-Takes invariant-loop decreases-loop) → let l = c.before.before in
+    let x = l.args in
     Goes x.capacity x.headers.now (fill (suc (length x.headers.now)) x.capacity x.headers.now x.from x.start x.reply.now)
-    l.loop.sent l.loop.at l.loop.reply c.before.end.given.0.0
+    l.loop-end.sent l.loop-end.at l.loop-end.reply c.in-Takes.end
 here c =
-    let l = c.before.before.before.before in
-    goes l.loop.invariant.2 (sym c.before.before.before.next-fit.ensures ∙ c.before.end.given.1)
+    let l = c.before.before in
+    goes l.loop-end.invariant.2 (sym c.next_fit.ensures ∙ c.in-Takes.is)
 
-sub-copy-into : tie.Need-overflow-sub-copy-into invariant-loop decreases-loop
+sub-copy-into : tie.Need-slice_bounds-copy_into-count invariant-loop decreases-loop
 sub-copy-into c = let g = here c.before in omega arith
 
-part-copy-into-start : tie.Need-slice-bounds-copy-into-start invariant-loop decreases-loop
+part-copy-into-start : tie.Need-slice_bounds-copy_into-start invariant-loop decreases-loop
 part-copy-into-start c = let g = here c.before in omega arith
 
-part-copy-into-end : tie.Need-slice-bounds-copy-into-end invariant-loop decreases-loop
+part-copy-into-end : tie.Need-slice_bounds-copy_into-end invariant-loop decreases-loop
 part-copy-into-end c = let g = here c.before in omega arith
 
-copy-into-requires : tie.Need-copy-into-requires invariant-loop decreases-loop
+copy-into-requires : tie.Need-copy_into-requires invariant-loop decreases-loop
 copy-into-requires c κs = let g = here c.before.before in omega arith
 
-sub_at : tie.Need-overflow-sub-at invariant-loop decreases-loop
+sub_at : tie.Need-overflow_sub-at invariant-loop decreases-loop
 sub_at c = let g = here c.before.before.before.before.before in omega arith
 
-add_at : tie.Need-overflow-add-at invariant-loop decreases-loop
+add_at : tie.Need-overflow_add-at invariant-loop decreases-loop
 add_at c = let g = here c.before.before.before.before.before in omega arith
 
-loop-less : tie.Need-loop-smaller invariant-loop decreases-loop
+loop-less : tie.Need-loop-end-smaller invariant-loop decreases-loop
 loop-less c = let g = here c.before.before.before.before.before in omega arith
 
-loop-again : tie.Need-loop-preserved invariant-loop decreases-loop
+loop-again : tie.Need-loop-end-preserved invariant-loop decreases-loop
 loop-again c =
     let k = c.before.before.before.before.before in
     let g = here k in
-    (g.room, c.before.reply.given ∙ k.before.before.before.before.loop.invariant.1, g.on _ c.before.before.copy-into.ensures)
+    (g.room, c.reply-1.given ∙ k.loop-end.invariant.1, g.on _ c.copy_into.ensures)
 
-enum-known-why : tie.Need-enum-known-why invariant-loop decreases-loop
+enum-known-why : tie.Need-enum_known-why invariant-loop decreases-loop
 enum-known-why c = search rules
 
-same_length : tie.Need-same-length invariant-loop decreases-loop
-same_length c = c.before.before.before.before.loop.invariant.1
+same_length : tie.Need-shape_of-reply-in-Stops invariant-loop decreases-loop
+same_length c = c.loop-end.invariant.1
 
-returns : tie.Need-returns invariant-loop decreases-loop
+returns : tie.Need-returns-in-Stops invariant-loop decreases-loop
 returns c =
-    let l = c.before.before.before.before in
-    (stopped l.loop.invariant.2 (sym c.before.before.before.next-fit.ensures ∙ c.before.why.given.1), l.loop.invariant.0)
+    let l = c.before.before in
+    (stopped l.loop-end.invariant.2 (sym c.next_fit.ensures ∙ c.in-Stops.is), l.loop-end.invariant.0)
 
 pub fill_spec : {M : Type 1} → statement M
 fill_spec =

@@ -13,51 +13,51 @@ use Rattle.outgoing.proofs.object.next_fit.Tie as tie
 step-requires : tie.Need-step-requires
 step-requires c κs = search rules
 
-enum-known-end : tie.Need-enum-known-end
+enum-known-end : tie.Need-enum_known-end
 enum-known-end c = search rules
 
 -- what the cursor told
-stands : (c : tie.After-known-told) → let v = c.before.end.given.0 in let x = c.before.before.before.before.before.args in
+stands : (c : tie.In-At) → let v = c.end-1.given.0 in let x = c.args in
     header_at_of x.headers.now x.sent ≡ At v.0 v.1.0 v.1.1.0 v.1.1.1.0
-stands c = sym c.before.before.before.step.ensures ∙ c.before.end.given.1
+stands c = sym c.step.ensures ∙ c.in-At.is
 
-sub-n : tie.Need-overflow-sub-n
+sub-n : tie.Need-overflow_sub-n
 sub-n c = omega (arith, (header_at_within _ _ _ _ _ _ (stands c)).0)
 
-returns : tie.Need-returns
+returns : tie.Need-returns-then-capacity-n
 unfolding fit_of_of
-returns c = rw (stands c.before, lt-ltb _ _ c.if1.true)
+returns c = rw (stands c.before, lt-ltb _ _ c.if-capacity-n.true)
 
-add-if2 : tie.Need-overflow-add-if2
+add-if2 : tie.Need-overflow_add-capacity
 add-if2 c = search rules
 
-add-if2-2 : tie.Need-overflow-add-if2-2
+add-if2-2 : tie.Need-overflow_add-at
 add-if2-2 c = search rules
 
-returns-2 : tie.Need-returns-2
+returns-2 : tie.Need-returns-then-capacity-at
 unfolding fit_of_of
-returns-2 c = rw (stands c.before.before, le-ltb _ _ c.before.if1.false, lt-ltb _ _ c.if2.true)
+returns-2 c = rw (stands c.before.before, le-ltb _ _ c.if-capacity-n.false, lt-ltb _ _ c.if-capacity-at.true)
 
-enum_told : tie.Need-enum-told
+enum_told : tie.Need-enum_told-1
 enum_told c = search rules
 
-enum-told-2 : tie.Need-enum-told-2
+enum-told-2 : tie.Need-enum_told-in-End
 enum-told-2 c = search rules
 
-returns-3 : tie.Need-returns-3
+returns-3 : tie.Need-returns-else-capacity-at
 unfolding fit_of_of
-returns-3 c = rw (stands c.before.before, le-ltb _ _ c.before.if1.false, le-ltb _ _ c.if2.false)
+returns-3 c = rw (stands c.before.before, le-ltb _ _ c.if-capacity-n.false, le-ltb _ _ c.if-capacity-at.false)
 
-returns-4 : tie.Need-returns-4
+returns-4 : tie.Need-returns-in-Unreadable
 unfolding fit_of_of
-returns-4 c = rw (sym c.before.before.step.ensures ∙ c.enum_told.given.1)
+returns-4 c = rw (sym c.step.ensures ∙ c.in-Unreadable.is)
 
-returns-5 : tie.Need-returns-5
+returns-5 : tie.Need-returns-in-End
 unfolding fit_of_of
-returns-5 c = rw (sym c.before.before.step.ensures ∙ c.enum-told2.given.1)
+returns-5 c = rw (sym c.step.ensures ∙ c.in-End.is)
 
-pub next-fit-spec : {M : Type 1} → statement M
-next-fit-spec =
+pub next_fit_spec : {M : Type 1} → statement M
+next_fit_spec =
     tie.close
     (tie.spec
     step-requires

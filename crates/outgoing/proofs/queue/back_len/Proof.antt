@@ -9,44 +9,44 @@ use Rattle.outgoing.proofs.Walking.{Goes, back-goes, back-ends, Gone, gone-first
 use Rattle.outgoing.proofs.queue.back_len.Statement.{statement}
 use Rattle.outgoing.proofs.queue.back_len.Tie as tie
 
-abbrev invariant-loop : tie.invariant-loop
+abbrev invariant-loop : tie.invariant-loop-at
 invariant-loop part packet at₀ n₀ at n = Gone part packet at n × (at ≤ length packet)
 
-abbrev decreases-loop : tie.decreases-loop
+abbrev decreases-loop : tie.decreases-loop-at
 decreases-loop part packet at₀ n₀ at n = length packet - at
 
-loop-holds : tie.Need-loop-init invariant-loop decreases-loop
+loop-holds : tie.Need-loop-at-init invariant-loop decreases-loop
 loop-holds c = (gone-first _ _, omega arith)
 
-piece-at-requires : tie.Need-piece-at-requires invariant-loop decreases-loop
+piece-at-requires : tie.Need-piece_at-p-requires invariant-loop decreases-loop
 piece-at-requires c κs = search rules
 
-returns : tie.Need-returns invariant-loop decreases-loop
+returns : tie.Need-returns-then-p-at invariant-loop decreases-loop
 returns c =
     let k = c.before.before in
     let l = k.before in
-    let g = l.loop.invariant.0 in
-    (sym (ap length (gone-all g (back-ends _ _ _ _ k.piece-at.ensures c.if1.true)) ∙ g.size), omega (arith, g.behind, l.loop.invariant.1))
+    let g = l.loop-at.invariant.0 in
+    (sym (ap length (gone-all g (back-ends _ _ _ _ k.piece_at-p.ensures c.if-p-at.true)) ∙ g.size), omega (arith, g.behind, l.loop-at.invariant.1))
 
 -- the piece of a turn that goes on
-here : (c : tie.After-struct-known2 invariant-loop decreases-loop) → let k = c.before.before.before in let l = k.before in
-    Goes l.before.before.args.part l.before.before.args.packet.now l.loop.at k.piece-at.result
-here c = let k = c.before.before.before in back-goes _ _ _ _ k.piece-at.ensures c.before.if1.false
+here : (c : tie.After-struct_known-in-loop-at-1 invariant-loop decreases-loop) → let k = c.before.before.before in let l = k.before in
+    Goes l.args.part l.args.packet.now l.loop-at.at k.piece_at-p.result
+here c = let k = c.before.before.before in back-goes _ _ _ _ k.piece_at-p.ensures c.if-p-at.false
 
-sub-n : tie.Need-overflow-sub-n invariant-loop decreases-loop
+sub-n : tie.Need-overflow_sub-n invariant-loop decreases-loop
 sub-n c = omega (arith, (here c).stop)
 
-add-n : tie.Need-overflow-add-n invariant-loop decreases-loop
-add-n c = let g = here c in let l = c.before.before.before.before in omega (arith, g.start, g.stop, g.fits, l.loop.invariant.0.behind)
+add-n : tie.Need-overflow_add-n invariant-loop decreases-loop
+add-n c = let g = here c in let l = c.before.before.before.before in omega (arith, g.start, g.stop, g.fits, l.loop-at.invariant.0.behind)
 
-loop-less : tie.Need-loop-smaller invariant-loop decreases-loop
+loop-less : tie.Need-loop-at-smaller invariant-loop decreases-loop
 loop-less c = omega (arith, (here c).ranges)
 
-loop-again : tie.Need-loop-preserved invariant-loop decreases-loop
-loop-again c = let g = here c in (gone_on c.before.before.before.before.loop.invariant.0 g, g.fits)
+loop-again : tie.Need-loop-at-preserved invariant-loop decreases-loop
+loop-again c = let g = here c in (gone_on c.loop-at.invariant.0 g, g.fits)
 
-pub back-len-spec : {M : Type 1} → statement M
-back-len-spec =
+pub back_len_spec : {M : Type 1} → statement M
+back_len_spec =
     tie.close
     (tie.spec
     invariant-loop

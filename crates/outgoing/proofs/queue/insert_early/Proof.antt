@@ -12,52 +12,52 @@ use Rattle.outgoing.proofs.Rooms.{early-refused, early-written}
 use Rattle.outgoing.proofs.queue.insert_early.Statement.{statement}
 use Rattle.outgoing.proofs.queue.insert_early.Tie as tie
 
-room-requires : tie.Need-room-requires
+room-requires : tie.Need-room-answer-requires
 room-requires c κs = search rules
 
-enum-known-answer : tie.Need-enum-known-answer
+enum-known-answer : tie.Need-enum_known-answer
 enum-known-answer c = search rules
 
-returns : tie.Need-returns
-returns c = let k = c.before in early-refused _ _ _ _ c.match.keys2 k.room.ensures
+returns : tie.Need-returns-in_default
+returns c = let k = c.before in early-refused _ _ _ _ c.in_default.keys2 k.room-answer.ensures
 
 -- the bytes and the header fit the store
-fitting : (c : tie.After-known-told) → let x = c.before.before.before.before.before.before.args in
+fitting : (c : tie.In-Written) → let x = c.args in
     x.n + length x.header.now ≤ length x.headers.now
 fitting c =
-    let a = c.before in
-    let k = a.before.before in
-    let x = k.before.before.before.args in
-    (granted (length x.headers.now) x.n (length x.header.now) _ TwoBytes false (sym a.answer.given.1 ∙ k.room.ensures)).fits
+    let a = c in
+    let k = a.before in
+    let x = k.args in
+    (granted (length x.headers.now) x.n (length x.header.now) _ TwoBytes false (sym a.in-Written.is ∙ k.room-answer.ensures)).fits
 
-slice-reshare-prefix-lead-end : tie.Need-slice-reshare-prefix-lead-end
+slice-reshare-prefix-lead-end : tie.Need-slice_bounds-lead_end-end
 slice-reshare-prefix-lead-end c = omega (arith, fitting c)
 
-slice-aggregate-lead-end : tie.Need-slice-aggregate-lead-end
-slice-aggregate-lead-end c = sym (length-take-le _ _ (omega (arith, fitting c.before)))
+slice-aggregate-lead-end : tie.Need-slice_bounds-lead_end-end-2
+slice-aggregate-lead-end c = sym (length-take-le _ _ (omega (arith, fitting c)))
 
-lead-end-requires : tie.Need-lead-end-requires
+lead-end-requires : tie.Need-lead_end-at-requires
 lead-end-requires c κs = search rules
 
-put-in-requires : tie.Need-put-in-requires
+put-in-requires : tie.Need-put_in-requires
 put-in-requires c κs =
-    let f = fitting c.before.before.before in
-    let x = c.before.before.before.before.before.before.before.before.before.args in
-    (omega (arith, c.before.lead-end.ensures.1, length-take-le x.n x.headers.now (omega (arith, f))), f)
+    let f = fitting c.before.before in
+    let x = c.args in
+    (omega (arith, c.lead_end-at.ensures.1, length-take-le x.n x.headers.now (omega (arith, f))), f)
 
-same_length : tie.Need-same-length
+same_length : tie.Need-shape_of-headers
 same_length c = search rules
 
-returns-2 : tie.Need-returns-2
+returns-2 : tie.Need-returns
 returns-2 c =
     let p = c.before.before in
     let l = p.before.before in
-    let a = l.before.before.before in
+    let a = l.before in
     let k = a.before.before in
-    early-written _ _ _ _ _ _ (sym a.answer.given.1 ∙ k.room.ensures) l.lead-end.ensures.0 p.put_in.ensures
+    early-written _ _ _ _ _ _ (sym a.answer.given.1 ∙ k.room.ensures) l.lead_end-at.ensures.0 p.put_in.ensures
 
-pub insert-early-spec : {M : Type 1} → statement M
-insert-early-spec =
+pub insert_early_spec : {M : Type 1} → statement M
+insert_early_spec =
     tie.close
     (tie.spec
     room-requires

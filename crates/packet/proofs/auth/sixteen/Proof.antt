@@ -9,43 +9,43 @@ use Rattle.packet.proofs.TagWrites.{Within}
 use Rattle.packet.proofs.auth.sixteen.Statement.{statement}
 use Rattle.packet.proofs.auth.sixteen.Tie as tie
 
-last-value-requires : tie.Need-last-value-requires
+last-value-requires : tie.Need-last_value-requires
 last-value-requires c κs = search rules
 
-enum-known-start : tie.Need-enum-known-start
+enum-known-start : tie.Need-enum_known-start
 enum-known-start c = search rules
 
-enum_told : tie.Need-enum-told
+enum_told : tie.Need-enum_told-1
 enum_told c = search rules
 
-returns : tie.Need-returns
-returns c = rw (sym c.before.before.last-value.ensures ∙ c.enum_told.given.1)
+returns : tie.Need-returns-in_default
+returns c = rw (sym c.last_value.ensures ∙ c.in_default.is)
 
 -- the place
-here : (c : tie.After-known-told) → let x = c.before.before.before.before.before.args in
-    Within x.v.now c.before.before.before.last-value.result
+here : (c : tie.In-At) → let x = c.args in
+    Within x.v.now c.last_value.result
 here c =
-    let x = c.before.before.before.before.before.args in
-    subst (λ (f : Found). Within x.v.now f) (sym c.before.before.before.last-value.ensures) (within x.v.now x.tag)
+    let x = c.args in
+    subst (λ (f : Found). Within x.v.now f) (sym c.last_value.ensures) (within x.v.now x.tag)
 
-sub-if1 : tie.Need-overflow-sub-if1
-sub-if1 c = (rw c.before.start.given.1 at (here c)).0
+sub-if1 : tie.Need-overflow_sub-end
+sub-if1 c = (rw c.in-At.is at (here c)).0
 
-returns-2 : tie.Need-returns-2
+returns-2 : tie.Need-returns-then-end-start-ne16
 returns-2 c =
-    let k = c.before.before in
-    rw (sym k.before.before.last-value.ensures ∙ k.start.given.1, ne_eqb _ _ c.if1.true)
+    let k = c.before in
+    rw (sym k.last_value.ensures ∙ k.in-At.is, ne_eqb _ _ c.if-end-start-ne16.true)
 
-octets16-at-requires : tie.Need-octets16-at-requires
-octets16-at-requires c κs = let w = rw c.before.before.start.given.1 at (here c.before) in omega arith
+octets16-at-requires : tie.Need-octets16_at-requires
+octets16-at-requires c κs = let w = rw c.in-At.is at (here c.before) in omega arith
 
-returns-3 : tie.Need-returns-3
+returns-3 : tie.Need-returns
 returns-3 c =
-    let k = c.before.before.before in
-    rw (sym k.before.before.last-value.ensures ∙ k.start.given.1, eq-eqb _ _ c.before.if1.false, c.octets16-at.ensures)
+    let k = c.before.before in
+    rw (sym k.last_value.ensures ∙ k.in-At.is, eq-eqb _ _ c.if-end-start-ne16.false, c.octets16_at.ensures)
 
-pub sixteen-spec : {M : Type 1} → statement M
-sixteen-spec =
+pub sixteen_spec : {M : Type 1} → statement M
+sixteen_spec =
     tie.close
     (tie.spec
     last-value-requires

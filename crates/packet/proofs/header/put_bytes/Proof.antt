@@ -8,48 +8,48 @@ use Rattle.packet.proofs.header.put_bytes.Statement.{statement}
 use Rattle.packet.proofs.header.put_bytes.Tie as tie
 
 -- where the header is started, there is room for the value
-whole : (c : tie.After-answer) → let s = c.before.before.before.before in
-    let x = s.before.before.before.before.args in
-    Started x.store.now s.start.new.0 x.at (header x.id x.value.now) (length x.value.now) c.answer.given.0.0
+whole : (c : tie.In-Written) → let s = c.before.before.before in
+    let x = s.args in
+    Started x.store.now s.start-answer.new.0 x.at (header x.id x.value.now) (length x.value.now) c.in-Written.end
 whole c =
-    let s = c.before.before.before.before in
-    let x = s.before.before.before.before.args in
-    started x.store.now _ x.at (header x.id x.value.now) _ _ s.start.ensures (omega arith) (omega arith) _
-    c.answer.given.1
+    let s = c.before.before.before in
+    let x = s.args in
+    started x.store.now _ x.at (header x.id x.value.now) _ _ s.start-answer.ensures (omega arith) (omega arith) _
+    c.in-Written.is
 
-start-requires : tie.Need-start-requires
+start-requires : tie.Need-start-answer-requires
 start-requires c κs = search rules
 
-enum-known-answer : tie.Need-enum-known-answer
+enum-known-answer : tie.Need-enum_known-answer
 enum-known-answer c = search rules
 
-same_length : tie.Need-same-length
+same_length : tie.Need-shape_of-store-in_default
 same_length c = search rules
 
-returns : tie.Need-returns
+returns : tie.Need-returns-in_default
 returns c =
-    let x = c.before.before.before.before.before.before.before.args in
-    put_refused x.store.now _ x.at (header x.id x.value.now) _ _ c.before.before.before.start.ensures (omega arith)
-    (omega arith) c.match.keys2
+    let x = c.args in
+    put_refused x.store.now _ x.at (header x.id x.value.now) _ _ c.start-answer.ensures (omega arith)
+    (omega arith) c.in_default.keys2
 
-sub-copy-into : tie.Need-overflow-sub-copy-into
-sub-copy-into c = let w = whole c.before.before in omega (arith, w.ends)
+sub-copy-into : tie.Need-overflow_sub-end
+sub-copy-into c = let w = whole c.before in omega (arith, w.ends)
 
-copy-into-requires : tie.Need-copy-into-requires
-copy-into-requires c κs = let w = whole c.before.before in omega
-    (arith, w.ends, w.fits, c.before.before.before.before.before.store.given)
+copy-into-requires : tie.Need-copy_into-requires
+copy-into-requires c κs = let w = whole c.before in omega
+    (arith, w.ends, w.fits, c.store-1.given)
 
-same-length-2 : tie.Need-same-length-2
+same-length-2 : tie.Need-shape_of-store
 same-length-2 c = search rules
 
-returns-2 : tie.Need-returns-2
+returns-2 : tie.Need-returns
 returns-2 c =
-    let x = c.before.before.before.before.before.before.before.before.before.before.before.before.before.args in
-    put_written x.store.now _ _ x.at (header x.id x.value.now) _ _ (whole c.before.before.before.before.before)
-    c.before.before.copy-into.ensures
+    let x = c.args in
+    put_written x.store.now _ _ x.at (header x.id x.value.now) _ _ (whole c.before.before.before.before)
+    c.copy_into.ensures
 
-pub put-bytes-spec : {M : Type 1} → statement M
-put-bytes-spec =
+pub put_bytes_spec : {M : Type 1} → statement M
+put_bytes_spec =
     tie.close
     (tie.spec
     start-requires

@@ -10,52 +10,52 @@ use borrow.Author.Rules.{rules}
 use Rattle.packet.proofs.header.write_wide.Statement.{statement}
 use Rattle.packet.proofs.header.write_wide.Tie as tie
 
-returns : tie.Need-returns
+returns : tie.Need-returns-then-from-end
 returns c =
     let z = c.before.before.before in
     let v = terminated16 (lossy z.args.text.now) in
     none_pasted z.args.store.now v z.args.from (omega (arith, z.requires.0))
 
 -- where there is room, it is for the text and a zero unit
-room : (c : tie.Else1) → let z = c.before.before.before in Unit16 z.args.text.now z.args.from z.args.end
+room : (c : tie.Else-from-end) → let z = c.before.before.before in Unit16 z.args.text.now z.args.from z.args.end
 room c =
     let z = c.before.before.before in
-    unit16 z.args.text.now z.args.from z.args.end z.requires.0 c.if1.false
+    unit16 z.args.text.now z.args.from z.args.end z.requires.0 c.if-from-end.false
 
-sub-n : tie.Need-overflow-sub-n
+sub-n : tie.Need-overflow_sub-n
 sub-n c = let k = room c in omega (arith, k.ends)
 
-write-units-requires : tie.Need-write-units-requires
+write-units-requires : tie.Need-write_units-requires
 write-units-requires c κs =
     let z = c.before.before.before.before in
     let k = room c.before in
     (omega (arith, k.ends), omega (arith, z.requires.1))
 
-slice-write-store : tie.Need-slice-write-store
+slice-write-store : tie.Need-bounds-store-n
 slice-write-store c = search rules
 
-add-store : tie.Need-overflow-add-store
+add-store : tie.Need-overflow_add-store
 add-store c = search rules
 
-slice-write-store-2 : tie.Need-slice-write-store-2
+slice-write-store-2 : tie.Need-bounds-store-n-2
 slice-write-store-2 c =
     let z = c.before.before.before.before.before.before.before in
     let k = room c.before.before.before.before in
-    simp length-set (omega (arith, k.ends, z.requires.1, c.before.store.given))
+    simp length-set (omega (arith, k.ends, z.requires.1, c.store-1.given))
 
-same_length : tie.Need-same-length
+same_length : tie.Need-shape_of-store
 same_length c = search rules
 
-returns-2 : tie.Need-returns-2
+returns-2 : tie.Need-returns
 returns-2 c =
     let z = c.before.before.before.before.before.before.before in
     let k = room c.before.before.before.before in
     rw k.value_is
     (zeros-after z.args.store.now _ (unicode_bytes z.args.text.now) z.args.from (z.args.end - 2) (omega (arith, k.ends))
-    (omega (arith, k.ends, z.requires.1)) c.before.before.write-units.ensures)
+    (omega (arith, k.ends, z.requires.1)) c.write_units.ensures)
 
-pub write-wide-spec : {M : Type 1} → statement M
-write-wide-spec =
+pub write_wide_spec : {M : Type 1} → statement M
+write_wide_spec =
     tie.close
     (tie.spec
     returns

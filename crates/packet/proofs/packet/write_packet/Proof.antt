@@ -17,64 +17,64 @@ use Rattle.packet.proofs.packet.write_packet.Statement.{statement}
 use Rattle.packet.proofs.packet.write_packet.Tie as tie
 
 -- so many fields are taken, and the packet is as long as the code says
-taken : (k : tie.After-room) → let x = k.before.before.before.args in length (take x.n x.t3) ≡ x.n
+taken : (k : tie.After-room-answer) → let x = k.args in length (take x.n x.t3) ≡ x.n
 taken k = let b = k.before.before.before in length-take-le b.args.n b.args.t3 (omega (arith, b.requires.0, b.requires.1))
 
-size : (k : tie.After-room) → let x = k.before.before.before.args in
+size : (k : tie.After-room-answer) → let x = k.args in
     length (packet_bytes x.byte (take x.n x.t3) x.headers.now) ≡ 3 + x.n + length x.headers.now
 size k =
-    let x = k.before.before.before.args in
+    let x = k.args in
     packet-length x.byte (take x.n x.t3) x.headers.now ∙ ap (λ (n : ℕ). 3 + n + length x.headers.now) (taken k)
 
-add-need : tie.Need-overflow-add-need
+add-need : tie.Need-overflow_add-need
 add-need c = search rules
 
-add-need-2 : tie.Need-overflow-add-need-2
+add-need-2 : tie.Need-overflow_add-need-2
 add-need-2 c = search rules
 
-room-requires : tie.Need-room-requires
+room-requires : tie.Need-room-answer-requires
 room-requires c κs = search rules
 
-enum-known-answer : tie.Need-enum-known-answer
+enum-known-answer : tie.Need-enum_known-answer
 enum-known-answer c = search rules
 
-returns : tie.Need-returns
+returns : tie.Need-returns-in_default
 unfolding write_packet
 returns c =
     let k = c.before in
-    let x = k.before.before.before.args in
+    let x = k.args in
     let p = packet_bytes x.byte (take x.n x.t3) x.headers.now in
-    placed-refused x.store.now p 0 _ TwoBytes (ltb 65535 (length p)) _ _ c.match.keys2 (size k) (sym (ap (ltb 65535) (size k))) k.room.ensures
+    placed-refused x.store.now p 0 _ TwoBytes (ltb 65535 (length p)) _ _ c.in_default.keys2 (size k) (sym (ap (ltb 65535) (size k))) k.room-answer.ensures
 
-array-share-prefix-fields : tie.Need-array-share-prefix-fields
+array-share-prefix-fields : tie.Need-slice_bounds-fields-end
 array-share-prefix-fields c = search rules
 
-slice-aggregate-put-packet : tie.Need-slice-aggregate-put-packet
-slice-aggregate-put-packet c = sym (taken c.before.before.before.before.before)
+slice-aggregate-put-packet : tie.Need-slice_bounds-put_packet-end
+slice-aggregate-put-packet c = sym (taken c.before.before.before)
 
-put-packet-requires : tie.Need-put-packet-requires
+put-packet-requires : tie.Need-put_packet-requires
 put-packet-requires c κs =
-    let k = c.before.before.before.before.before in
-    let x = k.before.before.before.args in
+    let k = c.before.before.before in
+    let x = k.args in
     let need = 3 + x.n + length x.headers.now in
-    let g = granted (length x.store.now) 0 need _ TwoBytes (ltb 65535 need) (sym c.before.before.before.answer.given.1 ∙ k.room.ensures) in
+    let g = granted (length x.store.now) 0 need _ TwoBytes (ltb 65535 need) (sym c.in-Written.is ∙ k.room-answer.ensures) in
     (omega (arith, g.fits, taken k), omega (arith, ltb-false 65535 need g.allowed, taken k))
 
-same_length : tie.Need-same-length
+same_length : tie.Need-shape_of-store
 same_length c = search rules
 
-returns-2 : tie.Need-returns-2
+returns-2 : tie.Need-returns
 unfolding write_packet
 returns-2 c =
-    let a = c.before.before.before.before.before.before in
-    let k = a.before.before in
-    let x = k.before.before.before.args in
+    let a = c.before.before.before.before.before in
+    let k = a.before in
+    let x = k.args in
     let p = packet_bytes x.byte (take x.n x.t3) x.headers.now in
     placed-written x.store.now p _ 0 _ _ TwoBytes (ltb 65535 (length p)) _ (size k) (sym (ap (ltb 65535) (size k)))
-    (sym a.answer.given.1 ∙ k.room.ensures) c.before.before.put-packet.ensures
+    (sym a.in-Written.is ∙ k.room-answer.ensures) c.put_packet.ensures
 
-pub write-packet-spec : {M : Type 1} → statement M
-write-packet-spec =
+pub write_packet_spec : {M : Type 1} → statement M
+write_packet_spec =
     tie.close
     (tie.spec
     add-need

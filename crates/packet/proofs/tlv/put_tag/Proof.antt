@@ -16,63 +16,63 @@ use Rattle.packet.proofs.tlv.put_tag.Statement.{statement}
 use Rattle.packet.proofs.tlv.put_tag.Tie as tie
 
 -- where the room is granted, the tag fits
-whole : (c : tie.After-answer) → let r = c.before.before in let x = r.before.before.before.args in
-    Granted (length x.store.now) x.at (2 + length x.value.now) c.answer.given.0.0 (ltb 255 (length x.value.now))
-whole c = granted _ _ _ _ OneByte _ (sym c.answer.given.1 ∙ c.before.before.room.ensures)
+whole : (c : tie.In-Written) → let r = c.before in let x = r.args in
+    Granted (length x.store.now) x.at (2 + length x.value.now) c.in-Written.next (ltb 255 (length x.value.now))
+whole c = granted _ _ _ _ OneByte _ (sym c.in-Written.is ∙ c.room-answer.ensures)
 
-add-room : tie.Need-overflow-add-room
+add-room : tie.Need-overflow_add-n
 add-room c = search rules
 
-room-requires : tie.Need-room-requires
+room-requires : tie.Need-room-answer-requires
 room-requires c κs = search rules
 
-enum-known-answer : tie.Need-enum-known-answer
+enum-known-answer : tie.Need-enum_known-answer
 enum-known-answer c = search rules
 
-returns : tie.Need-returns
+returns : tie.Need-returns-in_default
 unfolding put_tag
 returns c =
     let r = c.before in
-    let x = r.before.before.before.args in
+    let x = r.args in
     placed-refused x.store.now (write_tag (record { tag = x.tag; value = x.value.now })) x.at _ OneByte
-    (ltb 255 (length x.value.now)) _ _ c.match.keys2 (omega arith) refl r.room.ensures
+    (ltb 255 (length x.value.now)) _ _ c.in_default.keys2 (omega arith) refl r.room-answer.ensures
 
-slice-write-store : tie.Need-slice-write-store
-slice-write-store c = let w = whole c.before in omega (arith, w.fits)
+slice-write-store : tie.Need-bounds-store-at
+slice-write-store c = let w = whole c in omega (arith, w.fits)
 
-cast-store : tie.Need-overflow-cast-store
+cast-store : tie.Need-overflow_cast-store
 cast-store c =
-    let w = whole c.before in
-    omega (arith, ltb-false 255 (length c.before.before.before.before.before.before.args.value.now) w.allowed)
+    let w = whole c in
+    omega (arith, ltb-false 255 (length c.args.value.now) w.allowed)
 
-add-store : tie.Need-overflow-add-store
-add-store c = let w = whole c.before in omega (arith, w.fits)
+add-store : tie.Need-overflow_add-store
+add-store c = let w = whole c in omega (arith, w.fits)
 
-slice-write-store-2 : tie.Need-slice-write-store-2
-slice-write-store-2 c = let w = whole c.before in simp length-set (omega (arith, w.fits))
+slice-write-store-2 : tie.Need-bounds-store-at-2
+slice-write-store-2 c = let w = whole c in simp length-set (omega (arith, w.fits))
 
-add-copy-into : tie.Need-overflow-add-copy-into
-add-copy-into c = let w = whole c.before.before in omega (arith, w.fits)
+add-copy-into : tie.Need-overflow_add-at
+add-copy-into c = let w = whole c.before in omega (arith, w.fits)
 
-copy-into-requires : tie.Need-copy-into-requires
-copy-into-requires c κs = let w = whole c.before.before in simp length-set (omega (arith, w.fits))
+copy-into-requires : tie.Need-copy_into-requires
+copy-into-requires c κs = let w = whole c.before in simp length-set (omega (arith, w.fits))
 
-same_length : tie.Need-same-length
-same_length c = c.before.store.given ∙ simp length-set
+same_length : tie.Need-shape_of-store
+same_length c = c.store-1.given ∙ simp length-set
 
-returns-2 : tie.Need-returns-2
+returns-2 : tie.Need-returns
 unfolding put_tag
 returns-2 c =
-    let a = c.before.before.before.before.before in
-    let r = a.before.before in
-    let x = r.before.before.before.args in
+    let a = c.before.before.before.before in
+    let r = a.before in
+    let x = r.args in
     let w = whole a in
     placed-written x.store.now (write_tag (record { tag = x.tag; value = x.value.now })) _ x.at _ _ OneByte
-    (ltb 255 (length x.value.now)) _ (omega arith) refl (sym a.answer.given.1 ∙ r.room.ensures)
-    (c.before.before.copy-into.ensures ∙ tag-laid x.store.now x.value.now x.at x.tag (omega (arith, w.fits)))
+    (ltb 255 (length x.value.now)) _ (omega arith) refl (sym a.in-Written.is ∙ r.room-answer.ensures)
+    (c.copy_into.ensures ∙ tag-laid x.store.now x.value.now x.at x.tag (omega (arith, w.fits)))
 
-pub put-tag-spec : {M : Type 1} → statement M
-put-tag-spec =
+pub put_tag_spec : {M : Type 1} → statement M
+put_tag_spec =
     tie.close
     (tie.spec
     add-room

@@ -14,18 +14,24 @@ flagged : (a : tie.Start) (t : Bool) → is_refused a.args.res.outcome ≡ t
     ≡ note_made a.args.answer a.args.before.begun a.args.res
 flagged a t e = sym (ap (λ (b : Bool). pick b note.Nothing (note_by a.args.answer a.args.before.begun a.args.res)) e)
 
-is-refused-requires : tie.Need-is-refused-requires
+is-refused-requires : tie.Need-is_refused-requires
 is-refused-requires c κs = search rules
 
-returns : tie.Need-returns
-returns c = flagged c.before.before true (sym c.before.is-refused.ensures ∙ c.if1.true)
+returns : tie.Need-returns-then-is_refused
+returns c = flagged c.before.before true (sym c.is_refused.ensures ∙ c.if-is_refused.true)
 
-note-by-requires : tie.Need-note-by-requires
+note-by-requires : tie.Need-note_by-requires
 note-by-requires c κs = search rules
 
-returns-2 : tie.Need-returns-2
+returns-2 : tie.Need-returns
 returns-2 c =
-    c.note-by.ensures ∙ flagged c.before.before.before false (sym c.before.before.is-refused.ensures ∙ c.before.if1.false)
+    c.note_by.ensures ∙ flagged c.before.before.before false (sym c.is_refused.ensures ∙ c.if-is_refused.false)
 
-pub note-for-spec : {M : Type 1} → statement M
-note-for-spec = tie.close (tie.spec is-refused-requires returns note-by-requires returns-2)
+pub note_for_spec : {M : Type 1} → statement M
+note_for_spec =
+    tie.close
+    (tie.spec
+    is-refused-requires
+    returns
+    note-by-requires
+    returns-2)

@@ -1,0 +1,9 @@
+-- `bench::play` meets its contract: the turns are counted down. Assumes nothing.
+use borrow.Author.Rules.{rules}
+use Rattle.bench.proofs.play.Given as goal
+
+abbrev pub invariant-loop-left : goal.invariant-loop-left
+invariant-loop-left l = Unit {0}
+
+abbrev pub decreases-loop-left : goal.decreases-loop-left
+decreases-loop-left l = l.left

@@ -1,0 +1,12 @@
+-- `calendar::date::date_in_year` meets its contract. The invariant: what is left of the days counts from the first of `month`. Assumes nothing.
+use Rattle.calendar.proofs.Months.{month_size, month_most}
+use Rattle.calendar.proofs.Place.{InYear, month_first, month_high, month_next, month_found}
+use borrow.Author.Rules.{rules}
+use native.Mathlib.Omega.{arith}
+use Rattle.calendar.proofs.date.date_in_year.Given as goal
+
+abbrev pub invariant-loop-size : goal.invariant-loop-size
+invariant-loop-size l = InYear l.year l.days l.month l.left l.size
+
+abbrev pub decreases-loop-size : goal.decreases-loop-size
+decreases-loop-size l = l.left

@@ -1,0 +1,15 @@
+-- `calendar::date::days_before_month` meets its contract. The invariant: the days of the months before `m` are counted. Assumes nothing.
+use mathlib.Core.Path.{◌≡◌, refl}
+use Prim.Native.Nat.{◌-◌, ◌*◌, ◌≤◌}
+use Rattle.calendar.specs.Day.{days_before_month}
+use Rattle.calendar.proofs.Months.{month_most}
+use Rattle.calendar.proofs.Count.{month_after}
+use borrow.Author.Rules.{rules}
+use native.Mathlib.Omega.{arith}
+use Rattle.calendar.proofs.date.days_before_month.Given as goal
+
+abbrev pub invariant-loop-m : goal.invariant-loop-m
+invariant-loop-m l = (l.m ≤ l.month) × (l.days ≡ days_before_month l.year l.m) × (l.days ≤ 31 * l.m)
+
+abbrev pub decreases-loop-m : goal.decreases-loop-m
+decreases-loop-m l = l.month - l.m

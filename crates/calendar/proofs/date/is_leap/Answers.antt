@@ -1,0 +1,16 @@
+-- `calendar::date::is_leap` meets its contract: its three tests are those of `leap`, in their order. Assumes nothing.
+use borrow.Author.Tests.{eq-eqb, ne_eqb}
+use Rattle.calendar.specs.Day.{leap}
+use Rattle.calendar.proofs.date.is_leap.Goals as goal
+
+pub returns-then-year-ne0 : goal.returns-then-year-ne0
+unfolding leap
+returns-then-year-ne0 c = simp (ne_eqb _ _ c.if-year-ne0.true)
+
+pub returns-then-year-ne0-2 : goal.returns-then-year-ne0-2
+unfolding leap
+returns-then-year-ne0-2 c = simp (eq-eqb _ _ c.if-year-ne0.false, ne_eqb _ _ c.if-year-ne0-2.true)
+
+pub returns : goal.returns
+unfolding leap
+returns c = simp (eq-eqb _ _ c.if-year-ne0.false, eq-eqb _ _ c.if-year-ne0-2.false)

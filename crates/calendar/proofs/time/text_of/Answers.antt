@@ -1,0 +1,29 @@
+-- `calendar::time::text_of` meets its contract: each byte is a digit of its number. Assumes nothing.
+use mathlib.Core.Path.{sym}
+use Rattle.calendar.proofs.Text.{text_digits}
+use borrow.Author.Rules.{rules}
+use Rattle.calendar.proofs.time.text_of.Goals as goal
+
+pub returns : goal.returns
+returns c =
+    let d = c in
+    let a = c in
+    let b = c in
+    let s = c in
+    rw (
+      c.digit.ensures,
+      c.digit-2.ensures,
+      c.digit-3.ensures,
+      c.digit-4.ensures,
+      c.digit-5.ensures,
+      c.digit-6.ensures,
+      c.digit-7.ensures,
+      c.digit-8.ensures,
+      c.digit-9.ensures,
+      c.digit-10.ensures,
+      c.digit-11.ensures,
+      c.digit-12.ensures,
+      c.digit-13.ensures,
+      c.digit-14.ensures,
+    )
+    (sym (text_digits c.args.at))

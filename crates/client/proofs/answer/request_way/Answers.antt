@@ -1,0 +1,13 @@
+-- `client::answer::request_way` meets its contract. The arms of the code are those of the definition. Assumes nothing.
+use borrow.Author.Rules.{rules}
+use Rattle.client.proofs.answer.request_way.Goals as goal
+
+pub returns-in-Put : goal.returns-in-Put
+returns-in-Put c =
+    let at-grants = c in
+    simp (c.in-Put.is, c.put_way.ensures, c.grants-granted.ensures)
+
+pub returns-in-Get : goal.returns-in-Get
+returns-in-Get c =
+    let at-grants = c in
+    simp (c.in-Get.is, c.get_way.ensures, c.grants-granted.ensures)

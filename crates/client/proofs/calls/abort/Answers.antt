@@ -1,0 +1,82 @@
+-- `client::calls::abort` meets its contract. The guard refuses as the model does; then the ways of the code are those of `abort_for`. Assumes nothing.
+use borrow.Author.Rules.{rules}
+use mathlib.Core.Path.{sym, ap, ◌∙◌}
+use Rattle.client_model.specs.Calls.{abort_step}
+use Rattle.client_model.specs.declared.CallResult.{CallResult}
+use Rattle.client_model.specs.Step.{stores, stepped}
+use Rattle.client_model.specs.Guard.{abort_fits}
+use Rattle.client.proofs.Guards.{refused-call, passed_call}
+use Rattle.client.proofs.Called.{abort_called}
+use Rattle.client.proofs.calls.abort.Goals as goal
+
+pub returns-in-Refuse : goal.returns-in-Refuse
+unfolding abort_step
+returns-in-Refuse c =
+    let at-refusal = c in
+    let at-guard = c in
+    let at-is-abortable = c in
+    let start = c in
+    let args = c.args in
+    let lent = stores args.packet.now args.headers.now args.body.now args.request.now in
+    refused-call _ (abort_fits args.c) args.c lent _ _ _ _ c.is_abortable-fits.ensures c.refuse.ensures
+    c.guard.ensures c.in-Refuse.is
+
+pub send_abort-requires : goal.send_abort-requires
+send_abort-requires c =
+    let at-enum-told = c in
+    let at-guard = c in
+    let at-is-abortable = c in
+    let start = c in
+    let args = c.args in
+    let lent = stores args.packet.now args.headers.now args.body.now args.request.now in
+    let passes = passed_call _ (abort_fits args.c) args.c lent _ c.is_abortable-fits.ensures c.guard.ensures
+    c.in_default.is in
+    passes.room.request
+
+pub returns-in-First : goal.returns-in-First
+unfolding abort_step
+returns-in-First c =
+    let at-after-abort = c in
+    let at-enum-told = c in
+    let at-guard = c in
+    let at-is-abortable = c in
+    let start = c in
+    let args = c.args in
+    let lent = stores args.packet.now args.headers.now args.body.now args.request.now in
+    let passes = passed_call _ (abort_fits args.c) args.c lent _ c.is_abortable-fits.ensures c.guard.ensures
+    c.in_default.is in
+    abort_called args.c lent _ _ _ c.after_abort.ensures c.in-First.is
+    (ap (λ (r : CallResult). stepped r lent) c.awaits_first.ensures) ∙ sym (passes.whole _)
+
+pub returns-in-Drain : goal.returns-in-Drain
+unfolding abort_step
+returns-in-Drain c =
+    let at-after-abort = c in
+    let at-enum-told = c in
+    let at-guard = c in
+    let at-is-abortable = c in
+    let start = c in
+    let args = c.args in
+    let lent = stores args.packet.now args.headers.now args.body.now args.request.now in
+    let passes = passed_call _ (abort_fits args.c) args.c lent _ c.is_abortable-fits.ensures c.guard.ensures
+    c.in_default.is in
+    abort_called args.c lent _ _ _ c.after_abort.ensures c.in-Drain.is
+    (ap (λ (r : CallResult). stepped r lent) c.wants.ensures)
+    ∙ sym (passes.whole _)
+
+pub returns-in-Send : goal.returns-in-Send
+unfolding abort_step
+returns-in-Send c =
+    let at-send-abort = c in
+    let at-enum-told-4 = c in
+    let at-after-abort = c in
+    let at-enum-told = c in
+    let at-guard = c in
+    let at-is-abortable = c in
+    let start = c in
+    let args = c.args in
+    let lent = stores args.packet.now args.headers.now args.body.now args.request.now in
+    let passes = passed_call _ (abort_fits args.c) args.c lent _ c.is_abortable-fits.ensures c.guard.ensures
+    c.in_default.is in
+    abort_called args.c lent _ _ _ c.after_abort.ensures c.in-Send.is
+    (c.send_abort.ensures lent) ∙ sym (passes.whole _)

@@ -1,0 +1,48 @@
+-- `client::calls::request_sent` meets its contract. The guard refuses as the model does. Assumes nothing.
+use borrow.Author.Rules.{rules}
+use mathlib.Core.Path.{sym, ◌∙◌}
+use Rattle.client_model.specs.Calls.{request_sent_step}
+use Rattle.client_model.specs.declared.Await.TheVariants as await
+use Rattle.client_model.specs.Step.{stores}
+use Rattle.client_model.specs.Guard.{awaiting}
+use Rattle.client.proofs.Guards.{refused-call, passed_call}
+use Rattle.client.proofs.calls.request_sent.Goals as goal
+
+pub returns-in-Refuse : goal.returns-in-Refuse
+unfolding request_sent_step
+returns-in-Refuse c =
+    let at-refusal = c in
+    let at-guard = c in
+    let at-same-await = c in
+    let start = c in
+    let args = c.args in
+    let lent = stores args.packet.now args.headers.now args.body.now args.request.now in
+    refused-call _ (awaiting args.c await.Sent) args.c lent _ _ _ _ c.same_await_lem.ensures c.refuse.ensures
+    c.guard.ensures
+    c.in-Refuse.is
+
+pub goes_on-requires : goal.goes_on-requires
+goes_on-requires c =
+    let at-enum-told = c in
+    let at-guard = c in
+    let at-same-await = c in
+    let start = c in
+    let args = c.args in
+    let lent = stores args.packet.now args.headers.now args.body.now args.request.now in
+    let passes = passed_call _ (awaiting args.c await.Sent) args.c lent _ c.same_await_lem.ensures c.guard.ensures
+    c.enum_told.given.1 in
+    (passes.bounds.remote, passes.bounds.operation, passes.room.headers, passes.room.request)
+
+pub returns : goal.returns
+unfolding request_sent_step
+returns c =
+    let at-goes-on = c in
+    let at-enum-told = c in
+    let at-guard = c in
+    let at-same-await = c in
+    let start = c in
+    let args = c.args in
+    let lent = stores args.packet.now args.headers.now args.body.now args.request.now in
+    let passes = passed_call _ (awaiting args.c await.Sent) args.c lent _ c.same_await_lem.ensures c.guard.ensures
+    c.enum_told.given.1 in
+    c.goes_on.ensures args.packet.now args.body.now ∙ sym (passes.whole _)

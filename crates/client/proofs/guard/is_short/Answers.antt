@@ -1,0 +1,24 @@
+-- `client::guard::is_short` meets its contract. Each `return` rewrites with the tests that led there. Assumes nothing.
+use borrow.Author.Tests.{lt-ltb, le-ltb}
+use Rattle.client.specs.Guard.{short_by}
+use Rattle.client.proofs.guard.is_short.Goals as goal
+
+pub returns-then-packet-lt-MAX_PACKET : goal.returns-then-packet-lt-MAX_PACKET
+unfolding short_by
+returns-then-packet-lt-MAX_PACKET c = simp (lt-ltb _ _ c.if-packet-lt-MAX_PACKET.true)
+
+pub returns-then-headers-lt-MAX_PACKET : goal.returns-then-headers-lt-MAX_PACKET
+unfolding short_by
+returns-then-headers-lt-MAX_PACKET c = simp (le-ltb _ _ c.if-packet-lt-MAX_PACKET.false, lt-ltb _ _ c.if-headers-lt-MAX_PACKET.true)
+
+pub returns-then-body-lt-MAX_PACKET : goal.returns-then-body-lt-MAX_PACKET
+unfolding short_by
+returns-then-body-lt-MAX_PACKET c =
+    let at-if-1 = c in
+    simp (le-ltb _ _ c.if-packet-lt-MAX_PACKET.false, le-ltb _ _ c.if-headers-lt-MAX_PACKET.false, lt-ltb _ _ c.if-body-lt-MAX_PACKET.true)
+
+pub returns : goal.returns
+unfolding short_by
+returns c =
+    let at-if-1 = c in
+    simp (le-ltb _ _ c.if-packet-lt-MAX_PACKET.false, le-ltb _ _ c.if-headers-lt-MAX_PACKET.false, le-ltb _ _ c.if-body-lt-MAX_PACKET.false)

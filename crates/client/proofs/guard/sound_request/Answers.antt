@@ -1,0 +1,50 @@
+-- `client::guard::sound_request` meets its contract. Each `return` rewrites with the tests that led there. Assumes nothing.
+use borrow.Author.Rules.{rules}
+use native.Mathlib.Omega.{arith}
+use Prim.Native.Nat.{ℕ, ◌+◌, ◌-◌, ◌≤◌, ◌<◌}
+use mathlib.Core.Path.{◌≡◌, refl, sym}
+use mathlib.Core.Bool.{Bool, true, false}
+use lib.Dec.{leb}
+use borrow.Author.Tests.{lt-leb, le-leb, leb-true, leb-false}
+use Rattle.client.proofs.guard.sound_request.Goals as goal
+
+-- what is left of the room, and the sum within it
+within : (a g r : ℕ) → a + g ≤ 65532 → leb r (65533 - a - g) ≡ leb (a + g + r) 65533
+within a g r h = go (leb r (65533 - a - g)) refl
+  where
+    go : (t : Bool) → leb r (65533 - a - g) ≡ t → t ≡ leb (a + g + r) 65533
+    go true e = let f : a + g + r ≤ 65533 = omega (arith, leb-true r (65533 - a - g) e) in sym (le-leb _ _ f)
+    go false e = let f : 65533 < a + g + r = omega (arith, leb-false r (65533 - a - g) e) in sym (lt-leb _ _ f)
+
+pub returns-then-o-gt-MAX_PACKET : goal.returns-then-o-gt-MAX_PACKET
+returns-then-o-gt-MAX_PACKET c = simp (lt-leb _ _ c.if-o-gt-MAX_PACKET.true)
+
+pub returns-then-o : goal.returns-then-o
+returns-then-o c = simp (le-leb _ _ c.if-o-gt-MAX_PACKET.false, lt-leb _ _ c.if-o.true)
+
+pub returns-then-h-gt-MAX_CAPACITY : goal.returns-then-h-gt-MAX_CAPACITY
+returns-then-h-gt-MAX_CAPACITY c =
+    let at-if-2 = c in
+    let at-if-1 = c in
+    let the-h = c.args.h in
+    let f : 65532 < the-h.at + the-h.got = omega arith in
+    simp (le-leb _ _ c.if-o-gt-MAX_PACKET.false, le-leb _ _ c.if-o.false, lt-leb _ _ f)
+
+pub returns-then-h : goal.returns-then-h
+returns-then-h c =
+    let above = c in
+    let at-if-2 = c in
+    let at-if-1 = c in
+    let the-h = c.args.h in
+    let f : 65532 < the-h.at + the-h.got = omega arith in
+    simp (le-leb _ _ c.if-o-gt-MAX_PACKET.false, le-leb _ _ c.if-o.false, lt-leb _ _ f)
+
+pub returns : goal.returns
+returns c =
+    let above = c in
+    let above = c in
+    let at-if-2 = c in
+    let at-if-1 = c in
+    let the-h = c.args.h in
+    let f : the-h.at + the-h.got ≤ 65532 = omega arith in
+    simp (le-leb _ _ c.if-o-gt-MAX_PACKET.false, le-leb _ _ c.if-o.false, le-leb _ _ f) (within the-h.at the-h.got the-h.room f)

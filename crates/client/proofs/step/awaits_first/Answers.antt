@@ -1,0 +1,6 @@
+-- `client::step::awaits_first` meets its contract. The state is the one that `client_with` gives. Assumes nothing.
+use borrow.Author.Rules.{rules}
+use Rattle.client.proofs.step.awaits_first.Goals as goal
+
+pub returns : goal.returns
+returns c = simp (c.took.ensures, c.client_with.ensures)

@@ -1,0 +1,31 @@
+-- `connection::peer::close_id` meets its contract. The numbers kept of those gone through stand in front (`Closed`), and what is still to
+-- be read lies behind them. Assumes nothing.
+use Rattle.std.proofs.Common.{◌≡◌, ◌+◌, ◌-◌, ◌<◌, ◌≤◌, length, refl, ⊎_elim, le_antisymm, arith, rules}
+use Rattle.connection.proofs.Closing.{Closed, closed_none, closed_bounds, closed-keeps, closed_skips}
+use Rattle.connection.proofs.peer.close_id.Goals as goal
+
+pub loop-i-init : goal.loop-i-init
+loop-i-init c = (omega arith, omega arith, refl, closed_none c.args.ids.now c.args.id)
+
+pub loop-i-preserved : goal.loop-i-preserved
+loop-i-preserved c =
+    let l = c in
+    let x = c.args in
+    let y = x.ids.now in
+    let d = c.loop-i.invariant.3 in
+    let h : c.loop-i.i < length y = omega arith in
+    let e : Closed y x.id (c.loop-i.i + 1) c.if-x-closed.ids c.if-x-closed.auto =
+    ⊎_elim
+    (λ w. rw (w.1, w.2) (closed-keeps y x.id c.loop-i.i c.loop-i.ids c.loop-i.auto h d w.0.taken))
+    (λ w. rw (w.1, w.2) (closed_skips y x.id c.loop-i.i c.loop-i.ids c.loop-i.auto h d w.0.left))
+    c.if-x-closed.branch in
+    let b = closed_bounds y x.id (c.loop-i.i + 1) c.if-x-closed.ids c.if-x-closed.auto (omega arith) e in
+    (omega arith, b.0, b.1, e)
+
+pub returns : goal.returns
+returns c =
+    let l = c in
+    let x = c.args in
+    let e : c.loop-i.i ≡ x.count = le_antisymm c.loop-i.invariant.0 c.loop-i-test.false in
+    let d : Closed x.ids.now x.id x.count c.loop-i.ids c.loop-i.auto = rw e at c.loop-i.invariant.3 in
+    (d.count, d.store)

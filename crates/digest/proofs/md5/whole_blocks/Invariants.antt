@@ -1,0 +1,12 @@
+-- `digest::md5::whole_blocks` meets its contract. The invariant: s is the registers after k blocks. A block that lies in rest is one of the padded message.
+-- Assumes nothing.
+use Rattle.std.proofs.Common.{◌≡◌, ◌+◌, ◌-◌, ◌*◌, ◌≤◌, max, ◌++◌, length, drop, sym, add-one, arith, length-drop, length-take}
+use Rattle.digest.specs.Md5.{padded, blocks}
+use Rattle.digest.proofs.Blocks.{in_rest}
+use Rattle.digest.proofs.md5.whole_blocks.Given as goal
+
+abbrev pub invariant-loop-k : goal.invariant-loop-k
+invariant-loop-k l = (l.from ≤ l.k) × (l.k ≤ max l.from l.to) × (l.s ≡ blocks (padded (l.prefix ++ l.rest)) l.k)
+
+abbrev pub decreases-loop-k : goal.decreases-loop-k
+decreases-loop-k l = l.to - l.k

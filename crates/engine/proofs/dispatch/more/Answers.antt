@@ -1,0 +1,6 @@
+-- `engine::dispatch::more` meets its contract: the state is the one that `engine_with` gives. Assumes nothing.
+use borrow.Author.Rules.{rules}
+use Rattle.engine.proofs.dispatch.more.Goals as goal
+
+pub returns : goal.returns
+returns c = simp c.engine_with.ensures

@@ -1,0 +1,18 @@
+-- `engine::guard::is_bad_reply` meets its contract: the tests of the code are those of the definition. Assumes nothing.
+use borrow.Author.Tests.{not-true, not-false}
+use mathlib.Core.Path.{sym, ◌∙◌}
+use Rattle.model.specs.Guard.{bad_reply}
+use borrow.Author.Rules.{rules}
+use Rattle.engine.proofs.guard.is_bad_reply.Goals as goal
+
+pub returns-then-not-is_code : goal.returns-then-not-is_code
+unfolding bad_reply
+returns-then-not-is_code c = simp (sym c.is_code_lem.ensures ∙ not-true c.is_code_lem.result c.if-not-is_code.true)
+
+pub returns : goal.returns
+unfolding bad_reply
+returns c =
+    simp (
+      sym c.is_code_lem.ensures ∙ not-false c.is_code_lem.result c.if-not-is_code.false,
+      c.is_bad_headers.ensures,
+    )

@@ -1,0 +1,6 @@
+-- `engine::guard::is_long_realm` meets its contract. Each `return` rewrites with the test that led there.
+use borrow.Author.Rules.{rules}
+use Rattle.engine.proofs.guard.is_long_realm.Goals as goal
+
+pub returns-then-has_realm : goal.returns-then-has_realm
+returns-then-has_realm c = simp c.if-has_realm.true

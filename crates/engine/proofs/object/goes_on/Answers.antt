@@ -1,0 +1,6 @@
+-- `engine::object::goes_on` meets its contract: the arms of the code are those of the definition. Assumes nothing.
+use borrow.Author.Rules.{rules}
+use Rattle.engine.proofs.object.goes_on.Goals as goal
+
+pub returns-in-Sending : goal.returns-in-Sending
+returns-in-Sending c = simp (c.in-Sending.is, c.follows.ensures)

@@ -1,0 +1,17 @@
+-- `engine::object::sends_next` meets its contract. The packet that the lower layer makes is sent by its plan.
+use borrow.Author.Rules.{rules}
+use mathlib.Core.Path.{ap, ◌∙◌}
+use Prim.Native.Nat.{ℕ, ◌-◌}
+use Rattle.outgoing.specs.Object.{next_packet}
+use Rattle.engine.proofs.Objects.{packet-sent}
+use Rattle.engine.proofs.object.sends_next.Goals as goal
+
+pub returns : goal.returns
+returns c =
+    let y = c in
+    let p = c in
+    let n = c in
+    let w = c in
+    let k = c.args in
+    packet-sent k.e k.srm k.wait _ _ _ _ c.carry_out.ensures c.packet_plan.ensures
+    (c.next_packet-k.ensures ∙ ap (λ ((goal.at.returns c).After-next_packet-k : ℕ). next_packet ((goal.at.returns c).After-next_packet-k - 3) k.o k.headers.now k.reply.now) c.wide16-capacity.ensures.0)

@@ -1,0 +1,15 @@
+-- `engine_c::obex_engine_connections_closed` meets its contract: the state that the numbers hold goes to the engine's call, and `store` leaves its
+-- result in them, and nothing else. Assumes nothing.
+use mathlib.Core.Path.{sym, ap, ◌∙◌}
+use Rattle.engine_c.specs.Words.{words_of}
+use borrow.Author.Rules.{rules}
+use Rattle.engine_c.proofs.obex_engine_connections_closed.Goals as goal
+
+pub returns : goal.returns
+returns c = (
+  rw (
+    c.store.ensures.1,
+    ← c.engine_of.ensures,
+  ) c.connections_closed-r.ensures,
+  (c.store.ensures.0 ∙ ap words_of (sym c.store.ensures.1)),
+)

@@ -1,0 +1,70 @@
+-- `engine_c::words::await_of` meets its contract. Each arm is a test of the definition; the last arm is what all tests leave. Assumes nothing.
+use borrow.Author.Tests.{ne_eqb}
+use Rattle.server.specs.Numbers.{await_of}
+use Rattle.engine_c.proofs.words.await_of.Goals as goal
+
+pub returns-in-0 : goal.returns-in-0
+unfolding await_of
+returns-in-0 c = simp c.in-0.is
+
+pub returns-in-1 : goal.returns-in-1
+unfolding await_of
+returns-in-1 c = simp c.in-1.is
+
+pub returns-in-2 : goal.returns-in-2
+unfolding await_of
+returns-in-2 c = simp c.in-2.is
+
+pub returns-in-3 : goal.returns-in-3
+unfolding await_of
+returns-in-3 c = simp c.in-3.is
+
+pub returns-in-4 : goal.returns-in-4
+unfolding await_of
+returns-in-4 c = simp c.in-4.is
+
+pub returns-in-5 : goal.returns-in-5
+unfolding await_of
+returns-in-5 c = simp c.in-5.is
+
+pub returns-in-6 : goal.returns-in-6
+unfolding await_of
+returns-in-6 c = simp c.in-6.is
+
+pub returns-in-7 : goal.returns-in-7
+unfolding await_of
+returns-in-7 c = simp c.in-7.is
+
+pub returns-in-8 : goal.returns-in-8
+unfolding await_of
+returns-in-8 c = simp c.in-8.is
+
+pub returns-in-9 : goal.returns-in-9
+unfolding await_of
+returns-in-9 c = simp c.in-9.is
+
+pub returns-in-10 : goal.returns-in-10
+unfolding await_of
+returns-in-10 c = simp c.in-10.is
+
+pub returns-in-11 : goal.returns-in-11
+unfolding await_of
+returns-in-11 c = simp c.in-11.is
+
+pub returns-in_default : goal.returns-in_default
+unfolding await_of
+returns-in_default c =
+    simp (
+      ne_eqb c.args.n 0 c.in_default.rest.0.0.0.0.0.0.0.0.0.0.0.1,
+      ne_eqb c.args.n 1 c.in_default.rest.0.0.0.0.0.0.0.0.0.0.1,
+      ne_eqb c.args.n 2 c.in_default.rest.0.0.0.0.0.0.0.0.0.1,
+      ne_eqb c.args.n 3 c.in_default.rest.0.0.0.0.0.0.0.0.1,
+      ne_eqb c.args.n 4 c.in_default.rest.0.0.0.0.0.0.0.1,
+      ne_eqb c.args.n 5 c.in_default.rest.0.0.0.0.0.0.1,
+      ne_eqb c.args.n 6 c.in_default.rest.0.0.0.0.0.1,
+      ne_eqb c.args.n 7 c.in_default.rest.0.0.0.0.1,
+      ne_eqb c.args.n 8 c.in_default.rest.0.0.0.1,
+      ne_eqb c.args.n 9 c.in_default.rest.0.0.1,
+      ne_eqb c.args.n 10 c.in_default.rest.0.1,
+      ne_eqb c.args.n 11 c.in_default.rest.1,
+    )

@@ -1,0 +1,27 @@
+-- `engine_c::words::store` meets its contract. The numbers are those that the definition says, and the result is read back from them
+-- (`Back`). Assumes nothing.
+use Rattle.engine_c.specs.Words.{words_of}
+use Rattle.engine_c.proofs.Back.{written_back}
+use borrow.Author.Rules.{rules}
+use Rattle.engine_c.proofs.words.store.Goals as goal
+
+pub returns : goal.returns
+unfolding words_of
+returns c =
+    let at-awaits = c in
+    let at-settings = c in
+    let r = c.args.r in
+    written_back _ r
+    (simp (
+      c.wide-3.ensures,
+      c.wide-2.ensures,
+      c.wide.ensures,
+      c.target_numbers-g.ensures,
+      c.awaits_number-a.ensures,
+      c.outcome_numbers-t.ensures,
+      c.operation_numbers-o.ensures.0,
+      c.peer_numbers-p.ensures.0,
+      c.settings_numbers-s.ensures.0,
+    ))
+    c.settings_numbers-s.ensures.1 c.peer_numbers-p.ensures.1
+    c.operation_numbers-o.ensures.1

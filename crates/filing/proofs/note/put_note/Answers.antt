@@ -1,0 +1,122 @@
+-- `filing::note::put_note` meets its contract: its lines stand one behind the other. Assumes nothing.
+use native.Mathlib.Omega.{arith}
+use mathlib.Core.Path.{◌≡◌, ap}
+use mathlib.Core.List.{List}
+use mathlib.Core.Option.{none, some}
+use Prim.Native.Nat.{ℕ, ◌-◌}
+use lib.Dec.{eqb}
+use lib.ListN.{length, take, drop}
+use Rattle.base.specs.Pick.{pick}
+use Rattle.filing.specs.Note.{record_line, filed_line, headers_line, body_line, target_line, log_line, sum_lines, note_of}
+use Rattle.filing.proofs.Contents.{taken_most}
+use Rattle.filing.proofs.NoteText.{cut_on, note_parts, laid_as, laid_more}
+use borrow.Author.Rules.{rules}
+use Rattle.filing.proofs.note.put_note.Goals as goal
+
+pub put_record-a-requires : goal.put_record-a-requires
+put_record-a-requires c =
+    let back₁ = c in
+    omega (arith, c.requires)
+
+pub put_sizes-b-requires : goal.put_sizes-b-requires
+put_sizes-b-requires c =
+    let back₁ = c in
+    omega (arith, c.requires, c.put_record-a.ensures.1)
+
+pub slice_bounds-put_target-count : goal.slice_bounds-put_target-count
+slice_bounds-put_target-count c =
+    let back₁ = c in
+    let back₂ = c in
+    omega (arith, c.requires)
+
+pub slice_bounds-put_target-start : goal.slice_bounds-put_target-start
+slice_bounds-put_target-start c =
+    let back₁ = c in
+    let back₂ = c in
+    omega (arith, c.requires)
+
+pub put_target-c-requires : goal.put_target-c-requires
+put_target-c-requires c =
+    let back₁ = c in
+    let back₂ = c in
+    omega (
+      arith,
+      c.requires,
+      c.put_record-a.ensures.1,
+      c.put_sizes-b.ensures.1,
+    )
+
+pub put_place-d-requires : goal.put_place-d-requires
+put_place-d-requires c =
+    let back₁ = c in
+    let back₂ = c in
+    let back₃ = c in
+    omega (
+      arith,
+      c.requires,
+      c.put_record-a.ensures.1,
+      c.put_sizes-b.ensures.1,
+      c.put_target-c.ensures.1,
+    )
+
+pub slice_bounds-put_sums-end : goal.slice_bounds-put_sums-end
+slice_bounds-put_sums-end c =
+    let back₁ = c in
+    let back₂ = c in
+    let back₃ = c in
+    let back₄ = c in
+    omega (arith, c.requires)
+
+pub put_sums-requires : goal.put_sums-requires
+put_sums-requires c =
+    let back₁ = c in
+    let back₂ = c in
+    let back₃ = c in
+    let back₄ = c in
+    omega (
+      arith,
+      c.requires,
+      c.put_record-a.ensures.1,
+      c.put_sizes-b.ensures.1,
+      c.put_target-c.ensures.1,
+      c.put_place-d.ensures.1,
+    )
+
+pub returns : goal.returns
+unfolding note_of
+returns c =
+    let fifth = c in
+    let fourth = c in
+    let third = c in
+    let second = c in
+    let first = c in
+    let at-s-₁ = c in
+    let s = c in
+    let a = c.args in
+    let h = c.requires in
+    let x₁ = c.put_record-a.ensures in
+    let x₂ = c.put_sizes-b.ensures in
+    let x₃ = c.put_target-c.ensures in
+    let x₄ = c.put_place-d.ensures in
+    let x₅ = c.put_sums.ensures in
+    let n = a.numbers in
+    let p = a.payload.now in
+    let t = laid_as x₃.0
+    (ap (λ (l : List ℕ). target_line (pick (eqb n.target 255) none (some l))) (cut_on p 49 (length p - 49) (omega arith))) in
+    let m = taken_most (length p - 49) (drop 49 p) in
+    let k = taken_most 16 (drop 16 p) in
+    let l₂ = laid_more x₁.0 x₂.0 (omega (arith, h, x₁.1, x₂.1)) in
+    let l₃ = laid_more l₂ t (omega (arith, h, x₁.1, x₂.1, m, x₃.1)) in
+    let l₄ = laid_more l₃ x₄.0 (omega (arith, h, x₁.1, x₂.1, m, x₃.1, x₄.1)) in
+    let l₅ = laid_more l₄ x₅.0 (omega (arith, h, x₁.1, x₂.1, m, x₃.1, x₄.1, k, x₅.1)) in (
+      laid_as l₅
+          (note_parts
+          (record_line n.number a.name.now)
+          (filed_line a.place.clock)
+          (headers_line n.headers)
+          (body_line n.body n.blocks)
+          (target_line (pick (eqb n.target 255) none (some (drop 49 p))))
+          (log_line a.place a.check.now)
+          (sum_lines n.blocks (take 16 (drop 16 p)) a.body.now)),
+      omega (arith, h, x₁.1, x₂.1, m, x₃.1, x₄.1, k, x₅.1),
+    )

@@ -1,0 +1,31 @@
+-- `filing::note::put_record` meets its contract: its parts stand one behind the other. Assumes nothing.
+use native.Mathlib.Omega.{arith}
+use mathlib.Core.Path.{ap, ◌∙◌}
+use mathlib.Core.List.{append_assoc}
+use lib.ListN.{length}
+use Rattle.filing.proofs.Named.{time-written, length-time}
+use Rattle.filing.proofs.NoteText.{laid_as, laid_more}
+use borrow.Author.Rules.{rules}
+use Rattle.filing.proofs.note.put_record.Goals as goal
+
+pub returns : goal.returns
+returns c =
+    let fifth = c in
+    let fourth = c in
+    let third = c in
+    let second = c in
+    let first = c in
+    let w = c in
+    let a = c.args in
+    let t = time-written c.write_time.result a.clock c.write_time.new.1.0 c.write_time.ensures in
+    let n = ap length t ∙ length-time a.clock in
+    let x₁ = c.put_counted-a.ensures in
+    let x₂ = c.put_text-b.ensures in
+    let x₃ = c.put_text-c.ensures in
+    let x₄ = c.put_text-d.ensures in
+    let x₅ = c.put_text.ensures in
+    let l₂ = laid_more x₁.0 x₂.0 (omega (arith, x₁.1, x₂.1)) in
+    let l₃ = laid_more l₂ x₃.0 (omega (arith, x₁.1, x₂.1, x₃.1)) in
+    let l₄ = laid_more l₃ x₄.0 (omega (arith, n, x₁.1, x₂.1, x₃.1, x₄.1)) in
+    let l₅ = laid_more l₄ x₅.0 (omega (arith, n, x₁.1, x₂.1, x₃.1, x₄.1, x₅.1)) in
+    (laid_as l₅ (simp (t, append_assoc)), omega (arith, n, x₁.1, x₂.1, x₃.1, x₄.1, x₅.1))

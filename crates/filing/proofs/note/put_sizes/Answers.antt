@@ -1,0 +1,44 @@
+-- `filing::note::put_sizes` meets its contract: its parts stand one behind the other. Assumes nothing.
+use mathlib.Core.Path.{refl}
+use native.Mathlib.Omega.{arith}
+use mathlib.Core.List.{append_assoc}
+use borrow.Author.Tests.{eq-eqb, ne_eqb}
+use Rattle.filing.proofs.NoteText.{laid_as, laid_more}
+use borrow.Author.Rules.{rules}
+use Rattle.filing.proofs.note.put_sizes.Goals as goal
+
+pub returns-then-numbers-eq0 : goal.returns-then-numbers-eq0
+returns-then-numbers-eq0 c =
+    let second = c in
+    let i = c in
+    let first = c in
+    let at-a-₁ = c in
+    let a = c.args in
+    let x = c.put_counted-a.ensures in
+    let y = c.put_text.ensures in (
+      laid_as (laid_more x.0 y.0 (omega (arith, x.1, y.1))) (rw (eq-eqb a.numbers.blocks 0 c.if-numbers-eq0.true) refl),
+      omega (arith, x.1, y.1),
+    )
+
+pub returns : goal.returns
+returns c =
+    let back₁ = c in
+    let back₂ = c in
+    let back₃ = c in
+    let back₄ = c in
+    let third = c in
+    let at-second-₁ = c in
+    let second = c in
+    let i = c in
+    let first = c in
+    let at-a-₁ = c in
+    let a = c.args in
+    let x = c.put_counted-a.ensures in
+    let y = c.put_counted-b.ensures in
+    let z = c.put_counted.ensures in
+    let h = c.requires in
+    let l = laid_more x.0 y.0 (omega (arith, h, x.1, y.1)) in (
+      laid_as (laid_more l z.0 (omega (arith, h, x.1, y.1, z.1)))
+          (simp (ne_eqb a.numbers.blocks 0 c.if-numbers-eq0.false, append_assoc)),
+      omega (arith, h, x.1, y.1, z.1),
+    )

@@ -1,0 +1,28 @@
+-- `filing::note::put_sums` meets its contract: one line or two. Assumes nothing.
+use mathlib.Core.Path.{refl}
+use native.Mathlib.Omega.{arith}
+use mathlib.Core.List.{append_assoc}
+use borrow.Author.Tests.{eq-eqb, ne_eqb}
+use Rattle.filing.proofs.NoteText.{laid_as, laid_more}
+use borrow.Author.Rules.{rules}
+use Rattle.filing.proofs.note.put_sums.Goals as goal
+
+pub returns-then-blocks-eq0 : goal.returns-then-blocks-eq0
+returns-then-blocks-eq0 c =
+    let h = c in
+    let at-a-₁ = c in
+    let a = c.args in
+    (laid_as c.put_hexed-a.ensures.0 (rw (eq-eqb a.blocks 0 c.if-blocks-eq0.true) refl), omega (arith, c.put_hexed-a.ensures.1))
+
+pub returns : goal.returns
+returns c =
+    let second = c in
+    let i = c in
+    let first = c in
+    let at-a-₁ = c in
+    let a = c.args in
+    let x = c.put_hexed-a.ensures in
+    let y = c.put_hexed.ensures in (
+      laid_as (laid_more x.0 y.0 (omega (arith, x.1, y.1))) (simp (ne_eqb a.blocks 0 c.if-blocks-eq0.false, append_assoc)),
+      omega (arith, x.1, y.1),
+    )

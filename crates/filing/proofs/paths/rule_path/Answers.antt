@@ -1,0 +1,37 @@
+-- `filing::paths::rule_path` meets its contract: a name that passed the test is joined to the service, to the word and to the folder. Assumes
+-- nothing.
+use mathlib.Core.Path.{sym, ◌∙◌}
+use native.Mathlib.Omega.{arith}
+use borrow.Author.Tests.{not-true, not-false}
+use Rattle.filing.proofs.Placed.{no_rule, rule_laid}
+use borrow.Author.Rules.{rules}
+use Rattle.filing.proofs.paths.rule_path.Goals as goal
+
+pub returns-then-not-is_file_name : goal.returns-then-not-is_file_name
+returns-then-not-is_file_name c =
+    let k = c in
+    let a = c.args in (
+      no_rule a.folder.now a.name.now a.path.now a.target (sym c.is_file_name.ensures ∙ not-true c.is_file_name.result
+          c.if-not-is_file_name.true),
+      omega arith,
+    )
+
+pub returns : goal.returns
+returns c =
+    let j₃ = c in
+    let f₃ = c in
+    let j₂ = c in
+    let f₂ = c in
+    let j₁ = c in
+    let f₁ = c in
+    let s = c in
+    let k = c in
+    let a = c.args in (
+      rule_laid a.folder.now a.name.now a.path.now _ c.service_folder-service.result.name _ _ _ _ _ a.target
+          c.service_folder-service.result.length c.join-n.result c.join-m.result _
+          (sym c.is_file_name.ensures ∙ not-false c.is_file_name.result c.if-not-is_file_name.false) c.front.ensures
+          c.service_folder-service.ensures.0
+          c.service_folder-service.ensures.1 c.join-n.ensures.0 c.front-2.ensures c.join-m.ensures.0 c.front-3.ensures
+          c.join.ensures.0,
+      c.join.ensures.1,
+    )

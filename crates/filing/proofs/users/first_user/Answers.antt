@@ -1,0 +1,20 @@
+-- `filing::users::first_user` meets its contract: a front of a front is one of the text. Assumes nothing.
+use mathlib.Core.Path.{refl}
+use native.Mathlib.Omega.{arith}
+use Rattle.filing.proofs.Lined.{first-user}
+use Rattle.filing.proofs.Placed.{take_short}
+use borrow.Author.Rules.{rules}
+use Rattle.filing.proofs.users.first_user.Goals as goal
+
+pub slice_bounds-result-end : goal.slice_bounds-result-end
+slice_bounds-result-end c =
+    let k = c in
+    let h = c.find-n.ensures.1 in
+    let l = take_short c.find-end.result c.args.text.now in
+    omega (arith, h, c.find-end.ensures.1)
+
+pub returns : goal.returns
+returns c =
+    let t = c in
+    let k = c in
+    first-user c.args.text.now _ c.find-end.result c.find-n.result c.find-end.ensures.0 refl c.find-n.ensures.0

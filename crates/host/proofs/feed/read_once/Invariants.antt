@@ -1,0 +1,11 @@
+-- `host::feed::read_once` meets its contract: the tries are counted down, and the store stays as long as it is. Assumes nothing.
+use borrow.Author.Rules.{rules}
+use mathlib.Core.Path.{◌≡◌}
+use lib.ListN.{length}
+use Rattle.host.proofs.feed.read_once.Given as goal
+
+abbrev pub invariant-loop-tries : goal.invariant-loop-tries
+invariant-loop-tries l = length l.s ≡ length l.initial.s
+
+abbrev pub decreases-loop-tries : goal.decreases-loop-tries
+decreases-loop-tries l = l.tries

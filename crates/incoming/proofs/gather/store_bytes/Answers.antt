@@ -1,0 +1,16 @@
+-- `incoming::gather::store_bytes` meets its contract. By the test the bytes fit, and are pasted where the stored ones end, or they do not.
+use native.Mathlib.Omega.{arith}
+use Rattle.incoming.proofs.Stored.{stores, stores-not}
+use borrow.Author.Rules.{rules}
+use Rattle.incoming.proofs.gather.store_bytes.Goals as goal
+
+pub returns-then-limit-stored : goal.returns-then-limit-stored
+returns-then-limit-stored c =
+    let x = c.args in
+    stores-not x.g h x.body.now x.bytes.now x.limit (omega arith) c.if-limit-stored.true
+
+pub returns : goal.returns
+returns c =
+    let k = c in
+    let x = c.args in
+    rw c.copy_into.ensures (stores x.g h x.body.now x.bytes.now x.limit (omega arith) c.if-limit-stored.false)

@@ -1,0 +1,27 @@
+-- `journal_code::answer::object_open` meets its contract: its arms are those of the definition.
+use mathlib.Core.Path.{sym, ap, ◌∙◌}
+use Rattle.journal_code.specs.declared.state.Open.{Open}
+use Rattle.journal_code.specs.Answer.{object_in}
+use borrow.Author.Rules.{rules}
+use Rattle.journal_code.proofs.answer.object_open.Goals as goal
+
+pub returns-in-Getting : goal.returns-in-Getting
+returns-in-Getting c = c.opening.ensures ∙ sym (ap (λ (o : Open). object_in o c.args.s) c.in-Getting.is)
+
+pub returns-in-Nothing : goal.returns-in-Nothing
+returns-in-Nothing c = c.quiet.ensures ∙ sym (ap (λ (o : Open). object_in o c.args.s) c.in-Nothing.is)
+
+pub returns-in-Trailing : goal.returns-in-Trailing
+returns-in-Trailing c = c.quiet-in-Trailing.ensures ∙ sym (ap (λ (o : Open). object_in o c.args.s) c.in-Trailing.is)
+
+pub returns-in-Putting : goal.returns-in-Putting
+returns-in-Putting c = c.quiet-in-Putting.ensures ∙ sym (ap (λ (o : Open). object_in o c.args.s) c.in-Putting.is)
+
+pub returns-in-Sending : goal.returns-in-Sending
+returns-in-Sending c = c.quiet-in-Sending.ensures ∙ sym (ap (λ (o : Open). object_in o c.args.s) c.in-Sending.is)
+
+pub returns-in-Gathering : goal.returns-in-Gathering
+returns-in-Gathering c = c.quiet-in-Gathering.ensures ∙ sym (ap (λ (o : Open). object_in o c.args.s) c.in-Gathering.is)
+
+pub returns-in-Draining : goal.returns-in-Draining
+returns-in-Draining c = c.quiet-in-Draining.ensures ∙ sym (ap (λ (o : Open). object_in o c.args.s) c.in-Draining.is)

@@ -1,0 +1,10 @@
+-- `lines::output::digit` meets its contract: the two tests are the definition's. Assumes nothing.
+use borrow.Author.Tests.{lt-ltb, le-ltb}
+use borrow.Author.Rules.{rules}
+use Rattle.lines.proofs.output.digit.Goals as goal
+
+pub returns-then-x-lt10 : goal.returns-then-x-lt10
+returns-then-x-lt10 c = simp (lt-ltb _ _ c.if-x-lt10.true)
+
+pub returns-else-x-lt10 : goal.returns-else-x-lt10
+returns-else-x-lt10 c = simp (le-ltb _ _ c.if-x-lt10.false)

@@ -1,0 +1,16 @@
+-- `lines::word::piece_at` meets its contract. Each turn passes a piece, and the next one starts where the definition says. Assumes nothing.
+use mathlib.Core.Path.{◌≡◌, refl, sym, ap, ◌∙◌}
+use native.Mathlib.Omega.{arith}
+use Prim.Native.Nat.{ℕ, ◌≤◌, ◌-◌}
+use native.Mathlib.Nat.{le_antisymm}
+use native.Mathlib.Numerals.{add-one}
+use lib.ListN.{length}
+use Rattle.lines.specs.Word.{first_from, piece_start, piece_at}
+use borrow.Author.Rules.{rules}
+use Rattle.lines.proofs.word.piece_at.Given as goal
+
+abbrev pub invariant-loop-i : goal.invariant-loop-i
+invariant-loop-i l = (l.start ≤ length l.text) × (l.i ≤ l.k) × (l.start ≡ piece_start l.byte l.text l.i)
+
+abbrev pub decreases-loop-i : goal.decreases-loop-i
+decreases-loop-i l = l.k - l.i

@@ -1,0 +1,28 @@
+-- `packet::auth::read_challenge` meets its contract: the parts that it reads are those that make the challenge. Assumes nothing.
+use borrow.Author.Rules.{rules}
+use mathlib.Core.Path.{sym, ◌∙◌}
+use Rattle.packet.specs.Auth.{user_id_required_of, read_only_of}
+use Rattle.packet.proofs.LowBits.{bit_0, bit_1}
+use Rattle.packet.proofs.AuthLaws.{challenge-parts}
+use Rattle.packet.proofs.auth.read_challenge.Goals as goal
+
+pub returns-in_default : goal.returns-in_default
+returns-in_default c =
+    let k = c in
+    sym (challenge-parts c.args.v.now ∙ rw (sym c.tag_zero.ensures ∙ c.in_default.is))
+
+pub returns : goal.returns
+unfolding user_id_required_of read_only_of
+returns c =
+    let d = c in
+    let k = c in
+    let bits = c.options-bits.result in
+    sym
+    (challenge-parts c.args.v.now
+    ∙ rw (
+      sym c.tag_zero.ensures ∙ c.in-Nonce.is,
+      ← c.options-bits.ensures,
+      ← c.realm.ensures,
+      bit_0 bits (search rules),
+      bit_1 bits (search rules),
+    ))

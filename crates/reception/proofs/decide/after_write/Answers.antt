@@ -1,0 +1,9 @@
+-- `reception::decide::after_write` meets its contract: the test is the definition's. Assumes nothing.
+use borrow.Author.Rules.{rules}
+use mathlib.Core.Bool.{Bool}
+use mathlib.Core.Path.{sym, ap, ◌∙◌}
+use Rattle.reception.specs.Answers.{afterWrite}
+use Rattle.reception.proofs.decide.after_write.Goals as goal
+
+pub returns-then-is_written : goal.returns-then-is_written
+returns-then-is_written c = sym (ap (λ (b : Bool). afterWrite b) c.if-is_written.true)

@@ -1,0 +1,11 @@
+-- `simulator::game_after` meets its contract: each part is what its function says. Assumes nothing.
+use borrow.Author.Rules.{rules}
+use Rattle.simulator.specs.Play.{game_after}
+use Rattle.simulator.proofs.game_after.Goals as goal
+
+pub returns : goal.returns
+unfolding game_after
+returns c =
+    let d = c in
+    let g = c.given_by.ensures in
+    rw (c.minus.ensures, g, c.taken_by_lem.ensures.0, c.asked_by.ensures.0, c.is_over_by.ensures)

@@ -1,0 +1,14 @@
+-- `table::nonces::push_front` meets its contract: each turn moves one number on (`Moved`). Assumes nothing.
+use mathlib.Core.Path.{◌≡◌, refl}
+use Prim.Native.Nat.{◌≤◌, ◌-◌, ◌<◌, ◌+◌}
+use native.Mathlib.Omega.{arith}
+use borrow.Author.Rules.{rules}
+use lib.ListN.{length}
+use Rattle.table.proofs.Pushing.{Moved, moved_none, moved-one, moved_length, moved_all}
+use Rattle.table.proofs.nonces.push_front.Given as goal
+
+abbrev pub invariant-loop-i : goal.invariant-loop-i
+invariant-loop-i l = (l.i ≤ length l.initial.s) × (length l.s ≡ length l.initial.s) × Moved l.initial.s l.x l.i l.s l.carry
+
+abbrev pub decreases-loop-i : goal.decreases-loop-i
+decreases-loop-i l = length l.initial.s - l.i
