@@ -18,6 +18,7 @@ TOKEN = re.compile(r"[^\s(){},;@\"«»\[\]|]+|\s+|.", re.S)
 
 
 def norm(s):
+    s = re.sub(r"is_Is([A-Z]\w*)", lambda m: "is" + re.sub("[A-Z]", lambda w: "-" + w[0].lower(), m[1]), s)
     return s.replace("_", "-").strip("-")
 
 
@@ -30,7 +31,7 @@ class Fn:
             self.places[p[0]] = (i, p[1], p[2])
         self.by_norm = {norm(k): k for k in self.places}
         self.needs = entry["needs"]
-        self.left = []
+        self.left, self.walk, self.last = [], False, None
 
     def need(self, old, nth):
         old = norm(old)
@@ -84,7 +85,27 @@ class Fn:
                 for new, step, way in arms[j][2]:
                     if norm(step) == norm(field) and way == rest[: len(way)] and not new.endswith("-own"):
                         return arms[j][0], new, rest[len(way):]
+        for j in range(i, min(i + 4, len(arms))):
+            if arms[j]:
+                for new, step, way in arms[j][2]:
+                    if norm(step) == norm(field) and new.endswith("-own"):
+                        return arms[j][0], new, rest
         return None
+
+    def clause(self, place, rest):
+        """What follows a step: `.ensures.1` of a call whose clauses have names goes by the name."""
+        c = self.e["clauses"][self.places[place][0]]
+        if self.walk or not c or not rest or rest[0] != "ensures":
+            return rest
+        names, at = c["fields"], 0
+        if len(names) == 1:
+            return rest if rest[1:2] == names else ["ensures", names[0], *rest[1:]]
+        k = 1
+        while k < len(rest) and rest[k] == "1" and at < len(names) - 2:
+            at, k = at + 1, k + 1
+        if k < len(rest) and rest[k] in ("0", "1"):
+            return ["ensures", names[at + int(rest[k])], *rest[k + 1 :]]
+        return rest
 
     def own(self, place, field):
         own = self.places[place][2]
@@ -92,6 +113,8 @@ class Fn:
 
     def resolve(self, place, segs, arms=True):
         """Returns (new segs, None) of a field, or ([], place) of a record."""
+        self.last = None
+        self.arms_here = arms
         at, k = place, 0
         while k < len(segs) and segs[k] == "before":
             at = (self.parent(at) or at) if at in self.places else None
@@ -109,13 +132,14 @@ class Fn:
                     arm = self.arm(seen, field, rest) if arms else None
                     if arm:
                         return [arm[0], arm[1], *arm[2]], None
-                    return [self.places[seen][2][1], *rest], None
+                    self.last = (seen, rest)
+                    return [self.places[seen][2][1], *self.clause(seen, rest)], None
                 seen = self.parent(seen)
         seen = place
         while seen:
             own = self.places[seen][2]
             if own[0] and norm(own[0]).startswith(norm(field) + "-"):
-                return [own[1], *rest], None
+                return [own[1], *self.clause(seen, rest)], None
             seen = self.parent(seen)
         if field == "pre":
             field = "requires"
@@ -187,8 +211,45 @@ def turn_walk_paths(fn, text, env):
     return "".join(out)
 
 
+def as_record(body, fields, params):
+    """The answer of a goal with named clauses: a tuple becomes a record."""
+    lam = f"λ {' '.join(params)}. " if params else ""
+    if len(fields) == 1:
+        return f"record {{ {fields[0]} = {lam}{body.strip()} }}"
+    text = body.rstrip()
+    if text.endswith(")") and not params:
+        depth, p = 0, len(text)
+        while p:
+            p -= 1
+            depth += {")": 1, "(": -1}.get(text[p], 0)
+            if not depth:
+                break
+        lead = text[:p].rstrip()
+        if not lead or lead.endswith(" in") or lead.endswith("\nin"):
+
+            def parts(inner):
+                out, depth, last = [], 0, 0
+                for i, ch in enumerate(inner):
+                    depth += 1 if ch in "([{" else -1 if ch in ")]}" else 0
+                    if ch == "," and not depth:
+                        out.append(inner[last:i])
+                        last = i + 1
+                out.append(inner[last:])
+                return [o.strip() for o in out if o.strip()]
+
+            found = parts(text[p + 1 : -1])
+            while len(found) == 2 and len(found) < len(fields) or found and 1 < len(found) < len(fields) and found[-1].startswith("("):
+                if not (found[-1].startswith("(") and found[-1].endswith(")")):
+                    break
+                found = [*found[:-1], *parts(found[-1][1:-1])]
+            if len(found) == len(fields):
+                return (lead + " " if lead else "") + "record {\n      " + ";\n      ".join(f"{f} = {x}" for f, x in zip(fields, found)) + ";\n    }"
+    return body
+
+
 def turn_walk(fn, text):
     """A Proof.antt that has lemmas over the records of places stays one, with today's names."""
+    fn.walk = True
     loops = {norm(a[0]): a[1] for a, _ in fn.e["loops"]}
     mod = f"Rattle.{fn.crate}.proofs." + fn.path.replace("/", ".")
     spec = re.search(r"^pub (\S+[-_]spec) :.*\Z", text, re.S | re.M)
@@ -199,6 +260,7 @@ def turn_walk(fn, text):
     answers = {}
     res = []
     for b in blocks(head):
+        i = None
         body = "\n".join(b)
         sig = next((l for l in b if not l.startswith("--") and l.strip()), "")
         env = {}
@@ -263,7 +325,7 @@ def turn_paths(fn, text, env, goal=None):
     """Turns the paths whose root is a variable of env (name: place), with let-bound aliases."""
     env = dict(env)
     parts = TOKEN.findall(text)
-    out = []
+    out, steps = [], {}
     i = 0
     while i < len(parts):
         t = parts[i]
@@ -293,7 +355,16 @@ def turn_paths(fn, text, env, goal=None):
                 else:
                     out.append(var + ".before" * segs.count("before"))
             else:
+                alias = re.search(r"\blet\s+(\S+)\s*=\s*$", "".join(out))
+                if alias and fn.last and "".join(parts[i + 1 : i + 4]).strip().startswith("in"):
+                    steps[alias[1]] = fn.last
                 out.append(".".join([root, *new]))
+        elif m and m[1] in steps and m[2]:
+            place, rest = steps[m[1]]
+            more = [s for s in m[2].split(".") if s]
+            done = fn.clause(place, [*rest, *more])
+            before = fn.clause(place, rest)
+            out.append(".".join([m[1], *done[len(before) :]]))
         else:
             out.append(t)
         i += 1
@@ -376,9 +447,14 @@ def turn(fn, text):
             if c != "c":
                 src = re.sub(rf"(?<![\w.'-]){re.escape(c)}(?=[.\s)])", "c", src)
             b2 = turn_paths(fn, src, {"c": (place, "c")}, new)
+            params = [q for q in ps[1:] if q != "κs"]
+            fields = fn.e["asked"].get(fn.needs[i][0])
+            if fields:
+                b2 = as_record(b2, fields, params)
+                params = []
             used_goals.add(new)
             kept_lemmas.append((m[1], new))
-            ans.append("\n".join(comm + [f"pub {new} : goal.{new}", *unf, f"{new} c =" + ("\n" + "    " + b2 if "\n" in b2 else " " + b2)]) + "\n")
+            ans.append("\n".join(comm + [f"pub {new} : goal.{new}", *unf, f"{new} c" + "".join(" " + q for q in params) + " =" + ("\n" + "    " + b2 if "\n" in b2 else " " + b2)]) + "\n")
             continue
         if re.match(r"^pub \S+[-_]spec :", code[0]):
             continue

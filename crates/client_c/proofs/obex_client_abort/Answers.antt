@@ -9,7 +9,7 @@ use Rattle.client_c.proofs.obex_client_abort.Goals as goal
 pub returns : goal.returns
 returns c =
     let lent = c in
-    let called = c in (
-      rw (c.store.ensures.1, ← c.client_of.ensures) c.abort-r.ensures,
-      (c.store.ensures.0 ∙ ap words_of (sym c.store.ensures.1)),
-    )
+    let called = c in record {
+      step = rw (c.store.ensures.read, ← c.client_of.ensures) c.abort-r.ensures;
+      numbers = (c.store.ensures.written ∙ ap words_of (sym c.store.ensures.read));
+    }

@@ -11,9 +11,9 @@ returns c =
     let admitting = c in
     let lent = c in
     let called = c in
-    let reading = c in (
-      rw c.store.ensures.1
+    let reading = c in record {
+      step = rw c.store.ensures.read
           (judged-start _ _ _ _ _ _ _ c.is_settings-fit.ensures c.settings_of-settings.ensures c.start-r.ensures
-          c.admit.ensures),
-      c.store.ensures.0 ∙ ap words_of (sym c.store.ensures.1),
-    )
+          c.admit.ensures);
+      numbers = c.store.ensures.written ∙ ap words_of (sym c.store.ensures.read);
+    }

@@ -6,10 +6,11 @@ use borrow.Author.Rules.{rules}
 use Rattle.engine_c.proofs.obex_engine_body_failed.Goals as goal
 
 pub returns : goal.returns
-returns c = (
-  rw (
-    c.store.ensures.1,
-    ← c.engine_of.ensures,
-  ) c.body_failed_lem.ensures,
-  (c.store.ensures.0 ∙ ap words_of (sym c.store.ensures.1)),
-)
+returns c =
+    record {
+      step = rw (
+        c.store.ensures.read,
+        ← c.engine_of.ensures,
+      ) c.body_failed_lem.ensures;
+      numbers = (c.store.ensures.written ∙ ap words_of (sym c.store.ensures.read));
+    }

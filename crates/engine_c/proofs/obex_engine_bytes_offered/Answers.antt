@@ -6,13 +6,12 @@ use borrow.Author.Rules.{rules}
 use Rattle.engine_c.proofs.obex_engine_bytes_offered.Goals as goal
 
 pub returns : goal.returns
-returns c = (
-  rw (
-    c.store.ensures.1,
-    ← c.engine_of.ensures,
-  ) c.bytes_offered-r.ensures.0,
-  (
-    (c.store.ensures.0 ∙ ap words_of (sym c.store.ensures.1)),
-    c.bytes_offered-r.ensures.1,
-  ),
-)
+returns c =
+    record {
+      step = rw (
+        c.store.ensures.read,
+        ← c.engine_of.ensures,
+      ) c.bytes_offered-r.ensures.step;
+      numbers = (c.store.ensures.written ∙ ap words_of (sym c.store.ensures.read));
+      octets = c.bytes_offered-r.ensures.octets;
+    }

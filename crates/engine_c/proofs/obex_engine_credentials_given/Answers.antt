@@ -6,10 +6,11 @@ use borrow.Author.Rules.{rules}
 use Rattle.engine_c.proofs.obex_engine_credentials_given.Goals as goal
 
 pub returns : goal.returns
-returns c = (
-  rw (
-    c.store.ensures.1,
-    ← c.engine_of.ensures,
-  ) c.credentials_given-r.ensures,
-  (c.store.ensures.0 ∙ ap words_of (sym c.store.ensures.1)),
-)
+returns c =
+    record {
+      step = rw (
+        c.store.ensures.read,
+        ← c.engine_of.ensures,
+      ) c.credentials_given-r.ensures;
+      numbers = (c.store.ensures.written ∙ ap words_of (sym c.store.ensures.read));
+    }

@@ -13,7 +13,7 @@ returns-then-srm c =
     let moved = c in
     let tested = c in
     let a = c in
-    c.bytes_offered.ensures.0
+    c.bytes_offered.ensures.step
     ∙ ap (λ (l : List ℕ). bytes_offered_step c.args.e l
     (stores c.args.packet.now c.args.headers.now c.args.body.now c.args.reply.now) c.args.tables.now)
     (connect_with c.args.m c.args.srm c.if-srm.true)
@@ -23,7 +23,7 @@ returns c =
     let moved = c in
     let tested = c in
     let a = c in
-    c.bytes_offered-2.ensures.0
+    c.bytes_offered-2.ensures.step
     ∙ ap (λ (l : List ℕ). bytes_offered_step c.args.e l
     (stores c.args.packet.now c.args.headers.now c.args.body.now c.args.reply.now) c.args.tables.now)
     (connect_without c.args.m c.args.srm c.if-srm.false)

@@ -3,4 +3,4 @@ use borrow.Author.Rules.{rules}
 use Rattle.archive.proofs.block.is_last_block.Goals as goal
 
 pub returns : goal.returns
-returns c = rw c.be16_at.ensures.0
+returns c = rw c.be16_at.ensures.value

@@ -10,4 +10,4 @@ returns-then-payload-lt3 c = rw (lt-leb 3 (length c.args.payload.now) c.if-paylo
 
 pub returns : goal.returns
 unfolding is_packet
-returns c = rw (le-leb 3 (length c.args.payload.now) (omega arith), c.be16_at.ensures.0) refl
+returns c = rw (le-leb 3 (length c.args.payload.now) (omega arith), c.be16_at.ensures.value) refl

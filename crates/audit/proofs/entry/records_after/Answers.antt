@@ -5,7 +5,7 @@ use Rattle.audit.proofs.entry.records_after.Goals as goal
 
 pub returns-then-handed : goal.returns-then-handed
 unfolding records_after
-returns-then-handed c = rw c.if-handed.true c.wrapping_add_u32.ensures
+returns-then-handed c = rw c.if-handed.true c.wrapping_add_u32.ensures.value
 
 pub returns : goal.returns
 unfolding records_after

@@ -5,7 +5,7 @@ use Rattle.audit.proofs.verdict.added.Goals as goal
 pub returns : goal.returns
 returns c =
     rw (
-      c.wrapping_add_usize-3.ensures,
-      c.wrapping_add_usize-2.ensures,
-      c.wrapping_add_usize.ensures,
+      c.wrapping_add_usize-3.ensures.value,
+      c.wrapping_add_usize-2.ensures.value,
+      c.wrapping_add_usize.ensures.value,
     ) refl

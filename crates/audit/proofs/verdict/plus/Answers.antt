@@ -5,7 +5,7 @@ use Rattle.audit.proofs.verdict.plus.Goals as goal
 
 pub returns-then-b : goal.returns-then-b
 unfolding one_more
-returns-then-b c = rw c.if-b.true c.wrapping_add_usize.ensures
+returns-then-b c = rw c.if-b.true c.wrapping_add_usize.ensures.value
 
 pub returns : goal.returns
 unfolding one_more

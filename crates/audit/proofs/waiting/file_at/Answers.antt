@@ -6,4 +6,4 @@ use Rattle.audit.proofs.waiting.file_at.Goals as goal
 
 pub returns : goal.returns
 unfolding file_at
-returns c = rw (ap (λ (y : Filled). y.bytes) c.put.ensures.1) refl
+returns c = rw (ap (λ (y : Filled). y.bytes) c.put.ensures.text) refl

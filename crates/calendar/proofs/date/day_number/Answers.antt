@@ -7,4 +7,4 @@ pub returns : goal.returns
 unfolding day_number
 returns c =
     let a = c in
-    rw (c.days_before_year-year.ensures.0, c.days_before_month-month.ensures.0, c.days_before_day-day.ensures)
+    rw (c.days_before_year-year.ensures.value, c.days_before_month-month.ensures.value, c.days_before_day-day.ensures)

@@ -25,5 +25,7 @@ loop-m-preserved c =
 pub returns : goal.returns
 returns c =
     let l = c.loop-m in
-    let e : l.m ≡ c.args.month = omega arith in
-    (rw (← e) l.invariant.1, omega arith)
+    let e : l.m ≡ c.args.month = omega arith in record {
+      value = rw (← e) l.invariant.1;
+      small = omega arith;
+    }

@@ -5,4 +5,8 @@ use borrow.Author.Rules.{rules}
 use Rattle.calendar.proofs.date.days_before_year.Goals as goal
 
 pub returns : goal.returns
-returns c = (closed-form c.args.year, omega arith)
+returns c =
+    record {
+      value = closed-form c.args.year;
+      small = omega arith;
+    }

@@ -83,5 +83,5 @@ returns-in-Part c =
     let lent = stores q args.headers.now args.body.now args.request.now in
     by_way args.c args.h args.c.operation args.h.code hs lent _ _ _ c.Way-of.ensures c.in-Part.is
     (part-call args.c _ _ args.h.code _ q args.headers.now args.body.now args.request.now _ _ _ _ c.part.ensures
-    (c.gather-g.ensures.0 ∙ ap (λ (g : Gathered). gather_all keep.Put 65535 hs (gathering g args.headers.now args.body.now))
+    (c.gather-g.ensures.model ∙ ap (λ (g : Gathered). gather_all keep.Put 65535 hs (gathering g args.headers.now args.body.now))
     c.nothing_gathered.ensures))

@@ -4,7 +4,7 @@ use Rattle.client.proofs.Called.{part-other}
 use Rattle.client.proofs.calls.after_part.Goals as goal
 
 pub returns-in_default : goal.returns-in_default
-returns-in_default c = part-other c.args.operation c.in_default.keys2
+returns-in_default c = part-other c.args.operation c.in_default.in_default-own.keys2
 
 pub returns-then-last : goal.returns-then-last
 returns-then-last c = simp (c.in-Receiving.is, c.if-last.true)

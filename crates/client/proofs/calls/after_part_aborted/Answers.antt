@@ -4,4 +4,4 @@ use Rattle.client.proofs.Called.{abort_other}
 use Rattle.client.proofs.calls.after_part_aborted.Goals as goal
 
 pub returns-in_default : goal.returns-in_default
-returns-in_default c = abort_other c.args.operation c.in_default.keys2
+returns-in_default c = abort_other c.args.operation c.in_default.in_default-own.keys2

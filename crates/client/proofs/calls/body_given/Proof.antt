@@ -66,7 +66,7 @@ returns-2 c =
     let passes = passed_call _ (awaiting args.c await.Body) args.c lent _ at-same-await.same_await_lem.ensures at-guard.guard.ensures
     at-enum-told.in_default.is in
     ap (λ (r : CallResult). stepped r lent) c.refuse-in_default-operation.ensures ∙ body-other args.c.operation args.c args.bytes.now lent
-    c.in_default-operation.keys2
+    c.in_default-operation.in_default-operation-own.keys2
     ∙ sym (passes.whole _)
 
 refuse-requires-3 : tie.Need-refuse-requires-then-chunk-bytes

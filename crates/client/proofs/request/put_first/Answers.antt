@@ -9,4 +9,4 @@ returns-in-Send c = simp (c.in-Send.is, c.first_byte.ensures)
 pub returns-in_default : goal.returns-in_default
 returns-in_default c =
     let start = c in
-    let args = c.args in no_first args.next args.kind args.request.now c.in_default.keys2
+    let args = c.args in no_first args.next args.kind args.request.now c.in_default.in_default-own.keys2

@@ -5,7 +5,7 @@ use Rattle.client.proofs.Packets.{sent-other}
 use Rattle.client.proofs.request.sent_turn.Goals as goal
 
 pub returns-in_default : goal.returns-in_default
-returns-in_default c = sent-other c.args.operation c.in_default.keys2
+returns-in_default c = sent-other c.args.operation c.in_default.in_default-own.keys2
 
 pub returns-then-not-srm : goal.returns-then-not-srm
 returns-then-not-srm c =

@@ -3,10 +3,15 @@ use borrow.Author.Rules.{rules}
 use Rattle.client_c.proofs.words.id_numbers.Goals as goal
 
 pub returns-in-Id : goal.returns-in-Id
-returns-in-Id c = (
-  simp (c.four_of.ensures, c.wide32.ensures.0, c.in-Id.is),
-  simp (c.wide32.ensures.1, c.in-Id.is),
-)
+returns-in-Id c =
+    record {
+      numbers = simp (c.four_of.ensures, c.wide32.ensures.0, c.in-Id.is);
+      back = simp (c.wide32.ensures.1, c.in-Id.is);
+    }
 
 pub returns-in-Missing : goal.returns-in-Missing
-returns-in-Missing c = (simp (c.four_of-in-Missing.ensures, c.in-Missing.is), simp c.in-Missing.is)
+returns-in-Missing c =
+    record {
+      numbers = simp (c.four_of-in-Missing.ensures, c.in-Missing.is);
+      back = simp c.in-Missing.is;
+    }

@@ -4,18 +4,19 @@ use borrow.Author.Rules.{rules}
 use Rattle.client_c.proofs.words.requesting_numbers.Goals as goal
 
 pub returns : goal.returns
-returns c = (
-  let at-flag-number2 = c in
-      simp (
-        c.wide-5.ensures,
-        c.wide-4.ensures,
-        c.wide-3.ensures,
-        c.wide8.ensures.0,
-        c.flag_number-3.ensures,
-        c.flag_number-2.ensures,
-        c.flag_number.ensures,
-        c.wide-2.ensures,
-        c.wide.ensures,
-      ),
-  c.wide8.ensures.1,
-)
+returns c =
+    record {
+      numbers = let at-flag-number2 = c in
+          simp (
+            c.wide-5.ensures,
+            c.wide-4.ensures,
+            c.wide-3.ensures,
+            c.wide8.ensures.0,
+            c.flag_number-3.ensures,
+            c.flag_number-2.ensures,
+            c.flag_number.ensures,
+            c.wide-2.ensures,
+            c.wide.ensures,
+          );
+      narrow = c.wide8.ensures.1;
+    }

@@ -23,8 +23,8 @@ returns c =
       c.flag_number.ensures,
       c.wide16.ensures.0,
       c.outcome_numbers-t.ensures,
-      c.operation_numbers-o.ensures.0,
-      c.id_numbers-i.ensures.0,
+      c.operation_numbers-o.ensures.numbers,
+      c.id_numbers-i.ensures.numbers,
     ))
     c.wide16.ensures.1 c.wide16-2.ensures.1
-    c.id_numbers-i.ensures.1 c.operation_numbers-o.ensures.1
+    c.id_numbers-i.ensures.back c.operation_numbers-o.ensures.back

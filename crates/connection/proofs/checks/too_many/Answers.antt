@@ -5,4 +5,8 @@ use Rattle.connection.proofs.checks.too_many.Goals as goal
 
 pub returns : goal.returns
 unfolding too_many_of
-returns c = (rw c.wrong_count.ensures.0, λ h e. rw (c.wrong_count.ensures.1 h e))
+returns c =
+    record {
+      value = rw c.wrong_count.ensures.value;
+      counted = λ h e. rw (c.wrong_count.ensures.counted h e);
+    }

@@ -4,4 +4,8 @@ use Rattle.journal.proofs.Checked.{counts}
 use Rattle.connection.proofs.checks.wrong_count.Goals as goal
 
 pub returns : goal.returns
-returns c = (refl, λ h e. rw e (counts h))
+returns c =
+    record {
+      value = refl;
+      counted = λ h e. rw e (counts h);
+    }

@@ -25,7 +25,7 @@ loop-at-preserved c =
       omega arith,
       all,
       l.invariant.3 ∙ ap (λ (k : ℕ). first_free k xs l.at) n ∙ passed (66 - (l.looked + 1)) xs l.at t
-          ∙ ap (first_free (66 - (l.looked + 1)) xs) (sym c.wrapping_add_u32-at.ensures),
+          ∙ ap (first_free (66 - (l.looked + 1)) xs) (sym c.wrapping_add_u32-at.ensures.value),
     )
 
 pub returns : goal.returns
@@ -34,10 +34,10 @@ returns c =
     let l = c.loop-at in
     let xs = take x.count x.ids.now in
     let t : taken xs l.at ≡ false = sym c.is_taken.ensures ∙ not-true _ c.if-not-is_taken.true in
-    let n : 66 - l.looked ≡ suc (65 - l.looked) = omega arith in (
-      (
+    let n : 66 - l.looked ≡ suc (65 - l.looked) = omega arith in record {
+      id_value = (
         sym (l.invariant.3 ∙ ap (λ (k : ℕ). first_free k xs l.at) n ∙ found (65 - l.looked) xs l.at t),
-        c.wrapping_add_u32.ensures,
-      ),
-      t,
-    )
+        c.wrapping_add_u32.ensures.value,
+      );
+      unused = t;
+    }

@@ -27,5 +27,7 @@ returns c =
     let l = c in
     let x = c.args in
     let e : c.loop-i.i ≡ x.count = le_antisymm c.loop-i.invariant.0 c.loop-i-test.false in
-    let d : Closed x.ids.now x.id x.count c.loop-i.ids c.loop-i.auto = rw e at c.loop-i.invariant.3 in
-    (d.count, d.store)
+    let d : Closed x.ids.now x.id x.count c.loop-i.ids c.loop-i.auto = rw e at c.loop-i.invariant.3 in record {
+      value = d.count;
+      store = d.store;
+    }

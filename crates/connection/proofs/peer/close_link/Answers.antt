@@ -10,8 +10,8 @@ returns c =
     let m = c in
     let x = c.args in
     rw (
-      c.close_id.ensures.0,
-      c.close_id.ensures.1,
+      c.close_id.ensures.value,
+      c.close_id.ensures.store,
       c.close_targets.ensures,
       columns_front x.id x.count x.tables.now x.count (omega arith),
     ) (refl, refl)

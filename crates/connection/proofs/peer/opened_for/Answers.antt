@@ -18,5 +18,5 @@ returns c =
     let s = c in
     let l = c.allocate_connection_id-found in
     let k = c in
-    rw (c.in_default.is, not-false c.args.has-target c.if1.false, ← l.ensures.0.0, ← l.ensures.0.1)
+    rw (c.in_default.is, not-false c.args.has-target c.if1.false, ← l.ensures.id_value.0, ← l.ensures.id_value.1)
     (ap (λ (o : Opens). answer_from o (Id l.result.id)) c.opened-2.ensures)

@@ -7,9 +7,9 @@ pub returns : goal.returns
 unfolding block_of
 returns c =
     rw (
-      c.wrapping_add_u32-4.ensures,
-      c.wrapping_add_u32-3.ensures,
-      c.wrapping_add_u32-2.ensures,
-      c.wrapping_add_u32.ensures,
+      c.wrapping_add_u32-4.ensures.value,
+      c.wrapping_add_u32-3.ensures.value,
+      c.wrapping_add_u32-2.ensures.value,
+      c.wrapping_add_u32.ensures.value,
       c.all_steps-t.ensures,
     )

@@ -16,7 +16,7 @@ returns c =
     let pre = c.requires in
     rw (
       add-one,
-      c.wrapping_add_u32.ensures,
+      c.wrapping_add_u32.ensures.value,
       c.rotate_left-rotated.ensures,
       c.sum4.ensures.1,
       rfc_once,

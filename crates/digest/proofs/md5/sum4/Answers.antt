@@ -7,5 +7,5 @@ use Rattle.digest.proofs.md5.sum4.Goals as goal
 pub returns : goal.returns
 returns c =
     let x = c.args in
-    rw (c.wrapping_add_u32.ensures, c.wrapping_add_u32-with_value.ensures, c.wrapping_add_u32-constant_and_word.ensures)
+    rw (c.wrapping_add_u32.ensures.value, c.wrapping_add_u32-with_value.ensures.value, c.wrapping_add_u32-constant_and_word.ensures.value)
     (refl, same_sum x.a x.f x.w x.k)

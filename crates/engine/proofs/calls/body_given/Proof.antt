@@ -56,7 +56,7 @@ returns-2 c =
     let z = c.before.before in
     let k = (start (passed z)).args in
     let s = lent (passed z) in
-    ap (λ (r : CallResult). stepped r s) c.refuse-in_default-operation.ensures ∙ body-other k.e.operation k.e k.bytes.now s c.in_default-operation.keys2
+    ap (λ (r : CallResult). stepped r s) c.refuse-in_default-operation.ensures ∙ body-other k.e.operation k.e k.bytes.now s c.in_default-operation.in_default-operation-own.keys2
     ∙ sym ((goes z).whole _)
 
 refuse-requires-3 : tie.Need-refuse-requires-then-chunk-bytes

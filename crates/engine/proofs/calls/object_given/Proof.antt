@@ -71,7 +71,7 @@ returns-2 c =
     let k = (start (passed z)).args in
     let s = lent (passed z) in
     ap (λ (r : CallResult). stepped r s) c.refuse-in_default-operation.ensures
-    ∙ object-other k.e.operation k.e k.header-bytes.now k.has_body s c.in_default-operation.keys2
+    ∙ object-other k.e.operation k.e k.header-bytes.now k.has_body s c.in_default-operation.in_default-operation-own.keys2
     ∙ sym ((goes z).whole _)
 
 is-bad-headers-requires : tie.Need-is_bad_headers-requires

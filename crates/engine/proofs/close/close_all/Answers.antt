@@ -22,7 +22,7 @@ loop-i-preserved c =
     let x = c.args in (
       omega arith,
       closing_on x.ids.now x.count x.tables.now c.loop-i.i c.loop-i.left _ c.loop-i.tables _ c.loop-i.invariant.1 (omega arith)
-          k.ensures.0 k.ensures.1,
+          k.ensures.value k.ensures.store,
     )
 
 pub shape_of-tables : goal.shape_of-tables

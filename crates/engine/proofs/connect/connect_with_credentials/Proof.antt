@@ -26,7 +26,7 @@ returns : tie.Need-returns-in_default
 returns c =
     let k = c.args in
     ap (λ (r : CallResult). written r k.reply.now) c.refuse.ensures
-    ∙ credentials-other k.e.operation k.e _ k.packet.now k.headers.now k.reply.now c.in_default.keys2
+    ∙ credentials-other k.e.operation k.e _ k.packet.now k.headers.now k.reply.now c.in_default.in_default-own.keys2
 
 both-requires : tie.Need-both-named-requires
 both-requires c κs = search rules

@@ -15,4 +15,4 @@ returns-in-Missing c = rw c.in-Missing.is (sym (and-false (leb most_wrong (ones 
 
 pub returns-in_default : goal.returns-in_default
 unfolding stops_by
-returns-in_default c = rw (is_carried _ c.in_default.keys2) (c.too_many.ensures.0 ∙ sym (and-true (leb most_wrong (ones c.args.window))))
+returns-in_default c = rw (is_carried _ c.in_default.in_default-own.keys2) (c.too_many.ensures.value ∙ sym (and-true (leb most_wrong (ones c.args.window))))

@@ -7,7 +7,7 @@ use Rattle.engine.proofs.connect.verifies.Goals as goal
 pub returns-in_default-a : goal.returns-in_default-a
 returns-in_default-a c =
     let x = c.args in
-    c.nonce_question-in_default-a.ensures ∙ sym (not-read x.challenge x.a c.in_default-a.keys2)
+    c.nonce_question-in_default-a.ensures ∙ sym (not-read x.challenge x.a c.in_default-a.in_default-a-own.keys2)
 
 pub returns : goal.returns
 returns c = simp (c.in-Stored.is, c.in-User.is)

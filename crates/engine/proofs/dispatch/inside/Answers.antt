@@ -24,4 +24,4 @@ pub returns-in-Draining : goal.returns-in-Draining
 returns-in-Draining c = simp (c.in-Draining.is, c.draining.ensures)
 
 pub returns-in_default : goal.returns-in_default
-returns-in_default c = let x = c.args in c.open_route.ensures ∙ sym (open_way x.e.operation x.e x.h c.in_default.keys7)
+returns-in_default c = let x = c.args in c.open_route.ensures ∙ sym (open_way x.e.operation x.e x.h c.in_default.in_default-own.keys7)

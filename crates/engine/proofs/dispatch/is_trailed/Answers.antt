@@ -5,7 +5,7 @@ use borrow.Author.Rules.{rules}
 use Rattle.engine.proofs.dispatch.is_trailed.Goals as goal
 
 pub returns-in_default : goal.returns-in_default
-returns-in_default c = simp (not-trailing c.args.e.operation c.in_default.keys2)
+returns-in_default c = simp (not-trailing c.args.e.operation c.in_default.in_default-own.keys2)
 
 pub returns-in_default-first_header : goal.returns-in_default-first_header
 returns-in_default-first_header c =

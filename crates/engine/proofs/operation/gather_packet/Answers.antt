@@ -21,6 +21,6 @@ returns c =
     let a = c in
     let s = stores q c.args.headers.now c.args.body.now y in
     gathered_planned _ _ _ _ _ _ s _ _
-    (gathered_way c.args.e c.args.kind _ _ _ s _ _ _ _ c.gather-g.ensures.0 c.headers_from.ensures
+    (gathered_way c.args.e c.args.kind _ _ _ s _ _ _ _ c.gather-g.ensures.model c.headers_from.ensures
     c.keep.ensures c.wide.ensures c.requires.0)
     c.handle_gathered.ensures

@@ -5,15 +5,16 @@ use borrow.Author.Rules.{rules}
 use Rattle.engine_c.proofs.words.peer_numbers.Goals as goal
 
 pub returns : goal.returns
-returns c = (
-  simp (
-    c.flag_number-2.ensures,
-    c.flag_number.ensures,
-    c.wide16.ensures.0,
-    c.wide32.ensures.0,
-    c.wide-2.ensures,
-    c.wide.ensures,
-    c.challenge_numbers-n.ensures,
-  ),
-  peer-back _ c.wide32.ensures.1 c.wide16.ensures.1,
-)
+returns c =
+    record {
+      numbers = simp (
+        c.flag_number-2.ensures,
+        c.flag_number.ensures,
+        c.wide16.ensures.0,
+        c.wide32.ensures.0,
+        c.wide-2.ensures,
+        c.wide.ensures,
+        c.challenge_numbers-n.ensures,
+      );
+      back = peer-back _ c.wide32.ensures.1 c.wide16.ensures.1;
+    }

@@ -6,8 +6,8 @@ use Rattle.engine_c.proofs.words.settings_numbers.Goals as goal
 
 pub returns : goal.returns
 returns c =
-    let at-wide8 = c in (
-      simp (
+    let at-wide8 = c in record {
+      numbers = simp (
         c.flag_number-7.ensures,
         c.flag_number-6.ensures,
         c.flag_number-5.ensures,
@@ -18,6 +18,6 @@ returns c =
         c.wide8.ensures.0,
         c.wide16.ensures.0,
         c.wide32.ensures.0,
-      ),
-      settings-back _ c.wide32.ensures.1 c.wide16.ensures.1 c.wide8.ensures.1,
-    )
+      );
+      back = settings-back _ c.wide32.ensures.1 c.wide16.ensures.1 c.wide8.ensures.1;
+    }

@@ -19,9 +19,9 @@ returns c =
       c.target_numbers-g.ensures,
       c.awaits_number-a.ensures,
       c.outcome_numbers-t.ensures,
-      c.operation_numbers-o.ensures.0,
-      c.peer_numbers-p.ensures.0,
-      c.settings_numbers-s.ensures.0,
+      c.operation_numbers-o.ensures.numbers,
+      c.peer_numbers-p.ensures.numbers,
+      c.settings_numbers-s.ensures.numbers,
     ))
-    c.settings_numbers-s.ensures.1 c.peer_numbers-p.ensures.1
-    c.operation_numbers-o.ensures.1
+    c.settings_numbers-s.ensures.back c.peer_numbers-p.ensures.back
+    c.operation_numbers-o.ensures.back

@@ -34,15 +34,15 @@ both f n d p q h room e g =
 
 pub returns-then-path-name : goal.returns-then-path-name
 returns-then-path-name c =
-    let a = c.args in (
-      fit_none (in_folder a.folder.now a.name.now) a.path.now (omega (
+    let a = c.args in record {
+      value = fit_none (in_folder a.folder.now a.name.now) a.path.now (omega (
         arith,
         joined-least a.folder.now
             a.name.now,
         c.if-path-name.true,
-      )),
-      omega arith,
-    )
+      ));
+      room = omega arith;
+    }
 
 pub returns-then-folder-eq0 : goal.returns-then-folder-eq0
 returns-then-folder-eq0 c =
@@ -55,8 +55,10 @@ pub returns-then-path-name-2 : goal.returns-then-path-name-2
 returns-then-path-name-2 c =
     let m = c in
     let a = c.args in
-    let s = joined-size a.folder.now a.name.now c.if-folder-eq0.false in
-    (fit_none (in_folder a.folder.now a.name.now) a.path.now (omega (arith, s)), omega arith)
+    let s = joined-size a.folder.now a.name.now c.if-folder-eq0.false in record {
+      value = fit_none (in_folder a.folder.now a.name.now) a.path.now (omega (arith, s));
+      room = omega arith;
+    }
 
 pub copy_into-requires-3 : goal.copy_into-requires-3
 copy_into-requires-3 c =

@@ -32,7 +32,7 @@ returns-then-n-line c =
     let k = c in
     let l = c.args.line.now in
     let e : is_choice l ≡ false = sym c.is_choice.ensures ∙ c.if-is_choice.false in
-    let g = c.find-n.ensures.0 in
+    let g = c.find-n.ensures.value in
     let h : ltb (length (up_to 0x20 l)) (length l) ≡ true = lt-ltb (length (up_to 0x20 l)) (length l) (omega
     (arith, g, c.if-n-line.true)) in
     rw (ne_eqb (length l) 0 c.if-line-eq0.false, ne_eqb (get_or l 0 0) 0x23 c.if-line-eq35.false, e, h)
@@ -45,6 +45,6 @@ returns c =
     let k = c in
     let l = c.args.line.now in
     let e : is_choice l ≡ false = sym c.is_choice.ensures ∙ c.if-is_choice.false in
-    let g = c.find-n.ensures.0 in
+    let g = c.find-n.ensures.value in
     let h : ltb (length (up_to 0x20 l)) (length l) ≡ false = le-ltb (length (up_to 0x20 l)) (length l) (omega (arith, g, c.if-n-line.false)) in
     rw (ne_eqb (length l) 0 c.if-line-eq0.false, ne_eqb (get_or l 0 0) 0x23 c.if-line-eq35.false, e, h) refl

@@ -25,7 +25,7 @@ loop-i-preserved c =
     let t = c in (
       omega arith,
       c.loop-i.invariant.1 ∙ digits_next c.args.v.now c.loop-i.n c.loop-i.i c.loop-i-test.true
-          ∙ ap (λ (k : ℕ). digits_from k (drop (c.loop-i.i + 1) c.args.v.now)) (sym c.next_number-n.ensures.0),
+          ∙ ap (λ (k : ℕ). digits_from k (drop (c.loop-i.i + 1) c.args.v.now)) (sym c.next_number-n.ensures.value),
     )
 
 pub returns : goal.returns

@@ -7,8 +7,16 @@ use Rattle.filing.proofs.content.front_len.Goals as goal
 
 pub returns-in-Opened : goal.returns-in-Opened
 unfolding open_row
-returns-in-Opened c = (rw c.in-Opened.is refl, omega arith)
+returns-in-Opened c =
+    record {
+      value = rw c.in-Opened.is refl;
+      small = omega arith;
+    }
 
 pub returns-in-Checked : goal.returns-in-Checked
 unfolding check_pair
-returns-in-Checked c = (rw c.in-Checked.is refl, omega arith)
+returns-in-Checked c =
+    record {
+      value = rw c.in-Checked.is refl;
+      small = omega arith;
+    }

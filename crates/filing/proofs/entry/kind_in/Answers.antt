@@ -42,16 +42,16 @@ pub returns-in_default : goal.returns-in_default
 returns-in_default c =
     let n = c.args.letters in
     simp (
-      ne_eqb n 0x6F70656E c.in_default.rest.0.0.0.0.0.0.0.0.0.0.0.1,
-      ne_eqb n 0x72656376 c.in_default.rest.0.0.0.0.0.0.0.0.0.0.1,
-      ne_eqb n 0x70617274 c.in_default.rest.0.0.0.0.0.0.0.0.0.1,
-      ne_eqb n 0x73656E74 c.in_default.rest.0.0.0.0.0.0.0.0.1,
-      ne_eqb n 0x616E7377 c.in_default.rest.0.0.0.0.0.0.0.1,
-      ne_eqb n 0x6F626A74 c.in_default.rest.0.0.0.0.0.0.1,
-      ne_eqb n 0x70617373 c.in_default.rest.0.0.0.0.0.1,
-      ne_eqb n 0x6E6F6E63 c.in_default.rest.0.0.0.0.1,
-      ne_eqb n 0x636C6F73 c.in_default.rest.0.0.0.1,
-      ne_eqb n 0x66696C65 c.in_default.rest.0.0.1,
-      ne_eqb n 0x6661696C c.in_default.rest.0.1,
-      ne_eqb n 0x646F6E65 c.in_default.rest.1,
+      ne_eqb n 0x6F70656E c.in_default.in_default-own.rest.0.0.0.0.0.0.0.0.0.0.0.1,
+      ne_eqb n 0x72656376 c.in_default.in_default-own.rest.0.0.0.0.0.0.0.0.0.0.1,
+      ne_eqb n 0x70617274 c.in_default.in_default-own.rest.0.0.0.0.0.0.0.0.0.1,
+      ne_eqb n 0x73656E74 c.in_default.in_default-own.rest.0.0.0.0.0.0.0.0.1,
+      ne_eqb n 0x616E7377 c.in_default.in_default-own.rest.0.0.0.0.0.0.0.1,
+      ne_eqb n 0x6F626A74 c.in_default.in_default-own.rest.0.0.0.0.0.0.1,
+      ne_eqb n 0x70617373 c.in_default.in_default-own.rest.0.0.0.0.0.1,
+      ne_eqb n 0x6E6F6E63 c.in_default.in_default-own.rest.0.0.0.0.1,
+      ne_eqb n 0x636C6F73 c.in_default.in_default-own.rest.0.0.0.1,
+      ne_eqb n 0x66696C65 c.in_default.in_default-own.rest.0.0.1,
+      ne_eqb n 0x6661696C c.in_default.in_default-own.rest.0.1,
+      ne_eqb n 0x646F6E65 c.in_default.in_default-own.rest.1,
     )

@@ -4,10 +4,22 @@ use Rattle.filing.proofs.InStore.{chain_first, chain_next}
 use Rattle.filing.proofs.frame.chain_at.Goals as goal
 
 pub returns-then-number-eq0 : goal.returns-then-number-eq0
-returns-then-number-eq0 c = (chain_first _ _ c.if-number-eq0.true, omega arith)
+returns-then-number-eq0 c =
+    record {
+      value = chain_first _ _ c.if-number-eq0.true;
+      back = omega arith;
+    }
 
 pub returns-then-at-lt-ROW : goal.returns-then-at-lt-ROW
-returns-then-at-lt-ROW c = (chain_next _ _ _ c.if-number-eq0.false (omega arith), omega arith)
+returns-then-at-lt-ROW c =
+    record {
+      value = chain_next _ _ _ c.if-number-eq0.false (omega arith);
+      back = omega arith;
+    }
 
 pub returns : goal.returns
-returns c = (chain_next _ _ _ c.if-number-eq0.false (omega arith), omega arith)
+returns c =
+    record {
+      value = chain_next _ _ _ c.if-number-eq0.false (omega arith);
+      back = omega arith;
+    }

@@ -16,8 +16,10 @@ returns-then-s-i c =
     let t = c in
     let l = c.loop-i in
     let a = c.args in
-    let h = before_here a.byte a.s.now l.i c.loop-i-test.true c.if-s-i.true in
-    (omega (arith, l.invariant.1, h), omega arith)
+    let h = before_here a.byte a.s.now l.i c.loop-i-test.true c.if-s-i.true in record {
+      value = omega (arith, l.invariant.1, h);
+      room = omega arith;
+    }
 
 pub loop-i-preserved : goal.loop-i-preserved
 loop-i-preserved c =
@@ -31,5 +33,7 @@ pub returns : goal.returns
 returns c =
     let l = c.loop-i in
     let a = c.args in
-    let h = before-none a.byte a.s.now l.i c.loop-i-test.false in
-    (omega (arith, l.invariant.1, h), omega arith)
+    let h = before-none a.byte a.s.now l.i c.loop-i-test.false in record {
+      value = omega (arith, l.invariant.1, h);
+      room = omega arith;
+    }

@@ -9,12 +9,12 @@ pub returns-then-line-n : goal.returns-then-line-n
 returns-then-line-n c =
     let k = c in
     let a = c.args in
-    not-under a.separator a.word.now a.line.now (omega (arith, c.find-n.ensures.0, c.if-line-n.true))
+    not-under a.separator a.word.now a.line.now (omega (arith, c.find-n.ensures.value, c.if-line-n.true))
 
 pub returns : goal.returns
 returns c =
     let i = c in
     let k = c in
     let a = c.args in
-    under_by a.separator a.word.now a.line.now c.find-n.result c.same.result c.find-n.ensures.0 c.if-line-n.false
+    under_by a.separator a.word.now a.line.now c.find-n.result c.same.result c.find-n.ensures.value c.if-line-n.false
     (same_is _ a.word.now c.same.result c.same.ensures.0 c.same.ensures.1)

@@ -14,14 +14,18 @@ loop-i-init c = (omega arith, refl)
 pub returns-then-i-text : goal.returns-then-i-text
 returns-then-i-text c =
     let l = c.loop-i in
-    let t = c.args.text.now in
-    (sym (l.invariant.1 ∙ strip_last t l.i c.if-i-text.true), omega arith)
+    let t = c.args.text.now in record {
+      value = sym (l.invariant.1 ∙ strip_last t l.i c.if-i-text.true);
+      small = omega arith;
+    }
 
 pub returns-then-text-i-ne48 : goal.returns-then-text-i-ne48
 returns-then-text-i-ne48 c =
     let l = c.loop-i in
-    let t = c.args.text.now in
-    (sym (l.invariant.1 ∙ strip_stop t l.i (omega arith) c.if-text-i-ne48.true), omega arith)
+    let t = c.args.text.now in record {
+      value = sym (l.invariant.1 ∙ strip_stop t l.i (omega arith) c.if-text-i-ne48.true);
+      small = omega arith;
+    }
 
 pub loop-i-preserved : goal.loop-i-preserved
 loop-i-preserved c =
@@ -32,5 +36,7 @@ loop-i-preserved c =
 pub returns : goal.returns
 returns c =
     let l = c.loop-i in
-    let t = c.args.text.now in
-    (strip_none t l.i (omega arith) ∙ sym l.invariant.1, omega arith)
+    let t = c.args.text.now in record {
+      value = strip_none t l.i (omega arith) ∙ sym l.invariant.1;
+      small = omega arith;
+    }

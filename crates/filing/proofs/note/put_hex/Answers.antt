@@ -30,16 +30,18 @@ loop-i-preserved c =
     let at-a-₁ = c in
     let a = c.args in
     let two = ap length c.hex_pair-two.ensures in
-    let e = c.put_text-to.ensures.0.ends in (
+    let e = c.put_text-to.ensures.value.ends in (
       omega arith,
       omega arith,
       omega (arith, two, e),
-      laid_as (laid_more l.invariant.3 c.put_text-to.ensures.0 (omega (arith, two, e)))
+      laid_as (laid_more l.invariant.3 c.put_text-to.ensures.value (omega (arith, two, e)))
           (hex_next a.bytes.now l.i c.hex_pair-two.result (omega arith) c.hex_pair-two.ensures),
     )
 
 pub returns : goal.returns
 returns c =
     let l = c.loop-i in
-    let a = c.args in
-    (laid_as l.invariant.3 (ap hex_of (take_all l.i a.bytes.now (omega arith))), omega arith)
+    let a = c.args in record {
+      value = laid_as l.invariant.3 (ap hex_of (take_all l.i a.bytes.now (omega arith)));
+      small = omega arith;
+    }

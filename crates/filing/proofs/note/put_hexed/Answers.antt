@@ -11,5 +11,7 @@ returns c =
     let first = c in
     let x = c.put_text-a.ensures in
     let y = c.put_hex-b.ensures in
-    let z = c.put_text.ensures in
-    (laid_three x.0 y.0 z.0 (omega (arith, x.1, y.1)) (omega (arith, x.1, y.1, z.1)), omega (arith, x.1, y.1, z.1))
+    let z = c.put_text.ensures in record {
+      value = laid_three x.value y.value z.value (omega (arith, x.small, y.small)) (omega (arith, x.small, y.small, z.small));
+      small = omega (arith, x.small, y.small, z.small);
+    }

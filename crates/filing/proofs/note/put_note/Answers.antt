@@ -21,7 +21,7 @@ put_record-a-requires c =
 pub put_sizes-b-requires : goal.put_sizes-b-requires
 put_sizes-b-requires c =
     let back₁ = c in
-    omega (arith, c.requires, c.put_record-a.ensures.1)
+    omega (arith, c.requires, c.put_record-a.ensures.small)
 
 pub slice_bounds-put_target-count : goal.slice_bounds-put_target-count
 slice_bounds-put_target-count c =
@@ -42,8 +42,8 @@ put_target-c-requires c =
     omega (
       arith,
       c.requires,
-      c.put_record-a.ensures.1,
-      c.put_sizes-b.ensures.1,
+      c.put_record-a.ensures.small,
+      c.put_sizes-b.ensures.small,
     )
 
 pub put_place-d-requires : goal.put_place-d-requires
@@ -54,9 +54,9 @@ put_place-d-requires c =
     omega (
       arith,
       c.requires,
-      c.put_record-a.ensures.1,
-      c.put_sizes-b.ensures.1,
-      c.put_target-c.ensures.1,
+      c.put_record-a.ensures.small,
+      c.put_sizes-b.ensures.small,
+      c.put_target-c.ensures.small,
     )
 
 pub slice_bounds-put_sums-end : goal.slice_bounds-put_sums-end
@@ -76,10 +76,10 @@ put_sums-requires c =
     omega (
       arith,
       c.requires,
-      c.put_record-a.ensures.1,
-      c.put_sizes-b.ensures.1,
-      c.put_target-c.ensures.1,
-      c.put_place-d.ensures.1,
+      c.put_record-a.ensures.small,
+      c.put_sizes-b.ensures.small,
+      c.put_target-c.ensures.small,
+      c.put_place-d.ensures.small,
     )
 
 pub returns : goal.returns
@@ -101,15 +101,15 @@ returns c =
     let x₅ = c.put_sums.ensures in
     let n = a.numbers in
     let p = a.payload.now in
-    let t = laid_as x₃.0
+    let t = laid_as x₃.value
     (ap (λ (l : List ℕ). target_line (pick (eqb n.target 255) none (some l))) (cut_on p 49 (length p - 49) (omega arith))) in
     let m = taken_most (length p - 49) (drop 49 p) in
     let k = taken_most 16 (drop 16 p) in
-    let l₂ = laid_more x₁.0 x₂.0 (omega (arith, h, x₁.1, x₂.1)) in
-    let l₃ = laid_more l₂ t (omega (arith, h, x₁.1, x₂.1, m, x₃.1)) in
-    let l₄ = laid_more l₃ x₄.0 (omega (arith, h, x₁.1, x₂.1, m, x₃.1, x₄.1)) in
-    let l₅ = laid_more l₄ x₅.0 (omega (arith, h, x₁.1, x₂.1, m, x₃.1, x₄.1, k, x₅.1)) in (
-      laid_as l₅
+    let l₂ = laid_more x₁.value x₂.value (omega (arith, h, x₁.small, x₂.small)) in
+    let l₃ = laid_more l₂ t (omega (arith, h, x₁.small, x₂.small, m, x₃.small)) in
+    let l₄ = laid_more l₃ x₄.value (omega (arith, h, x₁.small, x₂.small, m, x₃.small, x₄.small)) in
+    let l₅ = laid_more l₄ x₅.value (omega (arith, h, x₁.small, x₂.small, m, x₃.small, x₄.small, k, x₅.small)) in record {
+      value = laid_as l₅
           (note_parts
           (record_line n.number a.name.now)
           (filed_line a.place.clock)
@@ -117,6 +117,6 @@ returns c =
           (body_line n.body n.blocks)
           (target_line (pick (eqb n.target 255) none (some (drop 49 p))))
           (log_line a.place a.check.now)
-          (sum_lines n.blocks (take 16 (drop 16 p)) a.body.now)),
-      omega (arith, h, x₁.1, x₂.1, m, x₃.1, x₄.1, k, x₅.1),
-    )
+          (sum_lines n.blocks (take 16 (drop 16 p)) a.body.now));
+      small = omega (arith, h, x₁.small, x₂.small, m, x₃.small, x₄.small, k, x₅.small);
+    }

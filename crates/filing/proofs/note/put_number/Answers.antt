@@ -8,7 +8,7 @@ pub returns : goal.returns
 returns c =
     let t = c in
     let f = c in
-    let w = c in (
-      laid_as c.put_text.ensures.0 (number_cut _ _ c.first-digit.result c.write-digits.ensures c.first-digit.ensures.0),
-      omega (arith, c.put_text.ensures.1),
-    )
+    let w = c in record {
+      value = laid_as c.put_text.ensures.value (number_cut _ _ c.first-digit.result c.write-digits.ensures c.first-digit.ensures.0);
+      small = omega (arith, c.put_text.ensures.small);
+    }

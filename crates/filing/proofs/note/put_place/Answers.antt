@@ -19,7 +19,7 @@ returns c =
     let x = c.put_counted-a.ensures in
     let y = c.put_counted-b.ensures in
     let z = c.put_hexed.ensures in
-    let l = laid_more x.0 y.0 (omega (arith, c.requires, x.1, y.1)) in (
-      laid_as (laid_more l z.0 (omega (arith, c.requires, x.1, y.1, z.1))) (simp append_assoc),
-      omega (arith, c.requires, x.1, y.1, z.1),
-    )
+    let l = laid_more x.value y.value (omega (arith, c.requires, x.small, y.small)) in record {
+      value = laid_as (laid_more l z.value (omega (arith, c.requires, x.small, y.small, z.small))) (simp append_assoc);
+      small = omega (arith, c.requires, x.small, y.small, z.small);
+    }

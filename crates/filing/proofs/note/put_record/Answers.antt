@@ -24,8 +24,10 @@ returns c =
     let x₃ = c.put_text-c.ensures in
     let x₄ = c.put_text-d.ensures in
     let x₅ = c.put_text.ensures in
-    let l₂ = laid_more x₁.0 x₂.0 (omega (arith, x₁.1, x₂.1)) in
-    let l₃ = laid_more l₂ x₃.0 (omega (arith, x₁.1, x₂.1, x₃.1)) in
-    let l₄ = laid_more l₃ x₄.0 (omega (arith, n, x₁.1, x₂.1, x₃.1, x₄.1)) in
-    let l₅ = laid_more l₄ x₅.0 (omega (arith, n, x₁.1, x₂.1, x₃.1, x₄.1, x₅.1)) in
-    (laid_as l₅ (simp (t, append_assoc)), omega (arith, n, x₁.1, x₂.1, x₃.1, x₄.1, x₅.1))
+    let l₂ = laid_more x₁.value x₂.value (omega (arith, x₁.small, x₂.small)) in
+    let l₃ = laid_more l₂ x₃.value (omega (arith, x₁.small, x₂.small, x₃.small)) in
+    let l₄ = laid_more l₃ x₄.value (omega (arith, n, x₁.small, x₂.small, x₃.small, x₄.small)) in
+    let l₅ = laid_more l₄ x₅.value (omega (arith, n, x₁.small, x₂.small, x₃.small, x₄.small, x₅.small)) in record {
+      value = laid_as l₅ (simp (t, append_assoc));
+      small = omega (arith, n, x₁.small, x₂.small, x₃.small, x₄.small, x₅.small);
+    }

@@ -15,10 +15,10 @@ returns-then-numbers-eq0 c =
     let at-a-₁ = c in
     let a = c.args in
     let x = c.put_counted-a.ensures in
-    let y = c.put_text.ensures in (
-      laid_as (laid_more x.0 y.0 (omega (arith, x.1, y.1))) (rw (eq-eqb a.numbers.blocks 0 c.if-numbers-eq0.true) refl),
-      omega (arith, x.1, y.1),
-    )
+    let y = c.put_text.ensures in record {
+      value = laid_as (laid_more x.value y.value (omega (arith, x.small, y.small))) (rw (eq-eqb a.numbers.blocks 0 c.if-numbers-eq0.true) refl);
+      small = omega (arith, x.small, y.small);
+    }
 
 pub returns : goal.returns
 returns c =
@@ -37,8 +37,8 @@ returns c =
     let y = c.put_counted-b.ensures in
     let z = c.put_counted.ensures in
     let h = c.requires in
-    let l = laid_more x.0 y.0 (omega (arith, h, x.1, y.1)) in (
-      laid_as (laid_more l z.0 (omega (arith, h, x.1, y.1, z.1)))
-          (simp (ne_eqb a.numbers.blocks 0 c.if-numbers-eq0.false, append_assoc)),
-      omega (arith, h, x.1, y.1, z.1),
-    )
+    let l = laid_more x.value y.value (omega (arith, h, x.small, y.small)) in record {
+      value = laid_as (laid_more l z.value (omega (arith, h, x.small, y.small, z.small)))
+          (simp (ne_eqb a.numbers.blocks 0 c.if-numbers-eq0.false, append_assoc));
+      small = omega (arith, h, x.small, y.small, z.small);
+    }

@@ -11,8 +11,10 @@ pub returns-then-blocks-eq0 : goal.returns-then-blocks-eq0
 returns-then-blocks-eq0 c =
     let h = c in
     let at-a-₁ = c in
-    let a = c.args in
-    (laid_as c.put_hexed-a.ensures.0 (rw (eq-eqb a.blocks 0 c.if-blocks-eq0.true) refl), omega (arith, c.put_hexed-a.ensures.1))
+    let a = c.args in record {
+      value = laid_as c.put_hexed-a.ensures.value (rw (eq-eqb a.blocks 0 c.if-blocks-eq0.true) refl);
+      small = omega (arith, c.put_hexed-a.ensures.small);
+    }
 
 pub returns : goal.returns
 returns c =
@@ -22,7 +24,7 @@ returns c =
     let at-a-₁ = c in
     let a = c.args in
     let x = c.put_hexed-a.ensures in
-    let y = c.put_hexed.ensures in (
-      laid_as (laid_more x.0 y.0 (omega (arith, x.1, y.1))) (simp (ne_eqb a.blocks 0 c.if-blocks-eq0.false, append_assoc)),
-      omega (arith, x.1, y.1),
-    )
+    let y = c.put_hexed.ensures in record {
+      value = laid_as (laid_more x.value y.value (omega (arith, x.small, y.small))) (simp (ne_eqb a.blocks 0 c.if-blocks-eq0.false, append_assoc));
+      small = omega (arith, x.small, y.small);
+    }

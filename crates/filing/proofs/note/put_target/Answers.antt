@@ -11,25 +11,27 @@ pub returns-then-mark-eq-NO_TARGET : goal.returns-then-mark-eq-NO_TARGET
 returns-then-mark-eq-NO_TARGET c =
     let t = c in
     let i = c in
-    let a = c.args in
-    (laid_as c.put_text.ensures.0 (rw (eq-eqb a.mark 255 c.if-mark-eq-NO_TARGET.true) refl), omega (arith, c.put_text.ensures.1))
+    let a = c.args in record {
+      value = laid_as c.put_text.ensures.value (rw (eq-eqb a.mark 255 c.if-mark-eq-NO_TARGET.true) refl);
+      small = omega (arith, c.put_text.ensures.small);
+    }
 
 pub returns-then-target-eq0 : goal.returns-then-target-eq0
 returns-then-target-eq0 c =
     let t = c in
     let i = c in
-    let a = c.args in (
-      laid_as c.put_text-then-target-eq0.ensures.0
-          (rw (ne_eqb a.mark 255 c.if-mark-eq-NO_TARGET.false, eq-eqb (length a.target.now) 0 c.if-target-eq0.true) refl),
-      omega (arith, c.put_text-then-target-eq0.ensures.1),
-    )
+    let a = c.args in record {
+      value = laid_as c.put_text-then-target-eq0.ensures.value
+          (rw (ne_eqb a.mark 255 c.if-mark-eq-NO_TARGET.false, eq-eqb (length a.target.now) 0 c.if-target-eq0.true) refl);
+      small = omega (arith, c.put_text-then-target-eq0.ensures.small);
+    }
 
 pub returns : goal.returns
 returns c =
     let t = c in
     let i = c in
-    let a = c.args in (
-      laid_as c.put_hexed.ensures.0
-          (rw (ne_eqb a.mark 255 c.if-mark-eq-NO_TARGET.false, ne_eqb (length a.target.now) 0 c.if-target-eq0.false) refl),
-      omega (arith, c.put_hexed.ensures.1),
-    )
+    let a = c.args in record {
+      value = laid_as c.put_hexed.ensures.value
+          (rw (ne_eqb a.mark 255 c.if-mark-eq-NO_TARGET.false, ne_eqb (length a.target.now) 0 c.if-target-eq0.false) refl);
+      small = omega (arith, c.put_hexed.ensures.small);
+    }

@@ -5,4 +5,8 @@ use borrow.Author.Rules.{rules}
 use Rattle.filing.proofs.note.put_text.Goals as goal
 
 pub returns : goal.returns
-returns c = (record { ends = refl; lays = c.copy_into.ensures }, omega arith)
+returns c =
+    record {
+      value = record { ends = refl; lays = c.copy_into.ensures };
+      small = omega arith;
+    }

@@ -61,4 +61,4 @@ returns c =
       sym c.read_file.ensures ∙ c.in-Row.is,
     )
     (note_done a.store.now a.name.now a.place (frame_with c.in-Row.numbers a.payload.now) a.check.now a.body.now
-    c.put_note.ensures.0)
+    c.put_note.ensures.value)

@@ -14,8 +14,8 @@ returns c =
     let j = c in
     let f = c in
     let p = c in
-    let a = c.args in (
-      c.join.ensures.0 ∙ ap (λ (l : List ℕ). fit (in_folder a.folder.now l) a.path.now) (c.front.ensures
-          ∙ c.path_below-found.ensures.0),
-      c.join.ensures.1,
-    )
+    let a = c.args in record {
+      value = c.join.ensures.value ∙ ap (λ (l : List ℕ). fit (in_folder a.folder.now l) a.path.now) (c.front.ensures
+          ∙ c.path_below-found.ensures.value);
+      room = c.join.ensures.room;
+    }

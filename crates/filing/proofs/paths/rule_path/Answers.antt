@@ -10,11 +10,11 @@ use Rattle.filing.proofs.paths.rule_path.Goals as goal
 pub returns-then-not-is_file_name : goal.returns-then-not-is_file_name
 returns-then-not-is_file_name c =
     let k = c in
-    let a = c.args in (
-      no_rule a.folder.now a.name.now a.path.now a.target (sym c.is_file_name.ensures ∙ not-true c.is_file_name.result
-          c.if-not-is_file_name.true),
-      omega arith,
-    )
+    let a = c.args in record {
+      value = no_rule a.folder.now a.name.now a.path.now a.target (sym c.is_file_name.ensures ∙ not-true c.is_file_name.result
+          c.if-not-is_file_name.true);
+      room = omega arith;
+    }
 
 pub returns : goal.returns
 returns c =
@@ -26,12 +26,12 @@ returns c =
     let f₁ = c in
     let s = c in
     let k = c in
-    let a = c.args in (
-      rule_laid a.folder.now a.name.now a.path.now _ c.service_folder-service.result.name _ _ _ _ _ a.target
+    let a = c.args in record {
+      value = rule_laid a.folder.now a.name.now a.path.now _ c.service_folder-service.result.name _ _ _ _ _ a.target
           c.service_folder-service.result.length c.join-n.result c.join-m.result _
           (sym c.is_file_name.ensures ∙ not-false c.is_file_name.result c.if-not-is_file_name.false) c.front.ensures
-          c.service_folder-service.ensures.0
-          c.service_folder-service.ensures.1 c.join-n.ensures.0 c.front-2.ensures c.join-m.ensures.0 c.front-3.ensures
-          c.join.ensures.0,
-      c.join.ensures.1,
-    )
+          c.service_folder-service.ensures.value
+          c.service_folder-service.ensures.room c.join-n.ensures.value c.front-2.ensures c.join-m.ensures.value c.front-3.ensures
+          c.join.ensures.value;
+      room = c.join.ensures.room;
+    }

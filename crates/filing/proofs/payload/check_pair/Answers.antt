@@ -6,4 +6,4 @@ use Rattle.filing.proofs.payload.check_pair.Goals as goal
 
 pub returns : goal.returns
 unfolding check_pair
-returns c = rw (c.number.ensures.0, c.number-2.ensures.0) refl
+returns c = rw (c.number.ensures.value, c.number-2.ensures.value) refl

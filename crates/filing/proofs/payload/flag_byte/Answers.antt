@@ -9,11 +9,11 @@ unfolding flags_in
 returns c =
     let d = c in
     rw (
-      c.number-user.ensures.0,
-      c.number-only.ensures.0,
-      c.number-enforced.ensures.0,
-      c.number-refuses.ensures.0,
-      c.number-realm.ensures.0,
-      c.number.ensures.0,
-      c.number-2.ensures.0,
+      c.number-user.ensures.value,
+      c.number-only.ensures.value,
+      c.number-enforced.ensures.value,
+      c.number-refuses.ensures.value,
+      c.number-realm.ensures.value,
+      c.number.ensures.value,
+      c.number-2.ensures.value,
     ) refl

@@ -9,12 +9,12 @@ use Rattle.filing.proofs.users.first_user.Goals as goal
 pub slice_bounds-result-end : goal.slice_bounds-result-end
 slice_bounds-result-end c =
     let k = c in
-    let h = c.find-n.ensures.1 in
+    let h = c.find-n.ensures.room in
     let l = take_short c.find-end.result c.args.text.now in
-    omega (arith, h, c.find-end.ensures.1)
+    omega (arith, h, c.find-end.ensures.room)
 
 pub returns : goal.returns
 returns c =
     let t = c in
     let k = c in
-    first-user c.args.text.now _ c.find-end.result c.find-n.result c.find-end.ensures.0 refl c.find-n.ensures.0
+    first-user c.args.text.now _ c.find-end.result c.find-n.result c.find-end.ensures.value refl c.find-n.ensures.value

@@ -46,9 +46,9 @@ line-is (request.Read room) = refl
 pub returns : goal.returns
 returns c =
     let z = c in
-    let x = c.args in (
-      search rules,
-      (c.put_line_at.ensures.1
+    let x = c.args in record {
+      within = search rules;
+      text = (c.put_line_at.ensures.text
           ∙ ap (put_bytes x.out.now x.n)
-          (ap (λ (k : ℕ). piece_of names k line_feed) c.Line-of.ensures ∙ line-is x.request)),
-    )
+          (ap (λ (k : ℕ). piece_of names k line_feed) c.Line-of.ensures ∙ line-is x.request));
+    }

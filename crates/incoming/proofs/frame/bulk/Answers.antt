@@ -19,7 +19,7 @@ copy_into-requires c =
     let r = c.room-m.ensures in
     omega (
       arith,
-      small x.at m c.be16_at-n.result c.be16_at-n.ensures.1 (omega arith) r.1,
+      small x.at m c.be16_at-n.result c.be16_at-n.ensures.small (omega arith) r.1,
       length-take (x.i + m - x.i) (drop x.i x.input.now),
     )
 
@@ -28,9 +28,9 @@ returns c =
     let x = c.args in
     let m = c.room-m.result in
     let r = c.room-m.ensures in
-    let n = c.be16_at-n in (
-      (omega arith, small x.at m n.result n.ensures.1 (omega arith) r.1),
-      jumped x.packet.now c.copy_into.new.0 x.input.now x.at x.i m
-          (subst (λ (k : ℕ). 0 < m → (3 ≤ x.at) × (x.at + m < k)) n.ensures.0 r.1) (omega arith)
-          (omega (arith, small x.at m n.result n.ensures.1 (omega arith) r.1)) c.copy_into.ensures,
-    )
+    let n = c.be16_at-n in record {
+      within = (omega arith, small x.at m n.result n.ensures.small (omega arith) r.1);
+      model = jumped x.packet.now c.copy_into.new.0 x.input.now x.at x.i m
+          (subst (λ (k : ℕ). 0 < m → (3 ≤ x.at) × (x.at + m < k)) n.ensures.value r.1) (omega arith)
+          (omega (arith, small x.at m n.result n.ensures.small (omega arith) r.1)) c.copy_into.ensures;
+    }

@@ -20,28 +20,36 @@ short-whole w = let z : ◌≡◌ {A = ℕ} 0 1 = cc in omega arith
 
 pub returns-then-begun-lt3 : goal.returns-then-begun-lt3
 unfolding frame_end
-returns-then-begun-lt3 c = (simp (lt-ltb _ _ c.if-begun-lt3.true), (λ w. omega arith, λ w. absurd (more-whole w)))
+returns-then-begun-lt3 c =
+    record {
+      end = simp (lt-ltb _ _ c.if-begun-lt3.true);
+      room = λ w. omega arith;
+      whole = λ w. absurd (more-whole w);
+    }
 
 pub returns-then-n-lt3 : goal.returns-then-n-lt3
 unfolding frame_end
 returns-then-n-lt3 c =
-    let n = c in (
-      simp (le-ltb _ _ c.if-begun-lt3.false, ← c.be16_at-n.ensures.0, lt-ltb _ _ c.if-n-lt3.true),
-      (λ w. absurd (short-more w), λ w. absurd (short-whole w)),
-    )
+    let n = c in record {
+      end = simp (le-ltb _ _ c.if-begun-lt3.false, ← c.be16_at-n.ensures.value, lt-ltb _ _ c.if-n-lt3.true);
+      room = λ w. absurd (short-more w);
+      whole = λ w. absurd (short-whole w);
+    }
 
 pub returns-then-n-begun : goal.returns-then-n-begun
 unfolding frame_end
 returns-then-n-begun c =
-    let n = c in (
-      simp (le-ltb _ _ c.if-begun-lt3.false, ← c.be16_at-n.ensures.0, le-ltb _ _ c.if-n-lt3.false, le-leb _ _ c.if-n-begun.true),
-      (λ w. absurd (more-whole (sym w)), λ w. omega arith),
-    )
+    let n = c in record {
+      end = simp (le-ltb _ _ c.if-begun-lt3.false, ← c.be16_at-n.ensures.value, le-ltb _ _ c.if-n-lt3.false, le-leb _ _ c.if-n-begun.true);
+      room = λ w. absurd (more-whole (sym w));
+      whole = λ w. omega arith;
+    }
 
 pub returns : goal.returns
 unfolding frame_end
 returns c =
-    let n = c in (
-      simp (le-ltb _ _ c.if-begun-lt3.false, ← c.be16_at-n.ensures.0, le-ltb _ _ c.if-n-lt3.false, lt-leb _ _ c.if-n-begun.false),
-      (λ w. omega arith, λ w. absurd (more-whole w)),
-    )
+    let n = c in record {
+      end = simp (le-ltb _ _ c.if-begun-lt3.false, ← c.be16_at-n.ensures.value, le-ltb _ _ c.if-n-lt3.false, lt-leb _ _ c.if-n-begun.false);
+      room = λ w. omega arith;
+      whole = λ w. absurd (more-whole w);
+    }

@@ -51,29 +51,31 @@ stays p i b n f h k =
 pub returns-in_default : goal.returns-in_default
 returns-in_default c =
     let r = c.read_placed-f in
-    let x = c.args in
-    (r.ensures.1.0, stays x.packet.now x.input.now x.begun x.placed r.result r.ensures.1.1 c.in_default.keys2)
+    let x = c.args in record {
+      whole = r.ensures.whole;
+      model = stays x.packet.now x.input.now x.begun x.placed r.result r.ensures.model c.in_default.in_default-own.keys2;
+    }
 
 pub read_offered-g-requires : goal.read_offered-g-requires
 read_offered-g-requires c =
     let r = c.read_placed-f in
-    (r.ensures.0 c.in-More.is, c.requires.1)
+    (r.ensures.more c.in-More.is, c.requires.1)
 
 pub overflow_add-result : goal.overflow_add-result
 overflow_add-result c =
     let o = c in
     let r = c.read_placed-f in
     let x = c.args in
-    sum_fits x.packet.now x.input.now _ x.begun x.placed r.result c.read_offered-g.result r.ensures.1.1
-    c.read_offered-g.ensures.1 c.struct_known-2-1.given.0
+    sum_fits x.packet.now x.input.now _ x.begun x.placed r.result c.read_offered-g.result r.ensures.model
+    c.read_offered-g.ensures.model c.struct_known-2-1.given.0
 
 pub returns : goal.returns
 returns c =
     let o = c in
     let e = c in
     let r = c.read_placed-f in
-    let x = c.args in (
-      c.read_offered-g.ensures.0,
-      follows x.packet.now x.input.now _ x.begun x.placed r.result c.read_offered-g.result r.ensures.1.1 c.in-More.is
-          c.read_offered-g.ensures.1,
-    )
+    let x = c.args in record {
+      whole = c.read_offered-g.ensures.whole;
+      model = follows x.packet.now x.input.now _ x.begun x.placed r.result c.read_offered-g.result r.ensures.model c.in-More.is
+          c.read_offered-g.ensures.model;
+    }

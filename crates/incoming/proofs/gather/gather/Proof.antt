@@ -48,7 +48,7 @@ same-length-2 c = c.loop-g.invariant.2
 returns : tie.Need-returns-in_default invariant-loop decreases-loop
 returns c =
     let l = c.loop-g.invariant.0 in
-    (ends _ _ _ _ _ _ l _ c.step.ensures c.in_default.keys2, (l.kept-room, l.body-within))
+    (ends _ _ _ _ _ _ l _ c.step.ensures c.in_default.in_default-own.keys2, (l.kept-room, l.body-within))
 
 gather-one-requires : tie.Need-gather_one-g-requires invariant-loop decreases-loop
 gather-one-requires c κs =

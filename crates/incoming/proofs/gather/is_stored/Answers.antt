@@ -3,4 +3,4 @@ use borrow.Author.Rules.{rules}
 use Rattle.incoming.proofs.gather.is_stored.Goals as goal
 
 pub returns-in-Put : goal.returns-in-Put
-returns-in-Put c = rw c.in-Put.is c.is_IsBody.ensures
+returns-in-Put c = rw c.in-Put.is c.is_body.ensures

@@ -6,11 +6,15 @@ use Rattle.incoming.proofs.gather.keep_bytes.Goals as goal
 
 pub returns-then-kept-bytes : goal.returns-then-kept-bytes
 returns-then-kept-bytes c =
-    let x = c.args in
-    keeps-not x.g x.headers.now b x.bytes.now (omega arith) c.if-kept-bytes.true
+    record {
+      model = λ b. let x = c.args in
+          keeps-not x.g x.headers.now b x.bytes.now (omega arith) c.if-kept-bytes.true;
+    }
 
 pub returns : goal.returns
 returns c =
-    let k = c in
-    let x = c.args in
-    rw c.copy_into.ensures (keeps x.g x.headers.now b x.bytes.now (omega arith) c.if-kept-bytes.false)
+    record {
+      model = λ b. let k = c in
+          let x = c.args in
+          rw c.copy_into.ensures (keeps x.g x.headers.now b x.bytes.now (omega arith) c.if-kept-bytes.false);
+    }

@@ -6,11 +6,15 @@ use Rattle.incoming.proofs.gather.store_bytes.Goals as goal
 
 pub returns-then-limit-stored : goal.returns-then-limit-stored
 returns-then-limit-stored c =
-    let x = c.args in
-    stores-not x.g h x.body.now x.bytes.now x.limit (omega arith) c.if-limit-stored.true
+    record {
+      model = λ h. let x = c.args in
+          stores-not x.g h x.body.now x.bytes.now x.limit (omega arith) c.if-limit-stored.true;
+    }
 
 pub returns : goal.returns
 returns c =
-    let k = c in
-    let x = c.args in
-    rw c.copy_into.ensures (stores x.g h x.body.now x.bytes.now x.limit (omega arith) c.if-limit-stored.false)
+    record {
+      model = λ h. let k = c in
+          let x = c.args in
+          rw c.copy_into.ensures (stores x.g h x.body.now x.bytes.now x.limit (omega arith) c.if-limit-stored.false);
+    }

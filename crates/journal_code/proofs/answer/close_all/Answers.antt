@@ -33,7 +33,7 @@ loop-at-preserved c =
       omega (arith, c.loop-at-test.true),
       closing_on x.ids.now x.count x.tables.now c.loop-at.at c.loop-at.left c.loop-at.tables _ _ _
           (omega (arith, c.loop-at-test.true)) c.loop-at.invariant.1
-          c.be32_at.ensures c.close_link-left.ensures.0 c.close_link-left.ensures.1,
+          c.be32_at.ensures c.close_link-left.ensures.value c.close_link-left.ensures.store,
     )
 
 pub shape_of-tables : goal.shape_of-tables

@@ -13,7 +13,7 @@ pub gather-g-requires : goal.gather-g-requires
 gather-g-requires c =
     let k = c in
     let l = c in
-    (c.requires.0, c.begun_of-begun.ensures.1.0 c.requires.3, c.requires.1, c.begun_of-begun.ensures.1.1 c.requires.4, c.requires.2)
+    (c.requires.0, c.begun_of-begun.ensures.within.0 c.requires.3, c.requires.1, c.begun_of-begun.ensures.within.1 c.requires.4, c.requires.2)
 
 pub returns-in-Stop : goal.returns-in-Stop
 returns-in-Stop c =
@@ -40,11 +40,11 @@ returns-in-Put c =
     let j = c in
     rw c.put_state.ensures
     (ap (λ (g : Gathering). put_step c.args.s c.args.h c.in-Put.srm c.in-Put.next g)
-    (c.gather-g.ensures.0
+    (c.gather-g.ensures.model
     ∙ ap (λ (b : Gathered). gather_all keep.Put c.args.s.settings.limit
     (headers_from c.args.p.now c.args.h.headers)
     (gathering b c.args.headers.now c.args.body.now))
-    c.begun_of-begun.ensures.0)
+    c.begun_of-begun.ensures.value)
     ∙ sym (ap (λ (v : Route). act_step v c.args.s c.args.h
     (headers_from c.args.p.now c.args.h.headers) c.args.headers.now c.args.body.now)
     (sym c.heading_route.ensures ∙ c.in-Put.is)))

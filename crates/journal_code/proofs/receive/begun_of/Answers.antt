@@ -4,7 +4,15 @@ use borrow.Author.Rules.{rules}
 use Rattle.journal_code.proofs.receive.begun_of.Goals as goal
 
 pub returns-then-first : goal.returns-then-first
-returns-then-first c = (rw c.if-first.true c.nothing_gathered.ensures, rw c.nothing_gathered.ensures (λ h. omega arith, λ h. omega arith))
+returns-then-first c =
+    record {
+      value = rw c.if-first.true c.nothing_gathered.ensures;
+      within = rw c.nothing_gathered.ensures (λ h. omega arith, λ h. omega arith);
+    }
 
 pub returns : goal.returns
-returns c = (rw c.if-first.false, (λ h. h, λ h. h))
+returns c =
+    record {
+      value = rw c.if-first.false;
+      within = (λ h. h, λ h. h);
+    }

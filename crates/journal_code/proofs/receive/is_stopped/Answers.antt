@@ -4,10 +4,10 @@ use borrow.Author.Rules.{rules}
 use Rattle.journal_code.proofs.receive.is_stopped.Goals as goal
 
 pub returns-then-too_many : goal.returns-then-too_many
-returns-then-too_many c = simp (c.if-s.true, sym c.too_many.ensures.0 ∙ c.if-too_many.true)
+returns-then-too_many c = simp (c.if-s.true, sym c.too_many.ensures.value ∙ c.if-too_many.true)
 
 pub returns-then-s : goal.returns-then-s
-returns-then-s c = simp (c.if-s.true, sym c.too_many.ensures.0 ∙ c.if-too_many.false)
+returns-then-s c = simp (c.if-s.true, sym c.too_many.ensures.value ∙ c.if-too_many.false)
 
 pub returns : goal.returns
 returns c = simp c.if-s.false

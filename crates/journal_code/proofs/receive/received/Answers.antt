@@ -40,7 +40,7 @@ slice_bounds-take_packet-end c =
     let l = c in
     omega (
       arith,
-      c.read_packet-f.ensures.0 c.in-Whole.is,
+      c.read_packet-f.ensures.whole c.in-Whole.is,
       c.packet-1.given,
       (fits c.args.s _ _ _ _
           (sym c.is_fitting.ensures ∙ not-false c.is_fitting.result c.if-not-is_fitting.false)).packet,
@@ -53,7 +53,7 @@ slice_bounds-take_packet-end-in-Whole c =
     let j = c in
     sym (length-take-le _ _ (omega (
       arith,
-      c.read_packet-f.ensures.0 c.in-Whole.is,
+      c.read_packet-f.ensures.whole c.in-Whole.is,
       c.packet-1.given,
       (fits c.args.s _ _ _ _ (sym c.is_fitting.ensures
           ∙ not-false c.is_fitting.result c.if-not-is_fitting.false)).packet,
@@ -76,7 +76,7 @@ returns-in-More c =
     let j = c in
     rw c.coming_to.ensures
     (goes_on c.args.s c.args.tables.now c.args.headers.now c.args.body.now _ _ _
-    c.read_packet-f.ensures.1 c.in-More.is
+    c.read_packet-f.ensures.model c.in-More.is
     ∙ on_true _ _ _ (sym c.is_fitting.ensures
     ∙ not-false c.is_fitting.result c.if-not-is_fitting.false)
     ∙ on_false _ _ _ c.if-s.false)
@@ -89,7 +89,7 @@ returns-in-Short c =
     let j = c in
     rw c.ended_with.ensures
     (too_short c.args.s c.args.tables.now c.args.headers.now c.args.body.now _ _ _
-    c.read_packet-f.ensures.1 c.in-Short.is
+    c.read_packet-f.ensures.model c.in-Short.is
     ∙ on_true _ _ _ (sym c.is_fitting.ensures
     ∙ not-false c.is_fitting.result c.if-not-is_fitting.false)
     ∙ on_false _ _ _ c.if-s.false)
@@ -102,7 +102,7 @@ returns-in-Whole c =
     let j = c in
     let m = c in
     is_whole c.args.s c.args.tables.now c.args.headers.now
-    c.args.body.now _ _ _ c.read_packet-f.ensures.1
+    c.args.body.now _ _ _ c.read_packet-f.ensures.model
     c.in-Whole.is _ _ _ c.take_packet.ensures
     ∙ on_true _ _ _ (sym c.is-fitting.ensures ∙ not-false c.is-fitting.result c.if-not-is_fitting.false)
     ∙ on_false _ _ _ c.if-s.false

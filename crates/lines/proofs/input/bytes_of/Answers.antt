@@ -5,4 +5,8 @@ use Rattle.lines.proofs.input.bytes_of.Goals as goal
 
 pub returns : goal.returns
 unfolding bytes_of
-returns c = (search rules, simp (c.least-start.ensures.1, c.least-end.ensures.1))
+returns c =
+    record {
+      within = search rules;
+      bytes = simp (c.least-start.ensures.least, c.least-end.ensures.least);
+    }

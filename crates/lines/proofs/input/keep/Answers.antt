@@ -25,5 +25,7 @@ pub returns : goal.returns
 unfolding kept_front
 returns c =
     let l = c.loop-i in
-    let e : l.i ≡ _ = le_antisymm l.invariant.0 c.loop-i-test.false in
-    (search rules, rw (l.invariant.2, e) refl)
+    let e : l.i ≡ _ = le_antisymm l.invariant.0 c.loop-i-test.false in record {
+      within = search rules;
+      kept = rw (l.invariant.2, e) refl;
+    }

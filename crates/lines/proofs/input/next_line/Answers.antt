@@ -36,25 +36,25 @@ not-whole s x have start end h n e l =
 
 pub returns-then-end-have : goal.returns-then-end-have
 returns-then-end-have c =
-    let z = c in (
-      search rules,
-      (λ t. (
-        whole _ c.args.before _ _ _ _ c.least-have.ensures.1 c.least2.ensures.1
-            c.find-end.ensures.1 c.has_cut-is_cut.ensures,
+    let z = c in record {
+      bounds = search rules;
+      whole = (λ t. (
+        whole _ c.args.before _ _ _ _ c.least-have.ensures.least c.least2.ensures.1
+            c.find-end.ensures.place c.has_cut-is_cut.ensures,
         refl,
-      )),
-    )
+      ));
+    }
 
 pub returns : goal.returns
 returns c =
     let z = c in
     let y = c in
-    let at-find = c in (
-      search rules,
-      (λ t.
+    let at-find = c in record {
+      bounds = search rules;
+      whole = (λ t.
           absurd
           (differs _
-          (not-whole _ c.args.before _ _ _ c.least-have.ensures.1
-          c.least-start.ensures.1 c.find-end.ensures.1
-          c.if-end-have.false) t)),
-    )
+          (not-whole _ c.args.before _ _ _ c.least-have.ensures.least
+          c.least-start.ensures.least c.find-end.ensures.place
+          c.if-end-have.false) t));
+    }

@@ -17,8 +17,10 @@ unfolding hex_front
 returns-then-s-n c =
     let l = c.loop-n in
     let x = c.args in
-    let e = all-bytes (length x.s.now) (length x.out.now / 2) l.n c.if-s-n.true l.invariant.2 (omega arith) in
-    (search rules, rw (e, l.invariant.3) refl)
+    let e = all-bytes (length x.s.now) (length x.out.now / 2) l.n c.if-s-n.true l.invariant.2 (omega arith) in record {
+      within = search rules;
+      text = rw (e, l.invariant.3) refl;
+    }
 
 pub bounds-out-n-in-loop-n : goal.bounds-out-n-in-loop-n
 bounds-out-n-in-loop-n c = simp length-set (omega arith)
@@ -43,5 +45,7 @@ unfolding hex_front
 returns c =
     let l = c.loop-n in
     let x = c.args in
-    let e = all_room (length x.s.now) (length x.out.now / 2) l.n l.invariant.2 (omega arith) (omega arith) in
-    (search rules, rw (e, l.invariant.3) refl)
+    let e = all_room (length x.s.now) (length x.out.now / 2) l.n l.invariant.2 (omega arith) (omega arith) in record {
+      within = search rules;
+      text = rw (e, l.invariant.3) refl;
+    }

@@ -4,7 +4,15 @@ use borrow.Author.Rules.{rules}
 use Rattle.lines.proofs.output.flush.Goals as goal
 
 pub returns-then-n-out : goal.returns-then-n-out
-returns-then-n-out c = (search rules, simp (lt-ltb _ _ c.if-n-out.true))
+returns-then-n-out c =
+    record {
+      within = search rules;
+      left = simp (lt-ltb _ _ c.if-n-out.true);
+    }
 
 pub returns : goal.returns
-returns c = (search rules, simp (le-ltb _ _ c.if-n-out.false, c.write.ensures))
+returns c =
+    record {
+      within = search rules;
+      left = simp (le-ltb _ _ c.if-n-out.false, c.write.ensures);
+    }

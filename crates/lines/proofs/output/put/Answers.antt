@@ -6,7 +6,7 @@ use Rattle.lines.proofs.output.put.Goals as goal
 
 pub returns : goal.returns
 returns c =
-    let z = c in (
-      search rules,
-      put_of _ _ _ _ _ _ c.least-at.ensures.1 c.least-k.ensures.1 c.copy_into.ensures,
-    )
+    let z = c in record {
+      within = search rules;
+      text = put_of _ _ _ _ _ _ c.least-at.ensures.least c.least-k.ensures.least c.copy_into.ensures;
+    }

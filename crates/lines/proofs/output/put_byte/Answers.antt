@@ -3,4 +3,8 @@ use borrow.Author.Rules.{rules}
 use Rattle.lines.proofs.output.put_byte.Goals as goal
 
 pub returns : goal.returns
-returns c = (search rules, rw (← c.pair-two.ensures) c.put.ensures.1)
+returns c =
+    record {
+      within = search rules;
+      text = rw (← c.pair-two.ensures) c.put.ensures.text;
+    }

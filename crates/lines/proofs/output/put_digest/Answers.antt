@@ -10,13 +10,13 @@ returns c =
     let z = c in
     let at-put2 = c in
     let at-number = c in
-    let at-put = c in (
-      search rules,
-      rw (
-        ← c.put-a.ensures.1,
-        ← c.put_number-b.ensures.1,
-        ← c.put-c.ensures.1,
+    let at-put = c in record {
+      within = search rules;
+      text = rw (
+        ← c.put-a.ensures.text,
+        ← c.put_number-b.ensures.text,
+        ← c.put-c.ensures.text,
         ← c.digest-sum.ensures,
       )
-          c.put_digits.ensures.1,
-    )
+          c.put_digits.ensures.text;
+    }

@@ -4,8 +4,9 @@ use borrow.Author.Rules.{rules}
 use Rattle.lines.proofs.output.put_digits.Goals as goal
 
 pub returns : goal.returns
-returns c = (
-  search rules,
-  part_digits _ _ _ _ _ _ c.least-at.ensures.1 c.least-at.ensures.0.1
-      c.digits-k.ensures.1,
-)
+returns c =
+    record {
+      within = search rules;
+      text = part_digits _ _ _ _ _ _ c.least-at.ensures.least c.least-at.ensures.bounds.1
+          c.digits-k.ensures.text;
+    }

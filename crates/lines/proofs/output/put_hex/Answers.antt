@@ -6,20 +6,26 @@ use Rattle.lines.proofs.output.put_hex.Goals as goal
 
 pub returns-then-s-eq0 : goal.returns-then-s-eq0
 unfolding put_hex
-returns-then-s-eq0 c = (search rules, rw (eq-eqb _ 0 c.if-s-eq0.true) c.put.ensures.1)
+returns-then-s-eq0 c =
+    record {
+      within = search rules;
+      text = rw (eq-eqb _ 0 c.if-s-eq0.true) c.put.ensures.text;
+    }
 
 pub returns-then-longest-s : goal.returns-then-longest-s
 unfolding put_hex
-returns-then-longest-s c = (
-  search rules,
-  rw (ne_eqb _ 0 c.if-s-eq0.false, lt-ltb _ _ c.if-longest-s.true)
-      c.put_digest.ensures.1,
-)
+returns-then-longest-s c =
+    record {
+      within = search rules;
+      text = rw (ne_eqb _ 0 c.if-s-eq0.false, lt-ltb _ _ c.if-longest-s.true)
+          c.put_digest.ensures.text;
+    }
 
 pub returns : goal.returns
 unfolding put_hex
-returns c = (
-  search rules,
-  rw (ne_eqb _ 0 c.if-s-eq0.false, le-ltb _ _ c.if-longest-s.false)
-      c.put_digits.ensures.1,
-)
+returns c =
+    record {
+      within = search rules;
+      text = rw (ne_eqb _ 0 c.if-s-eq0.false, le-ltb _ _ c.if-longest-s.false)
+          c.put_digits.ensures.text;
+    }

@@ -3,4 +3,8 @@ use borrow.Author.Rules.{rules}
 use Rattle.lines.proofs.output.put_line_at.Goals as goal
 
 pub returns : goal.returns
-returns c = (search rules, rw (← c.line_at-place.ensures.1) c.put.ensures.1)
+returns c =
+    record {
+      within = search rules;
+      text = rw (← c.line_at-place.ensures.place) c.put.ensures.text;
+    }

@@ -9,5 +9,7 @@ pub returns : goal.returns
 returns c =
     let z = c in
     let d = c.decimal-k.ensures in
-    let x = c.args in
-    (search rules, c.put.ensures.1 ∙ ap (put_bytes x.out.now x.n) (decimal_is _ _ _ d.1.0 d.1.1))
+    let x = c.args in record {
+      within = search rules;
+      text = c.put.ensures.text ∙ ap (put_bytes x.out.now x.n) (decimal_is _ _ _ d.len d.1.1);
+    }

@@ -6,8 +6,16 @@ use Rattle.lines.proofs.word.after.Goals as goal
 
 pub returns-then-end-s : goal.returns-then-end-s
 unfolding place_after
-returns-then-end-s c = (search rules, simp (lt-ltb _ _ c.if-end-s.true))
+returns-then-end-s c =
+    record {
+      bounds = search rules;
+      place = simp (lt-ltb _ _ c.if-end-s.true);
+    }
 
 pub returns-else-end-s : goal.returns-else-end-s
 unfolding place_after
-returns-else-end-s c = (search rules, simp (le-ltb _ _ c.if-end-s.false))
+returns-else-end-s c =
+    record {
+      bounds = search rules;
+      place = simp (le-ltb _ _ c.if-end-s.false);
+    }

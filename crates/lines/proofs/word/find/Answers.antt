@@ -17,8 +17,10 @@ returns-then-s-i c =
     let l = c.loop-i in
     let x = c.args in
     let u = until_found x.s.now x.byte l.i c.loop-i-test.true c.if-s-i.true in
-    let e = l.invariant.2 in
-    ((omega arith, omega arith), omega arith)
+    let e = l.invariant.2 in record {
+      bounds = (omega arith, omega arith);
+      place = omega arith;
+    }
 
 pub loop-i-preserved : goal.loop-i-preserved
 loop-i-preserved c =
@@ -33,5 +35,7 @@ returns c =
     let l = c.loop-i in
     let x = c.args in
     let u = until_end x.s.now x.byte l.i l.invariant.1 c.loop-i-test.false in
-    let e = l.invariant.2 in
-    ((omega arith, omega arith), omega arith)
+    let e = l.invariant.2 in record {
+      bounds = (omega arith, omega arith);
+      place = omega arith;
+    }

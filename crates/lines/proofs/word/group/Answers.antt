@@ -5,7 +5,7 @@ use Rattle.lines.proofs.word.group.Goals as goal
 
 pub returns : goal.returns
 returns c =
-    let z = c in (
-      search rules,
-      group_of _ _ _ _ _ _ _ c.find-end.ensures.1 c.number.ensures.1 c.repeat-n.ensures,
-    )
+    let z = c in record {
+      bounds = search rules;
+      scanned = group_of _ _ _ _ _ _ _ c.find-end.ensures.place c.number.ensures.number c.repeat-n.ensures;
+    }

@@ -18,12 +18,12 @@ returns-then-same c =
     let l = c.loop-at in
     let x = c.args in
     let m = l.invariant.2 in
-    let e = c.find-end.ensures.1 in
-    let t = same_true _ x.w.now (c.same.ensures.0 c.if-same.true) in (
-      l.invariant.1,
-      line_found x.text.now x.w.now _ l.at l.k m.0 c.loop-at-test.true m.1.0 m.1.1 (rw
-          (← e) t),
-    )
+    let e = c.find-end.ensures.place in
+    let t = same_true _ x.w.now (c.same.ensures.0 c.if-same.true) in record {
+      within = l.invariant.1;
+      number = line_found x.text.now x.w.now _ l.at l.k m.0 c.loop-at-test.true m.1.0 m.1.1 (rw
+          (← e) t);
+    }
 
 pub loop-at-preserved : goal.loop-at-preserved
 loop-at-preserved c =
@@ -31,7 +31,7 @@ loop-at-preserved c =
     let l = c.loop-at in
     let x = c.args in
     let m = l.invariant.2 in
-    let e = c.find-end.ensures.1 in
+    let e = c.find-end.ensures.place in
     let t = same_false _ x.w.now (λ q. differs _ c.if-same.false (c.same.ensures.1 q)) in (
       search rules,
       search rules,
@@ -44,5 +44,7 @@ pub returns : goal.returns
 returns c =
     let l = c.loop-at in
     let x = c.args in
-    let m = l.invariant.2 in
-    (l.invariant.1, line_end_lem x.text.now x.w.now _ l.at l.k m.0 c.loop-at-test.false m.1.1)
+    let m = l.invariant.2 in record {
+      within = l.invariant.1;
+      number = line_end_lem x.text.now x.w.now _ l.at l.k m.0 c.loop-at-test.false m.1.1;
+    }

@@ -6,11 +6,16 @@ use Rattle.lines.proofs.word.more.Goals as goal
 
 pub returns-then-n-ge1000000000 : goal.returns-then-n-ge1000000000
 unfolding with_digit
-returns-then-n-ge1000000000 c = (search rules, simp (le-leb _ _ c.if-n-ge1000000000.true))
+returns-then-n-ge1000000000 c =
+    record {
+      small = search rules;
+      number = simp (le-leb _ _ c.if-n-ge1000000000.true);
+    }
 
 pub returns : goal.returns
 unfolding with_digit
-returns c = (
-  search rules,
-  simp (lt-leb _ _ c.if-n-ge1000000000.false, c.wide.ensures.0, c.value.ensures.1),
-)
+returns c =
+    record {
+      small = search rules;
+      number = simp (lt-leb _ _ c.if-n-ge1000000000.false, c.wide.ensures.0, c.value.ensures.value);
+    }

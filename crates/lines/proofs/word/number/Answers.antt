@@ -15,13 +15,15 @@ pub loop-i-preserved : goal.loop-i-preserved
 loop-i-preserved c =
     let l = c.loop-i in
     let s = c.args.s.now in (
-      c.more-n.ensures.0,
+      c.more-n.ensures.small,
       omega arith,
-      (rw c.more-n.ensures.1 (l.invariant.2 ∙ number-turn s l.n l.i c.loop-i-test.true)),
+      (rw c.more-n.ensures.number (l.invariant.2 ∙ number-turn s l.n l.i c.loop-i-test.true)),
     )
 
 pub returns : goal.returns
 returns c =
     let l = c.loop-i in
-    let s = c.args.s.now in
-    (l.invariant.0, sym (l.invariant.2 ∙ number-end s l.n l.i l.invariant.1 c.loop-i-test.false))
+    let s = c.args.s.now in record {
+      small = l.invariant.0;
+      number = sym (l.invariant.2 ∙ number-end s l.n l.i l.invariant.1 c.loop-i-test.false);
+    }

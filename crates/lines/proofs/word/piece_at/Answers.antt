@@ -19,7 +19,7 @@ loop-i-preserved c =
     let s = l.invariant.2 in (
       search rules,
       omega arith,
-      (rw (c.after-start.ensures.1, c.find.ensures.1, s) (sym (ap (piece_start x.byte x.text.now) (add-one l.i)))),
+      (rw (c.after-start.ensures.place, c.find.ensures.place, s) (sym (ap (piece_start x.byte x.text.now) (add-one l.i)))),
     )
 
 pub returns : goal.returns
@@ -29,5 +29,7 @@ returns c =
     let x = c.args in
     let e : l.start ≡ piece_start x.byte x.text.now x.k =
     l.invariant.2 ∙ ap (piece_start x.byte x.text.now) (le_antisymm l.invariant.1 c.loop-i-test.false)
-    in
-    (search rules, simp (c.find-2.ensures.1, e))
+    in record {
+      bounds = search rules;
+      place = simp (c.find-2.ensures.place, e);
+    }

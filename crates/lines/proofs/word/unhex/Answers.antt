@@ -19,8 +19,8 @@ loop-p-preserved c =
     let m = l.invariant.1 in (
       search rules,
       scan-turn c.args.s.now l.out _ _ l.p _ m.0 c.loop-p-test.true
-          m.1.0 m.1.1 c.scan_one-p.ensures.1
-          c.scan_one-p.ensures.0.0,
+          m.1.0 m.1.1 c.scan_one-p.ensures.scanned
+          c.scan_one-p.ensures.bounds.0,
     )
 
 pub returns-then-n-out : goal.returns-then-n-out
@@ -28,13 +28,17 @@ unfolding unhexed
 returns-then-n-out c =
     let z = c in
     let l = c.loop-p in
-    let e = scan-end c.args.s.now l.out _ l.p l.invariant.1.0 c.loop-p-test.false l.invariant.1.1.1 in
-    (search rules, simp (e, le-leb _ _ c.if-n-out.true, sym l.invariant.0))
+    let e = scan-end c.args.s.now l.out _ l.p l.invariant.1.0 c.loop-p-test.false l.invariant.1.1.1 in record {
+      within = search rules;
+      bytes = simp (e, le-leb _ _ c.if-n-out.true, sym l.invariant.0);
+    }
 
 pub returns-else-n-out : goal.returns-else-n-out
 unfolding unhexed
 returns-else-n-out c =
     let z = c in
     let l = c.loop-p in
-    let e = scan-end c.args.s.now l.out _ l.p l.invariant.1.0 c.loop-p-test.false l.invariant.1.1.1 in
-    (search rules, simp (e, lt-leb _ _ c.if-n-out.false, sym l.invariant.0))
+    let e = scan-end c.args.s.now l.out _ l.p l.invariant.1.0 c.loop-p-test.false l.invariant.1.1.1 in record {
+      within = search rules;
+      bytes = simp (e, lt-leb _ _ c.if-n-out.false, sym l.invariant.0);
+    }

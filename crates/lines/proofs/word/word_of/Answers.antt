@@ -4,4 +4,8 @@ use borrow.Author.Rules.{rules}
 use Rattle.lines.proofs.word.word_of.Goals as goal
 
 pub returns : goal.returns
-returns c = (search rules, rw (← c.piece_at-place.ensures.1) refl)
+returns c =
+    record {
+      within = search rules;
+      bytes = rw (← c.piece_at-place.ensures.place) refl;
+    }

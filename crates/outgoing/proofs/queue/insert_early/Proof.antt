@@ -19,7 +19,7 @@ enum-known-answer : tie.Need-enum_known-answer
 enum-known-answer c = search rules
 
 returns : tie.Need-returns-in_default
-returns c = let k = c.before in early-refused _ _ _ _ c.in_default.keys2 k.room-answer.ensures
+returns c = let k = c.before in early-refused _ _ _ _ c.in_default.in_default-own.keys2 k.room-answer.ensures
 
 -- the bytes and the header fit the store
 fitting : (c : tie.In-Written) → let x = c.args in

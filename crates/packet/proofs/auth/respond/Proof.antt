@@ -57,7 +57,7 @@ returns c =
     let x = l.args in
     let user = given x.has-user x.user.now in
     placed-refused x.store.now (write_tags (response_tags (octets16 x.nonce) user x.password.now)) x.at _ OneByte (overlong user) _ _
-    c.in_default.keys2
+    c.in_default.in_default-own.keys2
     (size l.before _ (length-request (octets16 x.nonce) x.password.now)) (long l) r.room-answer.ensures
 
 request-digest-requires : tie.Need-request_digest-digest-requires

@@ -61,7 +61,7 @@ returns c =
     let bits = flag_bits x.user-id-required x.read_only in
     let realm = given x.has-realm (x.charset ∷ x.value.now) in
     placed-refused x.store.now (write_tags (challenge_tags (octets16 x.nonce) bits realm)) x.at _ OneByte (overlong realm) _ _
-    c.in_default.keys2
+    c.in_default.in_default-own.keys2
     (size l.before bits) (long l) r.room-answer.ensures
 
 flag-bits-requires : tie.Need-flag_bits-bits-requires

@@ -30,7 +30,7 @@ returns : tie.Need-returns-in_default
 returns c =
     let x = c.args in
     put_refused x.store.now _ x.at (header x.id x.value.now) _ _ c.start-answer.ensures (omega arith)
-    (omega arith) c.in_default.keys2
+    (omega arith) c.in_default.in_default-own.keys2
 
 sub-copy-into : tie.Need-overflow_sub-end
 sub-copy-into c = let w = whole c.before in omega (arith, w.ends)

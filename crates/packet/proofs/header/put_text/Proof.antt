@@ -34,7 +34,7 @@ returns c =
     let x = c.args in
     put_refused x.store.now _ x.at (header x.id (text_value x.form x.text.now)) _ _
     c.start-answer.ensures c.text_size-n.ensures (omega arith)
-    c.in_default.keys2
+    c.in_default.in_default-own.keys2
 
 sub-write-text : tie.Need-overflow_sub-end
 sub-write-text c = let w = whole c.before in omega (arith, w.size, w.ends)

@@ -10,7 +10,7 @@ pub be16_at-requires-in-Bytes : goal.be16_at-requires-in-Bytes
 be16_at-requires-in-Bytes c = let h = rw c.in-Bytes.is at c.requires in omega arith
 
 pub returns-in-Unicode : goal.returns-in-Unicode
-returns-in-Unicode c = (rw c.in-Unicode.is c.be16_at.ensures.0, c.be16_at.ensures.1)
+returns-in-Unicode c = (rw c.in-Unicode.is c.be16_at.ensures.value, c.be16_at.ensures.small)
 
 pub returns-in-Bytes : goal.returns-in-Bytes
-returns-in-Bytes c = (rw c.in-Bytes.is c.be16_at-in-Bytes.ensures.0, c.be16_at-in-Bytes.ensures.1)
+returns-in-Bytes c = (rw c.in-Bytes.is c.be16_at-in-Bytes.ensures.value, c.be16_at-in-Bytes.ensures.small)

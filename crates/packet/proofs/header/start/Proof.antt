@@ -33,7 +33,7 @@ returns : tie.Need-returns-in_default
 unfolding start_header
 returns c =
     let x = c.args in
-    refused-start x.store.now x.at (lead_bytes (encoding_of x.id) x.id x.n) _ _ c.in_default.keys2 (known c.before)
+    refused-start x.store.now x.at (lead_bytes (encoding_of x.id) x.id x.n) _ _ c.in_default.in_default-own.keys2 (known c.before)
 
 put-lead-requires : tie.Need-put_lead-requires
 put-lead-requires c κs =

@@ -19,7 +19,7 @@ others : (k : tie.In_default-1) → let x = k.args.value in
 unfolding named
 others k =
     let x = k.args.value in
-    let r = k.in_default-1.rest in
+    let r = k.in_default.in_default-own.rest in
     simp (
       ne_eqb x 0 r.0.0.0.0.0.0.1,
       ne_eqb x 1 r.0.0.0.0.0.1,

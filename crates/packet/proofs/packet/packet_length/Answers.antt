@@ -10,4 +10,4 @@ returns-then-buf-lt-PACKET_PREFIX_LENGTH c = simp (lt-ltb _ _ c.if-buf-lt-PACKET
 
 pub returns : goal.returns
 unfolding packet_length
-returns c = simp (le-ltb _ _ c.if-buf-lt-PACKET_PREFIX_LENGTH.false, c.be16_at.ensures.0)
+returns c = simp (le-ltb _ _ c.if-buf-lt-PACKET_PREFIX_LENGTH.false, c.be16_at.ensures.value)

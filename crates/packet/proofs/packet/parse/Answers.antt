@@ -19,14 +19,14 @@ pub returns-then-n-lt-PACKET_PREFIX_LENGTH : goal.returns-then-n-lt-PACKET_PREFI
 unfolding parse_front request_at
 returns-then-n-lt-PACKET_PREFIX_LENGTH c =
     let s = c.args.s.now in
-    let n : c.be16_at-n.result ≡ be16 s 1 = c.be16_at-n.ensures.0 in
+    let n : c.be16_at-n.result ≡ be16 s 1 = c.be16_at-n.ensures.value in
     rw (le-ltb (length s) 3 c.if-s-lt-PACKET_PREFIX_LENGTH.false, lt-ltb (be16 s 1) 3 (omega (arith, n, c.if-n-lt-PACKET_PREFIX_LENGTH.true)))
 
 pub returns-then-s-n : goal.returns-then-s-n
 unfolding parse_front request_at
 returns-then-s-n c =
     let s = c.args.s.now in
-    let n : c.be16_at-n.result ≡ be16 s 1 = c.be16_at-n.ensures.0 in
+    let n : c.be16_at-n.result ≡ be16 s 1 = c.be16_at-n.ensures.value in
     rw (
       le-ltb (length s) 3 c.if-s-lt-PACKET_PREFIX_LENGTH.false,
       le-ltb (be16 s 1) 3 (omega (arith, n, c.if-n-lt-PACKET_PREFIX_LENGTH.false)),

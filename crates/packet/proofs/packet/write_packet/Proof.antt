@@ -44,7 +44,7 @@ returns c =
     let k = c.before in
     let x = k.args in
     let p = packet_bytes x.byte (take x.n x.t3) x.headers.now in
-    placed-refused x.store.now p 0 _ TwoBytes (ltb 65535 (length p)) _ _ c.in_default.keys2 (size k) (sym (ap (ltb 65535) (size k))) k.room-answer.ensures
+    placed-refused x.store.now p 0 _ TwoBytes (ltb 65535 (length p)) _ _ c.in_default.in_default-own.keys2 (size k) (sym (ap (ltb 65535) (size k))) k.room-answer.ensures
 
 array-share-prefix-fields : tie.Need-slice_bounds-fields-end
 array-share-prefix-fields c = search rules

@@ -39,7 +39,7 @@ unfolding codes is_code
 returns-in-96-to-97 c = sym (run is_code true 0x60 0x61 tt c.args.b (omega arith) (omega arith))
 
 pub returns-in_default : goal.returns-in_default
-returns-in_default c = sym (low c.args.b (omega arith) c.in_default-1.rest.1)
+returns-in_default c = sym (low c.args.b (omega arith) c.in_default.in_default-own.rest.1)
 
 pub returns-in_default-2 : goal.returns-in_default-2
 unfolding codes is_code

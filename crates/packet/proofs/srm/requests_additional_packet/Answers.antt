@@ -10,4 +10,4 @@ returns-in-0 c = ⊎_elim (λ e. rw e) (λ e. rw e) c.in-0.is
 
 pub returns-in_default : goal.returns-in_default
 unfolding additional
-returns-in_default c = simp (ne_eqb c.args.b 0 (λ e. c.in_default.rest.1 (inl e)), ne_eqb c.args.b 2 (λ e. c.in_default.rest.1 (inr e)))
+returns-in_default c = simp (ne_eqb c.args.b 0 (λ e. c.in_default.in_default-own.rest.1 (inl e)), ne_eqb c.args.b 2 (λ e. c.in_default.in_default-own.rest.1 (inr e)))

@@ -35,7 +35,7 @@ returns c =
     let r = c.before in
     let x = r.args in
     placed-refused x.store.now (write_tag (record { tag = x.tag; value = x.value.now })) x.at _ OneByte
-    (ltb 255 (length x.value.now)) _ _ c.in_default.keys2 (omega arith) refl r.room-answer.ensures
+    (ltb 255 (length x.value.now)) _ _ c.in_default.in_default-own.keys2 (omega arith) refl r.room-answer.ensures
 
 slice-write-store : tie.Need-bounds-store-at
 slice-write-store c = let w = whole c in omega (arith, w.fits)
