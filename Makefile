@@ -39,10 +39,8 @@ run:
 	@target/bin/bench <crates/bench/sessions/record.in
 
 # The gate: every crate proved from nothing, every must-fail edit refused, every program run and compared. Its last line is 'N passed, 0 failed'.
-# Four crates at a time, since rt waits for all of them before it starts the next: on two cores a long check then leaves neither idle.
-test: export RT_JOBS ?= 4
 test:
-	@tools/run/progress ci
+	@tools/run/gate
 
 # The repository agrees with itself: documents and trace name what there is, quoted code is the tree's, the style of code and proofs gets no
 # worse, every edit applies to its file, every public function has a contract, the documented table of first bytes is the code's, the stored
