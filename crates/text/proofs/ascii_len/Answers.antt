@@ -6,7 +6,6 @@ use lib.Seq.{length-take-le}
 use Rattle.text.specs.Unicode.{up_to_zero_of}
 use Rattle.text.proofs.Cut.{cut-take, cut-within}
 use Rattle.text.proofs.TextSizes.{is_ascii}
-use borrow.Author.Rules.{rules}
 use Rattle.text.proofs.ascii_len.Goals as goal
 
 pub slice_bounds-text_len-end : goal.slice_bounds-text_len-end

@@ -1,7 +1,6 @@
 -- `text::byte_at` meets its contract. Past the end `get_or` is its default. Assumes nothing.
 use mathlib.Core.Path.{sym}
 use native.Mathlib.Omega.{arith}
-use borrow.Author.Rules.{rules}
 use lib.ListN.{get_or-eq_default}
 use Rattle.text.proofs.byte_at.Goals as goal
 

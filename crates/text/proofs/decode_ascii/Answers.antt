@@ -6,7 +6,6 @@ use lib.Seq.{length-take-le}
 use Rattle.text.specs.Unicode.{up_to_zero_of}
 use Rattle.text.proofs.Cut.{cut-take, cut-within}
 use Rattle.text.proofs.TextSizes.{is_ascii}
-use borrow.Author.Rules.{rules}
 use Rattle.text.proofs.decode_ascii.Goals as goal
 
 pub slice_bounds-recode-end : goal.slice_bounds-recode-end
@@ -18,5 +17,5 @@ pub returns : goal.returns
 returns c =
     let z = c in
     let s = c.args.payload.now in
-    let e : take c.zero-at.result s ≡ up_to_zero_of s = rw c.zero-at.ensures (cut-take s) in
+    let e : take c.zero_at-end.result s ≡ up_to_zero_of s = rw c.zero_at-end.ensures (cut-take s) in
     rw (← is_ascii s, ← e) c.recode.ensures

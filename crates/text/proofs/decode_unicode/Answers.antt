@@ -1,6 +1,5 @@
 -- `text::decode_unicode` meets its contract, as `recode` from UTF-16 to UTF-8. Assumes nothing.
 use Rattle.text.proofs.TextSizes.{is_unicode}
-use borrow.Author.Rules.{rules}
 use Rattle.text.proofs.decode_unicode.Goals as goal
 
 pub returns : goal.returns

@@ -1,6 +1,5 @@
 -- `text::encode_unicode` meets its contract, as `recode` from UTF-8 to UTF-16. Assumes nothing.
 use Rattle.text.proofs.TextSizes.{is_encoded}
-use borrow.Author.Rules.{rules}
 use Rattle.text.proofs.encode_unicode.Goals as goal
 
 pub returns : goal.returns

@@ -3,7 +3,6 @@ use mathlib.Core.Path.{ap}
 use native.Mathlib.Omega.{arith}
 use lib.ListN.{length}
 use Rattle.text.proofs.TextSizes.{is_encoded, encoded_most}
-use borrow.Author.Rules.{rules}
 use Rattle.text.proofs.encoded_unicode_len.Goals as goal
 
 pub returns : goal.returns

@@ -1,6 +1,5 @@
 -- `text::is_well_formed16` meets its contract, as `is_whole` of UTF-16. Assumes nothing.
 use Rattle.text.specs.Unicode.{well_formed16}
-use borrow.Author.Rules.{rules}
 use Rattle.text.proofs.is_well_formed16.Goals as goal
 
 pub returns : goal.returns

@@ -2,7 +2,6 @@
 use mathlib.Core.Path.{sym, ◌∙◌}
 use native.Mathlib.Omega.{arith}
 use Rattle.text.proofs.TextWhole.{cut-some, cut-nothing}
-use borrow.Author.Rules.{rules}
 use Rattle.text.proofs.is_well_formed8.Goals as goal
 
 pub returns-then-zero_at-s : goal.returns-then-zero_at-s

@@ -6,7 +6,6 @@ use native.Mathlib.Nat.{pos_of_ne-zero}
 use lib.ListN.{get_or, drop, length-drop}
 use Rattle.text.specs.Unicode.{units}
 use Rattle.text.proofs.Pairs.{unit_there, end16, reads16}
-use borrow.Author.Rules.{rules}
 use Rattle.text.proofs.next16.Goals as goal
 
 pub returns-then-u-eq0 : goal.returns-then-u-eq0

@@ -2,7 +2,6 @@
 use native.Mathlib.Omega.{arith}
 use lib.ListN.{drop, length-drop}
 use Rattle.text.proofs.Sequences.{end8, reads8}
-use borrow.Author.Rules.{rules}
 use Rattle.text.proofs.next8.Goals as goal
 
 pub returns-then-s-at : goal.returns-then-s-at

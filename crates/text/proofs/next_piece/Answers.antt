@@ -1,5 +1,4 @@
 -- `text::next_piece` meets its contract, as reading in each form does. Assumes nothing.
-use borrow.Author.Rules.{rules}
 use Rattle.text.proofs.next_piece.Goals as goal
 
 pub returns-in-Utf8 : goal.returns-in-Utf8

@@ -1,5 +1,4 @@
 -- `text::put` meets its contract, as storing in each form does. Assumes nothing.
-use borrow.Author.Rules.{rules}
 use Rattle.text.proofs.put.Goals as goal
 
 pub put8-requires : goal.put8-requires

@@ -2,7 +2,6 @@
 use native.Mathlib.Omega.{arith}
 use Rattle.text.specs.Text.{recoded}
 use Rattle.text.proofs.TextRoom.{stored_short}
-use borrow.Author.Rules.{rules}
 use Rattle.text.proofs.recode.Goals as goal
 
 pub returns-then-d-text_len : goal.returns-then-d-text_len

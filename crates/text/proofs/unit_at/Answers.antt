@@ -4,7 +4,6 @@ use Prim.Native.Nat.{◌+◌, ◌*◌}
 use native.Mathlib.Omega.{arith}
 use lib.ListN.{get_or}
 use Rattle.text.proofs.Pairs.{unit_none, unit_some}
-use borrow.Author.Rules.{rules}
 use Rattle.text.proofs.unit_at.Goals as goal
 
 pub returns-then-s-lt2 : goal.returns-then-s-lt2

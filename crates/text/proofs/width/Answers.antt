@@ -1,5 +1,4 @@
 -- `text::width` meets its contract, as the width of each form does. Assumes nothing.
-use borrow.Author.Rules.{rules}
 use Rattle.text.proofs.width.Goals as goal
 
 pub returns-in-Utf8 : goal.returns-in-Utf8

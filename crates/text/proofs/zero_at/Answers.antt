@@ -1,10 +1,6 @@
 -- `text::zero_at` meets its contract. The invariant: what stands before the first zero is i elements, and what stands before it from i on. Assumes
 -- nothing.
-use mathlib.Core.Path.{◌≡◌}
-use Prim.Native.Nat.{◌+◌, ◌-◌, ◌≤◌}
 use native.Mathlib.Omega.{arith}
-use lib.ListN.{length, drop}
-use Rattle.text.specs.Unicode.{up_to_zero_of}
 use Rattle.text.proofs.Cut.{cut-zero, cut-more, cut-end}
 use Rattle.text.proofs.zero_at.Goals as goal
 

@@ -2,10 +2,8 @@
 -- nothing.
 use mathlib.Core.Path.{◌≡◌}
 use Prim.Native.Nat.{◌+◌, ◌-◌, ◌≤◌}
-use native.Mathlib.Omega.{arith}
 use lib.ListN.{length, drop}
 use Rattle.text.specs.Unicode.{up_to_zero_of}
-use Rattle.text.proofs.Cut.{cut-zero, cut-more, cut-end}
 use Rattle.text.proofs.zero_at.Given as goal
 
 abbrev pub invariant-loop-i : goal.invariant-loop-i
