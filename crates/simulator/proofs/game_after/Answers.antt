@@ -8,4 +8,4 @@ unfolding game_after
 returns c =
     let d = c in
     let g = c.given_by.ensures in
-    rw (c.minus.ensures, g, c.taken_by_lem.ensures.0, c.asked_by.ensures.value, c.is_over_by.ensures)
+    rw (c.minus.ensures, g, c.taken_by.ensures.0, c.asked_by.ensures.value, c.is_over_by.ensures)

@@ -44,7 +44,7 @@ abbrev passed : tie.In_default → tie.After-guard_lent
 passed z = z.before
 
 goes : (z : tie.In_default) → let a = (start (passed z)).args in GoesLent kind.FromPeer a.e (lent (passed z)) a.tables.now
-goes z = going-lent kind.FromPeer _ _ _ _ (passed z).guard-lent.ensures z.in_default.is
+goes z = going-lent kind.FromPeer _ _ _ _ (passed z).guard_lent.ensures z.in_default.is
 
 -- the stores once bytes were read
 abbrev read : tie.After-read_packet-f → Stores

@@ -17,7 +17,7 @@ abbrev passed : tie.In_default → tie.After-guard_close
 passed z = z.before
 
 goes : (z : tie.In_default) → let a = (start (passed z)).args in Closable a.e a.tables.now
-goes z = let k = passed z in guard_passed (start k).args.e (start k).args.tables.now _ k.guard-close.ensures z.in_default.is
+goes z = let k = passed z in guard_passed (start k).args.e (start k).args.tables.now _ k.guard_close.ensures z.in_default.is
 
 guard-close-requires : tie.Need-guard_close-requires
 guard-close-requires c κs = search rules

@@ -36,7 +36,7 @@ abbrev passed : tie.In_default → tie.After-guard_lent
 passed z = z.before
 
 goes : (z : tie.In_default) → let a = (start (passed z)).args in GoesLent kind.NonceGiven a.e (lent (passed z)) a.tables.now
-goes z = going-lent kind.NonceGiven _ _ _ _ (passed z).guard-lent.ensures z.in_default.is
+goes z = going-lent kind.NonceGiven _ _ _ _ (passed z).guard_lent.ensures z.in_default.is
 
 -- the guard was passed before the nonce was tested
 abbrev tested : tie.After-guard_nonce → tie.In_default

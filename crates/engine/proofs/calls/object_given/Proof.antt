@@ -35,9 +35,9 @@ abbrev waits : tie.Else-is_bad_headers → tie.In_default
 waits u = u.before.before.before
 
 -- good header bytes fit in their store
-fits : (u : tie.Else-is_bad_headers) → length (start (passed (waits u))).args.header-bytes.now ≤ length (start (passed (waits u))).args.headers.now
+fits : (u : tie.Else-is_bad_headers) → length (start (passed (waits u))).args.header_bytes.now ≤ length (start (passed (waits u))).args.headers.now
 fits u =
-    let l = good_length (start (passed (waits u))).args.header-bytes.now _ u.is_bad_headers.ensures u.if-is_bad_headers.false in
+    let l = good_length (start (passed (waits u))).args.header_bytes.now _ u.is_bad_headers.ensures u.if-is_bad_headers.false in
     omega (arith, l, (goes (waits u)).room.headers)
 
 guard-requires : tie.Need-guard-requires
@@ -71,7 +71,7 @@ returns-2 c =
     let k = (start (passed z)).args in
     let s = lent (passed z) in
     ap (λ (r : CallResult). stepped r s) c.refuse-in_default-operation.ensures
-    ∙ object-other k.e.operation k.e k.header-bytes.now k.has_body s c.in_default-operation.in_default-operation-own.keys2
+    ∙ object-other k.e.operation k.e k.header_bytes.now k.has_body s c.in_default-operation.in_default-operation-own.keys2
     ∙ sym ((goes z).whole _)
 
 is-bad-headers-requires : tie.Need-is_bad_headers-requires
@@ -89,7 +89,7 @@ returns-3 c =
     let k = (start (passed z)).args in
     let s = lent (passed z) in
     ap (λ (r : CallResult). stepped r s) c.refuse-then-is_bad_headers.ensures
-    ∙ object-bad k.e.operation _ _ _ _ o.in-Getting.is k.e k.header-bytes.now _ b.is_bad_headers.ensures k.has_body s
+    ∙ object-bad k.e.operation _ _ _ _ o.in-Getting.is k.e k.header_bytes.now _ b.is_bad_headers.ensures k.has_body s
     c.if-is_bad_headers.true
     ∙ sym ((goes z).whole _)
 
@@ -108,8 +108,8 @@ sends-next-requires c κs =
     let u = w.before.before in
     let z = waits u in
     let k = (start (passed z)).args in
-    let f = w.copy_into-arg-1.ensures ∙ store-front k.header-bytes.now k.headers.now (fits u) in
-    let h = ap (λ (x : List ℕ). length x) f ∙ front_length k.header-bytes.now k.headers.now (fits u) in
+    let f = w.copy_into-arg-1.ensures ∙ store-front k.header_bytes.now k.headers.now (fits u) in
+    let h = ap (λ (x : List ℕ). length x) f ∙ front_length k.header_bytes.now k.headers.now (fits u) in
     let t = ap (λ (x : Outgoing). x.total) c.object_of-o.ensures in
     ((goes z).bounds.remote, omega (arith, h, t, fits u), (goes z).room.reply)
 
@@ -130,9 +130,9 @@ returns-4 c =
     let z = waits u in
     let k = (start (passed z)).args in
     object-goes k.e.operation _ _ _ _ b.in-Getting.is
-    k.e k.header-bytes.now _ b.is-bad-headers.ensures k.has_body (lent (passed z)) u.if1.false _ _ _ _
+    k.e k.header_bytes.now _ b.is_bad_headers.ensures k.has_body (lent (passed z)) u.if1.false _ _ _ _
     n.sends_next.ensures i.object_of-o.ensures i.either.ensures
-    (w.copy_into-arg-1.ensures ∙ store-front k.header-bytes.now k.headers.now (fits u))
+    (w.copy_into-arg-1.ensures ∙ store-front k.header_bytes.now k.headers.now (fits u))
     ∙ sym ((goes z).whole _)
 
 pub object_given_spec : {M : Type 1} → statement M

@@ -26,7 +26,7 @@ abbrev passed : tie.In_default → tie.After-guard_lent
 passed z = z.before
 
 goes : (z : tie.In_default) → let a = (start (passed z)).args in GoesLent kind.ReplyGiven a.e (lent (passed z)) a.tables.now
-goes z = going-lent kind.ReplyGiven _ _ _ _ (passed z).guard-lent.ensures z.in_default.is
+goes z = going-lent kind.ReplyGiven _ _ _ _ (passed z).guard_lent.ensures z.in_default.is
 
 guard-lent-requires : tie.Need-guard_lent-requires
 guard-lent-requires c κs = search rules
@@ -61,7 +61,7 @@ returns-2 c =
     let b = c.before.before in
     let z = b.before in
     let k = (start (passed z)).args in
-    reply-bad k.e (lent (passed z)) k.code k.header-bytes.now k.tables.now (goes z) _ b.is_bad_reply.ensures
+    reply-bad k.e (lent (passed z)) k.code k.header_bytes.now k.tables.now (goes z) _ b.is_bad_reply.ensures
     c.if-is_bad_reply.true _
     c.refuse-then-is_bad_reply.ensures
 
@@ -87,7 +87,7 @@ connect-answer-requires c κs =
       g.room.reply,
       g.room.headers,
       g.last.short,
-      good-reply k.code k.header-bytes.now _ b.is-bad-reply.ensures u.if1.false,
+      good-reply k.code k.header_bytes.now _ b.is_bad_reply.ensures u.if1.false,
     )
 
 same_length : tie.Need-shape_of-tables-then-same_await
@@ -111,8 +111,8 @@ returns-3 c =
     let b = u.before in
     let z = b in
     let k = (start (passed z)).args in
-    reply_connect k.e (lent (passed z)) k.code k.header-bytes.now k.tables.now (goes z) _ b.is-bad-reply.ensures u.if1.false _
-    n.same_await_lem.ensures t.if2.true _
+    reply_connect k.e (lent (passed z)) k.code k.header_bytes.now k.tables.now (goes z) _ b.is_bad_reply.ensures u.if1.false _
+    n.same_await.ensures t.if2.true _
     a.connect_answer.ensures
 
 slice-reshare-prefix-handle-disconnect : tie.Need-slice_bounds-handle_disconnect-end
@@ -146,8 +146,8 @@ returns-4 c =
     let b = u.before in
     let z = b in
     let k = (start (passed z)).args in
-    reply_another k.e (lent (passed z)) k.code k.header-bytes.now k.tables.now (goes z) _ b.is-bad-reply.ensures u.if1.false _
-    n.same_await_lem.ensures t.if2.false
+    reply_another k.e (lent (passed z)) k.code k.header_bytes.now k.tables.now (goes z) _ b.is_bad_reply.ensures u.if1.false _
+    n.same_await.ensures t.if2.false
     (linked p.handle_disconnect-peer.result _) _ p.handle_disconnect-peer.ensures a.sends.ensures
 
 pub reply_given_spec : {M : Type 1} → statement M

@@ -16,7 +16,7 @@ pub returns-then-not-is_open : goal.returns-then-not-is_open
 returns-then-not-is_open c =
     let l = c in
     let x = c.args in
-    rw (sym c.is_open.ensures ∙ not-true _ c.if-not-is_open.true) at
+    rw (sym c.is_open.ensures ∙ c.if-not-is_open.true) at
     (sym (open-from (take x.count x.tables.now) x.ids.now c.loop-i.i (omega arith)) ∙ c.loop-i.invariant.1)
 
 pub loop-i-preserved : goal.loop-i-preserved
@@ -24,7 +24,7 @@ loop-i-preserved c =
     let l = c in
     let x = c.args in (
       omega arith,
-      rw (sym c.is_open.ensures ∙ not-false _ c.if-not-is_open.false) at
+      rw (sym c.is_open.ensures ∙ c.if-not-is_open.false) at
           (sym (open-from (take x.count x.tables.now) x.ids.now c.loop-i.i (omega arith)) ∙ c.loop-i.invariant.1),
     )
 

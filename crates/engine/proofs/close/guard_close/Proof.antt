@@ -21,7 +21,7 @@ returns-2 : tie.Need-returns-then-not-is_sound
 unfolding guarded_close
 returns-2 c =
     let s = c.before in
-    simp (le-ltb _ _ s.if-tables-lt-TABLE_LENGTH.false, sym s.is_sound.ensures ∙ not-true _ c.if-not-is_sound.true)
+    simp (le-ltb _ _ s.if-tables-lt-TABLE_LENGTH.false, sym s.is_sound.ensures ∙ c.if-not-is_sound.true)
 
 same-await-requires : tie.Need-same_await-requires
 same-await-requires c κs = search rules
@@ -33,8 +33,8 @@ returns-3 c =
     let s = a.before.before in
     simp (
       le-ltb _ _ s.if-tables-lt-TABLE_LENGTH.false,
-      sym s.is_sound.ensures ∙ not-false _ a.if-not-is_sound.false,
-      sym a.same_await_lem.ensures ∙ not-true _ c.if-not-same_await.true,
+      sym s.is_sound.ensures ∙ a.if-not-is_sound.false,
+      sym a.same_await.ensures ∙ c.if-not-same_await.true,
     )
 
 is-busy-requires : tie.Need-is_busy-requires
@@ -49,8 +49,8 @@ decided b t h =
     let s = a.before.before in
     simp (
       le-ltb _ _ s.if-tables-lt-TABLE_LENGTH.false,
-      sym s.is_sound.ensures ∙ not-false _ a.if-not-is_sound.false,
-      sym a.same_await_lem.ensures ∙ not-false _ b.if-not-same_await.false,
+      sym s.is_sound.ensures ∙ a.if-not-is_sound.false,
+      sym a.same_await.ensures ∙ b.if-not-same_await.false,
       sym b.is_busy.ensures ∙ h,
     ) (go t)
   where

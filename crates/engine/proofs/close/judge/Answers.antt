@@ -13,7 +13,7 @@ pub returns-then-not-are_open : goal.returns-then-not-are_open
 unfolding judged_close
 returns-then-not-are_open c =
     let o = c in
-    simp (le-ltb _ _ c.if-ids-gt-MAX_CONNECTIONS.false, sym c.are_open.ensures ∙ not-true _ c.if-not-are_open.true)
+    simp (le-ltb _ _ c.if-ids-gt-MAX_CONNECTIONS.false, sym c.are_open.ensures ∙ c.if-not-are_open.true)
 
 pub returns-then-has_repeated : goal.returns-then-has_repeated
 unfolding judged_close
@@ -22,7 +22,7 @@ returns-then-has_repeated c =
     let o = c in
     simp (
       le-ltb _ _ c.if-ids-gt-MAX_CONNECTIONS.false,
-      sym c.are_open.ensures ∙ not-false _ c.if-not-are_open.false,
+      sym c.are_open.ensures ∙ c.if-not-are_open.false,
       sym c.has_repeated.ensures ∙ c.if-has_repeated.true,
     )
 
@@ -33,6 +33,6 @@ returns c =
     let o = c in
     simp (
       le-ltb _ _ c.if-ids-gt-MAX_CONNECTIONS.false,
-      sym c.are_open.ensures ∙ not-false _ c.if-not-are_open.false,
+      sym c.are_open.ensures ∙ c.if-not-are_open.false,
       sym c.has_repeated.ensures ∙ c.if-has_repeated.false,
     )

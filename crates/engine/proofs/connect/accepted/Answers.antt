@@ -13,8 +13,8 @@ returns-in_default c =
     let t = c in
     let a = c in
     let k = c.args in
-    not-challenged k.e k.peer k.code k.front k.packet.now k.header-bytes.now k.reply.now k.headers.now _
-    (sym c.in_default.is ∙ c.challenge_in_lem.ensures)
+    not-challenged k.e k.peer k.code k.front k.packet.now k.header_bytes.now k.reply.now k.headers.now _
+    (sym c.in_default.is ∙ c.challenge_in.ensures)
     c.unchallenged.ensures
 
 pub returns : goal.returns
@@ -25,7 +25,7 @@ returns c =
     let a = c in
     let k = c.args in
     let w = c.requires in
-    challenged k.e k.peer k.code k.front k.packet.now k.header-bytes.now k.reply.now k.headers.now _ _ _ _ _ _ _ _
-    (sym c.in-Challenge.is ∙ c.challenge_in_lem.ensures)
+    challenged k.e k.peer k.code k.front k.packet.now k.header_bytes.now k.reply.now k.headers.now _ _ _ _ _ _ _ _
+    (sym c.in-Challenge.is ∙ c.challenge_in.ensures)
     c.took.ensures c.asks.ensures c.challenge_realm.ensures
-    (c.copy_into.ensures ∙ store-front k.header-bytes.now k.headers.now (omega (arith, w.1, w.3)))
+    (c.copy_into.ensures ∙ store-front k.header_bytes.now k.headers.now (omega (arith, w.1, w.3)))

@@ -3,7 +3,7 @@ use borrow.Author.Tests.{not-true, not-false}
 use Rattle.engine.proofs.connect.both.Goals as goal
 
 pub returns-then-not-a : goal.returns-then-not-a
-returns-then-not-a c = rw (not-true c.args.a c.if-not-a.true)
+returns-then-not-a c = rw c.if-not-a.true
 
 pub returns : goal.returns
-returns c = rw (not-false c.args.a c.if-not-a.false)
+returns c = rw c.if-not-a.false

@@ -11,9 +11,9 @@ returns-then-not-is_success c =
     let i = c in
     let b = c in
     let k = c.args in
-    answer_declined k.e k.tables.now k.code k.header-bytes.now k.packet.now k.headers.now k.reply.now _
-    c.is_success_lem.ensures
-    (not-true c.is_success_lem.result c.if-not-is_success.true) _ c.sends_connect.ensures
+    answer_declined k.e k.tables.now k.code k.header_bytes.now k.packet.now k.headers.now k.reply.now _
+    c.is_success.ensures
+    c.if-not-is_success.true _ c.sends_connect.ensures
 
 pub returns-then-opening : goal.returns-then-opening
 returns-then-opening c =
@@ -23,8 +23,8 @@ returns-then-opening c =
     let i = c in
     let b = c in
     let k = c.args in
-    answer-full k.e k.tables.now k.code k.header-bytes.now k.packet.now k.headers.now k.reply.now _ c.is_success_lem.ensures
-    (not-false c.is_success_lem.result c.if-not-is_success.false) (answers c.opens-answer.result _) c.opens-answer.ensures c.if-opening.true _
+    answer-full k.e k.tables.now k.code k.header_bytes.now k.packet.now k.headers.now k.reply.now _ c.is_success.ensures
+    c.if-not-is_success.false (answers c.opens-answer.result _) c.opens-answer.ensures c.if-opening.true _
     c.sends_connect-then-opening.ensures
 
 pub returns : goal.returns
@@ -35,6 +35,6 @@ returns c =
     let i = c in
     let b = c in
     let k = c.args in
-    answer-accepted k.e k.tables.now k.code k.header-bytes.now k.packet.now k.headers.now k.reply.now _
-    c.is_success_lem.ensures
-    (not-false c.is_success_lem.result c.if-not-is_success.false) (answers c.opens-answer.result _) c.opens-answer.ensures c.if-opening.false _ c.accepted.ensures
+    answer-accepted k.e k.tables.now k.code k.header_bytes.now k.packet.now k.headers.now k.reply.now _
+    c.is_success.ensures
+    c.if-not-is_success.false (answers c.opens-answer.result _) c.opens-answer.ensures c.if-opening.false _ c.accepted.ensures

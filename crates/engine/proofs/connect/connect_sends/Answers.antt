@@ -17,6 +17,6 @@ returns c =
     let w = c in
     let x = c in
     let k = c.args in
-    accepted-sent k.e k.peer k.code k.front k.packet.now k.header-bytes.now k.reply.now _ _ _ _ _ _ _
+    accepted-sent k.e k.peer k.code k.front k.packet.now k.header_bytes.now k.reply.now _ _ _ _ _ _ _
     c.connect_reply-sent.ensures c.wide16.ensures.0 (last_finds _ _ c.requires.4).headers c.srm_asked.ensures c.sent_plan.ensures
     c.took.ensures

@@ -43,7 +43,7 @@ returns-2 c =
     let b = l.before in
     let w = b.before in
     let k = (start w).args in
-    credentials-long k.has-credentials k.has-user _ b.both-named.ensures k.user.now k.password.now
+    credentials-long k.has_credentials k.has_user _ b.both-named.ensures k.user.now k.password.now
     k.e.operation _ _ _ w.in-Connecting.is k.e k.packet.now k.headers.now k.reply.now
     _ l.is_long.ensures c.if-is_long.true _ c.refuse-then-is_long.ensures
 
@@ -65,8 +65,8 @@ connect-sends-requires c κs =
       p.3,
       p.1,
       (kept w).short,
-      user-fits k.has-credentials k.has-user _ b.both-named.ensures k.user.now k.password.now _ l.is_long.ensures u.if-is_long.false,
-      r.last-connect.ensures,
+      user-fits k.has_credentials k.has_user _ b.both-named.ensures k.user.now k.password.now _ l.is_long.ensures u.if-is_long.false,
+      r.last_connect.ensures,
     )
 
 same_length : tie.Need-shape_of-reply
@@ -80,9 +80,9 @@ returns-3 c =
     let b = l.before in
     let w = b.before in
     let k = (start w).args in
-    credentials_go k.has-credentials k.has-user _ b.both-named.ensures k.user.now k.password.now
+    credentials_go k.has_credentials k.has_user _ b.both-named.ensures k.user.now k.password.now
     k.e.operation _ _ _ w.in-Connecting.is k.e k.packet.now k.headers.now k.reply.now
-    _ l.is_long.ensures u.if-is_long.false _ a.connect_sends_lem.ensures
+    _ l.is_long.ensures u.if-is_long.false _ a.connect_sends.ensures
 
 pub connect_with_credentials_spec : {M : Type 1} → statement M
 connect_with_credentials_spec =

@@ -7,7 +7,7 @@ use Rattle.engine.proofs.connect.handle_disconnect.Goals as goal
 pub returns-then-not-same_await : goal.returns-then-not-same_await
 returns-then-not-same_await c =
     let k = c.args in
-    replied-other k.e k.packet.now k.tables.now _ c.same_await_lem.ensures (not-true _ c.if-not-same_await.true)
+    replied-other k.e k.packet.now k.tables.now _ c.same_await.ensures c.if-not-same_await.true
 
 pub returns : goal.returns
 returns c =
@@ -15,6 +15,6 @@ returns c =
     let f = c in
     let u = c in
     let k = c.args in
-    replied-closing k.e k.packet.now k.tables.now _ c.same_await_lem.ensures (not-false _ c.if-not-same_await.false) _ _ _
+    replied-closing k.e k.packet.now k.tables.now _ c.same_await.ensures c.if-not-same_await.false _ _ _
     c.last_from.ensures
     c.first_id.ensures c.disconnected.ensures

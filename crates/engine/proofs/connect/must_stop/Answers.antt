@@ -4,7 +4,7 @@ use borrow.Author.Tests.{not-true, not-false}
 use Rattle.engine.proofs.connect.must_stop.Goals as goal
 
 pub returns-then-not-authentication : goal.returns-then-not-authentication
-returns-then-not-authentication c = rw (not-true c.args.authentication c.if-not-authentication.true)
+returns-then-not-authentication c = rw c.if-not-authentication.true
 
 pub returns : goal.returns
-returns c = rw (not-false c.args.authentication c.if-not-authentication.false) c.is_stopped_lem.ensures
+returns c = rw c.if-not-authentication.false c.is_stopped.ensures

@@ -12,7 +12,7 @@ returns c =
     let t = c in
     let k = c in
     let f = last_finds c.args.packet.now _ c.requires.2 in
-    c.opened_for_lem.ensures
+    c.opened_for.ensures
     ∙ simp (
       c.first_target.ensures,
       c.has_target.ensures ∙ found_given 0x46 c.args.packet.now _ f.target,

@@ -19,7 +19,7 @@ returns-then-not-survey c =
     let k = c in
     c.unreadable_route-then-not-survey.ensures
     ∙ sym (unreadable_way _ _ _ _ _ _ (sym c.packet_head.ensures ∙ c.in-Known.is)
-    (ap (λ (s : Survey). s.readable) (sym c.survey_headers-survey.ensures) ∙ not-true _ c.if-not-survey.true))
+    (ap (λ (s : Survey). s.readable) (sym c.survey_headers-survey.ensures) ∙ c.if-not-survey.true))
 
 pub returns : goal.returns
 returns c =
@@ -36,4 +36,4 @@ returns c =
       c.survey_headers-survey.ensures,
     )
     (sym (heading_way _ _ _ _ _ _ (sym c.packet_head.ensures ∙ c.in-Known.is)
-    (ap (λ (s : Survey). s.readable) (sym c.survey_headers-survey.ensures) ∙ not-false _ c.if-not-survey.false)))
+    (ap (λ (s : Survey). s.readable) (sym c.survey_headers-survey.ensures) ∙ c.if-not-survey.false)))

@@ -4,7 +4,7 @@ use borrow.Author.Rules.{rules}
 use Rattle.engine.proofs.guard.awaits_taken.Goals as goal
 
 pub returns-then-same_await : goal.returns-then-same_await
-returns-then-same_await c = simp (sym c.same_await_lem.ensures ∙ c.if-same_await.true)
+returns-then-same_await c = simp (sym c.same_await.ensures ∙ c.if-same_await.true)
 
 pub returns : goal.returns
-returns c = simp (sym c.same_await_lem.ensures ∙ c.if-same_await.false, c.same_await-2.ensures)
+returns c = simp (sym c.same_await.ensures ∙ c.if-same_await.false, c.same_await-2.ensures)

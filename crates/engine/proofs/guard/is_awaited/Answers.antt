@@ -3,7 +3,7 @@ use borrow.Author.Rules.{rules}
 use Rattle.engine.proofs.guard.is_awaited.Goals as goal
 
 pub returns-in-FromPeer : goal.returns-in-FromPeer
-returns-in-FromPeer c = simp (c.in-FromPeer.is, c.same_await_lem.ensures)
+returns-in-FromPeer c = simp (c.in-FromPeer.is, c.same_await.ensures)
 
 pub returns-in-ReplyTaken : goal.returns-in-ReplyTaken
 returns-in-ReplyTaken c = simp (c.in-ReplyTaken.is, c.awaits_taken.ensures)

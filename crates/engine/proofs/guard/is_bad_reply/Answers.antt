@@ -7,12 +7,12 @@ use Rattle.engine.proofs.guard.is_bad_reply.Goals as goal
 
 pub returns-then-not-is_code : goal.returns-then-not-is_code
 unfolding bad_reply
-returns-then-not-is_code c = simp (sym c.is_code_lem.ensures ∙ not-true c.is_code_lem.result c.if-not-is_code.true)
+returns-then-not-is_code c = simp (sym c.is_code.ensures ∙ c.if-not-is_code.true)
 
 pub returns : goal.returns
 unfolding bad_reply
 returns c =
     simp (
-      sym c.is_code_lem.ensures ∙ not-false c.is_code_lem.result c.if-not-is_code.false,
+      sym c.is_code.ensures ∙ c.if-not-is_code.false,
       c.is_bad_headers.ensures,
     )

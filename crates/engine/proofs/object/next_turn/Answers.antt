@@ -4,7 +4,7 @@ use borrow.Author.Rules.{rules}
 use Rattle.engine.proofs.object.next_turn.Goals as goal
 
 pub returns-then-same_await : goal.returns-then-same_await
-returns-then-same_await c = simp (sym c.same_await_lem.ensures ∙ c.if-same_await.true, c.goes_on.ensures)
+returns-then-same_await c = simp (sym c.same_await.ensures ∙ c.if-same_await.true, c.goes_on.ensures)
 
 pub returns : goal.returns
-returns c = simp (sym c.same_await_lem.ensures ∙ c.if-same_await.false)
+returns c = simp (sym c.same_await.ensures ∙ c.if-same_await.false)

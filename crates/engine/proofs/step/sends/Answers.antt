@@ -9,5 +9,5 @@ returns c =
     let z = c in
     let w = c in
     let k = c.args in
-    sent-written k.e k.peer k.code [] k.header-bytes.now k.reply.now _ _ _ _
+    sent-written k.e k.peer k.code [] k.header_bytes.now k.reply.now _ _ _ _
     c.send-sent.ensures c.wide16-remote.ensures.0 c.sent_plan.ensures c.took.ensures

@@ -9,10 +9,10 @@ pub returns-then-fit : goal.returns-then-fit
 returns-then-fit c = simp c.if-fit.true
 
 pub returns-then-not-is_waiting : goal.returns-then-not-is_waiting
-returns-then-not-is_waiting c = rw (c.if-fit.false, sym c.is_waiting.ensures ∙ not-true _ c.if-not-is_waiting.true)
+returns-then-not-is_waiting c = rw (c.if-fit.false, sym c.is_waiting.ensures ∙ c.if-not-is_waiting.true)
 
 pub returns : goal.returns
 unfolding engine_with
 returns c =
     let at-if-2 = c in
-    rw (c.if-fit.false, sym c.is_waiting.ensures ∙ not-false _ c.if-not-is_waiting.false)
+    rw (c.if-fit.false, sym c.is_waiting.ensures ∙ c.if-not-is_waiting.false)

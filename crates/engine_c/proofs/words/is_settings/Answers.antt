@@ -29,7 +29,7 @@ returns-then-not-are_flags c =
       lt-ltb _ _ c.if-w-ge4294967296.false,
       lt-ltb _ _ c.if-w-ge65536.false,
       lt-ltb _ _ c.if-w-ge256.false,
-      sym c.are_flags.ensures ∙ not-true _ c.if-not-are_flags.true,
+      sym c.are_flags.ensures ∙ c.if-not-are_flags.true,
     )
 
 pub returns : goal.returns
@@ -43,5 +43,5 @@ returns c =
       lt-ltb _ _ c.if-w-ge4294967296.false,
       lt-ltb _ _ c.if-w-ge65536.false,
       lt-ltb _ _ c.if-w-ge256.false,
-      sym c.are_flags.ensures ∙ not-false _ c.if-not-are_flags.false,
+      sym c.are_flags.ensures ∙ c.if-not-are_flags.false,
     )

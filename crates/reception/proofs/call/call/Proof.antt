@@ -155,7 +155,7 @@ returns-7 : tie.Need-returns-in-BodyFailed
 returns-7 c =
     let u = c.before.before.before.before.before in
     let a = u.before.before in
-    made a answer.BodyFailed _ u.in-BodyFailed.is (record { step = ap (left a) c.body_failed_lem.ensures; octets = tt })
+    made a answer.BodyFailed _ u.in-BodyFailed.is (record { step = ap (left a) c.body_failed.ensures; octets = tt })
 
 returns-8 : tie.Need-returns-in-Acknowledge
 returns-8 c =
