@@ -1,14 +1,12 @@
 -- One turn of the loops that copy within a store, repeat a group and read a word in hexadecimal, and their ends. Assumes nothing.
 use mathlib.Core.Path.{◌≡◌, refl, sym, ap, ◌∙◌}
 use mathlib.Core.List.{List}
-use mathlib.Core.Bool.{true, false}
 use Prim.Native.Nat.{ℕ, zero, suc, ◌+◌, ◌-◌, ◌*◌, ◌≤◌, ◌<◌}
 use native.Mathlib.Omega.{arith}
 use lib.ListN.{length, get_or, set}
-use lib.Dec.{eqb}
 use borrow.Author.Tests.{lt-ltb, le-ltb, le-leb, lt-leb, eq-eqb, ne_eqb}
 use Rattle.lines.specs.declared.word.Scan.{Scan}
-use Rattle.lines.specs.Word.{Filled, filled, between, first_from, number_of, copied_on, repeated_on, repeated, pushed}
+use Rattle.lines.specs.Word.{filled, between, first_from, number_of, copied_on, repeated_on, repeated, pushed}
 use Rattle.lines.specs.Word.{Scanned, scanned, scan, scanned_group, scanned_pair, scanned_one, scanned_from, place_after, value_of}
 
 -- ---- copies

@@ -3,7 +3,6 @@ use Rattle.std.specs.Prelude.{ℕ, zero, suc, ◌+◌, ◌-◌, ◌*◌, ◌/◌
 use Rattle.std.proofs.Math.Seq.{paste}
 use Rattle.io.specs.Digits.{last_digits, hex_digit_ascii}
 use Rattle.base.specs.Pick.{pick}
-use Rattle.base.specs.Bytes.{bytes32}
 use Rattle.digest.specs.Md5.{digest_of}
 use Rattle.lines.specs.Word.{Filled, filled, piece_of, line_feed}
 

@@ -1,13 +1,13 @@
-// Reading: what stands in a store of the standard input, what is kept of it, and its lines one after the other.
+// Reading: what stands in a store of an input, what is kept of it, and its lines one after the other.
 ghost use Rattle.std.specs.Prelude.{◌≡◌, true, ◌≤◌, length};
 ghost use Rattle.lines.specs.Word.{filled};
 ghost use Rattle.lines.specs.Input.{kept_front, before_first, has_cut, has_line, line_after, bytes_of};
 
 use crate::output::least;
 use crate::word::find;
-use libc::STDIN_FILENO;
+use std::io::Read;
 
-// A line of standard input, as a place in the store that it was read into, or the reason why there is none.
+// A line of the input, as a place in the store that it was read into, or the reason why there is none.
 #[derive(Clone, Copy)]
 pub struct Line {
     // Where the line starts and where it ends, without its end of line.
@@ -24,12 +24,15 @@ pub struct Line {
     pub is_over: bool,
 }
 
-// Reads standard input once into `s`, and returns how many bytes came: none at the end.
-pub fn read(s: &mut [u8]) -> usize
+// Reads the input `from` once into `s`, and returns how many bytes came: none at the end, and none if the system cannot read. A program reads
+// standard input by `rt.reader()`.
+pub fn read(from: &mut impl Read, s: &mut [u8]) -> usize
     ensures { result ≤ length s.new }
 {
-    let got = libc::read(STDIN_FILENO, s);
-    io::count(got, s)
+    match from.read(s) {
+        Ok(n) => n,
+        Err(_) => 0,
+    }
 }
 
 // Moves what stands from `from` up to `to` to the front of `s`, and returns how many bytes that are.
@@ -86,14 +89,14 @@ fn unless_full(kept: usize, room: usize) -> usize
 
 // Reads on behind the part of a line that stands from `from` up to `to`, which is moved to the front of `s` first. A line that fills the store
 // has no room for its end, so what is there of it is dropped.
-fn read_on(s: &mut [u8], from: usize, to: usize, was_cut: bool) -> Line
+fn read_on(input: &mut impl Read, s: &mut [u8], from: usize, to: usize, was_cut: bool) -> Line
     requires { (from ≤ to) × (to ≤ length s.old) }
     ensures { (result.start ≤ result.end) × ((result.end ≤ result.next) × ((result.next ≤ result.have) × (result.have ≤ length s.new))) }
 {
     let kept = keep(s, from, to);
     let have = unless_full(kept, s.len());
     let is_cut = was_cut || have < kept;
-    let n = read(&mut s[have..]);
+    let n = read(input, &mut s[have..]);
     if n == 0 {
         return last_line(have, is_cut);
     }
@@ -118,10 +121,10 @@ fn has_cut(before: Line) -> bool
     before.is_cut
 }
 
-// Returns what follows `before` in the standard input that is read into `s`: the next line, if all of it is in the store, or else what was
+// Returns what follows `before` in the input that is read into `s`: the next line, if all of it is in the store, or else what was
 // read of it. A program takes such steps until the input is over. It counts them down from a number that no run uses up, since a proved loop
 // has to end and nothing says that the input does.
-pub fn next_line(s: &mut [u8], before: Line) -> Line
+pub fn next_line(input: &mut impl Read, s: &mut [u8], before: Line) -> Line
     ensures bounds { (result.start ≤ result.end) × ((result.end ≤ result.next) × ((result.next ≤ result.have) × (result.have ≤ length s.new))) }
     ensures whole { has_line s.old before ≡ true
         → (result ≡ line_after s.old before) × (s.new ≡ s.old) }
@@ -141,7 +144,7 @@ pub fn next_line(s: &mut [u8], before: Line) -> Line
             is_over: false,
         };
     }
-    read_on(s, start, have, is_cut)
+    read_on(input, s, start, have, is_cut)
 }
 
 // Returns the bytes of `line` in the store that it was read into.

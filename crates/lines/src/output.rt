@@ -8,7 +8,7 @@ ghost use Rattle.lines.specs.Output.{least_of, put_bytes, put_line, hex_pair, he
 use crate::word::line_at;
 use base::copy_into;
 use digest::md5;
-use libc::STDOUT_FILENO;
+use std::io::Print;
 
 // Returns the smaller number.
 pub fn least(a: usize, b: usize) -> usize
@@ -154,22 +154,27 @@ pub fn put_hex(out: &mut [u8], n: usize, s: &[u8], longest: usize) -> usize
     put_digits(out, n, s)
 }
 
-// Writes out what was collected, and returns how much is left of it: nothing.
-pub fn write(out: &[u8], n: usize) -> usize
+// Writes the bytes `s` to the standard output `to`. Bytes that the system does not take are left out.
+pub fn print(to: &impl Print, s: &[u8]) {
+    let _ = to.write_all(s);
+}
+
+// Writes out what was collected to the standard output `to`, and returns how much is left of it: nothing.
+pub fn write(to: &impl Print, out: &[u8], n: usize) -> usize
     ensures { result ≡ 0 }
 {
     let k = least(n, out.len());
-    io::write_all(STDOUT_FILENO, &out[0..k]);
+    print(to, &out[0..k]);
     0
 }
 
 // Writes out what was collected if the store is half full, and returns how much is left of it.
-pub fn flush(out: &[u8], n: usize) -> usize
+pub fn flush(to: &impl Print, out: &[u8], n: usize) -> usize
     ensures within { result ≤ n }
     ensures left { result ≡ left_after out.now n }
 {
     if n < out.len() / 2 {
         return n;
     }
-    write(out, n)
+    write(to, out, n)
 }

@@ -1,12 +1,10 @@
 -- `lines::input::keep` meets its contract. The store is the paste of what was moved so far, and what is still to be moved stands where it was
 -- (`Texts`). Assumes nothing.
-use mathlib.Core.Path.{◌≡◌, refl, sym, ap, ◌∙◌}
+use mathlib.Core.Path.{◌≡◌, refl}
 use native.Mathlib.Omega.{arith}
-use Prim.Native.Nat.{◌-◌, ◌≤◌}
 use native.Mathlib.Nat.{le_antisymm}
-use lib.ListN.{length, length-set, drop}
-use lib.Seq.{paste, paste-zero}
-use Rattle.lines.specs.Word.{filled}
+use lib.ListN.{length-set, drop}
+use lib.Seq.{paste-zero}
 use Rattle.lines.specs.Input.{kept_front}
 use Rattle.lines.proofs.Texts.{kept-turn}
 use borrow.Author.Rules.{rules}

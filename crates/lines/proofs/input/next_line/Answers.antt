@@ -35,18 +35,18 @@ not-whole s x have start end h n e l =
     rw (← h, ← n, ← f) (le-ltb _ _ l)
 
 pub returns-then-end-have : goal.returns-then-end-have
-returns-then-end-have c =
+returns-then-end-have g c =
     let z = c in record {
       bounds = search rules;
       whole = (λ t. (
-        whole _ c.args.before _ _ _ _ c.least-have.ensures.least c.least2.ensures.1
+        whole _ c.args.before _ _ _ _ c.least-have.ensures.least c.least-start.ensures.least
             c.find-end.ensures.place c.has_cut-is_cut.ensures,
         refl,
       ));
     }
 
 pub returns : goal.returns
-returns c =
+returns g c =
     let z = c in
     let y = c in
     let at-find = c in record {

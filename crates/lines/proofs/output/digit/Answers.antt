@@ -1,6 +1,5 @@
 -- `lines::output::digit` meets its contract: the two tests are the definition's. Assumes nothing.
 use borrow.Author.Tests.{lt-ltb, le-ltb}
-use borrow.Author.Rules.{rules}
 use Rattle.lines.proofs.output.digit.Goals as goal
 
 pub returns-then-x-lt10 : goal.returns-then-x-lt10

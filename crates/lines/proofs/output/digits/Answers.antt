@@ -1,9 +1,9 @@
 -- `lines::output::digits` meets its contract. The store is the paste of the digits so far (`Texts`). Assumes nothing.
-use mathlib.Core.Path.{◌≡◌, refl, sym, ap, ◌∙◌}
+use mathlib.Core.Path.{refl}
 use native.Mathlib.Omega.{arith}
-use Prim.Native.Nat.{◌-◌, ◌*◌, ◌/◌, ◌≤◌}
+use Prim.Native.Nat.{◌/◌}
 use lib.ListN.{length, length-set}
-use lib.Seq.{paste, paste-zero}
+use lib.Seq.{paste-zero}
 use Rattle.lines.specs.Output.{hex_of, hex_front}
 use Rattle.lines.proofs.Texts.{hex_turn, all-bytes, all_room}
 use borrow.Author.Rules.{rules}

@@ -1,12 +1,9 @@
 -- `lines::output::digits` meets its contract. The store is the paste of the digits so far (`Texts`). Assumes nothing.
-use mathlib.Core.Path.{◌≡◌, refl, sym, ap, ◌∙◌}
-use native.Mathlib.Omega.{arith}
-use Prim.Native.Nat.{◌-◌, ◌*◌, ◌/◌, ◌≤◌}
-use lib.ListN.{length, length-set}
-use lib.Seq.{paste, paste-zero}
-use Rattle.lines.specs.Output.{hex_of, hex_front}
-use Rattle.lines.proofs.Texts.{hex_turn, all-bytes, all_room}
-use borrow.Author.Rules.{rules}
+use mathlib.Core.Path.{◌≡◌}
+use Prim.Native.Nat.{◌-◌, ◌*◌, ◌≤◌}
+use lib.ListN.{length}
+use lib.Seq.{paste}
+use Rattle.lines.specs.Output.{hex_of}
 use Rattle.lines.proofs.output.digits.Given as goal
 
 abbrev pub invariant-loop-n : goal.invariant-loop-n

@@ -4,14 +4,14 @@ use borrow.Author.Rules.{rules}
 use Rattle.lines.proofs.output.flush.Goals as goal
 
 pub returns-then-n-out : goal.returns-then-n-out
-returns-then-n-out c =
+returns-then-n-out g c =
     record {
       within = search rules;
       left = simp (lt-ltb _ _ c.if-n-out.true);
     }
 
 pub returns : goal.returns
-returns c =
+returns g c =
     record {
       within = search rules;
       left = simp (le-ltb _ _ c.if-n-out.false, c.write.ensures);

@@ -1,5 +1,4 @@
 -- `lines::output::put_digest` meets its contract: each text stands behind the one before. Assumes nothing.
-use mathlib.Core.Path.{refl}
 use Rattle.lines.specs.Output.{put_digest}
 use borrow.Author.Rules.{rules}
 use Rattle.lines.proofs.output.put_digest.Goals as goal

@@ -11,5 +11,5 @@ returns c =
     let d = c.decimal-k.ensures in
     let x = c.args in record {
       within = search rules;
-      text = c.put.ensures.text ∙ ap (put_bytes x.out.now x.n) (decimal_is _ _ _ d.len d.1.1);
+      text = c.put.ensures.text ∙ ap (put_bytes x.out.now x.n) (decimal_is _ _ _ d.len d.digits);
     }

@@ -1,11 +1,8 @@
 -- `lines::word::again` meets its contract. What is left to copy says what the store becomes (`Copies`). Assumes nothing.
-use mathlib.Core.Path.{◌≡◌, refl, sym, ap, ◌∙◌}
-use native.Mathlib.Omega.{arith}
+use mathlib.Core.Path.{refl, sym, ◌∙◌}
 use Prim.Native.Nat.{◌-◌}
-use lib.ListN.{length, length-set}
-use Rattle.lines.specs.Word.{copied_on}
+use lib.ListN.{length-set}
 use Rattle.lines.proofs.Copies.{copied_turn, copied_full, copied_past, copied_all}
-use borrow.Author.Rules.{rules}
 use Rattle.lines.proofs.word.again.Goals as goal
 
 pub loop-i-init : goal.loop-i-init

@@ -1,11 +1,8 @@
 -- `lines::word::again` meets its contract. What is left to copy says what the store becomes (`Copies`). Assumes nothing.
-use mathlib.Core.Path.{◌≡◌, refl, sym, ap, ◌∙◌}
-use native.Mathlib.Omega.{arith}
+use mathlib.Core.Path.{◌≡◌}
 use Prim.Native.Nat.{◌-◌}
-use lib.ListN.{length, length-set}
+use lib.ListN.{length}
 use Rattle.lines.specs.Word.{copied_on}
-use Rattle.lines.proofs.Copies.{copied_turn, copied_full, copied_past, copied_all}
-use borrow.Author.Rules.{rules}
 use Rattle.lines.proofs.word.again.Given as goal
 
 abbrev pub invariant-loop-i : goal.invariant-loop-i

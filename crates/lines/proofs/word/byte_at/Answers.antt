@@ -1,5 +1,4 @@
 -- lines::word::byte_at meets its contract. Past the end a list gives what stands for nothing. Assumes nothing.
-use borrow.Author.Rules.{rules}
 use mathlib.Core.Path.{sym}
 use lib.ListN.{get_or-eq_default}
 use Rattle.lines.proofs.word.byte_at.Goals as goal

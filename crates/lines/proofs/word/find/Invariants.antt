@@ -1,11 +1,8 @@
 -- `lines::word::find` meets its contract. What is left to look at says where the byte is (`Places`). Assumes nothing.
-use mathlib.Core.Path.{◌≡◌, refl, sym, ap, ◌∙◌}
-use native.Mathlib.Omega.{arith}
+use mathlib.Core.Path.{◌≡◌}
 use Prim.Native.Nat.{◌+◌, ◌-◌, ◌≤◌}
 use lib.ListN.{length, drop}
 use Rattle.lines.specs.Word.{until_byte, first_from}
-use Rattle.lines.proofs.Places.{until_found, until_passed, until_end}
-use borrow.Author.Rules.{rules}
 use Rattle.lines.proofs.word.find.Given as goal
 
 abbrev pub invariant-loop-i : goal.invariant-loop-i

@@ -1,10 +1,8 @@
 -- `lines::word::line_number` meets its contract. Each turn passes a line, and what is left says the number (`Places`). Assumes nothing.
-use mathlib.Core.Path.{◌≡◌, refl, sym, ap, ◌∙◌}
-use mathlib.Core.Bool.{true}
+use mathlib.Core.Path.{refl, ap}
 use native.Mathlib.Omega.{arith}
-use Prim.Native.Nat.{ℕ, ◌≤◌, ◌-◌, ◌+◌}
+use Prim.Native.Nat.{ℕ, ◌+◌}
 use lib.ListN.{length}
-use Rattle.lines.specs.Word.{between, first_from, line_feed, same, line_from, line_number}
 use Rattle.lines.proofs.Places.{same_true, same_false, differs, line_turn, line_found, line_end_lem}
 use borrow.Author.Rules.{rules}
 use Rattle.lines.proofs.word.line_number.Goals as goal

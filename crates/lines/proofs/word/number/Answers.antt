@@ -1,11 +1,7 @@
 -- `lines::word::number` meets its contract. What is left of the word says the number (`Places`). Assumes nothing.
-use mathlib.Core.Path.{◌≡◌, refl, sym, ap, ◌∙◌}
+use mathlib.Core.Path.{refl, sym, ◌∙◌}
 use native.Mathlib.Omega.{arith}
-use Prim.Native.Nat.{◌-◌, ◌≤◌, ◌<◌}
-use lib.ListN.{length, get_or, drop}
-use Rattle.lines.specs.Word.{number_from, number_of}
 use Rattle.lines.proofs.Places.{number-turn, number-end}
-use borrow.Author.Rules.{rules}
 use Rattle.lines.proofs.word.number.Goals as goal
 
 pub loop-i-init : goal.loop-i-init

@@ -1,11 +1,8 @@
 -- `lines::word::number` meets its contract. What is left of the word says the number (`Places`). Assumes nothing.
-use mathlib.Core.Path.{◌≡◌, refl, sym, ap, ◌∙◌}
-use native.Mathlib.Omega.{arith}
+use mathlib.Core.Path.{◌≡◌}
 use Prim.Native.Nat.{◌-◌, ◌≤◌, ◌<◌}
-use lib.ListN.{length, get_or, drop}
+use lib.ListN.{length, drop}
 use Rattle.lines.specs.Word.{number_from, number_of}
-use Rattle.lines.proofs.Places.{number-turn, number-end}
-use borrow.Author.Rules.{rules}
 use Rattle.lines.proofs.word.number.Given as goal
 
 abbrev pub invariant-loop-i : goal.invariant-loop-i

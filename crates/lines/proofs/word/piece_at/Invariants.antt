@@ -1,12 +1,8 @@
 -- `lines::word::piece_at` meets its contract. Each turn passes a piece, and the next one starts where the definition says. Assumes nothing.
-use mathlib.Core.Path.{◌≡◌, refl, sym, ap, ◌∙◌}
-use native.Mathlib.Omega.{arith}
-use Prim.Native.Nat.{ℕ, ◌≤◌, ◌-◌}
-use native.Mathlib.Nat.{le_antisymm}
-use native.Mathlib.Numerals.{add-one}
+use mathlib.Core.Path.{◌≡◌}
+use Prim.Native.Nat.{◌≤◌, ◌-◌}
 use lib.ListN.{length}
-use Rattle.lines.specs.Word.{first_from, piece_start, piece_at}
-use borrow.Author.Rules.{rules}
+use Rattle.lines.specs.Word.{piece_start}
 use Rattle.lines.proofs.word.piece_at.Given as goal
 
 abbrev pub invariant-loop-i : goal.invariant-loop-i

@@ -1,7 +1,6 @@
 -- `lines::word::push` meets its contract: the test is the definition's. Assumes nothing.
 use borrow.Author.Tests.{lt-ltb, le-ltb}
 use Rattle.lines.specs.Word.{pushed}
-use borrow.Author.Rules.{rules}
 use Rattle.lines.proofs.word.push.Goals as goal
 
 pub returns-then-n-out : goal.returns-then-n-out

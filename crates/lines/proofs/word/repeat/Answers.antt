@@ -1,11 +1,8 @@
 -- `lines::word::repeat` meets its contract. Each turn is one copy, and what is left to repeat says what the store becomes (`Copies`). Assumes
 -- nothing.
-use mathlib.Core.Path.{◌≡◌, refl, sym, ap, ◌∙◌}
-use native.Mathlib.Omega.{arith}
-use Prim.Native.Nat.{◌-◌}
+use mathlib.Core.Path.{refl, sym, ◌∙◌}
 use borrow.Author.Tests.{eq-eqb, ne_eqb}
-use lib.ListN.{length}
-use Rattle.lines.specs.Word.{repeated_on, repeated}
+use Rattle.lines.specs.Word.{repeated}
 use Rattle.lines.proofs.Copies.{repeated-stop, repeated-turn, repeated-all}
 use borrow.Author.Rules.{rules}
 use Rattle.lines.proofs.word.repeat.Goals as goal

@@ -1,13 +1,9 @@
 -- `lines::word::repeat` meets its contract. Each turn is one copy, and what is left to repeat says what the store becomes (`Copies`). Assumes
 -- nothing.
-use mathlib.Core.Path.{◌≡◌, refl, sym, ap, ◌∙◌}
-use native.Mathlib.Omega.{arith}
+use mathlib.Core.Path.{◌≡◌}
 use Prim.Native.Nat.{◌-◌}
-use borrow.Author.Tests.{eq-eqb, ne_eqb}
 use lib.ListN.{length}
 use Rattle.lines.specs.Word.{repeated_on, repeated}
-use Rattle.lines.proofs.Copies.{repeated-stop, repeated-turn, repeated-all}
-use borrow.Author.Rules.{rules}
 use Rattle.lines.proofs.word.repeat.Given as goal
 
 abbrev pub invariant-loop-i : goal.invariant-loop-i

@@ -1,5 +1,4 @@
 -- `lines::word::scan_one` meets its contract: the three tests are the definition's; what two digits give stands in `Copies`. Assumes nothing.
-use mathlib.Core.Path.{◌∙◌, ap, sym}
 use borrow.Author.Tests.{lt-ltb, le-ltb, eq-eqb, ne_eqb}
 use Rattle.lines.specs.Word.{scanned_one}
 use Rattle.lines.proofs.Copies.{pair_of}

@@ -1,10 +1,9 @@
 -- `lines::word::unhex` meets its contract. Each turn passes a sign, and what is left says the bytes (`Copies`). Assumes nothing.
-use mathlib.Core.Path.{◌≡◌, refl, sym, ap, ◌∙◌}
+use mathlib.Core.Path.{refl, sym}
 use native.Mathlib.Omega.{arith}
-use Prim.Native.Nat.{ℕ, ◌-◌, ◌≤◌}
 use borrow.Author.Tests.{le-leb, lt-leb}
 use lib.ListN.{length}
-use Rattle.lines.specs.Word.{scanned_from, scan, unhexed}
+use Rattle.lines.specs.Word.{unhexed}
 use Rattle.lines.proofs.Copies.{scan-turn, scan-end}
 use borrow.Author.Rules.{rules}
 use Rattle.lines.proofs.word.unhex.Goals as goal

@@ -2,7 +2,6 @@
 use native.Mathlib.Omega.{arith}
 use borrow.Author.Tests.{lt-ltb, le-ltb}
 use Rattle.lines.specs.Word.{value_of}
-use borrow.Author.Rules.{rules}
 use Rattle.lines.proofs.word.value.Goals as goal
 
 pub returns-then-c-lt48 : goal.returns-then-c-lt48
