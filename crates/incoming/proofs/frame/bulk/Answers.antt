@@ -30,7 +30,7 @@ returns c =
     let r = c.room-m.ensures in
     let n = c.be16_at-n in record {
       within = (omega arith, small x.at m n.result n.ensures.small (omega arith) r.1);
-      model = jumped x.packet.now c.copy_into.new.0 x.input.now x.at x.i m
+      model = jumped x.packet.now c.copy_into.new.dst x.input.now x.at x.i m
           (subst (λ (k : ℕ). 0 < m → (3 ≤ x.at) × (x.at + m < k)) n.ensures.value r.1) (omega arith)
           (omega (arith, small x.at m n.result n.ensures.small (omega arith) r.1)) c.copy_into.ensures;
     }

@@ -28,7 +28,7 @@ returns-then-n-gt0 c =
     let w = c.whole_length-n in
     let x = c in
     let k = c.args in
-    let n = w.ensures.field (omega (arith, c.if2.true)) in record {
+    let n = w.ensures.field (omega (arith, c.if-n-gt0.true)) in record {
       whole = λ e. (n.0, w.ensures.fits.1);
       model = whole_at_once k.packet.now _ k.input.now w.result n.1 n.0 w.ensures.fits.0 (omega (arith, w.ensures.fits.1, c.requires.1)) p.ensures
           ∙ ap (λ (b : ℕ). framed k.packet.now b 0 k.input.now) (sym c.if-begun-eq0.true);

@@ -79,13 +79,13 @@ byte : (k : tie.After-frame_end invariant-loop decreases-loop) (f : Frame) → k
     let x = k.args in
     let at = l.at + b.result in
     let i = l.i + b.result in
-    let q = set b.new.1.1.1.0 at (get_or x.input.now i 0) in
+    let q = set b.new.packet at (get_or x.input.now i 0) in
     framed x.packet.now x.begun 0 x.input.now ≡ frames_at f (at + 1) (i + 1) q (framed q (at + 1) (i + 1) (drop (i + 1) x.input.now))
 byte k f e =
     let b = k.bulk-m in
     let l = k.loop-i in
     let x = k.args in
-    l.invariant.3 ∙ b.ensures.1 ∙ turn b.new.1.1.1.0 x.input.now (l.at + b.result) (l.i + b.result) f (omega arith) (sym e ∙ k.frame_end.ensures.0)
+    l.invariant.3 ∙ b.ensures.1 ∙ turn b.new.packet x.input.now (l.at + b.result) (l.i + b.result) f (omega arith) (sym e ∙ k.frame_end.ensures.0)
 
 enum_told : tie.Need-enum_told-1 invariant-loop decreases-loop
 enum_told c = search rules

@@ -3,13 +3,10 @@
 use borrow.Author.Rules.{rules}
 use native.Mathlib.Omega.{arith}
 use mathlib.Core.Path.{◌≡◌, refl, sym, ap, ◌∙◌}
-use mathlib.Core.List.{List, [], ◌∷◌}
+use mathlib.Core.List.{List}
 use Prim.Native.Nat.{ℕ, ◌+◌}
 use mir.Val.{Fits}
 use mir.Syntax.{w64}
-use denote.Enum.Declared.{tag_of}
-use types.Run.{OneOf, miss}
-use Rattle.incoming.specs.contracts.frame.Frame.{the_type}
 use Rattle.incoming.specs.declared.frame.Frame.{Frame}
 use Rattle.incoming.specs.declared.frame.Frame.TheVariants.{More, Whole, Short}
 use Rattle.incoming.specs.declared.frame.Framed.{Framed}
@@ -38,12 +35,12 @@ sum_fits p i q b n f g h k w =
     omega (arith, a, c, w)
 
 -- nothing follows a packet that has ended
-over : (x : Frame) (f : Frames) (i : List ℕ) → OneOf (1 ∷ 2 ∷ []) (tag_of the_type x) → f ≡ then_all x f i
-over More f i k = absurd (miss (1 ∷ 2 ∷ []) 0 tt k)
+over : (x : Frame) (f : Frames) (i : List ℕ) → (x ≡ More → ⊥) → f ≡ then_all x f i
+over More f i k = absurd (k refl)
 over Whole f i k = refl
 over Short f i k = refl
 
-stays : (p i : List ℕ) (b n : ℕ) (f : Framed) → frames f p ≡ framed p b 0 (placed_in p b n) → OneOf (1 ∷ 2 ∷ []) (tag_of the_type f.frame)
+stays : (p i : List ℕ) (b n : ℕ) (f : Framed) → frames f p ≡ framed p b 0 (placed_in p b n) → (f.frame ≡ More → ⊥)
     → frames f p ≡ framed p b 0 (coming p b n i)
 stays p i b n f h k =
     over f.frame (frames f p) i k ∙ ap (λ (x : Frames). then_all x.result.frame x i) h ∙ sym (in_turn p b 0 (placed_in p b n) i)
@@ -53,7 +50,7 @@ returns-in_default c =
     let r = c.read_placed-f in
     let x = c.args in record {
       whole = r.ensures.whole;
-      model = stays x.packet.now x.input.now x.begun x.placed r.result r.ensures.model c.in_default.in_default-own.keys2;
+      model = stays x.packet.now x.input.now x.begun x.placed r.result r.ensures.model c.in_default.not-More;
     }
 
 pub read_offered-g-requires : goal.read_offered-g-requires

@@ -34,9 +34,8 @@ enum-known-id c = search rules
 
 -- in a turn that goes on, a header stands at the place
 here : (c : tie.In-At invariant-loop decreases-loop) →
-    let v = c.id-1.given.0 in
-    let l = c.before.before.before.before in
-    Here l.args.p.now l.loop-g.at v.0 v.1.0 v.1.1.0 v.1.1.1.0
+    let v = c.in-At in
+    Here c.args.p.now c.loop-g.at v.id v.encoding v.start v.«end»
 here c = by_cursor_lem _ _ _ (sym c.step.ensures ∙ c.in-At.is)
 
 same_length : tie.Need-shape_of-headers-in_default invariant-loop decreases-loop
@@ -80,10 +79,10 @@ loop-again c =
     let x = gathering l.g l.headers l.body in
     let room : 65535 ≤ length l.headers = omega (arith, s.requires.2, l.invariant.1) in
     let body-room : s.args.limit ≤ length l.body = omega (arith, s.requires.4, l.invariant.2) in
-    let lent = o.auto.1.1.1.1.1.1.1.1 in (
+    let lent = o.auto in (
       turn _ _ _ _ x _ l.invariant.0 _ _ _ _ (here k) (not-true l.g.full t.loop-g-test.true) room body-room _ o.ensures,
-      lent.0 ∙ l.invariant.1,
-      lent.1.0 ∙ l.invariant.2,
+      lent.headers ∙ l.invariant.1,
+      lent.body ∙ l.invariant.2,
     )
 
 same-length-3 : tie.Need-shape_of-headers invariant-loop decreases-loop

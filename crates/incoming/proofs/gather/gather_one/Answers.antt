@@ -11,7 +11,7 @@ returns-then-is_stored c =
     record {
       model = let t = c in
           let x = c.args in
-          c.store_Bytes.ensures x.headers.now
+          c.store_bytes.ensures.model x.headers.now
           ∙ one-stored x.keep x.limit (gathering x.g x.headers.now x.body.now)
           (record { id = x.id; value = part x.p.now x.start x.«end» })
           (sym c.is_stored.ensures ∙ c.if-is_stored.true);

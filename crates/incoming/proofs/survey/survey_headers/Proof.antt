@@ -30,9 +30,8 @@ enum-known-id c = search rules
 
 -- in a turn that goes on, a header stands at the place
 here : (c : tie.In-At invariant-loop decreases-loop) →
-    let v = c.id-1.given.0 in
-    let l = c.before.before in
-    Here l.args.p.now l.loop-id.at v.0 v.1.0 v.1.1.0 v.1.1.1.0
+    let v = c.in-At in
+    Here c.args.p.now c.loop-id.at v.id v.encoding v.start v.«end»
 here c = by_cursor_lem _ _ _ (sym c.step.ensures ∙ c.in-At.is)
 
 sub-note : tie.Need-slice_bounds-note-count invariant-loop decreases-loop
