@@ -6,8 +6,6 @@ use Prim.Native.Nat.{ℕ, ◌+◌, ◌≤◌}
 use native.Mathlib.Omega.{arith}
 use lib.ListN.{length, take}
 use lib.Dec.{ltb}
-use denote.Enum.Declared.{tag_of}
-use types.Run.{OneOf}
 use borrow.Author.Tests.{le-ltb, ltb-false}
 use Rattle.base.specs.Pick.{pick}
 use Rattle.packet.specs.declared.tlv.Wrote.{Wrote}
@@ -16,8 +14,7 @@ use Rattle.packet.specs.declared.tlv.Wrote.TheVariants as wrote
 use Rattle.packet.specs.declared.store.LengthField.{LengthField}
 use Rattle.packet.specs.declared.store.LengthField.TheVariants.{TwoBytes}
 use Rattle.packet.specs.Placed.{overlong_for, room_of, putting}
-use Rattle.packet.specs.contracts.tlv.Wrote.{the_type}
-use Rattle.packet.proofs.Laid.{granted, written-not}
+use Rattle.packet.proofs.Laid.{granted}
 use Rattle.outgoing.specs.declared.queue.Part.{Part}
 use Rattle.outgoing.specs.declared.queue.Rewound.{Rewound}
 use Rattle.outgoing.specs.declared.queue.Rewound.TheVariants.{Back, Short}
@@ -25,19 +22,19 @@ use Rattle.outgoing.specs.Queue.{put_in, lead_end, inserted_early, back_bytes, h
 
 -- ---- one store
 
-refused_by : (t : Bool) (end : ℕ) (f : LengthField) (r : Wrote) → OneOf (1 ∷ 2 ∷ 3 ∷ []) (tag_of the_type r)
+refused_by : (t : Bool) (end : ℕ) (f : LengthField) (r : Wrote) → ((w : ℕ) → r ≡ Written w → ⊥)
     → r ≡ pick t wrote.Short (pick false (overlong_for f) (Written end)) → t ≡ true
 refused_by true end f r k e = refl
-refused_by false end f r k e = absurd (written-not end (subst (λ (r : Wrote). OneOf (1 ∷ 2 ∷ 3 ∷ []) (tag_of the_type r)) e k))
+refused_by false end f r k e = absurd (k end e)
 
 -- what is not granted does not fit
-pub refused : (len at need : ℕ) (f : LengthField) (r : Wrote) → OneOf (1 ∷ 2 ∷ 3 ∷ []) (tag_of the_type r) → r ≡ room_of len at need f false
+pub refused : (len at need : ℕ) (f : LengthField) (r : Wrote) → ((w : ℕ) → r ≡ Written w → ⊥) → r ≡ room_of len at need f false
     → ltb len (at + need) ≡ true
 unfolding room_of
 refused len at need f r k e = refused_by (ltb len (at + need)) (at + need) f r k e
 
 -- the two answers of `insert_early`
-pub early-refused : (d h : List ℕ) (n : ℕ) (r : Wrote) → OneOf (1 ∷ 2 ∷ 3 ∷ []) (tag_of the_type r)
+pub early-refused : (d h : List ℕ) (n : ℕ) (r : Wrote) → ((w : ℕ) → r ≡ Written w → ⊥)
     → r ≡ room_of (length d) n (length h) TwoBytes false → putting r d ≡ inserted_early d n h
 unfolding inserted_early room_of
 early-refused d h n r k e =

@@ -15,7 +15,7 @@ pub returns-then-o : goal.returns-then-o
 returns-then-o c =
     let k = c in
     let x = c.args in
-    made_alike (c.waiting.ensures ∙ ap (λ o. reading o x.at 1 x.size) c.Ahead-none.ensures) refl
+    made_alike (c.waiting.ensures ∙ ap (λ o. reading o x.at 1 x.size) c.ahead_none.ensures) refl
     ∙ begun_ahead x.o x.at x.size x.reply.now c.if-o.true c.if-size-eq0.false
 
 pub returns : goal.returns

@@ -10,4 +10,4 @@ pub returns : goal.returns
 returns c =
     let k = c in
     let x = c.args in
-    c.send.ensures ∙ sending-alike true (x.at + 3 + x.got) c.Ahead-none.ensures c.put_head.ensures
+    c.send.ensures ∙ sending-alike true (x.at + 3 + x.got) c.ahead_none.ensures c.put_head.ensures

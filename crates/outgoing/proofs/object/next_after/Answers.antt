@@ -18,5 +18,5 @@ returns c =
     let x = c.args in
     let r = c.fill-f.result in
     c.next_filled.ensures
-    ∙ ap (λ o. next_filled (why_of r.why) x.capacity o r.at c.fill-f.new.1.1.1.1.0) c.sent_to.ensures
+    ∙ ap (λ o. next_filled (why_of r.why) x.capacity o r.at c.fill-f.new.reply) c.sent_to.ensures
     ∙ packed x.start x.capacity x.o x.headers.now x.reply.now r _ (omega arith) c.fill-f.ensures.model

@@ -17,8 +17,8 @@ enum-known-end : tie.Need-enum_known-end
 enum-known-end c = search rules
 
 -- what the cursor told
-stands : (c : tie.In-At) → let v = c.end-1.given.0 in let x = c.args in
-    header_at_of x.headers.now x.sent ≡ At v.0 v.1.0 v.1.1.0 v.1.1.1.0
+stands : (c : tie.In-At) → let v = c.in-At in let x = c.args in
+    header_at_of x.headers.now x.sent ≡ At v.id v.encoding v.start v.«end»
 stands c = sym c.step.ensures ∙ c.in-At.is
 
 sub-n : tie.Need-overflow_sub-n

@@ -40,7 +40,7 @@ add-n : tie.Need-overflow_add-n invariant-loop decreases-loop
 add-n c = let g = here c in let l = c.before.before.before.before in omega (arith, g.start, g.stop, g.fits, l.loop-at.invariant.0.behind)
 
 loop-less : tie.Need-loop-at-smaller invariant-loop decreases-loop
-loop-less c = omega (arith, (here c).ranges)
+loop-less c = omega (arith, (here c).fits)
 
 loop-again : tie.Need-loop-at-preserved invariant-loop decreases-loop
 loop-again c = let g = here c in (gone_on c.loop-at.invariant.0 g, g.fits)

@@ -19,7 +19,7 @@ enum-known-answer : tie.Need-enum_known-answer
 enum-known-answer c = search rules
 
 returns : tie.Need-returns-in_default
-returns c = let k = c.before in early-refused _ _ _ _ c.in_default.in_default-own.keys2 k.room-answer.ensures
+returns c = let k = c.before in early-refused _ _ _ _ c.in_default.not-Written k.room-answer.ensures
 
 -- the bytes and the header fit the store
 fitting : (c : tie.In-Written) → let x = c.args in
@@ -50,11 +50,7 @@ same_length c = search rules
 
 returns-2 : tie.Need-returns
 returns-2 c =
-    let p = c.before.before in
-    let l = p.before.before in
-    let a = l.before in
-    let k = a.before.before in
-    early-written _ _ _ _ _ _ (sym a.answer.given.1 ∙ k.room.ensures) l.lead_end-at.ensures.0 p.put_in.ensures
+    early-written _ _ _ _ _ _ (sym c.in-Written.is ∙ c.room-answer.ensures) c.lead_end-at.ensures.0 c.put_in.ensures
 
 pub insert_early_spec : {M : Type 1} → statement M
 insert_early_spec =

@@ -1,6 +1,5 @@
 -- `outgoing::queue::lead_end` meets its contract. The invariant: the end is that of what is left. Assumes nothing.
 use borrow.Author.Rules.{rules}
-use borrow.Author.Tests.{not-true, not-false}
 use native.Mathlib.Omega.{arith}
 use Prim.Native.Nat.{◌-◌, ◌≤◌, ◌<◌}
 use mathlib.Core.Path.{◌≡◌, refl, sym, ◌∙◌}
@@ -32,10 +31,10 @@ must-lead-requires : tie.Need-must_lead-requires invariant-loop decreases-loop
 must-lead-requires c κs = search rules
 
 -- the header at the place, by whether it must lead
-onward : (c : tie.After-must_lead invariant-loop decreases-loop) → let v = c.id-1.given.0 in
+onward : (c : tie.After-must_lead invariant-loop decreases-loop) → let v = c.in-At in
     let l = c.before.before.before in
     let s = l.args.s.now in
-    lead_end s 0 ≡ pick c.must_lead.result (lead_end s v.1.1.1.0) l.loop-id.at
+    lead_end s 0 ≡ pick c.must_lead.result (lead_end s v.«end») l.loop-id.at
 onward c =
     let k = c.before in
     let l = k.before.before in
@@ -44,11 +43,11 @@ onward c =
 returns : tie.Need-returns-then-not-must_lead invariant-loop decreases-loop
 returns c =
     let l = c.before.before.before.before in
-    (sym (rw (not-true c.must_lead.result c.if-not-must_lead.true) at (onward c.before)), l.loop-id.invariant.1)
+    (sym (rw c.if-not-must_lead.true at (onward c.before)), l.loop-id.invariant.1)
 
-within : (c : tie.After-must_lead invariant-loop decreases-loop) → let v = c.id-1.given.0 in
+within : (c : tie.After-must_lead invariant-loop decreases-loop) → let v = c.in-At in
     let l = c.before.before.before in
-    (l.loop-id.at < v.1.1.1.0) × (v.1.1.1.0 ≤ length l.args.s.now)
+    (l.loop-id.at < v.«end») × (v.«end» ≤ length l.args.s.now)
 within c =
     let k = c.before in
     header_at_within _ _ _ _ _ _ (sym k.step.ensures ∙ k.in-At.is)
@@ -57,7 +56,7 @@ loop-less : tie.Need-loop-id-smaller invariant-loop decreases-loop
 loop-less c = let h = within c.before in omega arith
 
 loop-again : tie.Need-loop-id-preserved invariant-loop decreases-loop
-loop-again c = (rw (not-false c.must_lead.result c.if-not-must_lead.false) at (onward c.before), (within c.before).1)
+loop-again c = (rw c.if-not-must_lead.false at (onward c.before), (within c.before).1)
 
 enum_told : tie.Need-enum_told-1 invariant-loop decreases-loop
 enum_told c = search rules

@@ -40,15 +40,15 @@ abbrev begun : tie.After-both_room-answer → tie.Start
 begun k = (parted k).before.before.before.before.before
 
 asked : (k : tie.After-both_room-answer) → let s = sized k in let p = parted k in let x = (begun k).args in
-    Asked x.has_body x.packet.now p.headers_back-of_headers.result p.body_back.result s.back_len-kept.result s.back-len2.result
+    Asked x.has_body x.packet.now p.headers_back-of_headers.result p.body_back-of_body.result s.back_len-kept.result s.back_len-chunks.result
 asked k =
     let s = sized k in
     let p = parted k in
     record {
       of_is = p.headers_back-of_headers.ensures;
-      body_is = p.body_back.ensures;
+      body_is = p.body_back-of_body.ensures;
       kept = s.back_len-kept.ensures.0;
-      chunks = s.back-len2.ensures.0;
+      chunks = s.back_len-chunks.ensures.0;
     }
 
 returns : tie.Need-returns-in_default
@@ -58,7 +58,7 @@ returns c =
 
 -- both parts fit
 fitting : (e : tie.In-Back) → let k = e.before in let s = sized k in let x = (begun k).args in
-    (x.n + s.back_len-kept.result ≤ length x.headers.now) × (x.pending + s.back-len2.result ≤ length x.body.now)
+    (x.n + s.back_len-kept.result ≤ length x.headers.now) × (x.pending + s.back_len-chunks.result ≤ length x.body.now)
 fitting e = let k = e.before in both-fit _ _ _ _ _ _ _ _ (sym k.both_room-answer.ensures ∙ e.in-Back.is)
 
 put-front-requires : tie.Need-put_front-requires
