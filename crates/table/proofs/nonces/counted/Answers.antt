@@ -1,5 +1,4 @@
 -- `table::nonces::counted` meets its contract, by its one test. Assumes nothing.
-use borrow.Author.Rules.{rules}
 use borrow.Author.Tests.{lt-ltb, le-ltb}
 use Rattle.table.specs.Nonces.{counted}
 use Rattle.table.proofs.nonces.counted.Goals as goal

@@ -1,7 +1,6 @@
 -- `table::nonces::is_at` meets its contract, by its two tests. Assumes nothing.
 use lib.ListN.{get_or}
 use Prim.Native.Nat.{◌+◌}
-use borrow.Author.Rules.{rules}
 use borrow.Author.Tests.{eq-eqb, ne_eqb}
 use Rattle.table.proofs.nonces.is_at.Goals as goal
 

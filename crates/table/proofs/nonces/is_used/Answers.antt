@@ -1,10 +1,7 @@
 -- `table::nonces::is_used` meets its contract. What is left to search decides, as no nonce passed was this one. Assumes nothing.
-use mathlib.Core.Path.{◌≡◌, sym, ◌∙◌}
-use Prim.Native.Nat.{◌≤◌, ◌-◌}
+use mathlib.Core.Path.{sym, ◌∙◌}
 use native.Mathlib.Omega.{arith}
-use borrow.Author.Rules.{rules}
-use Rattle.table.specs.Nonces.{among, remembered}
-use Rattle.table.proofs.Remembering.{left_from, among-turn, among-all, among_none}
+use Rattle.table.proofs.Remembering.{among-turn, among-all, among_none}
 use Rattle.table.proofs.nonces.is_used.Goals as goal
 
 pub loop-i-init : goal.loop-i-init

@@ -1,10 +1,8 @@
 -- `table::nonces::is_used` meets its contract. What is left to search decides, as no nonce passed was this one. Assumes nothing.
-use mathlib.Core.Path.{◌≡◌, sym, ◌∙◌}
+use mathlib.Core.Path.{◌≡◌}
 use Prim.Native.Nat.{◌≤◌, ◌-◌}
-use native.Mathlib.Omega.{arith}
-use borrow.Author.Rules.{rules}
 use Rattle.table.specs.Nonces.{among, remembered}
-use Rattle.table.proofs.Remembering.{left_from, among-turn, among-all, among_none}
+use Rattle.table.proofs.Remembering.{left_from}
 use Rattle.table.proofs.nonces.is_used.Given as goal
 
 abbrev pub invariant-loop-i : goal.invariant-loop-i

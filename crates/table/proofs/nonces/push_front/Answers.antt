@@ -1,10 +1,9 @@
 -- `table::nonces::push_front` meets its contract: each turn moves one number on (`Moved`). Assumes nothing.
-use mathlib.Core.Path.{◌≡◌, refl}
-use Prim.Native.Nat.{◌≤◌, ◌-◌, ◌<◌, ◌+◌}
+use mathlib.Core.Path.{refl}
+use Prim.Native.Nat.{◌<◌, ◌+◌}
 use native.Mathlib.Omega.{arith}
-use borrow.Author.Rules.{rules}
 use lib.ListN.{length}
-use Rattle.table.proofs.Pushing.{Moved, moved_none, moved-one, moved_length, moved_all}
+use Rattle.table.proofs.Pushing.{moved_none, moved-one, moved_length, moved_all}
 use Rattle.table.proofs.nonces.push_front.Goals as goal
 
 pub loop-i-init : goal.loop-i-init

@@ -1,10 +1,8 @@
 -- `table::nonces::push_front` meets its contract: each turn moves one number on (`Moved`). Assumes nothing.
-use mathlib.Core.Path.{◌≡◌, refl}
-use Prim.Native.Nat.{◌≤◌, ◌-◌, ◌<◌, ◌+◌}
-use native.Mathlib.Omega.{arith}
-use borrow.Author.Rules.{rules}
+use mathlib.Core.Path.{◌≡◌}
+use Prim.Native.Nat.{◌≤◌, ◌-◌}
 use lib.ListN.{length}
-use Rattle.table.proofs.Pushing.{Moved, moved_none, moved-one, moved_length, moved_all}
+use Rattle.table.proofs.Pushing.{Moved}
 use Rattle.table.proofs.nonces.push_front.Given as goal
 
 abbrev pub invariant-loop-i : goal.invariant-loop-i

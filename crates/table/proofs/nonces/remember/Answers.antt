@@ -1,5 +1,4 @@
 -- `table::nonces::remember` meets its contract. Each call moves the numbers of its own part. Assumes nothing.
-use borrow.Author.Rules.{rules}
 use Rattle.table.specs.Nonces.{remembered_with}
 use Rattle.table.proofs.nonces.remember.Goals as goal
 

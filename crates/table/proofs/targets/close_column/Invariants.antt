@@ -1,14 +1,9 @@
 -- `table::targets::close_column` meets its contract. The numbers kept of those gone through stand at the column's front (`Moved`), and what
 -- is still to be read lies behind them. Assumes nothing.
-use mathlib.Core.Path.{◌≡◌, refl}
-use mathlib.Core.Logic.{⊎_elim}
-use Prim.Native.Nat.{◌≤◌, ◌<◌, ◌+◌, ◌-◌}
-use native.Mathlib.Omega.{arith}
-use native.Mathlib.Nat.{le_antisymm}
-use borrow.Author.Rules.{rules}
+use mathlib.Core.Path.{◌≡◌}
+use Prim.Native.Nat.{◌≤◌, ◌-◌}
 use lib.ListN.{length}
-use Rattle.table.specs.Targets.{column_closed}
-use Rattle.table.proofs.Columns.{Moved, moved_none, moved_bounds, moved_keeps, moved_skips}
+use Rattle.table.proofs.Columns.{Moved}
 use Rattle.table.proofs.targets.close_column.Given as goal
 
 abbrev pub invariant-loop-i : goal.invariant-loop-i

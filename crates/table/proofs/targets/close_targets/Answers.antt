@@ -1,7 +1,6 @@
 -- `table::targets::close_targets` meets its contract: the columns are closed one after the other. Assumes nothing.
 use mathlib.Core.Path.{refl}
 use Rattle.table.specs.Targets.{targets_closed}
-use borrow.Author.Rules.{rules}
 use Rattle.table.proofs.targets.close_targets.Goals as goal
 
 pub returns : goal.returns

@@ -1,12 +1,9 @@
 -- `table::targets::find_place` meets its contract. The places passed and what is left to search make up the place, as no number passed was
 -- the id. Assumes nothing.
-use mathlib.Core.Path.{◌≡◌, sym}
+use mathlib.Core.Path.{◌≡◌}
 use Prim.Native.Nat.{◌≤◌, ◌-◌, ◌+◌}
-use native.Mathlib.Omega.{arith}
-use borrow.Author.Rules.{rules}
 use lib.ListN.{take, drop}
 use Rattle.table.specs.Targets.{place_of}
-use Rattle.table.proofs.Columns.{place_turn, place_end, place_found}
 use Rattle.table.proofs.targets.find_place.Given as goal
 
 abbrev pub invariant-loop-i : goal.invariant-loop-i

@@ -2,7 +2,6 @@
 use mathlib.Core.Path.{refl}
 use native.Mathlib.Omega.{arith}
 use lib.ListN.{length-set}
-use borrow.Author.Rules.{rules}
 use Rattle.table.specs.Targets.{target_set}
 use Rattle.table.proofs.targets.put_target.Goals as goal
 

@@ -1,6 +1,5 @@
 -- `table::targets::target_at` meets its contract: the three numbers are the definition's. Assumes nothing.
 use mathlib.Core.Path.{refl}
-use borrow.Author.Rules.{rules}
 use Rattle.table.specs.Targets.{target_at}
 use Rattle.table.proofs.targets.target_at.Goals as goal
 

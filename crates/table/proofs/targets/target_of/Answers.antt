@@ -1,6 +1,5 @@
 -- `table::targets::target_of` meets its contract: the bytes copied over sixteen zeros are those filled up with zeros. Assumes nothing.
 use mathlib.Core.Path.{ap}
-use borrow.Author.Rules.{rules}
 use borrow.Author.Tests.{lt-leb, le-leb}
 use lib.ListN.{length}
 use Rattle.digest.specs.Md5.{numbers16}
