@@ -1,5 +1,4 @@
 -- `connection::challenge::answered_challenge` meets its contract. Where all challenges can be read, the first one found is the one answered. Assumes nothing.
-use borrow.Author.Tests.{not-true, not-false}
 use Rattle.std.proofs.Common.{◌≡◌, ℕ, Bool, true, List, sym, ap, ◌∙◌, rules}
 use Rattle.packet.specs.Header.{read_headers, first_place}
 use Rattle.packet.specs.Tags.{bytes_at}
@@ -21,7 +20,7 @@ answered s from b f g k t p q = sym (answered_at s from (sym k ∙ t) ∙ ap (λ
 returns : tie.Need-returns-then-not-are_known
 returns c =
     let x = c.args in
-    sym (not-answered (read_headers x.packet.now x.from) (sym c.are_known.ensures ∙ not-true c.are_known.result c.if-not-are_known.true))
+    sym (not-answered (read_headers x.packet.now x.from) (sym c.are_known.ensures ∙ c.if-not-are_known.true))
 
 first-header-requires : tie.Need-first_header-requires
 first-header-requires c κs = search rules
@@ -38,11 +37,11 @@ returns-2 c =
     let k = f.before.before in
     let x = k.args in
     answered x.packet.now x.from k.are_known.result f.first_header.result _ k.are_known.ensures
-    (not-false k.are_known.result f.if-not-are_known.false) f.first_header.ensures c.in_default.is
+    f.if-not-are_known.false f.first_header.ensures c.in_default.is
 
 -- the header found stands in the packet
-here : (c : tie.In-At) → let v = c.start-1.given.0 in
-    FoundIn 0x4D c.args.packet.now v.0 v.1.0
+here : (c : tie.In-At) → let v = c.in-At in
+    FoundIn 0x4D c.args.packet.now v.start v.«end»
 here c = first_found 0x4D _ _ _ _ (sym c.first_header.ensures ∙ c.in-At.is)
 
 sub-read-challenge : tie.Need-slice_bounds-read_challenge-count
@@ -52,7 +51,7 @@ part-read-challenge-start : tie.Need-slice_bounds-read_challenge-start
 part-read-challenge-start c = (here c).stands.past
 
 part-read-challenge-end : tie.Need-slice_bounds-read_challenge-end
-part-read-challenge-end c = (here c).stands.ranges
+part-read-challenge-end c = (here c).stands.fits
 
 read-challenge-requires : tie.Need-read_challenge-requires
 read-challenge-requires c κs = search rules
@@ -65,7 +64,7 @@ returns-3 c =
     let x = k.args in
     c.read_challenge.ensures
     ∙ answered x.packet.now x.from k.are_known.result f.first_header.result _ k.are_known.ensures
-    (not-false k.are_known.result f.if-not-are_known.false) f.first_header.ensures s.in-At.is
+    f.if-not-are_known.false f.first_header.ensures s.in-At.is
 
 pub answered_challenge_spec : {M : Type 1} → statement M
 answered_challenge_spec =

@@ -1,6 +1,5 @@
 -- `connection::challenge::are_known` meets its contract. The invariant: the answer is that of what is left; a header that is passed is known. Assumes nothing.
 use Rattle.std.proofs.Common.{◌≡◌, ◌-◌, Bool, true, false, List, [], length, sym, refl, ap, ◌∙◌, arith, rules}
-use borrow.Author.Tests.{not-true, not-false}
 use mathlib.Core.Option.{Option, some}
 use Rattle.base.specs.Pick.{pick}
 use Rattle.packet.specs.Header.{Header, part, read_headers}
@@ -29,9 +28,9 @@ enum-known-id c = search rules
 
 -- in a turn that goes on, a header stands at the place
 here : (c : tie.In-At invariant-loop decreases-loop) →
-    let v = c.id-1.given.0 in
+    let v = c.in-At in
     let l = c.before.before in
-    Here l.args.packet.now l.loop-id.at v.0 v.1.0 v.1.1.0 v.1.1.1.0
+    Here l.args.packet.now l.loop-id.at v.id v.encoding v.start v.«end»
 here c = by_cursor_lem _ _ _ (sym c.header_at.ensures ∙ c.in-At.is)
 
 sub-is-known : tie.Need-slice_bounds-is_known-count invariant-loop decreases-loop
@@ -47,16 +46,16 @@ is-known-requires : tie.Need-is_known-requires invariant-loop decreases-loop
 is-known-requires c κs = search rules
 
 -- what the header there adds to the answer
-turn : (c : tie.In-At invariant-loop decreases-loop) (b : Bool) → let v = c.id-1.given.0 in
+turn : (c : tie.In-At invariant-loop decreases-loop) (b : Bool) → let v = c.in-At in
     let s = c.args.packet.now in
-    known_header v.0 (part s v.1.1.0 v.1.1.1.0) ≡ b
-    → known_in (read_headers s c.loop-id.at) ≡ pick b (known_in (read_headers s v.1.1.1.0)) false
+    known_header v.id (part s v.start v.«end») ≡ b
+    → known_in (read_headers s c.loop-id.at) ≡ pick b (known_in (read_headers s v.«end»)) false
 turn c b e =
-    let v = c.id-1.given.0 in
+    let v = c.in-At in
     let s = c.args.packet.now in
     ap known_in (here c).list
-    ∙ known_step v.0 (part s v.1.1.0 v.1.1.1.0) (read_headers s v.1.1.1.0)
-    ∙ ap (λ (b : Bool). pick b (known_in (read_headers s v.1.1.1.0)) false) e
+    ∙ known_step v.id (part s v.start v.«end») (read_headers s v.«end»)
+    ∙ ap (λ (b : Bool). pick b (known_in (read_headers s v.«end»)) false) e
 
 -- no header is left
 none_left : (r : Option (List Header)) → r ≡ some [] → known_in r ≡ true
@@ -67,7 +66,7 @@ returns : tie.Need-returns-then-not-is_known invariant-loop decreases-loop
 returns c =
     let k = c.before.before.before in
     let l = k.before.before in
-    sym (l.loop-id.invariant ∙ turn k false (sym c.is_Known.ensures ∙ not-true c.is_Known.result c.if-not-is_known.true))
+    sym (l.loop-id.invariant ∙ turn k false (sym c.is_known.ensures ∙ c.if-not-is_known.true))
 
 loop-less : tie.Need-loop-id-smaller invariant-loop decreases-loop
 loop-less c = let h = here c.before.before.before in omega arith
@@ -76,7 +75,7 @@ loop-again : tie.Need-loop-id-preserved invariant-loop decreases-loop
 loop-again c =
     let k = c.before.before.before in
     let l = k.before.before in
-    l.loop-id.invariant ∙ turn k true (sym c.is_Known.ensures ∙ not-false c.is_Known.result c.if-not-is_known.false)
+    l.loop-id.invariant ∙ turn k true (sym c.is_known.ensures ∙ c.if-not-is_known.false)
 
 enum_told : tie.Need-enum_told-1 invariant-loop decreases-loop
 enum_told c = search rules

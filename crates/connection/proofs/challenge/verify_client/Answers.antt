@@ -1,15 +1,14 @@
 -- `connection::challenge::verify_client` meets its contract. The two values are taken apart, and each failure is the definition's. Assumes nothing.
-use borrow.Author.Tests.{not-true, not-false}
 use Rattle.std.proofs.Common.{rules}
 use Rattle.connection.proofs.challenge.verify_client.Goals as goal
 
 pub returns-then-not-has_password : goal.returns-then-not-has_password
 returns-then-not-has_password c =
     let x = c.args in
-    rw (c.in-Stored.is, c.in-Response.is, not-true x.has-password c.if-not-has_password.true)
+    rw (c.in-Stored.is, c.in-Response.is, c.if-not-has_password.true)
 
 pub returns : goal.returns
 returns c =
     let k = c in
     let x = c.args in
-    rw (c.in-Stored.is, c.in-Response.is, not-false x.has-password c.if-not-has_password.false) c.verify.ensures
+    rw (c.in-Stored.is, c.in-Response.is, c.if-not-has_password.false) c.verify.ensures

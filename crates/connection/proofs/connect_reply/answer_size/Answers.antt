@@ -1,22 +1,21 @@
 -- `connection::connect_reply::answer_size` meets its contract. It adds up the three tags, and the header's three bytes. Assumes nothing.
 use Rattle.std.proofs.Common.{◌≤◌, arith, rules}
-use borrow.Author.Tests.{not-true, not-false}
 use Rattle.connection.proofs.connect_reply.answer_size.Goals as goal
 
 pub returns-then-not-has_user : goal.returns-then-not-has_user
-returns-then-not-has_user c = rw (c.in_default.is, not-true c.args.has-user c.if-not-has_user.true)
+returns-then-not-has_user c = rw (c.in_default.is, c.if-not-has_user.true)
 
 pub overflow_add-result : goal.overflow_add-result
 overflow_add-result c =
     let k = c in
-    let h : c.args.user ≤ 255 = rw (not-false c.args.has-user c.if-not-has_user.false) at c.requires in
+    let h : c.args.user ≤ 255 = rw c.if-not-has_user.false at c.requires in
     omega arith
 
 pub overflow_add-result-2 : goal.overflow_add-result-2
 overflow_add-result-2 c =
     let k = c in
-    let h : c.args.user ≤ 255 = rw (not-false c.args.has-user c.if-not-has_user.false) at c.requires in
+    let h : c.args.user ≤ 255 = rw c.if-not-has_user.false at c.requires in
     omega arith
 
 pub returns : goal.returns
-returns c = rw (c.in_default.is, not-false c.args.has-user c.if-not-has_user.false)
+returns c = rw (c.in_default.is, c.if-not-has_user.false)

@@ -15,18 +15,18 @@ use Rattle.connection.proofs.connect_reply.challenge_reply.Tie as tie
 abbrev bytes : tie.Start → List ℕ
 bytes x =
     bytes_of
-    (challenge_header (octets16 x.args.nonce) (flag_bits x.args.user-id-required x.args.read_only) (given x.args.has-realm (x.args.charset ∷ x.args.realm.now)))
+    (challenge_header (octets16 x.args.nonce) (flag_bits x.args.user_id_required x.args.read_only) (given x.args.has_realm (x.args.charset ∷ x.args.realm.now)))
 
 challenge-size-requires : tie.Need-challenge_size-size-requires
 challenge-size-requires c κs =
     let x = c.before.before in
-    realm-small x.args.has-realm x.args.charset x.args.realm.now x.requires.1
+    realm-small x.args.has_realm x.args.charset x.args.realm.now x.requires.1
 
 -- the size is that of these bytes
 size : (c : tie.After-challenge_size-size) → c.challenge_size-size.result ≡ length (bytes c.before.before.before)
 size c =
     let x = c.before.before.before in
-    c.challenge_size-size.ensures ∙ challenge-bytes-length x.args.nonce _ x.args.has-realm x.args.charset x.args.realm.now
+    c.challenge_size-size.ensures ∙ challenge-bytes-length x.args.nonce _ x.args.has_realm x.args.charset x.args.realm.now
 
 begin-connect-requires : tie.Need-begin_connect-begun-requires
 begin-connect-requires c κs = search rules
@@ -39,7 +39,7 @@ module _ (c : tie.After-begin_connect-begun) (k : c.begin_connect-begun.result.w
       begun-fits x.args.reply.now (bytes x) x.args.remote 0x41 x.args.limit s.challenge_size-size.result (size s) _ _ c.begin_connect-begun.ensures k
 
   -- the header has its place
-  room : Room c.begin_connect-begun.new.0 7 (bytes c.before.before.before.before.before)
+  room : Room c.begin_connect-begun.new.reply 7 (bytes c.before.before.before.before.before)
   room =
       let s = c.before.before in
       let x = s.before.before.before in
@@ -71,7 +71,7 @@ returns c =
     let x = s.before.before.before in
     begun-whole x.args.reply.now (bytes x) x.args.remote 0x41 x.args.limit s.challenge_size-size.result (size s) _ _
     b.begin_connect-begun.ensures t.if-begun.true x.requires.0 _
-    (challenge-laid b.begin_connect-begun.new.0 _ _ x.args.nonce _ x.args.has-realm x.args.charset x.args.realm.now s.challenge_size-size.result _ x.requires.1
+    (challenge-laid b.begin_connect-begun.new.reply _ _ x.args.nonce _ x.args.has_realm x.args.charset x.args.realm.now s.challenge_size-size.result _ x.requires.1
     s.challenge_size-size.ensures (room b t.if-begun.true) l.put_lead.ensures c.write_challenge.ensures)
 
 same-length-2 : tie.Need-shape_of-reply-else-begun

@@ -21,7 +21,7 @@ overflow_add-result-3 c =
       c.requires.0,
       who_at_most c.args.who c.requires.1,
       c.who_size.ensures,
-      answer_at_most c.args.nonce c.args.has-user c.args.user c.requires.2,
+      answer_at_most c.args.nonce c.args.has_user c.args.user c.requires.2,
       c.answer_size.ensures,
     )
 
@@ -35,7 +35,7 @@ overflow_add-result-4 c =
       c.requires.0,
       who_at_most c.args.who c.requires.1,
       c.who_size.ensures,
-      answer_at_most c.args.nonce c.args.has-user c.args.user c.requires.2,
+      answer_at_most c.args.nonce c.args.has_user c.args.user c.requires.2,
       c.answer_size.ensures,
       grant_at_most c.args.srm,
       c.grant_size.ensures,

@@ -18,10 +18,10 @@ returns c =
     rw c.in_default.is (puts-nothing x.reply.now x.at)
 
 -- the Target stands in the packet, and the header fits
-inside : (c : tie.In-At) → let v = c.who-1.given.0 in Inside c.args.packet.now (place.At v.0 v.1.0)
+inside : (c : tie.In-At) → let v = c.in-At in Inside c.args.packet.now (place.At v.start v.«end»)
 inside c = rw c.in-At.is at c.requires.1
 
-size : (c : tie.In-At) → let v = c.who-1.given.0 in c.args.at + (3 + (v.1.0 - v.0)) ≤ 65535
+size : (c : tie.In-At) → let v = c.in-At in c.args.at + (3 + (v.«end» - v.start)) ≤ 65535
 size c =
     let x = c.before.before.before in
     let l = who-length x.args.packet.now x.args.who x.requires.1 in

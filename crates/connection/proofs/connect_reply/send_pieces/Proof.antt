@@ -13,12 +13,12 @@ use Rattle.connection.proofs.connect_reply.send_pieces.Tie as tie
 abbrev pieces : tie.Start → List ℕ
 pieces x =
     named_bytes x.args.front (bytes_at x.args.packet.now x.args.who) x.args.headers.now
-    ++ added_bytes x.args.nonce (given x.args.has-user x.args.user.now) x.args.password.now x.args.srm
+    ++ added_bytes x.args.nonce (given x.args.has_user x.args.user.now) x.args.password.now x.args.srm
 
 connect-size-requires : tie.Need-connect_size-size-requires
 connect-size-requires c κs =
     let x = c.before.before.before.before.before in
-    (x.requires.2, inside-ordered x.args.packet.now x.args.who x.requires.3 x.requires.1, user-small x.args.has-user x.args.user.now x.requires.4)
+    (x.requires.2, inside-ordered x.args.packet.now x.args.who x.requires.3 x.requires.1, user-small x.args.has_user x.args.user.now x.requires.4)
 
 -- the size is that of these bytes
 size : (c : tie.After-connect_size-size) → c.connect_size-size.result ≡ length (pieces c.before.before.before.before.before.before)
@@ -26,7 +26,7 @@ size c =
     let x = c.before.before.before.before.before.before in
     let a = x.args in
     c.connect_size-size.ensures
-    ∙ pieces-length a.packet.now a.headers.now a.user.now a.password.now a.front a.who a.nonce a.has-user a.srm x.requires.3
+    ∙ pieces-length a.packet.now a.headers.now a.user.now a.password.now a.front a.who a.nonce a.has_user a.srm x.requires.3
 
 begin-connect-requires : tie.Need-begin_connect-begun-requires
 begin-connect-requires c κs = search rules
@@ -34,7 +34,7 @@ begin-connect-requires c κs = search rules
 -- the pieces have their place
 room : (c : tie.After-begin_connect-begun) → c.begin_connect-begun.result.whole ≡ true →
     let s = c.before.before in
-    Room c.begin_connect-begun.new.0 7 (pieces s.before.before.before.before.before.before)
+    Room c.begin_connect-begun.new.reply 7 (pieces s.before.before.before.before.before.before)
 room c k =
     let s = c.before.before in
     let x = s.before.before.before.before.before.before in

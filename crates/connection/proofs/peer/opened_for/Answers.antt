@@ -1,6 +1,5 @@
 -- `connection::peer::opened_for` meets its contract. It goes by the answer's id and the Target as the definition does. Assumes nothing.
 use Rattle.std.proofs.Common.{ap, rules}
-use borrow.Author.Tests.{not-true, not-false}
 use Rattle.connection.specs.declared.peer.ConnectionId.TheVariants.{Id, Missing}
 use Rattle.connection.specs.Peer.{Opens, answer_from}
 use Rattle.connection.proofs.peer.opened_for.Goals as goal
@@ -11,12 +10,12 @@ returns-in-Id c =
     (ap (λ (o : Opens). answer_from o Missing) c.opened.ensures)
 
 pub returns-then-not-has_target : goal.returns-then-not-has_target
-returns-then-not-has_target c = rw (c.in_default.is, not-true c.args.has-target c.if-not-has_target.true, c.with_srm.ensures)
+returns-then-not-has_target c = rw (c.in_default.is, c.if-not-has_target.true, c.with_srm.ensures)
 
 pub returns : goal.returns
 returns c =
     let s = c in
     let l = c.allocate_connection_id-found in
     let k = c in
-    rw (c.in_default.is, not-false c.args.has-target c.if1.false, ← l.ensures.id_value.0, ← l.ensures.id_value.1)
+    rw (c.in_default.is, c.if1.false, ← l.ensures.id_value.0, ← l.ensures.id_value.1)
     (ap (λ (o : Opens). answer_from o (Id l.result.id)) c.opened-2.ensures)

@@ -30,7 +30,7 @@ bound : (c : tie.In-Whole) → 7 + c.args.size ≤ 65535
 bound c =
     let f = c.before in
     let x = f.args in
-    whole-bound x.remote (7 + x.size) (sym c.in-Whole.is ∙ f.fits2.ensures)
+    whole-bound x.remote (7 + x.size) (sym c.in-Whole.is ∙ f.fits.ensures)
 
 add-put-connect-prefix : tie.Need-overflow_add-size
 add-put-connect-prefix c = omega (arith, bound c.before.before)
@@ -44,7 +44,7 @@ add-t18 : tie.Need-overflow_add-result
 add-t18 c = omega (arith, bound c.before.before.before.before.before)
 
 returns : tie.Need-returns-in-TooLarge
-returns c = rw (← c.fits2.ensures, c.in-TooLarge.is)
+returns c = rw (← c.fits.ensures, c.in-TooLarge.is)
 
 same_length : tie.Need-shape_of-reply-in-Replaced
 same_length c = search rules
@@ -53,7 +53,7 @@ returns-2 : tie.Need-returns-in-Replaced
 returns-2 c =
     let p = c.before.before in
     let k = p.before.before.before in
-    rw (← k.fits2.ensures, k.in-Replaced.is, p.put_connect_prefix.ensures, p.to_byte.ensures)
+    rw (← k.fits.ensures, k.in-Replaced.is, p.put_connect_prefix.ensures, p.to_byte.ensures)
 
 same-length-2 : tie.Need-shape_of-reply-in-Whole
 same-length-2 c = search rules
@@ -62,7 +62,7 @@ returns-3 : tie.Need-returns-in-Whole
 returns-3 c =
     let p = c.before.before in
     let k = p.before.before.before in
-    rw (← k.fits2.ensures, k.in-Whole.is, p.put_connect_prefix-in-Whole.ensures, p.to_byte-in-Whole.ensures)
+    rw (← k.fits.ensures, k.in-Whole.is, p.put_connect_prefix-in-Whole.ensures, p.to_byte-in-Whole.ensures)
 
 pub begin_connect_spec : {M : Type 1} → statement M
 begin_connect_spec =

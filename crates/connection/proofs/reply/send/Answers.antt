@@ -7,14 +7,14 @@ use Rattle.connection.proofs.reply.send.Goals as goal
 pub returns-in-TooLarge : goal.returns-in-TooLarge
 returns-in-TooLarge c =
     let x = c.args in
-    sent-none x.reply.now x.remote x.code [] x.headers.now c.fits2.result c.fits2.ensures c.in-TooLarge.is
+    sent-none x.reply.now x.remote x.code [] x.headers.now c.fits.result c.fits.ensures c.in-TooLarge.is
 
 pub returns-in-Replaced : goal.returns-in-Replaced
 returns-in-Replaced c =
     let k = c in
     let s = c in
     let x = c.args in
-    sent_replaced x.reply.now x.remote x.code [] x.headers.now c.fits2.result c.fits2.ensures c.in-Replaced.is 3 _ refl
+    sent_replaced x.reply.now x.remote x.code [] x.headers.now c.fits.result c.fits.ensures c.in-Replaced.is 3 _ refl
     (c.put_prefix.ensures ∙ rw c.to_byte.ensures (prefix_alone x.reply.now (sent_code 0x50)))
 
 pub put_prefix-requires-in-Whole : goal.put_prefix-requires-in-Whole
@@ -23,7 +23,7 @@ put_prefix-requires-in-Whole c =
     let s = c in
     let x = c.args in
     let h : 3 + length x.headers.now ≤ 65535 =
-    whole-fits x.reply.now x.remote x.code [] x.headers.now c.fits2.result c.fits2.ensures c.in-Whole.is in
+    whole-fits x.reply.now x.remote x.code [] x.headers.now c.fits.result c.fits.ensures c.in-Whole.is in
     (omega (arith, c.requires), omega arith)
 
 pub copy_into-requires : goal.copy_into-requires
@@ -32,7 +32,7 @@ copy_into-requires c =
     let s = c in
     let x = c.args in
     let h : 3 + length x.headers.now ≤ 65535 =
-    whole-fits x.reply.now x.remote x.code [] x.headers.now c.fits2.result c.fits2.ensures c.in-Whole.is in
+    whole-fits x.reply.now x.remote x.code [] x.headers.now c.fits.result c.fits.ensures c.in-Whole.is in
     omega (arith, c.requires)
 
 pub returns-in-Whole : goal.returns-in-Whole
@@ -42,8 +42,8 @@ returns-in-Whole c =
     let s = c in
     let x = c.args in
     let h : 3 + length x.headers.now ≤ 65535 =
-    whole-fits x.reply.now x.remote x.code [] x.headers.now c.fits2.result c.fits2.ensures c.in-Whole.is in
-    sent-whole x.reply.now x.remote x.code [] x.headers.now c.fits2.result c.fits2.ensures c.in-Whole.is _ _ refl
+    whole-fits x.reply.now x.remote x.code [] x.headers.now c.fits.result c.fits.ensures c.in-Whole.is in
+    sent-whole x.reply.now x.remote x.code [] x.headers.now c.fits.result c.fits.ensures c.in-Whole.is _ _ refl
     (c.copy_into.ensures
     ∙ rw (c.put_prefix-in-Whole.ensures, c.to_byte-in-Whole.ensures)
     (prefix-headers x.reply.now x.headers.now (sent_code x.code) (omega (arith, c.requires))))

@@ -10,7 +10,7 @@ begin-connect-requires c κs = search rules
 
 -- the headers have their place
 room : (c : tie.After-begin_connect-begun) → c.begin_connect-begun.result.whole ≡ true
-    → Room c.begin_connect-begun.new.0 7 c.args.headers.now
+    → Room c.begin_connect-begun.new.reply 7 c.args.headers.now
 room c k =
     let x = c.before.before.before.before in
     begun-room x.args.reply.now x.args.headers.now x.args.remote x.args.code x.args.limit _ refl _ _ c.begin_connect-begun.ensures k x.requires

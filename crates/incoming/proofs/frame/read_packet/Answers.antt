@@ -64,7 +64,7 @@ overflow_add-result c =
     let r = c.read_placed-f in
     let x = c.args in
     sum_fits x.packet.now x.input.now _ x.begun x.placed r.result c.read_offered-g.result r.ensures.model
-    c.read_offered-g.ensures.model c.struct_known-2-1.given.0
+    c.read_offered-g.ensures.model (search rules)
 
 pub returns : goal.returns
 returns c =
