@@ -13,7 +13,7 @@ use Rattle.model.specs.Runs.{State}
 use Rattle.client_model.specs.Guard.{awaiting}
 use Rattle.client_model.specs.declared.Settings.{Settings}
 use Rattle.client_model.specs.declared.Await.TheVariants as await
-use Rattle.link.specs.Link.{Link, UserCall, get, put, Move, move, moves}
+use Rattle.link.specs.Link.{Link, UserCall, get, put, connect, disconnect, body, abort, partTaken, Move, move, moves}
 use Rattle.link.specs.Told.{goes}
 use Rattle.link.specs.Claims.{Plain, Fresh, connected_in, named_after, is_open_of, journal_in}
 use Rattle.link.proofs.Moves.{user-refused}
@@ -38,6 +38,11 @@ called l u y e = by u y e (awaiting l.client await.Call) refl
     by u y e true i = i
     by (put hs has) puts e false i = absurd (false≢true (sym (user-refused l (put hs has) i) ∙ e))
     by (get hs) gets e false i = absurd (false≢true (sym (user-refused l (get hs) i) ∙ e))
+    by (connect _) y e false i = elim y [ ]
+    by (disconnect _) y e false i = elim y [ ]
+    by (body _) y e false i = elim y [ ]
+    by abort y e false i = elim y [ ]
+    by partTaken y e false i = elim y [ ]
 
 module _ (cs : Settings) (Inside : UserCall → ℕ → Link → Link → Type 0) (part : (u : UserCall) → Many u → Part cs (Inside u) u) (st : ServerSettings)
     (l : Link) (f : Fresh st cs l) where

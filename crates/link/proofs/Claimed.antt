@@ -110,6 +110,11 @@ module _ (cs : Settings) where
   part : (u : UserCall) → Many u → Part cs (Inside u) u
   part (put hs has) many-puts = put_is hs has
   part (get hs) many-gets = get_is hs
+  part (connect _) y = elim y [ ]
+  part (disconnect _) y = elim y [ ]
+  part (body _) y = elim y [ ]
+  part abort y = elim y [ ]
+  part partTaken y = elim y [ ]
 
   -- what a Put or a Get finds
   before-call : (st : ServerSettings) (l : Link) (before : List Move) → Fresh st cs l → Plain before → connected_in false l before ≡ true

@@ -768,13 +768,13 @@ module _ (j : Fetch) (o : Origin) (h : GetHeard) (l : Link) (st : Stage) (flag :
 means-goes : (j : Fetch) (o : Origin) (st : Stage) (sent : List (List ℕ)) (code : ℕ) (x : List Header) (s : State) (h : GetHeard)
     → Means j o st sent code x s h
     → goes_on_of s.engine.operation s.engine s.stores ≡ wants s.engine s.engine.peer s.engine.operation s.stores
-means-goes j o st sent code x s h (goes_on initial granted xs e c ge hd (none_yet n off i) ea) = idle_goes s.engine.operation s.engine s.stores i
-means-goes j o st sent code x s h (goes_on initial granted xs e c ge hd (gathered g n w a) ea) = ap (λ (p : Operation). goes_on_of p s.engine s.stores) n
+means-goes j o st sent code x s h (goes_on initial granted _ e c ge hd (none_yet n off i) ea) = idle_goes s.engine.operation s.engine s.stores i
+means-goes j o st sent code x s h (goes_on initial granted _ e c ge hd (gathered g n w a) ea) = ap (λ (p : Operation). goes_on_of p s.engine s.stores) n
 means-goes j o st sent code x s h (refuses q na w i ea) = idle_goes s.engine.operation s.engine s.stores i
 means-goes j o st sent code x s h (hostAnswers on initial q nc i asked ob pa ok ca) = idle_goes s.engine.operation s.engine s.stores i
-means-goes j o st sent code x s h (more t out d zs q off after c a held w) =
+means-goes j o st sent code x s h (more t out d zs q off after c a _ w) =
     ap (λ (p : Operation). goes_on_of p s.engine s.stores) (a.operation ∙ ap (λ (b : Bool). Sending a.outgoing a.chunk b false) off)
-means-goes j o st sent code x s h (whole t out d zs q c i e held w) = idle_goes s.engine.operation s.engine s.stores i
+means-goes j o st sent code x s h (whole t out d zs q c i e _ w) = idle_goes s.engine.operation s.engine s.stores i
 means-goes j o st sent code x s h (fails t d zs q c i w) = idle_goes s.engine.operation s.engine s.stores i
 means-goes j o st sent code x s h (stopped q c i on) = idle_goes s.engine.operation s.engine s.stores i
 
@@ -819,8 +819,8 @@ module _ (j : Fetch) (o : Origin) (h : GetHeard) (l : Link) (st : Stage) (flag :
 
   gathers-taken : (on : Bool) (xs : List (List Header)) → Gathers on l.server xs → Gathers on taken_state xs
   unfolding engine_with
-  gathers-taken on xs (none_yet e off i) = none_yet e off i
-  gathers-taken on xs (gathered g e w a) = gathered g e w a
+  gathers-taken on _ (none_yet e off i) = none_yet e off i
+  gathers-taken on _ (gathered g e w a) = gathered g e w a
 
   means-taken : Means j o st sent code x l.server h → Means j o st sent code x taken_state taken_heard
   unfolding engine_with
