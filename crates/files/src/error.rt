@@ -4,11 +4,28 @@ ghost use Rattle.files.specs.Errors.{refusal_of, read_alone, missing, is_full};
 
 use packet::response::{FORBIDDEN, INTERNAL_SERVER_ERROR, NOT_FOUND};
 
-// Linux's numbers of three errors that `libc` has no name for: a socket cannot be opened, a program that is running cannot be opened for
-// writing, and a user's share of a disk is used up.
+// Linux's numbers of errors: an operation is not permitted, there is no such file, a socket cannot be opened, there is no permission, what
+// should be a folder is none or the other way round, a program that is running cannot be opened for writing, a disk is full, a file system
+// can only be read, there are too many links on the way, and a user's share of a disk is used up.
+const EPERM: i32 = 1;
+
+const ENOENT: i32 = 2;
+
 const ENXIO: i32 = 6;
 
+const EACCES: i32 = 13;
+
+const ENOTDIR: i32 = 20;
+
+const EISDIR: i32 = 21;
+
 const ETXTBSY: i32 = 26;
+
+const ENOSPC: i32 = 28;
+
+const EROFS: i32 = 30;
+
+const ELOOP: i32 = 40;
 
 const EDQUOT: i32 = 122;
 
@@ -17,8 +34,8 @@ pub fn refusal_of(error: i32) -> u8
     ensures { result ≡ refusal_of error }
 {
     match error {
-        libc::ENOENT => NOT_FOUND,
-        libc::EACCES | libc::EPERM | libc::EISDIR | libc::ELOOP | ENXIO => FORBIDDEN,
+        ENOENT => NOT_FOUND,
+        EACCES | EPERM | EISDIR | ELOOP | ENXIO => FORBIDDEN,
         _ => INTERNAL_SERVER_ERROR,
     }
 }
@@ -28,7 +45,7 @@ pub fn is_read_only(error: i32) -> bool
     ensures { result ≡ read_alone error }
 {
     match error {
-        libc::EACCES | libc::EPERM | libc::EROFS | ETXTBSY => true,
+        EACCES | EPERM | EROFS | ETXTBSY => true,
         _ => false,
     }
 }
@@ -38,7 +55,7 @@ pub fn is_missing(error: i32) -> bool
     ensures { result ≡ missing error }
 {
     match error {
-        libc::ENOENT | libc::ENOTDIR => true,
+        ENOENT | ENOTDIR => true,
         _ => false,
     }
 }
@@ -48,7 +65,7 @@ pub fn is_full(error: i32) -> bool
     ensures { result ≡ is_full error }
 {
     match error {
-        libc::ENOSPC | EDQUOT => true,
+        ENOSPC | EDQUOT => true,
         _ => false,
     }
 }

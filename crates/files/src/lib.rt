@@ -3,5 +3,6 @@
 #![tactic(auto)]
 
 pub mod error;
+pub mod fault;
 pub mod name;
 pub mod path;
