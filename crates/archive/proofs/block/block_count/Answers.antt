@@ -1,7 +1,6 @@
 -- `archive::block::block_count` meets its contract: a whole number of full blocks and one begun block are the quotient rounded up. Assumes
 -- nothing.
 use native.Mathlib.Omega.{arith}
-use borrow.Author.Rules.{rules}
 use borrow.Author.Tests.{eq-eqb, ne_eqb}
 use Rattle.archive.specs.Writing.{block_count}
 use Rattle.archive.proofs.block.block_count.Goals as goal

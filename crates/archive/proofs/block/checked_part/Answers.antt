@@ -1,6 +1,5 @@
 -- `archive::block::checked_part` meets its contract: head and payload are laid on zeros. Assumes nothing.
 use mathlib.Core.Path.{refl}
-use borrow.Author.Rules.{rules}
 use Rattle.archive.proofs.Laid.{checked-laid}
 use Rattle.archive.proofs.block.checked_part.Goals as goal
 

@@ -5,7 +5,7 @@ use mathlib.Core.List.{List}
 use Prim.Native.Nat.{ℕ, ◌+◌, ◌*◌}
 use native.Mathlib.Omega.{arith}
 use lib.Dec.{eqb}
-use borrow.Author.Tests.{eq-eqb, ne_eqb, not-true, not-false}
+use borrow.Author.Tests.{eq-eqb, ne_eqb}
 use borrow.Author.Rules.{rules}
 use Rattle.base.specs.Bytes.{be16, be32}
 use Rattle.archive.specs.Block.{right_check, fault_of}
@@ -24,7 +24,7 @@ numbered c =
     let p = x.before.before in
     let a = p.args in
     let n = halves a.block.now x.be16_at.result c.be16_at-2.result x.be16_at.ensures.0 c.be16_at-2.ensures.0 in
-    (sym p.is_check_right.ensures ∙ not-false p.is_check_right.result x.if-not-is_check_right.false, eq-eqb _ a.k (rw n at c.if-be16_at-k.false))
+    (sym p.is_check_right.ensures ∙ x.if-not-is_check_right.false, eq-eqb _ a.k (rw n at c.if-be16_at-k.false))
 
 is-check-right-requires : tie.Need-is_check_right-requires
 is-check-right-requires c κs = search rules
@@ -33,7 +33,7 @@ returns : tie.Need-returns-then-not-is_check_right
 unfolding fault_of
 returns c =
     let e : right_check c.args.block.now ≡ false =
-    sym c.is_check_right.ensures ∙ not-true c.is_check_right.result c.if-not-is_check_right.true in
+    sym c.is_check_right.ensures ∙ c.if-not-is_check_right.true in
     rw e
 
 be16-at-requires : tie.Need-be16_at-requires
@@ -54,7 +54,7 @@ returns-2 c =
     let x = c.before.before in
     let p = x.before.before in
     let b = p.args.block.now in
-    let e : right_check b ≡ true = sym p.is_check_right.ensures ∙ not-false p.is_check_right.result x.if-not-is_check_right.false in
+    let e : right_check b ≡ true = sym p.is_check_right.ensures ∙ x.if-not-is_check_right.false in
     let n = halves b x.be16_at.result c.be16_at-2.result x.be16_at.ensures.0 c.be16_at-2.ensures.0 in
     rw (e, ne_eqb _ p.args.k (rw n at c.if-be16_at-k.true))
 
@@ -65,13 +65,13 @@ returns-3 : tie.Need-returns-then-not-is_form_right
 unfolding fault_of
 returns-3 c =
     let n = numbered c.before.before in
-    rw (n.0, n.1, sym c.is_form_right.ensures ∙ not-true c.is_form_right.result c.if-not-is_form_right.true)
+    rw (n.0, n.1, sym c.is_form_right.ensures ∙ c.if-not-is_form_right.true)
 
 returns-4 : tie.Need-returns
 unfolding fault_of
 returns-4 c =
     let n = numbered c.before.before in
-    rw (n.0, n.1, sym c.is_form_right.ensures ∙ not-false c.is_form_right.result c.if-not-is_form_right.false)
+    rw (n.0, n.1, sym c.is_form_right.ensures ∙ c.if-not-is_form_right.false)
 
 pub fault_of_spec : {M : Type 1} → statement M
 fault_of_spec =

@@ -4,7 +4,6 @@ use mathlib.Core.Path.{◌≡◌, sym, ◌∙◌}
 use mathlib.Core.Bool.{true}
 use Prim.Native.Nat.{◌≤◌}
 use native.Mathlib.Omega.{arith}
-use borrow.Author.Tests.{not-true, not-false}
 use borrow.Author.Rules.{rules}
 use Rattle.archive.specs.Block.{is_last_block, used, right_length, right_form}
 use Rattle.archive.proofs.OneBlock.{length_most, form-length, form_padding, form-total}
@@ -16,7 +15,7 @@ right : (c : tie.Else-not-is_length_right)
     → let a = c.args in right_length a.k (is_last_block a.block.now) (used a.block.now) ≡ true
 right c =
     let x = c.before in
-    rw (x.is_last_block.ensures, x.used_in-used.ensures) at (sym x.is_length_right.ensures ∙ not-false x.is_length_right.result c.if-not-is_length_right.false)
+    rw (x.is_last_block.ensures, x.used_in-used.ensures) at (sym x.is_length_right.ensures ∙ c.if-not-is_length_right.false)
 
 -- so that the padding lies in the block
 used-most : (c : tie.Else-not-is_length_right) → c.used_in-used.result ≤ 490
@@ -41,7 +40,7 @@ returns-2 : tie.Need-returns-then-not-is_length_right
 returns-2 c =
     let x = c.before in
     let a = x.args in
-    let e = rw (x.is_last_block.ensures, x.used_in-used.ensures) at (sym x.is_length_right.ensures ∙ not-true x.is_length_right.result c.if-not-is_length_right.true) in
+    let e = rw (x.is_last_block.ensures, x.used_in-used.ensures) at (sym x.is_length_right.ensures ∙ c.if-not-is_length_right.true) in
     rw x.if-is_ended.false (form-length a.k a.before a.block.now e)
 
 add-is-zero : tie.Need-overflow_add-used
@@ -71,7 +70,7 @@ returns-3 c =
     let a = x.args in
     rw x.if-is_ended.false
     (form_padding a.k a.before a.block.now (right e) u.result u.ensures
-    (sym c.is_zero.ensures ∙ not-true c.is_zero.result c.if-not-is_zero.true))
+    (sym c.is_zero.ensures ∙ c.if-not-is_zero.true))
 
 sub-result : tie.Need-overflow_sub-result
 sub-result c = search rules
@@ -84,7 +83,7 @@ returns-4 c =
     let a = x.args in
     rw x.if-is_ended.false
     (form-total a.k a.before a.block.now (right e) u.result u.ensures (omega arith)
-    (sym c.is_zero.ensures ∙ not-false c.is_zero.result c.if-not-is_zero.false))
+    (sym c.is_zero.ensures ∙ c.if-not-is_zero.false))
 
 pub is_form_right_spec : {M : Type 1} → statement M
 is_form_right_spec =

@@ -1,5 +1,4 @@
 -- `archive::block::is_last_block` meets its contract: its test is that of `is_last_block`. Assumes nothing.
-use borrow.Author.Rules.{rules}
 use Rattle.archive.proofs.block.is_last_block.Goals as goal
 
 pub returns : goal.returns

@@ -2,10 +2,8 @@
 -- nothing.
 use mathlib.Core.Path.{◌≡◌, refl, sym, ◌∙◌}
 use mathlib.Core.List.{[]}
-use Prim.Native.Nat.{◌-◌, ◌≤◌}
 use native.Mathlib.Omega.{arith}
-use lib.ListN.{length, drop, drop_of_length-le}
-use borrow.Author.Rules.{rules}
+use lib.ListN.{drop, drop_of_length-le}
 use Rattle.archive.specs.Block.{same}
 use Rattle.archive.proofs.Compare.{same_next, same_not}
 use Rattle.archive.proofs.block.is_same.Goals as goal

@@ -1,13 +1,9 @@
 -- `archive::block::is_same` meets its contract. The invariant: what is left of the two is the same if and only if the two are. Assumes
 -- nothing.
-use mathlib.Core.Path.{◌≡◌, refl, sym, ◌∙◌}
-use mathlib.Core.List.{[]}
+use mathlib.Core.Path.{◌≡◌}
 use Prim.Native.Nat.{◌-◌, ◌≤◌}
-use native.Mathlib.Omega.{arith}
-use lib.ListN.{length, drop, drop_of_length-le}
-use borrow.Author.Rules.{rules}
+use lib.ListN.{length, drop}
 use Rattle.archive.specs.Block.{same}
-use Rattle.archive.proofs.Compare.{same_next, same_not}
 use Rattle.archive.proofs.block.is_same.Given as goal
 
 abbrev pub invariant-loop-i : goal.invariant-loop-i

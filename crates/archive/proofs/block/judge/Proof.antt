@@ -5,7 +5,6 @@ use mathlib.Core.List.{List, [], ◌++◌}
 use Prim.Native.Nat.{ℕ, ◌-◌, ◌≤◌}
 use native.Mathlib.Omega.{arith}
 use lib.ListN.{length, length-append}
-use borrow.Author.Tests.{not-true, not-false}
 use borrow.Author.Rules.{rules}
 use Rattle.archive.specs.Reading.{Judged}
 use Rattle.archive.specs.Block.{payload_of}
@@ -29,7 +28,7 @@ here c =
     let k = x.loop-k.k in
     let p = x.loop-k.invariant.1 in
     let e = sym (rw (cut-block k, ← p.1) at c.fault_of-fault.ensures) ∙ c.if-fault-ne-SOUND.false in
-    next x.args.blocks.now k x.loop-k.is-ended p.0 c.used_in-total.result p.2 (omega arith) e
+    next x.args.blocks.now k x.loop-k.is_ended p.0 c.used_in-total.result p.2 (omega arith) e
     (rw (cut-block k) at c.used_in-total.ensures)
 
 loop-holds : tie.Need-loop-k-init invariant-loop decreases-loop
@@ -65,8 +64,8 @@ returns c =
     let e = rw (cut-block x.loop-k.k, ← p.1) at c.fault_of-fault.ensures in
     let s = x.args.blocks.now in
     let n = rw e at c.if-fault-ne-SOUND.true in (
-      e ∙ sym (passed_faulty s x.loop-k.k x.loop-k.is-ended p.0 p.2 (omega arith) n),
-      sym (faulty_count s x.loop-k.k x.loop-k.is-ended p.0 p.2 (omega arith) n),
+      e ∙ sym (passed_faulty s x.loop-k.k x.loop-k.is_ended p.0 p.2 (omega arith) n),
+      sym (faulty_count s x.loop-k.k x.loop-k.is_ended p.0 p.2 (omega arith) n),
       λ z. absurd (c.if-fault-ne-SOUND.true z),
     )
 
@@ -104,8 +103,8 @@ returns-2 c =
     let x = c.before.before in
     let p = x.loop-k.invariant.1 in
     let s = x.args.blocks.now in (
-      sym (fault-left-over s x.loop-k.k x.loop-k.is-ended p.0 p.2 (omega arith) c.if-blocks-ne0.true),
-      sym (all-count s x.loop-k.k x.loop-k.is-ended p.0 p.2 (omega arith)),
+      sym (fault-left-over s x.loop-k.k x.loop-k.is_ended p.0 p.2 (omega arith) c.if-blocks-ne0.true),
+      sym (all-count s x.loop-k.k x.loop-k.is_ended p.0 p.2 (omega arith)),
       λ z. omega arith,
     )
 
@@ -113,9 +112,9 @@ returns-3 : tie.Need-returns-then-not-is_ended invariant-loop decreases-loop
 returns-3 c =
     let x = c.before.before.before in
     let p = x.loop-k.invariant.1 in (
-      sym (fault_no_last x.args.blocks.now x.loop-k.k x.loop-k.is-ended p.0 p.2 (omega arith)
-          (not-true x.loop-k.is-ended c.if-not-is_ended.true) c.if-blocks-ne0.false),
-      sym (all-count x.args.blocks.now x.loop-k.k x.loop-k.is-ended p.0 p.2 (omega arith)),
+      sym (fault_no_last x.args.blocks.now x.loop-k.k x.loop-k.is_ended p.0 p.2 (omega arith)
+          c.if-not-is_ended.true c.if-blocks-ne0.false),
+      sym (all-count x.args.blocks.now x.loop-k.k x.loop-k.is_ended p.0 p.2 (omega arith)),
       λ z. omega arith,
     )
 
@@ -124,9 +123,9 @@ returns-4 c =
     let x = c.before.before.before in
     let s = x.args.blocks.now in
     let p = x.loop-k.invariant.1 in
-    let e = passed_all s x.loop-k.k x.loop-k.is-ended p.0 p.2 (omega arith) in (
-      sym (fault-none s x.loop-k.k x.loop-k.is-ended p.0 p.2 (omega arith) (not-false x.loop-k.is-ended c.if-not-is_ended.false) c.if-blocks-ne0.false),
-      sym (all-count s x.loop-k.k x.loop-k.is-ended p.0 p.2 (omega arith)),
+    let e = passed_all s x.loop-k.k x.loop-k.is_ended p.0 p.2 (omega arith) in (
+      sym (fault-none s x.loop-k.k x.loop-k.is_ended p.0 p.2 (omega arith) c.if-not-is_ended.false c.if-blocks-ne0.false),
+      sym (all-count s x.loop-k.k x.loop-k.is_ended p.0 p.2 (omega arith)),
       λ z. sym p.1 ∙ sym (ap (λ (v : Judged). length v.body) e),
     )
 

@@ -1,5 +1,4 @@
 -- `archive::block::length_field` meets its contract, by the two cases of its mark. Assumes nothing.
-use borrow.Author.Rules.{rules}
 use Rattle.archive.proofs.block.length_field.Goals as goal
 
 pub returns-then-is_last : goal.returns-then-is_last

@@ -1,7 +1,6 @@
 -- `archive::block::read` meets its contract: its tests are those of `read_into`, in their order. Assumes nothing.
 use mathlib.Core.Path.{sym, ◌∙◌}
 use native.Mathlib.Omega.{arith}
-use borrow.Author.Rules.{rules}
 use Rattle.archive.proofs.AllRead.{read_short, read-refused, read_done}
 use Rattle.archive.proofs.block.read.Goals as goal
 

@@ -1,6 +1,5 @@
 -- `archive::block::write` meets its contract: its tests are those of `written`, in their order. Assumes nothing.
 use native.Mathlib.Omega.{arith}
-use borrow.Author.Rules.{rules}
 use Rattle.archive.proofs.AllWritten.{written-short, written-long, written-done}
 use Rattle.archive.proofs.block.write.Goals as goal
 

@@ -1,7 +1,6 @@
 -- `archive::block::write_block` meets its contract: what the check is of and the check are laid behind one another. Assumes nothing.
 use Prim.Native.Nat.{◌*◌}
 use native.Mathlib.Omega.{arith}
-use borrow.Author.Rules.{rules}
 use Rattle.digest.proofs.Octets.{length-digest}
 use Rattle.digest.specs.Md5.{digest_of}
 use Rattle.archive.specs.Block.{checked, block}

@@ -1,13 +1,12 @@
 -- `archive::block::write_blocks` meets its contract. The invariant: the first k blocks stand at the front of the target, the rest of the target
 -- is as it was, and the blocks that are left are those of the rest of the body. Assumes nothing.
 use mathlib.Core.Path.{◌≡◌, refl}
-use Prim.Native.Nat.{suc, ◌+◌, ◌-◌, ◌*◌, ◌≤◌}
+use Prim.Native.Nat.{suc, ◌+◌, ◌-◌, ◌*◌}
 use native.Mathlib.Omega.{arith}
 use lib.ListN.{length, drop, length-drop, length-take}
 use lib.Seq.{take_all}
-use borrow.Author.Rules.{rules}
 use Rattle.archive.specs.Writing.{block_count}
-use Rattle.archive.proofs.AllWritten.{Counted, counted, Left, left-all, left-more, Begun, full-laid, last-laid}
+use Rattle.archive.proofs.AllWritten.{counted, left-all, left-more, full-laid, last-laid}
 use Rattle.archive.proofs.block.write_blocks.Goals as goal
 
 pub loop-k-init : goal.loop-k-init
