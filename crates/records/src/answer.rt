@@ -1,15 +1,14 @@
 // The answers, a line each.
 ghost use Rattle.std.specs.Prelude.{◌≤◌, length};
 
-use libc::STDOUT_FILENO;
-use lines::output::{put, put_hex, put_number, write};
+use lines::output::{print, put, put_hex, put_number, write};
 
 // The most bytes that are shown in hexadecimal; of more, their count and MD5 are shown.
 const SHOWN: usize = 512;
 
 // Answers a line that is no question, or has not its form.
-pub(crate) fn bad_question() {
-    io::write_all(STDOUT_FILENO, b"bad question\n");
+pub(crate) fn bad_question(rt: &impl Print) {
+    print(rt, b"bad question\n");
 }
 
 // Puts the line of an answer: its number, and the target's bytes.
@@ -23,10 +22,10 @@ fn put_answer(out: &mut [u8], number: usize, target: &[u8]) -> usize
 }
 
 // Answers with a number and the target's bytes.
-pub(crate) fn number_and_target(number: usize, target: &[u8]) {
+pub(crate) fn number_and_target(rt: &impl Print, number: usize, target: &[u8]) {
     let mut out = [0u8; 1100];
     let n = put_answer(&mut out, number, target);
-    write(&out, n);
+    write(rt, &out, n);
 }
 
 // Puts the line of an answer: its number, a length, and the target's bytes.
@@ -42,8 +41,8 @@ fn put_long_answer(out: &mut [u8], number: usize, size: usize, target: &[u8]) ->
 }
 
 // Answers with a number, a length and the target's bytes.
-pub(crate) fn number_length_and_target(number: usize, length: usize, target: &[u8]) {
+pub(crate) fn number_length_and_target(rt: &impl Print, number: usize, length: usize, target: &[u8]) {
     let mut out = [0u8; 1100];
     let n = put_long_answer(&mut out, number, length, target);
-    write(&out, n);
+    write(rt, &out, n);
 }

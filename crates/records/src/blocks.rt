@@ -43,41 +43,41 @@ fn call(is_write: bool, source: &[u8], target: &mut [u8]) -> Told {
 }
 
 // Calls with the bytes of `digits` and the first `room` places of `store`, and shows what was told and these places.
-fn show(is_write: bool, digits: &[u8], room: usize, source: &mut [u8], store: &mut [u8]) {
+fn show(rt: &impl Print, is_write: bool, digits: &[u8], room: usize, source: &mut [u8], store: &mut [u8]) {
     let n = unhex(digits, source);
     let size = least(room, store.len());
     let told = call(is_write, &source[0..n], &mut store[0..size]);
-    number_length_and_target(told.number, told.length, &store[0..size]);
+    number_length_and_target(rt, told.number, told.length, &store[0..size]);
 }
 
 // Answers a question on few bytes, in stores that are made quickly.
-fn show_short(is_write: bool, digits: &[u8], room: usize) {
+fn show_short(rt: &impl Print, is_write: bool, digits: &[u8], room: usize) {
     let mut source = [0u8; 2048];
     let mut store = [0xEEu8; 2048];
-    show(is_write, digits, room, &mut source, &mut store);
+    show(rt, is_write, digits, room, &mut source, &mut store);
 }
 
 // Answers any question. No line has digits for more than 131,072 bytes.
-fn show_long(is_write: bool, digits: &[u8], room: usize) {
+fn show_long(rt: &impl Print, is_write: bool, digits: &[u8], room: usize) {
     let mut source = [0u8; 131072];
     let mut store = [0xEEu8; 1048576];
-    show(is_write, digits, room, &mut source, &mut store);
+    show(rt, is_write, digits, room, &mut source, &mut store);
 }
 
 // Answers `ROOM BYTES`.
-pub(crate) fn answer(is_write: bool, s: &[u8]) {
+pub(crate) fn answer(rt: &impl Print, is_write: bool, s: &[u8]) {
     let gap = find(s, 0, b' ');
     let start = after(s, gap);
     let digits = &s[start..];
     let Number::Known(room) = room_of(&s[0..gap], digits, 2, LARGEST) else {
-        bad_question();
+        bad_question(rt);
         return;
     };
     if room <= 2048 {
         if digits.len() <= 4096 {
-            show_short(is_write, digits, room);
+            show_short(rt, is_write, digits, room);
             return;
         }
     }
-    show_long(is_write, digits, room);
+    show_long(rt, is_write, digits, room);
 }

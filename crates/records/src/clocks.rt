@@ -24,49 +24,49 @@ fn seconds_of(answer: Legacy) -> usize {
 }
 
 // Writes the time into the first `room` places of `store`, and shows the answer's number and these places.
-fn show_time(seconds: u32, room: usize, store: &mut [u8]) {
+fn show_time(rt: &impl Print, seconds: u32, room: usize, store: &mut [u8]) {
     let size = least(room, store.len());
     let answer = write_time(seconds, &mut store[0..size]);
-    number_and_target(wrote_number(answer), &store[0..size]);
+    number_and_target(rt, wrote_number(answer), &store[0..size]);
 }
 
 // Answers a question on a small target, in a store that is made quickly.
-fn show_time_short(seconds: u32, room: usize) {
+fn show_time_short(rt: &impl Print, seconds: u32, room: usize) {
     let mut store = [0xEEu8; 512];
-    show_time(seconds, room, &mut store);
+    show_time(rt, seconds, room, &mut store);
 }
 
 // Answers a question on any target.
-fn show_time_long(seconds: u32, room: usize) {
+fn show_time_long(rt: &impl Print, seconds: u32, room: usize) {
     let mut store = [0xEEu8; 1048576];
-    show_time(seconds, room, &mut store);
+    show_time(rt, seconds, room, &mut store);
 }
 
 // Answers `ROOM SECONDS`.
-pub(crate) fn time(s: &[u8]) {
+pub(crate) fn time(rt: &impl Print, s: &[u8]) {
     let gap = find(s, 0, b' ');
     let start = after(s, gap);
     let Number::Known(room) = number_of(&s[0..gap]) else {
-        bad_question();
+        bad_question(rt);
         return;
     };
     let Number::Known(seconds) = number_of(&s[start..]) else {
-        bad_question();
+        bad_question(rt);
         return;
     };
     if LARGEST < room {
-        bad_question();
+        bad_question(rt);
         return;
     }
     if 0xFFFFFFFF < seconds {
-        bad_question();
+        bad_question(rt);
         return;
     }
     if room <= 512 {
-        show_time_short(seconds as u32, room);
+        show_time_short(rt, seconds as u32, room);
         return;
     }
-    show_time_long(seconds as u32, room);
+    show_time_long(rt, seconds as u32, room);
 }
 
 // Puts a blank and a number behind the first `n` bytes of `out`, and returns where they end.
@@ -93,21 +93,21 @@ fn convert(digits: &[u8], octets: &mut [u8]) -> Legacy {
 }
 
 // Converts the text of `digits`, and shows the answer. No line has digits for more bytes than the store.
-fn show_legacy(digits: &[u8]) {
+fn show_legacy(rt: &impl Print, digits: &[u8]) {
     let mut octets = [0u8; 131072];
     let mut out = [0u8; 64];
     let answer = convert(digits, &mut octets);
     let n = put_seconds(&mut out, answer);
-    write(&out, n);
+    write(rt, &out, n);
 }
 
 // Answers `TEXT`.
-pub(crate) fn legacy(digits: &[u8]) {
+pub(crate) fn legacy(rt: &impl Print, digits: &[u8]) {
     if !is_bytes(digits, 2) {
-        bad_question();
+        bad_question(rt);
         return;
     }
-    show_legacy(digits);
+    show_legacy(rt, digits);
 }
 
 // What three words name: a date, or none if a word is no number or a number is too large for its field.
@@ -157,14 +157,14 @@ fn put_date(out: &mut [u8], answer: Rolling) -> usize
 }
 
 // Rolls the date forward, and shows the answer.
-fn show_date(date: Date) {
+fn show_date(rt: &impl Print, date: Date) {
     let mut out = [0u8; 64];
     let n = put_date(&mut out, roll_copy(date));
-    write(&out, n);
+    write(rt, &out, n);
 }
 
 // Answers `YEAR MONTH DAY`.
-pub(crate) fn roll(s: &[u8]) {
+pub(crate) fn roll(rt: &impl Print, s: &[u8]) {
     let first = find(s, 0, b' ');
     let month = after(s, first);
     let second = find(s, month, b' ');
@@ -175,8 +175,8 @@ pub(crate) fn roll(s: &[u8]) {
         number_of(&s[day..]),
     );
     let Asked::Day(date) = asked else {
-        bad_question();
+        bad_question(rt);
         return;
     };
-    show_date(date);
+    show_date(rt, date);
 }

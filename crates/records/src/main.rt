@@ -14,43 +14,44 @@ use lines::input::{before_first, bytes_of, next_line};
 use lines::word::{after, find};
 
 // Answers one line.
-fn line(s: &[u8], is_cut: bool) {
+fn line(rt: &impl Print, s: &[u8], is_cut: bool) {
     let gap = find(s, 0, b' ');
     let rest = after(s, gap);
     if is_cut {
-        bad_question();
+        bad_question(rt);
         return;
     }
     match question_of(&s[0..gap]) {
-        Question::Write => blocks::answer(true, &s[rest..]),
-        Question::Read => blocks::answer(false, &s[rest..]),
-        Question::Store => readings::answer(true, &s[rest..]),
-        Question::Restore => readings::answer(false, &s[rest..]),
-        Question::Time => clocks::time(&s[rest..]),
-        Question::Legacy => clocks::legacy(&s[rest..]),
-        Question::Roll => clocks::roll(&s[rest..]),
-        Question::Unknown => bad_question(),
+        Question::Write => blocks::answer(rt, true, &s[rest..]),
+        Question::Read => blocks::answer(rt, false, &s[rest..]),
+        Question::Store => readings::answer(rt, true, &s[rest..]),
+        Question::Restore => readings::answer(rt, false, &s[rest..]),
+        Question::Time => clocks::time(rt, &s[rest..]),
+        Question::Legacy => clocks::legacy(rt, &s[rest..]),
+        Question::Roll => clocks::roll(rt, &s[rest..]),
+        Question::Unknown => bad_question(rt),
     }
 }
 
 // Answers the lines of standard input, which is read into `s`.
-fn lines_of(s: &mut [u8]) {
+fn lines_of(rt: &(impl Input + Print), s: &mut [u8]) {
+    let mut input = rt.reader();
     let mut steps = u64::MAX;
     let mut at = before_first();
     while steps > 0 {
-        at = next_line(s, at);
+        at = next_line(&mut input, s, at);
         if at.is_over {
             return;
         }
         if at.is_there {
-            line(bytes_of(s, at), at.is_cut);
+            line(rt, bytes_of(s, at), at.is_cut);
         }
         steps -= 1;
     }
 }
 
 // Answers the lines of standard input. A line of 262,144 bytes and its end fit in the store.
-fn main() {
+fn main(rt: HostRuntime) {
     let mut input = [0u8; 262145];
-    lines_of(&mut input);
+    lines_of(&rt, &mut input);
 }

@@ -74,6 +74,7 @@ fn code(
 
 // Codes the words of `digits` into the first `room` places of `store`, and shows the answer's number and these places.
 fn show(
+    rt: &impl Print,
     is_store: bool,
     digits: &[u8],
     room: usize,
@@ -84,39 +85,39 @@ fn show(
     let size = least(room, store.len());
     let answer = code(is_store, digits, octets, words, &mut store[0..size]);
     let n = octets_of(&store[0..size], octets);
-    number_and_target(number(answer), &octets[0..n]);
+    number_and_target(rt, number(answer), &octets[0..n]);
 }
 
 // Answers a question on few words, in stores that are made quickly.
-fn show_short(is_store: bool, digits: &[u8], room: usize) {
+fn show_short(rt: &impl Print, is_store: bool, digits: &[u8], room: usize) {
     let mut octets = [0u8; 512];
     let mut words = [0u16; 256];
     let mut store = [0xEEEEu16; 256];
-    show(is_store, digits, room, &mut octets, &mut words, &mut store);
+    show(rt, is_store, digits, room, &mut octets, &mut words, &mut store);
 }
 
 // Answers any question. No line has digits for more than 65,536 words.
-fn show_long(is_store: bool, digits: &[u8], room: usize) {
+fn show_long(rt: &impl Print, is_store: bool, digits: &[u8], room: usize) {
     let mut octets = [0u8; 1048576];
     let mut words = [0u16; 65536];
     let mut store = [0xEEEEu16; 524288];
-    show(is_store, digits, room, &mut octets, &mut words, &mut store);
+    show(rt, is_store, digits, room, &mut octets, &mut words, &mut store);
 }
 
 // Answers `ROOM WORDS`.
-pub(crate) fn answer(is_store: bool, s: &[u8]) {
+pub(crate) fn answer(rt: &impl Print, is_store: bool, s: &[u8]) {
     let gap = find(s, 0, b' ');
     let start = after(s, gap);
     let digits = &s[start..];
     let Number::Known(room) = room_of(&s[0..gap], digits, 4, LARGEST) else {
-        bad_question();
+        bad_question(rt);
         return;
     };
     if room <= 256 {
         if digits.len() <= 1024 {
-            show_short(is_store, digits, room);
+            show_short(rt, is_store, digits, room);
             return;
         }
     }
-    show_long(is_store, digits, room);
+    show_long(rt, is_store, digits, room);
 }

@@ -2,64 +2,63 @@
 #![tactic(auto)]
 
 use digest::md5;
-use libc::STDOUT_FILENO;
 use lines::input::{before_first, bytes_of, next_line};
-use lines::output::pair;
+use lines::output::{pair, print};
 use lines::word::{find, unhex};
 
-fn put_byte(b: u8) {
+fn put_byte(rt: &impl Print, b: u8) {
     let two = pair(b);
-    io::write_all(STDOUT_FILENO, &two);
+    print(rt, &two);
 }
 
 // Puts a line of bytes in hexadecimal, or a dash if there are none.
-fn put_line(s: &[u8]) {
+fn put_line(rt: &impl Print, s: &[u8]) {
     if s.len() == 0 {
-        io::write_all(STDOUT_FILENO, b"-");
+        print(rt, b"-");
     }
     for i in 0..s.len() {
-        put_byte(s[i]);
+        put_byte(rt, s[i]);
     }
-    io::write_all(STDOUT_FILENO, b"\n");
+    print(rt, b"\n");
 }
 
-fn put_text(done: text::Decoded, s: &[u8]) {
+fn put_text(rt: &impl Print, done: text::Decoded, s: &[u8]) {
     match done {
         text::Decoded::Written(n) => {
             if n <= s.len() {
-                put_line(&s[0..n]);
+                put_line(rt, &s[0..n]);
             }
         }
         text::Decoded::Short => {
-            io::write_all(STDOUT_FILENO, b"10\n");
+            print(rt, b"10\n");
         }
     }
 }
 
 // Answers a question whose word has the length `word`, by which md5, utf8, utf16 and encode16 differ.
-fn answer(word: usize, s: &[u8]) {
+fn answer(rt: &impl Print, word: usize, s: &[u8]) {
     let mut store = [0u8; 8192];
     if word == 3 {
         let d = md5::digest(s);
-        put_line(&d);
+        put_line(rt, &d);
         return;
     }
     if word == 4 {
         let done = text::decode_ascii(s, &mut store);
-        put_text(done, &store);
+        put_text(rt, done, &store);
         return;
     }
     if word == 5 {
         let done = text::decode_unicode(s, &mut store);
-        put_text(done, &store);
+        put_text(rt, done, &store);
         return;
     }
     let done = text::encode_unicode(s, &mut store);
-    put_text(done, &store);
+    put_text(rt, done, &store);
 }
 
 // Answers one line.
-fn line(s: &[u8], is_cut: bool) {
+fn line(rt: &impl Print, s: &[u8], is_cut: bool) {
     if is_cut {
         return;
     }
@@ -68,27 +67,28 @@ fn line(s: &[u8], is_cut: bool) {
         let mut bytes = [0u8; 2048];
         let rest = gap + 1;
         let n = unhex(&s[rest..], &mut bytes);
-        answer(gap, &bytes[0..n]);
+        answer(rt, gap, &bytes[0..n]);
     }
 }
 
 // Answers the lines of standard input, which is read into `s`. A line that is longer than the store has no answer.
-fn lines_of(s: &mut [u8]) {
+fn lines_of(rt: &(impl Input + Print), s: &mut [u8]) {
+    let mut input = rt.reader();
     let mut steps = u64::MAX;
     let mut at = before_first();
     while steps > 0 {
-        at = next_line(s, at);
+        at = next_line(&mut input, s, at);
         if at.is_over {
             return;
         }
         if at.is_there {
-            line(bytes_of(s, at), at.is_cut);
+            line(rt, bytes_of(s, at), at.is_cut);
         }
         steps -= 1;
     }
 }
 
-fn main() {
+fn main(rt: HostRuntime) {
     let mut input = [0u8; 65536];
-    lines_of(&mut input);
+    lines_of(&rt, &mut input);
 }

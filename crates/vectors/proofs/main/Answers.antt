@@ -1,7 +1,0 @@
--- `vectors::main` meets its contract: the store has the length that it is made with. Assumes nothing.
-use borrow.Author.Rules.{rules}
-use Rattle.lines.proofs.Filled.{filled}
-use Rattle.vectors.proofs.main.Goals as goal
-
-pub slice_bounds-lines_of-end : goal.slice_bounds-lines_of-end
-slice_bounds-lines_of-end c = filled 65536 0
