@@ -1,4 +1,5 @@
 -- `engine::calls::body_given` meets its contract. The guard refuses as the model does; then the ways of the code are those of `body_for`.
+use borrow.Enum.Refused.{opened}
 use native.Mathlib.Omega.{arith}
 use mathlib.Core.Path.{sym, ap, ◌∙◌}
 use Rattle.model.specs.Step.{stores, stepped}
@@ -24,7 +25,7 @@ returns-in_default-operation c =
     let s = stores k.packet.now k.headers.now k.body.now k.reply.now in
     let g : Goes kind.FromBody k.e s = going kind.FromBody _ _ _ c.guard.ensures c.in_default.is in
     ap (λ (r : CallResult). stepped r s) c.refuse-in_default-operation.ensures
-    ∙ body-other k.e.operation k.e k.bytes.now s c.in_default-operation.in_default-operation-own.keys2
+    ∙ body-other k.e.operation k.e k.bytes.now s (opened c.in_default-operation.in_default-operation-own.keys2)
     ∙ sym (g.whole _)
 
 pub returns-then-chunk-bytes : goal.returns-then-chunk-bytes

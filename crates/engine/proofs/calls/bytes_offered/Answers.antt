@@ -37,7 +37,7 @@ packet_done-requires c =
     let k = c.args in
     let s = stores k.packet.now k.headers.now k.body.now k.reply.now in
     let g : GoesLent kind.FromPeer k.e s k.tables.now = going-lent kind.FromPeer _ _ _ _ c.guard_lent.ensures c.in_default.is in
-    let w = c.read_packet-f.ensures.0 c.in-Whole.is in
+    let w = c.read_packet-f.ensures.whole c.in-Whole.is in
     (
       omega (arith, w.0),
       omega (arith, w.1, g.goes.room.packet),
@@ -57,7 +57,7 @@ returns-in-More c =
     let g : GoesLent kind.FromPeer k.e s k.tables.now = going-lent kind.FromPeer _ _ _ _ c.guard_lent.ensures c.in_default.is in
     let read = with_packet s c.read_packet-f.new.packet in
     record {
-      step = framed-call _ _ _ _ c.read_packet-f.result _ _ _ g c.read_packet-f.ensures.1 c.in-More.is (ap (λ (x : CallResult). stepped x read) c.more.ensures);
+      step = framed-call _ _ _ _ c.read_packet-f.result _ _ _ g c.read_packet-f.ensures.model c.in-More.is (ap (λ (x : CallResult). stepped x read) c.more.ensures);
       octets = octets-coming k.packet.now k.e.begun k.placed k.input.now (λ i. (c.slice_known-1.given i).fits) (λ i. (c.shared_slice_known-1.given i).fits);
     }
 
@@ -69,7 +69,7 @@ returns-in-Short c =
     let read = with_packet s c.read_packet-f.new.packet in
     record {
       step =
-          framed-call _ _ _ _ c.read_packet-f.result _ _ _ g c.read_packet-f.ensures.1 c.in-Short.is
+          framed-call _ _ _ _ c.read_packet-f.result _ _ _ g c.read_packet-f.ensures.model c.in-Short.is
           (taken-after _ _ _ read _ c.with_taken.ensures (short-took k.e _ _ read c.took.ensures c.ends.ensures));
       octets = octets-coming k.packet.now k.e.begun k.placed k.input.now (λ i. (c.slice_known-1.given i).fits) (λ i. (c.shared_slice_known-1.given i).fits);
     }
@@ -82,7 +82,7 @@ returns-in-Whole c =
     let read = with_packet s c.read_packet-f.new.packet in
     record {
       step =
-          framed-call _ _ _ _ c.read_packet-f.result _ _ _ g c.read_packet-f.ensures.1 c.in-Whole.is
+          framed-call _ _ _ _ c.read_packet-f.result _ _ _ g c.read_packet-f.ensures.model c.in-Whole.is
           (taken-after _ _ _ _ _ c.with_taken-in-Whole.ensures c.packet_done.ensures);
       octets = octets-coming k.packet.now k.e.begun k.placed k.input.now (λ i. (c.slice_known-1.given i).fits) (λ i. (c.shared_slice_known-1.given i).fits);
     }

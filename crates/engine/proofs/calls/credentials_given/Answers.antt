@@ -22,6 +22,13 @@ slice_bounds-connect_with_credentials-end c =
     let g : Goes kind.CredentialsGiven k.e s = going kind.CredentialsGiven _ _ _ c.guard.ensures c.in_default.is in
     g.last.inside
 
+pub slice_bounds-connect_with_credentials-end-2 : goal.slice_bounds-connect_with_credentials-end-2
+slice_bounds-connect_with_credentials-end-2 c =
+    let k = c.args in
+    let s = stores k.packet.now k.headers.now k.body.now k.reply.now in
+    let g : Goes kind.CredentialsGiven k.e s = going kind.CredentialsGiven _ _ _ c.guard.ensures c.in_default.is in
+    g.last.count
+
 pub connect_with_credentials-requires : goal.connect_with_credentials-requires
 connect_with_credentials-requires c =
     let k = c.args in

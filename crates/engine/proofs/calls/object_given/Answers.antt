@@ -1,4 +1,5 @@
 -- `engine::calls::object_given` meets its contract. The guard refuses as the model does; then the ways of the code are those of `object_for`.
+use borrow.Enum.Refused.{opened}
 use native.Mathlib.Omega.{arith}
 use mathlib.Core.Path.{sym, ap, ◌∙◌}
 use mathlib.Core.List.{List}
@@ -29,7 +30,7 @@ returns-in_default-operation c =
     let s = stores k.packet.now k.headers.now k.body.now k.reply.now in
     let g : Goes kind.ObjectGiven k.e s = going kind.ObjectGiven _ _ _ c.guard.ensures c.in_default.is in
     ap (λ (r : CallResult). stepped r s) c.refuse-in_default-operation.ensures
-    ∙ object-other k.e.operation k.e k.header_bytes.now k.has_body s c.in_default-operation.in_default-operation-own.keys2
+    ∙ object-other k.e.operation k.e k.header_bytes.now k.has_body s (opened c.in_default-operation.in_default-operation-own.keys2)
     ∙ sym (g.whole _)
 
 pub returns-then-is_bad_headers : goal.returns-then-is_bad_headers

@@ -21,6 +21,13 @@ slice_bounds-is_right-end c =
     let g : Goes kind.PasswordGiven k.e s = going kind.PasswordGiven _ _ _ c.guard.ensures c.in_default.is in
     g.last.inside
 
+pub slice_bounds-is_right-end-2 : goal.slice_bounds-is_right-end-2
+slice_bounds-is_right-end-2 c =
+    let k = c.args in
+    let s = stores k.packet.now k.headers.now k.body.now k.reply.now in
+    let g : Goes kind.PasswordGiven k.e s = going kind.PasswordGiven _ _ _ c.guard.ensures c.in_default.is in
+    g.last.count
+
 pub returns : goal.returns
 unfolding password_given_step
 returns c =

@@ -36,6 +36,13 @@ slice_bounds-connect_answer-end c =
     let g : GoesLent kind.ReplyGiven k.e s k.tables.now = going-lent kind.ReplyGiven _ _ _ _ c.guard_lent.ensures c.in_default.is in
     g.goes.last.inside
 
+pub slice_bounds-connect_answer-end-then-same_await : goal.slice_bounds-connect_answer-end-then-same_await
+slice_bounds-connect_answer-end-then-same_await c =
+    let k = c.args in
+    let s = stores k.packet.now k.headers.now k.body.now k.reply.now in
+    let g : GoesLent kind.ReplyGiven k.e s k.tables.now = going-lent kind.ReplyGiven _ _ _ _ c.guard_lent.ensures c.in_default.is in
+    g.goes.last.count
+
 pub connect_answer-requires : goal.connect_answer-requires
 connect_answer-requires c =
     let k = c.args in
@@ -64,6 +71,13 @@ slice_bounds-handle_disconnect-end c =
     let s = stores k.packet.now k.headers.now k.body.now k.reply.now in
     let g : GoesLent kind.ReplyGiven k.e s k.tables.now = going-lent kind.ReplyGiven _ _ _ _ c.guard_lent.ensures c.in_default.is in
     g.goes.last.inside
+
+pub slice_bounds-handle_disconnect-end-2 : goal.slice_bounds-handle_disconnect-end-2
+slice_bounds-handle_disconnect-end-2 c =
+    let k = c.args in
+    let s = stores k.packet.now k.headers.now k.body.now k.reply.now in
+    let g : GoesLent kind.ReplyGiven k.e s k.tables.now = going-lent kind.ReplyGiven _ _ _ _ c.guard_lent.ensures c.in_default.is in
+    g.goes.last.count
 
 pub handle_disconnect-peer-requires : goal.handle_disconnect-peer-requires
 handle_disconnect-peer-requires c =

@@ -21,13 +21,13 @@ pub slice_bounds-realm-start : goal.slice_bounds-realm-start
 slice_bounds-realm-start c = (first_found 0x4D _ 7 _ _ (sym c.first_header.ensures ∙ c.in-At.is)).stands.past
 
 pub slice_bounds-realm-end : goal.slice_bounds-realm-end
-slice_bounds-realm-end c = (first_found 0x4D _ 7 _ _ (sym c.first_header.ensures ∙ c.in-At.is)).stands.ranges
+slice_bounds-realm-end c = (first_found 0x4D _ 7 _ _ (sym c.first_header.ensures ∙ c.in-At.is)).stands.fits
 
 pub placed-requires : goal.placed-requires
 placed-requires c =
     let p = part c.args.packet.now c.in-At.start c.in-At.end in
     let here = first_found 0x4D c.args.packet.now 7 c.in-At.start c.in-At.end (sym c.first_header.ensures ∙ c.in-At.is) in
-    rw c.realm.ensures (below p c.in-At.start (realm_place p) (realm-within p) (omega (arith, here.stands.ranges)))
+    rw c.realm.ensures (below p c.in-At.start (realm_place p) (realm-within p) (omega (arith, here.stands.fits)))
 
 pub returns : goal.returns
 returns c =

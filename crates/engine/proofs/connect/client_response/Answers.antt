@@ -16,7 +16,7 @@ pub slice_bounds-read_response-start : goal.slice_bounds-read_response-start
 slice_bounds-read_response-start c = (first_found 0x4E _ 7 _ _ (sym c.first_header.ensures ∙ c.in-At.is)).stands.past
 
 pub slice_bounds-read_response-end : goal.slice_bounds-read_response-end
-slice_bounds-read_response-end c = (first_found 0x4E _ 7 _ _ (sym c.first_header.ensures ∙ c.in-At.is)).stands.ranges
+slice_bounds-read_response-end c = (first_found 0x4E _ 7 _ _ (sym c.first_header.ensures ∙ c.in-At.is)).stands.fits
 
 pub returns-in_default-read_response : goal.returns-in_default-read_response
 returns-in_default-read_response c =

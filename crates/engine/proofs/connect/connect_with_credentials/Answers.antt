@@ -1,5 +1,6 @@
 -- `engine::connect::connect_with_credentials` meets its contract: its ways are those of `credentials_by`, by the operation and the user id's length.
 -- Assumes nothing.
+use borrow.Enum.Refused.{opened}
 use mathlib.Core.Path.{ap, ◌∙◌}
 use Rattle.server.specs.declared.CallResult.{CallResult}
 use Rattle.engine.specs.Step.{written}
@@ -11,7 +12,7 @@ pub returns-in_default : goal.returns-in_default
 returns-in_default c =
     let k = c.args in
     ap (λ (r : CallResult). written r k.reply.now) c.refuse.ensures
-    ∙ credentials-other k.e.operation k.e _ k.packet.now k.headers.now k.reply.now c.in_default.in_default-own.keys2
+    ∙ credentials-other k.e.operation k.e _ k.packet.now k.headers.now k.reply.now (opened c.in_default.in_default-own.keys2)
 
 pub returns-then-is_long : goal.returns-then-is_long
 returns-then-is_long c =

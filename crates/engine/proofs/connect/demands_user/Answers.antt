@@ -3,7 +3,7 @@ use borrow.Author.Tests.{not-true, not-false}
 use Rattle.engine.proofs.connect.demands_user.Goals as goal
 
 pub returns-then-not-settings : goal.returns-then-not-settings
-returns-then-not-settings c = rw c.if-not-settings.true
+returns-then-not-settings c = rw (not-true _ c.if-not-settings.true)
 
 pub returns : goal.returns
-returns c = rw c.if-not-settings.false
+returns c = rw (not-false _ c.if-not-settings.false)

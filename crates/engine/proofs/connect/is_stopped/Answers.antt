@@ -1,4 +1,5 @@
 -- `engine::connect::is_stopped` meets its contract: a response that is not missing is carried, readable or not. Assumes nothing.
+use borrow.Enum.Refused.{opened}
 use mathlib.Core.Bool.{and-false, and-true}
 use mathlib.Core.Path.{sym, ◌∙◌}
 use lib.Count.{ones}
@@ -15,4 +16,4 @@ returns-in-Missing c = rw c.in-Missing.is (sym (and-false (leb most_wrong (ones 
 
 pub returns-in_default : goal.returns-in_default
 unfolding stops_by
-returns-in_default c = rw (is_carried _ c.in_default.in_default-own.keys2) (c.too_many.ensures.value ∙ sym (and-true (leb most_wrong (ones c.args.window))))
+returns-in_default c = rw (is_carried _ (opened c.in_default.in_default-own.keys2)) (c.too_many.ensures.value ∙ sym (and-true (leb most_wrong (ones c.args.window))))

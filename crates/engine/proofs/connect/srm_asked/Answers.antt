@@ -4,7 +4,7 @@ use borrow.Author.Rules.{rules}
 use Rattle.engine.proofs.connect.srm_asked.Goals as goal
 
 pub returns-then-not-e : goal.returns-then-not-e
-returns-then-not-e c = rw c.if-not-e.true
+returns-then-not-e c = rw (not-true _ c.if-not-e.true)
 
 pub returns : goal.returns
-returns c = rw c.if-not-e.false c.is_enabling.ensures
+returns c = rw (not-false _ c.if-not-e.false) c.is_enabling.ensures

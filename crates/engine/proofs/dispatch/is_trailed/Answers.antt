@@ -1,16 +1,15 @@
 -- `engine::dispatch::is_trailed` meets its contract: the tests of the code are those of the definition. Assumes nothing.
+use borrow.Enum.Refused.{opened}
 use mathlib.Core.Path.{◌∙◌, sym}
 use Rattle.engine.proofs.Arrivals.{not-trailing}
 use borrow.Author.Rules.{rules}
 use Rattle.engine.proofs.dispatch.is_trailed.Goals as goal
 
 pub returns-in_default : goal.returns-in_default
-returns-in_default c = simp (not-trailing c.args.e.operation c.in_default.in_default-own.keys2)
+returns-in_default c = simp (not-trailing c.args.e.operation (opened c.in_default.in_default-own.keys2))
 
 pub returns-in_default-first_header : goal.returns-in_default-first_header
 returns-in_default-first_header c =
-    let k = c in
-    let o = c in
     simp (
       c.in-Trailing.is,
       sym c.same.ensures ∙ c.if-same.true,
@@ -19,8 +18,6 @@ returns-in_default-first_header c =
 
 pub returns-then-same : goal.returns-then-same
 returns-then-same c =
-    let k = c in
-    let o = c in
     simp (
       c.in-Trailing.is,
       sym c.same.ensures ∙ c.if-same.true,

@@ -9,31 +9,23 @@ use Rattle.engine.proofs.dispatch.route_packet.Goals as goal
 
 pub returns-in_default : goal.returns-in_default
 returns-in_default c =
-    let k = c in
     c.unreadable_route.ensures ∙ sym (headless_way _ _ _ (sym c.packet_head.ensures ∙ c.in_default.is))
 
 pub returns-then-not-survey : goal.returns-then-not-survey
 returns-then-not-survey c =
-    let u = c in
-    let v = c in
-    let k = c in
     c.unreadable_route-then-not-survey.ensures
     ∙ sym (unreadable_way _ _ _ _ _ _ (sym c.packet_head.ensures ∙ c.in-Known.is)
-    (ap (λ (s : Survey). s.readable) (sym c.survey_headers-survey.ensures) ∙ c.if-not-survey.true))
+    (ap (λ (s : Survey). s.readable) (sym c.survey_headers-survey.ensures) ∙ not-true _ c.if-not-survey.true))
 
 pub returns : goal.returns
 returns c =
-    let n = c in
-    let u = c in
-    let v = c in
-    let k = c in
     simp (
       c.packet_target-target.ensures,
       c.heading_route-route.ensures,
       c.is_trailed-trails.ensures,
-      c.is_Known.ensures,
+      c.is_known-known.ensures,
       c.set_path_flags-flags.ensures,
       c.survey_headers-survey.ensures,
     )
     (sym (heading_way _ _ _ _ _ _ (sym c.packet_head.ensures ∙ c.in-Known.is)
-    (ap (λ (s : Survey). s.readable) (sym c.survey_headers-survey.ensures) ∙ c.if-not-survey.false)))
+    (ap (λ (s : Survey). s.readable) (sym c.survey_headers-survey.ensures) ∙ not-false _ c.if-not-survey.false)))

@@ -8,10 +8,6 @@ use Rattle.engine.proofs.object.sends_next.Goals as goal
 
 pub returns : goal.returns
 returns c =
-    let y = c in
-    let p = c in
-    let n = c in
-    let w = c in
     let k = c.args in
     packet-sent k.e k.srm k.wait _ _ _ _ c.carry_out.ensures c.packet_plan.ensures
-    (c.next_packet-k.ensures ∙ ap (λ ((goal.at.returns c).After-next_packet-k : ℕ). next_packet ((goal.at.returns c).After-next_packet-k - 3) k.o k.headers.now k.reply.now) c.wide16-capacity.ensures.0)
+    (c.next_packet-k.ensures ∙ ap (λ (n : ℕ). next_packet (n - 3) k.o k.headers.now k.reply.now) c.wide16-capacity.ensures.0)
