@@ -1,6 +1,6 @@
 -- A call of a function: its caller learnt what the function's contract says, and nothing else is known of the call.
 use Rattle.std.specs.Prelude.{ℕ, List}
-use Rattle.std.specs.Borrow.{Bor}
+use Rattle.std.specs.Borrow.{MutBor}
 
 -- A call of a function: its lifetimes, its arguments, its result, and the lent parameters at its exit. Its caller learnt `Learnt` of them,
 -- and `Is` says which call it was.
@@ -14,7 +14,7 @@ pub record FunctionCall {K : Type 0} {A R X : K → Type 0} (Learnt Is : (κs : 
 
 -- Four stores that a call was lent: the last parameters of every call on either end that is lent them.
 abbrev pub FourLent : Type 0
-FourLent = Bor (List ℕ) × (Bor (List ℕ) × (Bor (List ℕ) × (Bor (List ℕ) × Unit {0})))
+FourLent = MutBor (List ℕ) × (MutBor (List ℕ) × (MutBor (List ℕ) × (MutBor (List ℕ) × Unit {0})))
 
 -- What stands in them, put together by `make`.
 abbrev pub lent : {S : Type 0} → (List ℕ → List ℕ → List ℕ → List ℕ → S) → FourLent → S
