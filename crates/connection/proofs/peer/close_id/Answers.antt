@@ -14,12 +14,12 @@ loop-i-preserved c =
     let y = x.ids.now in
     let d = c.loop-i.invariant.3 in
     let h : c.loop-i.i < length y = omega arith in
-    let e : Closed y x.id (c.loop-i.i + 1) c.if-x-closed.ids c.if-x-closed.auto =
+    let e : Closed y x.id (c.loop-i.i + 1) c.if-x-closed.ids c.if-x-closed.kept =
     ⊎_elim
-    (λ w. rw (w.1, w.2) (closed-keeps y x.id c.loop-i.i c.loop-i.ids c.loop-i.auto h d w.0.taken))
-    (λ w. rw (w.1, w.2) (closed_skips y x.id c.loop-i.i c.loop-i.ids c.loop-i.auto h d w.0.left))
+    (λ w. rw (w.1, w.2) (closed-keeps y x.id c.loop-i.i c.loop-i.ids c.loop-i.kept h d w.0.true))
+    (λ w. rw (w.1, w.2) (closed_skips y x.id c.loop-i.i c.loop-i.ids c.loop-i.kept h d w.0.false))
     c.if-x-closed.branch in
-    let b = closed_bounds y x.id (c.loop-i.i + 1) c.if-x-closed.ids c.if-x-closed.auto (omega arith) e in
+    let b = closed_bounds y x.id (c.loop-i.i + 1) c.if-x-closed.ids c.if-x-closed.kept (omega arith) e in
     (omega arith, b.0, b.1, e)
 
 pub returns : goal.returns
@@ -27,7 +27,7 @@ returns c =
     let l = c in
     let x = c.args in
     let e : c.loop-i.i ≡ x.count = le_antisymm c.loop-i.invariant.0 c.loop-i-test.false in
-    let d : Closed x.ids.now x.id x.count c.loop-i.ids c.loop-i.auto = rw e at c.loop-i.invariant.3 in record {
+    let d : Closed x.ids.now x.id x.count c.loop-i.ids c.loop-i.kept = rw e at c.loop-i.invariant.3 in record {
       value = d.count;
       store = d.store;
     }

@@ -10,7 +10,7 @@ pub put_target-requires : goal.put_target-requires
 put_target-requires c =
     let k = c in
     let x = c.args in
-    let m = placed x.id (take x.peer.count x.tables.now) (sym c.is_open.ensures ∙ c.if1.true) in
+    let m = placed x.id (take x.peer.count x.tables.now) (sym c.is_open.ensures ∙ c.if-is_open.true) in
     (omega (arith, c.find_place-place.ensures, m, length-take x.peer.count x.tables.now), omega arith)
 
 pub returns-then-is_open : goal.returns-then-is_open
@@ -18,7 +18,7 @@ unfolding opened
 returns-then-is_open c =
     let p = c in
     let k = c in
-    rw (← c.is_open.ensures, c.if1.true, c.with_srm.ensures, c.put_target.ensures, c.find_place-place.ensures)
+    rw (← c.is_open.ensures, c.if-is_open.true, c.with_srm.ensures, c.put_target.ensures, c.find_place-place.ensures)
 
 pub returns-then-count-ge-MAX_CONNECTIONS : goal.returns-then-count-ge-MAX_CONNECTIONS
 unfolding opened

@@ -17,5 +17,5 @@ returns c =
     let s = c in
     let l = c.allocate_connection_id-found in
     let k = c in
-    rw (c.in_default.is, c.if1.false, ← l.ensures.id_value.0, ← l.ensures.id_value.1)
+    rw (c.in_default.is, c.if-not-has_target.false, ← l.ensures.id_value.0, ← l.ensures.id_value.1)
     (ap (λ (o : Opens). answer_from o (Id l.result.id)) c.opened-2.ensures)
