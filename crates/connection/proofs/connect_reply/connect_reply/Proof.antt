@@ -55,8 +55,8 @@ returns c =
     c.send_pieces.ensures
     ∙ ap (λ (l : List ℕ). sent_into (send_bytes a.remote a.code (fields_of a.limit) l) a.reply.now)
     (connect_as a.front a.packet.now a.headers.now _ a.from a.has_credentials (given a.has_user a.user.now) a.password.now a.srm _ _
-    (readable-take a.headers.now r.readable-len.result r.readable-len.ensures) (who-of x r.readable-len.result _ w.who_place-who.ensures) n.nonce_for-nonce.ensures
-    (λ k. omega (arith, r.shared_slice_known-1.given k)) (λ k. omega (arith, r.shared_slice_known-2-1.given k)))
+    (readable-take a.headers.now c.readable_len-n.result c.readable_len-n.ensures) (who-of x c.readable_len-n.result _ w.who_place-who.ensures) n.nonce_for-nonce.ensures
+    (λ k. omega (arith, c.shared_slice_known-1.given k)) (λ k. omega (arith, c.shared_slice_known-2-1.given k)))
 
 pub connect_reply_spec : {M : Type 1} → statement M
 connect_reply_spec =

@@ -3,7 +3,7 @@ use Rattle.std.proofs.Common.{rules}
 use Rattle.connection.proofs.connect_reply.who_place.Goals as goal
 
 pub returns-in-At : goal.returns-in-At
-returns-in-At c = rw (← c.first_in_lem.ensures, c.in-At.is)
+returns-in-At c = rw (← c.first_in.ensures, c.in-At.is)
 
 pub returns : goal.returns
-returns c = rw (← c.first_in_lem.ensures, c.in_default.is)
+returns c = rw (← c.first_in.ensures, c.in_default.is)

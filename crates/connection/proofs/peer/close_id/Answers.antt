@@ -1,8 +1,9 @@
 -- `connection::peer::close_id` meets its contract. The numbers kept of those gone through stand in front (`Closed`), and what is still to
 -- be read lies behind them. Assumes nothing.
-use Rattle.std.proofs.Common.{◌≡◌, ◌+◌, ◌-◌, ◌<◌, ◌≤◌, length, refl, ⊎_elim, le_antisymm, arith, rules}
+use Rattle.std.proofs.Common.{◌≡◌, ◌+◌, ◌-◌, ◌<◌, ◌≤◌, length, refl, le_antisymm, arith, rules}
 use Rattle.connection.proofs.Closing.{Closed, closed_none, closed_bounds, closed-keeps, closed_skips}
 use Rattle.connection.proofs.peer.close_id.Goals as goal
+use Rattle.connection.proofs.peer.close_id.Goals.{then-x-closed, else-x-closed}
 
 pub loop-i-init : goal.loop-i-init
 loop-i-init c = (omega arith, omega arith, refl, closed_none c.args.ids.now c.args.id)
@@ -15,10 +16,10 @@ loop-i-preserved c =
     let d = c.loop-i.invariant.3 in
     let h : c.loop-i.i < length y = omega arith in
     let e : Closed y x.id (c.loop-i.i + 1) c.if-x-closed.ids c.if-x-closed.kept =
-    ⊎_elim
-    (λ w. rw (w.1, w.2) (closed-keeps y x.id c.loop-i.i c.loop-i.ids c.loop-i.kept h d w.0.true))
-    (λ w. rw (w.1, w.2) (closed_skips y x.id c.loop-i.i c.loop-i.ids c.loop-i.kept h d w.0.false))
-    c.if-x-closed.branch in
+    elim c.if-x-closed.branch [
+      | then-x-closed w ↦ rw (w.ids-is, w.kept-is) (closed-keeps y x.id c.loop-i.i c.loop-i.ids c.loop-i.kept h d w.if-x-closed.true)
+      | else-x-closed w ↦ rw (w.ids-is, w.kept-is) (closed_skips y x.id c.loop-i.i c.loop-i.ids c.loop-i.kept h d w.if-x-closed.false)
+    ] in
     let b = closed_bounds y x.id (c.loop-i.i + 1) c.if-x-closed.ids c.if-x-closed.kept (omega arith) e in
     (omega arith, b.0, b.1, e)
 

@@ -14,4 +14,4 @@ returns c =
       c.close_id.ensures.store,
       c.close_targets.ensures,
       columns_front x.id x.count x.tables.now x.count (omega arith),
-    ) (refl, refl)
+    ) (record { value = refl; store = refl })
