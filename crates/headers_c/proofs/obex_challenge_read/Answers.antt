@@ -5,7 +5,6 @@ use Rattle.headers_c.proofs.obex_challenge_read.Goals as goal
 
 pub returns-in-Challenge : goal.returns-in-Challenge
 returns-in-Challenge c =
-    let matched = c in
     simp (
       c.flag_number-in-Challenge.ensures,
       c.flag_number.ensures,

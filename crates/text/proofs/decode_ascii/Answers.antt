@@ -15,7 +15,6 @@ slice_bounds-recode-end c =
 
 pub returns : goal.returns
 returns c =
-    let z = c in
     let s = c.args.payload.now in
     let e : take c.zero_at-end.result s ≡ up_to_zero_of s = rw c.zero_at-end.ensures (cut-take s) in
     rw (← is_ascii s, ← e) c.recode.ensures

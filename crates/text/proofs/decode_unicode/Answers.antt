@@ -4,5 +4,4 @@ use Rattle.text.proofs.decode_unicode.Goals as goal
 
 pub returns : goal.returns
 returns c =
-    let r = c in
     rw (← is_unicode c.args.payload.now) c.recode.ensures

@@ -4,5 +4,4 @@ use Rattle.text.proofs.encode_unicode.Goals as goal
 
 pub returns : goal.returns
 returns c =
-    let r = c in
     rw (← is_encoded c.args.text.now) c.recode.ensures

@@ -9,7 +9,6 @@ returns-then-s-at c = let x = c.args in end8 (drop x.at x.s.now) (omega (arith, 
 
 pub returns : goal.returns
 returns c =
-    let b = c in
     let x = c.args in
     rw c.first8.ensures
     (reads8 x.s.now x.at _ _ _ _ (omega arith) c.byte_at.ensures.0 c.byte_at-2.ensures.0

@@ -14,7 +14,6 @@ returns-then-s-at c = let x = c.args in (unit_none x.s.now x.at (omega arith), o
 
 pub returns : goal.returns
 returns c =
-    let w = c in
     let x = c.args in
     let e : c.wide32.result * 256 + c.wide32-2.result ≡ get_or x.s.now x.at 0 * 256 + get_or x.s.now (x.at + 1) 0 =
     rw (c.wide32.ensures.0, c.wide32-2.ensures.0) in

@@ -9,12 +9,10 @@ loop-i-init c = (omega arith, omega arith)
 
 pub returns-then-s-i-eq0 : goal.returns-then-s-i-eq0
 returns-then-s-i-eq0 c =
-    let l = c in
     omega (arith, cut-zero c.args.s.now c.loop-i.i c.loop-i-test.true c.if-s-i-eq0.true)
 
 pub loop-i-preserved : goal.loop-i-preserved
 loop-i-preserved c =
-    let l = c in
     (omega arith, omega (arith, cut-more c.args.s.now c.loop-i.i c.loop-i-test.true c.if-s-i-eq0.false))
 
 pub returns : goal.returns

@@ -1,5 +1,4 @@
 -- `packet::auth::answers_nonce` meets its contract: it goes by the same cases as `answers`. Assumes nothing.
-use borrow.Author.Rules.{rules}
 use Rattle.packet.proofs.auth.answers_nonce.Goals as goal
 
 pub returns-in-Nonce : goal.returns-in-Nonce

@@ -1,5 +1,4 @@
 -- `packet::auth::is_filled` meets its contract: it goes by the same cases as `is_filled`. Assumes nothing.
-use borrow.Author.Rules.{rules}
 use Rattle.packet.proofs.auth.is_filled.Goals as goal
 
 pub returns-in-At : goal.returns-in-At

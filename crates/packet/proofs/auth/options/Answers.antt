@@ -1,5 +1,4 @@
 -- `packet::auth::options` meets its contract: the place that was found lies within the payload. Assumes nothing.
-use borrow.Author.Rules.{rules}
 use borrow.Author.Tests.{lt-ltb, le-ltb}
 use native.Mathlib.Omega.{arith}
 use mathlib.Core.Path.{sym, subst, ◌∙◌}
@@ -13,17 +12,14 @@ returns-in_default c = rw (sym c.last_value.ensures ∙ c.in_default.is)
 
 pub returns-then-end-start : goal.returns-then-end-start
 returns-then-end-start c =
-    let k = c in
     rw (sym c.last_value.ensures ∙ c.in-At.is, le-ltb _ _ c.if-end-start.true)
 
 pub bounds-v-start : goal.bounds-v-start
 bounds-v-start c =
-    let k = c in
     let v = c.args.v.now in
     let w = subst (λ (f : Found). Within v f) (sym c.last_value.ensures ∙ c.in-At.is) (within v 1) in
     omega arith
 
 pub returns : goal.returns
 returns c =
-    let k = c in
     rw (sym c.last_value.ensures ∙ c.in-At.is, lt-ltb _ _ c.if-end-start.false)

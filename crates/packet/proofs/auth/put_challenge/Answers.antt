@@ -5,22 +5,17 @@ use Rattle.digest.specs.Md5.{octets16}
 use Rattle.digest.proofs.Octets.{length-octets16}
 use Rattle.packet.specs.AuthWrite.{given}
 use Rattle.packet.proofs.AuthWrites.{challenge-length, challenge-steps}
-use borrow.Author.Rules.{rules}
 use Rattle.packet.proofs.auth.put_challenge.Goals as goal
 
 pub put_realm-requires : goal.put_realm-requires
 put_realm-requires c =
-    let k = c in
     let x = c.args in
-    (c.requires.0, omega (arith, c.requires.1, challenge-length (octets16 x.nonce) x.bits (given x.has-realm (x.charset ∷ x.value.now)) (length-octets16 x.nonce)))
+    (c.requires.0, omega (arith, c.requires.1, challenge-length (octets16 x.nonce) x.bits (given x.has_realm (x.charset ∷ x.value.now)) (length-octets16 x.nonce)))
 
 pub returns : goal.returns
 returns c =
-    let o = c in
-    let p = c in
-    let k = c in
     let x = c.args in
-    challenge-steps x.store.now _ _ _ (octets16 x.nonce) _ x.at x.bits (given x.has-realm (x.charset ∷ x.value.now)) _ _
+    challenge-steps x.store.now _ _ _ (octets16 x.nonce) _ x.at x.bits (given x.has_realm (x.charset ∷ x.value.now)) _ _
     c.octets-bytes.ensures
     (length-octets16 x.nonce)
     c.requires.1

@@ -8,14 +8,11 @@ use Rattle.packet.proofs.auth.read_challenge.Goals as goal
 
 pub returns-in_default : goal.returns-in_default
 returns-in_default c =
-    let k = c in
     sym (challenge-parts c.args.v.now ∙ rw (sym c.tag_zero.ensures ∙ c.in_default.is))
 
 pub returns : goal.returns
 unfolding user_id_required_of read_only_of
 returns c =
-    let d = c in
-    let k = c in
     let bits = c.options-bits.result in
     sym
     (challenge-parts c.args.v.now

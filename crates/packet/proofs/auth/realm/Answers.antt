@@ -1,5 +1,4 @@
 -- `packet::auth::realm` meets its contract: it is `last_under`, as `realm_place` says. Assumes nothing.
-use borrow.Author.Rules.{rules}
 use Rattle.packet.specs.Auth.{realm_place}
 use Rattle.packet.proofs.auth.realm.Goals as goal
 

@@ -2,7 +2,6 @@
 use native.Mathlib.Omega.{arith}
 use mathlib.Core.Path.{sym}
 use lib.ListN.{get_or-eq_default}
-use borrow.Author.Rules.{rules}
 use Rattle.packet.proofs.header.first_byte.Goals as goal
 
 pub returns-then-value-eq0 : goal.returns-then-value-eq0

@@ -1,7 +1,6 @@
 -- `packet::header::header_at` meets its contract: at the end, or a header with the id that stands there. Assumes nothing.
 use borrow.Author.Tests.{le-leb, lt-leb}
 use Rattle.packet.specs.Header.{header_at_of}
-use borrow.Author.Rules.{rules}
 use Rattle.packet.proofs.header.header_at.Goals as goal
 
 pub returns-then-s-at : goal.returns-then-s-at

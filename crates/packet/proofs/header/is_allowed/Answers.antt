@@ -3,7 +3,6 @@ use mathlib.Core.Path.{sym, ap, ◌∙◌}
 use borrow.Author.Tests.{eq-eqb, ne_eqb}
 use Rattle.packet.specs.Header.{allowed}
 use Rattle.packet.specs.Modes.{is_mode, is_parameter, is_action}
-use borrow.Author.Rules.{rules}
 use Rattle.packet.proofs.header.is_allowed.Goals as goal
 
 pub returns-then-id-eq-ACTION_ID : goal.returns-then-id-eq-ACTION_ID
@@ -19,14 +18,12 @@ returns-then-id-eq-SINGLE_RESPONSE_MODE c =
 pub returns-then-id-eq-SINGLE_RESPONSE_MODE_PARAMETERS : goal.returns-then-id-eq-SINGLE_RESPONSE_MODE_PARAMETERS
 unfolding allowed
 returns-then-id-eq-SINGLE_RESPONSE_MODE_PARAMETERS c =
-    let k = c in
     rw (ne_eqb _ _ c.if-id-eq-ACTION_ID.false, ne_eqb _ _ c.if-id-eq-SINGLE_RESPONSE_MODE.false, eq-eqb _ _ c.if-id-eq-SINGLE_RESPONSE_MODE_PARAMETERS.true)
     (c.is_parameter.ensures ∙ ap is_parameter c.first_byte-then-id-eq-SINGLE_RESPONSE_MODE_PARAMETERS.ensures)
 
 pub returns-then-is_tagged : goal.returns-then-is_tagged
 unfolding allowed
 returns-then-is_tagged c =
-    let k = c in
     rw (
       ne_eqb _ _ c.if-id-eq-ACTION_ID.false,
       ne_eqb _ _ c.if-id-eq-SINGLE_RESPONSE_MODE.false,
@@ -37,7 +34,6 @@ returns-then-is_tagged c =
 pub returns : goal.returns
 unfolding allowed
 returns c =
-    let k = c in
     rw (
       ne_eqb _ _ c.if-id-eq-ACTION_ID.false,
       ne_eqb _ _ c.if-id-eq-SINGLE_RESPONSE_MODE.false,

@@ -7,7 +7,6 @@ use Rattle.packet.specs.Auth.{same}
 use Rattle.packet.specs.Canonical.{rewritten}
 use Rattle.packet.proofs.SameBytes.{same_self}
 use Rattle.packet.proofs.CanonicalLaws.{plain_test, as_read}
-use borrow.Author.Rules.{rules}
 use Rattle.packet.proofs.header.is_rewritten.Goals as goal
 
 pub returns-then-id-lt64 : goal.returns-then-id-lt64
@@ -21,14 +20,12 @@ returns-then-id-eq-TYPE c = simp (le-ltb _ _ c.if-id-lt64.false, eq-eqb _ _ c.if
 pub returns-then-id-eq-TIME : goal.returns-then-id-eq-TIME
 unfolding rewritten
 returns-then-id-eq-TIME c =
-    let k = c in
     simp (le-ltb _ _ c.if-id-lt64.false, ne_eqb _ _ c.if-id-eq-TYPE.false, eq-eqb _ _ c.if-id-eq-TIME.true)
     (plain_test c.args.value.now _ c.is_well_formed8.ensures)
 
 pub returns-then-id-eq-PERMISSIONS : goal.returns-then-id-eq-PERMISSIONS
 unfolding rewritten
 returns-then-id-eq-PERMISSIONS c =
-    let k = c in
     simp (
       le-ltb _ _ c.if-id-lt64.false,
       ne_eqb _ _ c.if-id-eq-TYPE.false,

@@ -6,7 +6,6 @@ use lib.ListN.{length}
 use lib.Seq.{length-take-le}
 use Rattle.packet.proofs.TextForms.{ended8}
 use Rattle.packet.proofs.CanonicalLaws.{not_same, empty8, test8}
-use borrow.Author.Rules.{rules}
 use Rattle.packet.proofs.header.is_terminated8.Goals as goal
 
 pub returns-then-value-eq0 : goal.returns-then-value-eq0

@@ -5,7 +5,6 @@ use mathlib.Core.Bool.{Bool, true, false}
 use Prim.Native.Nat.{ℕ, ◌+◌}
 use lib.Dec.{ltb}
 use borrow.Author.Tests.{lt-ltb, le-ltb, ltb-true, ltb-false}
-use borrow.Author.Rules.{rules}
 use Rattle.packet.proofs.header.is_too_long.Goals as goal
 
 over : (n : ℕ) → ltb 65532 n ≡ ltb 65535 (3 + n)

@@ -3,7 +3,6 @@ use native.Mathlib.Omega.{arith}
 use mathlib.Core.Path.{ap}
 use lib.ListN.{length}
 use Rattle.packet.proofs.CanonicalLaws.{not_same, top_test}
-use borrow.Author.Rules.{rules}
 use Rattle.packet.proofs.header.is_top_zero.Goals as goal
 
 pub returns-then-value-eq0 : goal.returns-then-value-eq0

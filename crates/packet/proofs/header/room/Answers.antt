@@ -10,7 +10,6 @@ use Rattle.packet.specs.declared.tlv.Wrote.TheVariants.{Written, TooLong, Short}
 use Rattle.packet.specs.Placed.{room_of}
 use Rattle.packet.specs.Header.{lead_of}
 use Rattle.packet.specs.HeaderWriter.{too_long_of, room_for}
-use borrow.Author.Rules.{rules}
 use Rattle.packet.proofs.header.room.Goals as goal
 
 short_by_lem : (e : HeaderEncoding) (len at n : ℕ) → len < at + lead_of e + n → room_for e len at n ≡ Short
@@ -35,10 +34,8 @@ returns-then-len-at-3 c = sym (short_by_lem _ _ _ _ (omega (arith, c.lead-first.
 
 pub returns-then-is_too_long : goal.returns-then-is_too_long
 returns-then-is_too_long c =
-    let k = c in
     sym (fits_by _ _ _ _ _ _ c.lead-first.ensures.0 (omega arith) c.is_too_long.ensures ∙ simp c.if-is_too_long.true)
 
 pub returns : goal.returns
 returns c =
-    let k = c in
     sym (fits_by _ _ _ _ _ _ c.lead-first.ensures.0 (omega arith) c.is_too_long.ensures ∙ simp c.if-is_too_long.false)

@@ -1,6 +1,5 @@
 -- `packet::header::size_at` meets its contract: each arm is a case of `size_at`. Assumes nothing.
 use native.Mathlib.Omega.{arith}
-use borrow.Author.Rules.{rules}
 use Rattle.packet.proofs.header.size_at.Goals as goal
 
 pub be16_at-requires : goal.be16_at-requires

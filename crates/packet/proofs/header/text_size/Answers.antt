@@ -3,7 +3,6 @@ use native.Mathlib.Omega.{arith}
 use mathlib.Core.List.{[], ◌∷◌}
 use lib.ListN.{length-append}
 use Rattle.text.specs.Text.{ascii_text}
-use borrow.Author.Rules.{rules}
 use Rattle.packet.proofs.header.text_size.Goals as goal
 
 pub returns-in-Wide : goal.returns-in-Wide

@@ -2,7 +2,6 @@
 use native.Mathlib.Omega.{arith}
 use mathlib.Core.Path.{sym, ◌∙◌}
 use Rattle.packet.proofs.TextStore.{none16, some16}
-use borrow.Author.Rules.{rules}
 use Rattle.packet.proofs.header.wide_size.Goals as goal
 
 pub returns-then-n-eq0 : goal.returns-then-n-eq0

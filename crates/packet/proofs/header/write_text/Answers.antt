@@ -1,5 +1,4 @@
 -- `packet::header::write_text` meets its contract: each arm is a case of `text_value`. Assumes nothing.
-use borrow.Author.Rules.{rules}
 use Rattle.packet.proofs.header.write_text.Goals as goal
 
 pub write_wide-requires : goal.write_wide-requires

@@ -1,10 +1,8 @@
 -- `packet::header::write_units` meets its contract: the text fills the part that is lent. Assumes nothing.
 use Rattle.packet.proofs.TextStore.{part-text}
-use borrow.Author.Rules.{rules}
 use Rattle.packet.proofs.header.write_units.Goals as goal
 
 pub returns : goal.returns
 returns c =
-    let z = c in
     part-text c.args.store.now _ _ c.args.from c.args.end _ c.requires.0 c.requires.1
     c.encode_unicode.ensures

@@ -1,6 +1,5 @@
 -- `packet::opcode::from_entry` meets its contract: its tests are those of the definition. Assumes nothing.
 use Prim.Native.Nat.{◌%◌}
-use borrow.Author.Rules.{rules}
 use borrow.Author.Tests.{eq-eqb, ne_eqb}
 use Rattle.packet.specs.FirstByte.{entry_says}
 use Rattle.packet.proofs.opcode.from_entry.Goals as goal

@@ -2,7 +2,6 @@
 -- Assumes nothing.
 use mathlib.Core.Path.{◌∙◌, sym}
 use native.Mathlib.Omega.{arith}
-use borrow.Author.Rules.{rules}
 use Rattle.packet.specs.FirstByte.{byte_of}
 use Rattle.packet.proofs.TopBit.{set_top}
 use Rattle.packet.proofs.opcode.to_byte.Goals as goal

@@ -1,7 +1,6 @@
 -- `packet::packet::connect_bytes` meets its contract: it goes by the cases of `connect_bytes`. Assumes nothing.
 use mathlib.Core.Path.{◌∙◌, sym, ap}
 use Rattle.packet.specs.PacketWrite.{connect_bytes}
-use borrow.Author.Rules.{rules}
 use Rattle.packet.proofs.packet.connect_bytes.Goals as goal
 
 pub returns-in-Connect : goal.returns-in-Connect

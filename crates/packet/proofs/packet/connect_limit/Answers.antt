@@ -1,6 +1,5 @@
 -- `packet::packet::connect_limit` meets its contract: it is the number of the two bytes. Assumes nothing.
 use Rattle.packet.specs.Packet.{connect_limit}
-use borrow.Author.Rules.{rules}
 use Rattle.packet.proofs.packet.connect_limit.Goals as goal
 
 pub returns : goal.returns

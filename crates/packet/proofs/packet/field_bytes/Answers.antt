@@ -6,20 +6,17 @@ use Prim.Native.Nat.{ℕ}
 use Rattle.packet.specs.Packet.{fields_of}
 use Rattle.packet.specs.PacketWrite.{connect_bytes, set_path_byte, field_bytes, filled4}
 use Rattle.packet.proofs.PacketWrites.{fields_by, connect_four}
-use borrow.Author.Rules.{rules}
 use Rattle.packet.proofs.packet.field_bytes.Goals as goal
 
 pub returns-then-n-eq4 : goal.returns-then-n-eq4
 returns-then-n-eq4 c =
-    let n = c in
     let x = c.args in
     let e : field_bytes x.opcode x.fields ≡ connect_bytes x.fields =
     fields_by x.opcode x.fields ∙ rw (eq-eqb (fields_of x.opcode) 4 (sym c.fields_len-n.ensures.0 ∙ c.if-n-eq4.true)) in
-    c.connect_bytes_lem.ensures ∙ sym (ap filled4 e ∙ connect_four x.fields)
+    c.connect_bytes.ensures ∙ sym (ap filled4 e ∙ connect_four x.fields)
 
 pub returns-then-n-eq2 : goal.returns-then-n-eq2
 returns-then-n-eq2 c =
-    let n = c in
     let x = c.args in
     let q : fields_of x.opcode ≡ 2 = sym c.fields_len-n.ensures.0 ∙ c.if-n-eq2.true in
     let e : field_bytes x.opcode x.fields ≡ set_path_byte x.fields ∷ 0 ∷ [] = fields_by x.opcode x.fields ∙ rw q in
@@ -27,7 +24,6 @@ returns-then-n-eq2 c =
 
 pub returns : goal.returns
 returns c =
-    let n = c in
     let x = c.args in
     let r : fields_of x.opcode ≡ c.fields_len-n.result = sym c.fields_len-n.ensures.0 in
     let e : field_bytes x.opcode x.fields ≡ [] =

@@ -2,7 +2,6 @@
 use borrow.Author.Tests.{lt-ltb, le-ltb}
 use mathlib.Core.Path.{sym, ◌∙◌}
 use Rattle.packet.proofs.PacketLaws.{head-short, head-known}
-use borrow.Author.Rules.{rules}
 use Rattle.packet.proofs.packet.packet_head.Goals as goal
 
 pub returns-then-p-lt-PACKET_PREFIX_LENGTH : goal.returns-then-p-lt-PACKET_PREFIX_LENGTH
@@ -15,14 +14,10 @@ returns-in_default c =
 
 pub returns-then-p-headers : goal.returns-then-p-headers
 returns-then-p-headers c =
-    let o = c in
-    let f = c in
     let p = c.args.p.now in
     sym (head-known p _ (sym c.from_byte.ensures ∙ c.in-Known.is) ∙ rw (sym c.prefix_len-headers.ensures, lt-ltb _ _ c.if-p-headers.true))
 
 pub returns : goal.returns
 returns c =
-    let o = c in
-    let f = c in
     let p = c.args.p.now in
     sym (head-known p _ (sym c.from_byte.ensures ∙ c.in-Known.is) ∙ rw (sym c.prefix_len-headers.ensures, le-ltb _ _ c.if-p-headers.false))

@@ -1,7 +1,6 @@
 -- `packet::packet::packet_length` meets its contract: its test is that of `packet_length`. Assumes nothing.
 use borrow.Author.Tests.{lt-ltb, le-ltb}
 use Rattle.packet.specs.PacketRead.{packet_length}
-use borrow.Author.Rules.{rules}
 use Rattle.packet.proofs.packet.packet_length.Goals as goal
 
 pub returns-then-buf-lt-PACKET_PREFIX_LENGTH : goal.returns-then-buf-lt-PACKET_PREFIX_LENGTH

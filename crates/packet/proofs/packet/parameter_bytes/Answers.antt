@@ -2,7 +2,6 @@
 use mathlib.Core.Path.{◌∙◌, sym, ap}
 use Rattle.packet.specs.declared.packet.ConnectParameters.{ConnectParameters}
 use Rattle.packet.specs.PacketWrite.{parameter_bytes, filled4}
-use borrow.Author.Rules.{rules}
 use Rattle.packet.proofs.packet.parameter_bytes.Goals as goal
 
 pub returns-in-Parameters : goal.returns-in-Parameters

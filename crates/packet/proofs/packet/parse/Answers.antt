@@ -8,7 +8,6 @@ use Rattle.base.specs.Bytes.{be16}
 use Rattle.packet.specs.PacketRead.{parse_front}
 use Rattle.packet.specs.Packet.{request_at}
 use Rattle.packet.proofs.PacketLaws.{parsed_front}
-use borrow.Author.Rules.{rules}
 use Rattle.packet.proofs.packet.parse.Goals as goal
 
 pub returns-then-s-lt-PACKET_PREFIX_LENGTH : goal.returns-then-s-lt-PACKET_PREFIX_LENGTH
@@ -38,8 +37,7 @@ slice_bounds-parse_packet-end c = sym (length-take-le c.be16_at-n.result c.args.
 
 pub returns : goal.returns
 returns c =
-    let b = c in
     let s = c.args.s.now in
-    let n : c.be16-at.result ≡ be16 s 1 = c.be16-at.ensures.0 in
+    let n : c.be16_at-n.result ≡ be16 s 1 = c.be16_at-n.ensures.value in
     c.parse_packet.ensures
-    ∙ parsed_front s c.be16-at.result n c.if-s-lt-PACKET_PREFIX_LENGTH.false c.if-n-lt-PACKET_PREFIX_LENGTH.false c.if-s-n.false
+    ∙ parsed_front s c.be16_at-n.result n c.if-s-lt-PACKET_PREFIX_LENGTH.false c.if-n-lt-PACKET_PREFIX_LENGTH.false c.if-s-n.false

@@ -3,7 +3,6 @@ use native.Mathlib.Omega.{arith}
 use Prim.Native.Nat.{◌/◌, ◌%◌}
 use lib.ListN.{length-set}
 use Rattle.packet.proofs.Laid.{three_laid}
-use borrow.Author.Rules.{rules}
 use Rattle.packet.proofs.packet.put_prefix.Goals as goal
 
 pub bounds-store-1 : goal.bounds-store-1

@@ -8,7 +8,6 @@ use Rattle.packet.specs.declared.tlv.Wrote.TheVariants.{Written, Short}
 use Rattle.packet.specs.declared.store.LengthField.{LengthField}
 use Rattle.base.specs.Pick.{pick}
 use Rattle.packet.specs.Placed.{overlong_for, room_of}
-use borrow.Author.Rules.{rules}
 use Rattle.packet.proofs.store.room.Goals as goal
 
 short_by_lem : (len at need : ℕ) (f : LengthField) (overlong : Bool) → len < at + need → room_of len at need f overlong ≡ Short

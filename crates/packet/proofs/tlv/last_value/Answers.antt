@@ -1,5 +1,4 @@
 -- `packet::tlv::last_value` meets its contract: it is `last_under`, as `last_value` says. Assumes nothing.
-use borrow.Author.Rules.{rules}
 use Rattle.packet.specs.Tags.{last_value}
 use Rattle.packet.proofs.tlv.last_value.Goals as goal
 

@@ -1,5 +1,4 @@
 -- `packet::tlv::tag_at` meets its contract: at each `return` the tests that led there are those of `tag_at`. Assumes nothing.
-use borrow.Author.Rules.{rules}
 use borrow.Author.Tests.{le-leb, lt-leb, lt-ltb, le-ltb}
 use mathlib.Core.Path.{◌≡◌, sym}
 use Prim.Native.Nat.{◌+◌, ◌-◌}
@@ -18,13 +17,11 @@ returns-then-s-at-lt2 c = simp (lt-leb _ _ c.if-s-at.false, lt-ltb _ _ c.if-s-at
 pub returns-then-s-start : goal.returns-then-s-start
 unfolding tag_at
 returns-then-s-start c =
-    let k = c in
     simp (lt-leb _ _ c.if-s-at.false, le-ltb _ _ c.if-s-at-lt2.false, ← c.wide-n.ensures.0, lt-ltb _ _ c.if-s-start.true)
 
 pub returns : goal.returns
 unfolding tag_at
 returns c =
-    let k = c in
     let x = c.args in
     let s = x.s.now in
     let n : get_or s (x.at + 1) 0 ≡ c.wide-n.result = sym c.wide-n.ensures.0 in
