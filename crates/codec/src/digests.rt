@@ -8,45 +8,45 @@ use packet::auth::{DigestChallenge, DigestResponse, Named};
 use packet::tlv::Found;
 
 // Puts a value of the tag list `v`, if it is there.
-fn put_found(v: &[u8], f: Found) {
+fn put_found(rt: &impl Print, v: &[u8], f: Found) {
     match f {
         Found::At { start, end } => {
             let p = piece_at(v.len(), 0, start, end);
             let from = p.start;
             let to = p.end;
-            put_hex(&v[from..to]);
+            put_hex(rt, &v[from..to]);
         }
-        Found::Missing => put(b"none"),
+        Found::Missing => put(rt, b"none"),
     }
 }
 
 // Puts a realm, whose first byte is its charset.
-fn put_realm(v: &[u8], f: Found) {
+fn put_realm(rt: &impl Print, v: &[u8], f: Found) {
     match f {
         Found::At { start, end } => {
-            put_byte(byte_at(v, start));
-            put(b":");
+            put_byte(rt, byte_at(v, start));
+            put(rt, b":");
             let p = piece_at(v.len(), 0, start, end);
             let from = p.start;
             let to = p.end;
             if from < to {
-                put_hex(&v[from + 1..to]);
+                put_hex(rt, &v[from + 1..to]);
             }
         }
-        Found::Missing => put(b"none"),
+        Found::Missing => put(rt, b"none"),
     }
 }
 
 // Puts the nonce that a response names, if it names one.
-fn put_named_nonce(n: Named) {
+fn put_named_nonce(rt: &impl Print, n: Named) {
     match n {
-        Named::Nonce(o) => put_octets(o),
-        Named::Missing => put(b"none"),
+        Named::Nonce(o) => put_octets(rt, o),
+        Named::Missing => put(rt, b"none"),
     }
 }
 
 // Answers with the parts of a challenge.
-pub(crate) fn challenge(v: &[u8]) {
+pub(crate) fn challenge(rt: &impl Print, v: &[u8]) {
     let DigestChallenge::Challenge {
         nonce,
         user_id_required,
@@ -54,40 +54,40 @@ pub(crate) fn challenge(v: &[u8]) {
         realm,
     } = auth::read_challenge(v)
     else {
-        put(b"unreadable");
+        put(rt, b"unreadable");
         return;
     };
-    put(b"nonce=");
-    put_octets(nonce);
-    put(b" user_id_required=");
-    put_flag(user_id_required);
-    put(b" read_only=");
-    put_flag(read_only);
-    put(b" realm=");
-    put_realm(v, realm);
+    put(rt, b"nonce=");
+    put_octets(rt, nonce);
+    put(rt, b" user_id_required=");
+    put_flag(rt, user_id_required);
+    put(rt, b" read_only=");
+    put_flag(rt, read_only);
+    put(rt, b" realm=");
+    put_realm(rt, v, realm);
 }
 
 // Answers with the parts of the response to a challenge.
-pub(crate) fn response_list(v: &[u8]) {
+pub(crate) fn response_list(rt: &impl Print, v: &[u8]) {
     let DigestResponse::Response {
         digest,
         user,
         nonce,
     } = auth::read_response(v)
     else {
-        put(b"unreadable");
+        put(rt, b"unreadable");
         return;
     };
-    put(b"digest=");
-    put_octets(digest);
-    put(b" user=");
-    put_found(v, user);
-    put(b" nonce=");
-    put_named_nonce(nonce);
+    put(rt, b"digest=");
+    put_octets(rt, digest);
+    put(rt, b" user=");
+    put_found(rt, v, user);
+    put(rt, b" nonce=");
+    put_named_nonce(rt, nonce);
 }
 
 // Answers whether the response to a challenge is right for a password.
-pub(crate) fn verify(challenge: &[u8], response: &[u8], password: &[u8]) {
+pub(crate) fn verify(rt: &impl Print, challenge: &[u8], response: &[u8], password: &[u8]) {
     let DigestChallenge::Challenge {
         nonce,
         user_id_required: _,
@@ -95,7 +95,7 @@ pub(crate) fn verify(challenge: &[u8], response: &[u8], password: &[u8]) {
         realm: _,
     } = auth::read_challenge(challenge)
     else {
-        put(b"unreadable");
+        put(rt, b"unreadable");
         return;
     };
     let DigestResponse::Response {
@@ -104,18 +104,18 @@ pub(crate) fn verify(challenge: &[u8], response: &[u8], password: &[u8]) {
         nonce: named,
     } = auth::read_response(response)
     else {
-        put(b"unreadable");
+        put(rt, b"unreadable");
         return;
     };
     if auth::verify(nonce, digest, user, named, false, password) {
-        put(b"true");
+        put(rt, b"true");
     } else {
-        put(b"false");
+        put(rt, b"false");
     }
 }
 
 // Answers with the response to a challenge.
-pub(crate) fn respond(challenge: &[u8], has_user: bool, user: &[u8], password: &[u8]) {
+pub(crate) fn respond(rt: &impl Print, challenge: &[u8], has_user: bool, user: &[u8], password: &[u8]) {
     let DigestChallenge::Challenge {
         nonce,
         user_id_required: _,
@@ -123,16 +123,17 @@ pub(crate) fn respond(challenge: &[u8], has_user: bool, user: &[u8], password: &
         realm: _,
     } = auth::read_challenge(challenge)
     else {
-        put(b"unreadable");
+        put(rt, b"unreadable");
         return;
     };
     let mut store = [0u8; 4096];
     let done = auth::respond(&mut store, 0, nonce, has_user, user, password);
-    put_done(done, &store, b"error ValueTooLarge ", user.len());
+    put_done(rt, done, &store, b"error ValueTooLarge ", user.len());
 }
 
 // Answers with the bytes of a challenge. The first byte of `realm` is its charset.
 pub(crate) fn write_challenge(
+    rt: &impl Print,
     nonce: &[u8],
     user_id_required: bool,
     read_only: bool,
@@ -140,7 +141,7 @@ pub(crate) fn write_challenge(
     realm: &[u8],
 ) {
     if nonce.len() != 16 {
-        put(b"bad nonce");
+        put(rt, b"bad nonce");
         return;
     }
     let mut store = [0u8; 4096];
@@ -157,14 +158,14 @@ pub(crate) fn write_challenge(
         charset,
         &realm[from..],
     );
-    put_done(done, &store, b"error ValueTooLarge ", realm.len());
+    put_done(rt, done, &store, b"error ValueTooLarge ", realm.len());
 }
 
 // Answers with the digest of a nonce and a password.
-pub(crate) fn digest(nonce: &[u8], password: &[u8]) {
+pub(crate) fn digest(rt: &impl Print, nonce: &[u8], password: &[u8]) {
     if nonce.len() != 16 {
-        put(b"bad nonce");
+        put(rt, b"bad nonce");
         return;
     }
-    put_octets(md5::request_digest(md5::octets16_at(nonce, 0), password));
+    put_octets(rt, md5::request_digest(md5::octets16_at(nonce, 0), password));
 }

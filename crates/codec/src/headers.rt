@@ -74,17 +74,17 @@ fn tag_piece(s: &[u8], at: usize) -> Piece
 }
 
 // Puts a tag and its value behind `separator`.
-fn put_tag(separator: &[u8], tag: u8, value: &[u8]) {
-    put(separator);
-    put_byte(tag);
-    put(b"=");
-    put_hex(value);
+fn put_tag(rt: &impl Print, separator: &[u8], tag: u8, value: &[u8]) {
+    put(rt, separator);
+    put_byte(rt, tag);
+    put(rt, b"=");
+    put_hex(rt, value);
 }
 
 // Puts the tags of the list `s` with `separator` between them, or a dash if there are none.
-fn put_tags(s: &[u8], separator: &[u8]) {
+fn put_tags(rt: &impl Print, s: &[u8], separator: &[u8]) {
     if s.len() == 0 {
-        put(b"-");
+        put(rt, b"-");
     }
     let mut at = 0;
     while at < s.len() {
@@ -95,20 +95,20 @@ fn put_tags(s: &[u8], separator: &[u8]) {
             return;
         }
         if at == 0 {
-            put_tag(b"", p.id, &s[start..end]);
+            put_tag(rt, b"", p.id, &s[start..end]);
         } else {
-            put_tag(separator, p.id, &s[start..end]);
+            put_tag(rt, separator, p.id, &s[start..end]);
         }
         at = end;
     }
 }
 
 // Answers with the tags of a list.
-pub(crate) fn tags(s: &[u8]) {
+pub(crate) fn tags(rt: &impl Print, s: &[u8]) {
     if tlv::is_tag_list(s) {
-        put_tags(s, b" ");
+        put_tags(rt, s, b" ");
     } else {
-        put(b"unreadable");
+        put(rt, b"unreadable");
     }
 }
 
@@ -219,92 +219,92 @@ fn write_header(kind: Kind, id: u8, v: &[u8], text: &[u8], store: &mut [u8]) -> 
 }
 
 // Puts a header's value by its kind.
-fn put_value(kind: Kind, id: u8, v: &[u8], text: &[u8]) {
+fn put_value(rt: &impl Print, kind: Kind, id: u8, v: &[u8], text: &[u8]) {
     match kind {
-        Kind::Unicode => put_named(b":text:", text),
-        Kind::Type => put_named(b":text:", text),
-        Kind::Time => put_named(b":text:", text),
-        Kind::U8 => put_named(b":u8:", v),
-        Kind::Bytes => put_named(b":bytes:", v),
+        Kind::Unicode => put_named(rt, b":text:", text),
+        Kind::Type => put_named(rt, b":text:", text),
+        Kind::Time => put_named(rt, b":text:", text),
+        Kind::U8 => put_named(rt, b":u8:", v),
+        Kind::Bytes => put_named(rt, b":bytes:", v),
         Kind::U32 => {
-            put(b":u32:");
-            put_u32(number_of(id, v));
+            put(rt, b":u32:");
+            put_u32(rt, number_of(id, v));
         }
         Kind::Tags => {
-            put(b":tags:");
-            put_tags(v, b";");
+            put(rt, b":tags:");
+            put_tags(rt, v, b";");
         }
     }
 }
 
 // Puts what is shown of a text that is too long to be written: its length as a header, or of Type and Time the text itself.
-fn put_refused(id: u8, text: &[u8]) {
+fn put_refused(rt: &impl Print, id: u8, text: &[u8]) {
     if id < 0x40 {
-        put(b":error HeaderTooLarge ");
-        put_number(sum(text::encoded_unicode_len(text), 5));
+        put(rt, b":error HeaderTooLarge ");
+        put_number(rt, sum(text::encoded_unicode_len(text), 5));
     } else {
-        put_named(b":", text);
+        put_named(rt, b":", text);
     }
 }
 
 // Puts what became of a header: its bytes, or what is shown of its text if that is too long to be written.
-fn put_written(done: Wrote, store: &[u8], id: u8, text: &[u8]) {
+fn put_written(rt: &impl Print, done: Wrote, store: &[u8], id: u8, text: &[u8]) {
     match done {
         Wrote::Written(n) => {
             if n <= store.len() {
-                put_digits(&store[0..n]);
+                put_digits(rt, &store[0..n]);
             }
         }
         Wrote::TooLong => {
-            put(b"<");
-            put_byte(id);
-            put_refused(id, text);
-            put(b">");
+            put(rt, b"<");
+            put_byte(rt, id);
+            put_refused(rt, id, text);
+            put(rt, b">");
         }
-        Wrote::BadValue => put(b"bad"),
-        Wrote::Short => put(b"short"),
+        Wrote::BadValue => put(rt, b"bad"),
+        Wrote::Short => put(rt, b"short"),
     }
 }
 
 // Puts a header's value, or the header as it is written if `is_rewritten` is set.
-fn show(id: u8, v: &[u8], is_rewritten: bool, text: &mut [u8], store: &mut [u8]) {
+fn show(rt: &impl Print, id: u8, v: &[u8], is_rewritten: bool, text: &mut [u8], store: &mut [u8]) {
     let k = kind_of(id);
     let n = decoded(k, v, text);
     if is_rewritten {
         let done = write_header(k, id, v, &text[0..n], store);
-        put_written(done, store, id, &text[0..n]);
+        put_written(rt, done, store, id, &text[0..n]);
     } else {
-        put(b" ");
-        put_byte(id);
-        put_value(k, id, v, &text[0..n]);
+        put(rt, b" ");
+        put_byte(rt, id);
+        put_value(rt, k, id, v, &text[0..n]);
     }
 }
 
 // Shows a header with stores that are enough for a value of less than 500 bytes.
-fn show_short(id: u8, v: &[u8], is_rewritten: bool) {
+fn show_short(rt: &impl Print, id: u8, v: &[u8], is_rewritten: bool) {
     let mut text = [0u8; 1600];
     let mut store = [0u8; 3300];
-    show(id, v, is_rewritten, &mut text, &mut store);
+    show(rt, id, v, is_rewritten, &mut text, &mut store);
 }
 
 // Shows a header with stores that are enough for any value.
-fn show_long(id: u8, v: &[u8], is_rewritten: bool) {
+fn show_long(rt: &impl Print, id: u8, v: &[u8], is_rewritten: bool) {
     let mut text = [0u8; 200000];
     let mut store = [0u8; 401000];
-    show(id, v, is_rewritten, &mut text, &mut store);
+    show(rt, id, v, is_rewritten, &mut text, &mut store);
 }
 
 // Shows a header with stores as long as its value needs.
-fn show_header(id: u8, v: &[u8], is_rewritten: bool) {
+fn show_header(rt: &impl Print, id: u8, v: &[u8], is_rewritten: bool) {
     if v.len() < 500 {
-        show_short(id, v, is_rewritten);
+        show_short(rt, id, v, is_rewritten);
     } else {
-        show_long(id, v, is_rewritten);
+        show_long(rt, id, v, is_rewritten);
     }
 }
 
 // Shows each header of `s`.
-fn each_header(s: &[u8], is_rewritten: bool) {
+fn each_header(rt: &impl Print, s: &[u8], is_rewritten: bool) {
     let mut at = 0;
     while at < s.len() {
         let p = header_piece(s, at);
@@ -313,31 +313,31 @@ fn each_header(s: &[u8], is_rewritten: bool) {
         if end <= at {
             return;
         }
-        show_header(p.id, &s[start..end], is_rewritten);
+        show_header(rt, p.id, &s[start..end], is_rewritten);
         at = end;
     }
 }
 
 // Puts the `n` headers that fill the bytes: how many, their values, what the writers give for them, and whether that is the same.
-fn put_read_headers(n: usize, s: &[u8]) {
-    put_number(n);
-    each_header(s, false);
-    put(b" = ");
+fn put_read_headers(rt: &impl Print, n: usize, s: &[u8]) {
+    put_number(rt, n);
+    each_header(rt, s, false);
+    put(rt, b" = ");
     if s.len() == 0 {
-        put(b"-");
+        put(rt, b"-");
     }
-    each_header(s, true);
+    each_header(rt, s, true);
     if header::is_canonical(s) {
-        put(b" canonical");
+        put(rt, b" canonical");
     } else {
-        put(b" other");
+        put(rt, b" other");
     }
 }
 
 // Answers with the headers of `s`.
-pub(crate) fn put_headers(s: &[u8]) {
+pub(crate) fn put_headers(rt: &impl Print, s: &[u8]) {
     match walk::len(s, 0) {
-        Count::Headers(n) => put_read_headers(n, s),
-        Count::Unreadable => put(b"unreadable"),
+        Count::Headers(n) => put_read_headers(rt, n, s),
+        Count::Unreadable => put(rt, b"unreadable"),
     }
 }

@@ -81,116 +81,120 @@ fn question_of(w: &[u8]) -> Question {
 }
 
 // Answers a question on a byte or a list.
-fn answer_one(q: Question, a: &[u8]) {
+fn answer_one(rt: &impl Print, q: Question, a: &[u8]) {
     match q {
-        Question::First => first(byte_at(a, 0)),
-        Question::Code => code(byte_at(a, 0)),
-        Question::Length => packet_length(a),
-        Question::Tags => tags(a),
-        Question::Headers => put_headers(a),
-        Question::Packet => parsed(a),
-        Question::Challenge => challenge(a),
-        Question::ResponseList => response_list(a),
-        Question::Answer => answered(a, false),
-        Question::ConnectAnswer => answered(a, true),
-        _ => put(b"bad question"),
+        Question::First => first(rt, byte_at(a, 0)),
+        Question::Code => code(rt, byte_at(a, 0)),
+        Question::Length => packet_length(rt, a),
+        Question::Tags => tags(rt, a),
+        Question::Headers => put_headers(rt, a),
+        Question::Packet => parsed(rt, a),
+        Question::Challenge => challenge(rt, a),
+        Question::ResponseList => response_list(rt, a),
+        Question::Answer => answered(rt, a, false),
+        Question::ConnectAnswer => answered(rt, a, true),
+        _ => put(rt, b"bad question"),
     }
 }
 
 // Answers the line `s`, of which `a` to `d` are the words 1 to 4 as bytes.
-fn answer(s: &[u8], a: &[u8], b: &[u8], c: &[u8], d: &[u8]) {
+fn answer(rt: &impl Print, s: &[u8], a: &[u8], b: &[u8], c: &[u8], d: &[u8]) {
     let q = question_of(word_of(s, 0));
     match q {
-        Question::Verify => verify(a, b, c),
-        Question::Respond => respond(a, !same(word_of(s, 2), b"nouser"), b, c),
+        Question::Verify => verify(rt, a, b, c),
+        Question::Respond => respond(rt, a, !same(word_of(s, 2), b"nouser"), b, c),
         Question::WriteChallenge => write_challenge(
+            rt,
             a,
             same(word_of(s, 2), b"1"),
             same(word_of(s, 3), b"1"),
             !same(word_of(s, 4), b"none"),
             d,
         ),
-        Question::Digest => digest(a, b),
+        Question::Digest => digest(rt, a, b),
         Question::Request => request(
+            rt,
             byte_at(a, 0),
             same(word_of(s, 2), b"final"),
             fields_of(c, same(word_of(s, 3), b"default")),
             d,
         ),
-        Question::Response => reply(byte_at(a, 0), same(word_of(s, 3), b"none"), c, d),
+        Question::Response => reply(rt, byte_at(a, 0), same(word_of(s, 3), b"none"), c, d),
         Question::Queue => queue(
+            rt,
             number(word_of(s, 1)),
             b,
             !same(word_of(s, 3), b"none"),
             c,
             word_of(s, 4),
         ),
-        _ => answer_one(q, a),
+        _ => answer_one(rt, q, a),
     }
-    put(b"\n");
+    put(rt, b"\n");
 }
 
 // Answers the line `s`; the stores take the bytes of its words 1 to 4.
-fn words(s: &[u8], a: &mut [u8], b: &mut [u8], c: &mut [u8], d: &mut [u8]) {
+fn words(rt: &impl Print, s: &[u8], a: &mut [u8], b: &mut [u8], c: &mut [u8], d: &mut [u8]) {
     let na = unhex(word_of(s, 1), a);
     let nb = unhex(word_of(s, 2), b);
     let nc = unhex(word_of(s, 3), c);
     let nd = unhex(word_of(s, 4), d);
-    answer(s, &a[0..na], &b[0..nb], &c[0..nc], &d[0..nd]);
+    answer(rt, s, &a[0..na], &b[0..nb], &c[0..nc], &d[0..nd]);
 }
 
 // Answers a line of less than 2000 bytes without a group.
-fn line_short(s: &[u8]) {
+fn line_short(rt: &impl Print, s: &[u8]) {
     let mut a = [0u8; 1024];
     let mut b = [0u8; 1024];
     let mut c = [0u8; 1024];
     let mut d = [0u8; 1024];
-    words(s, &mut a, &mut b, &mut c, &mut d);
+    words(rt, s, &mut a, &mut b, &mut c, &mut d);
 }
 
 // Answers a line of any length.
-fn line_long(s: &[u8]) {
+fn line_long(rt: &impl Print, s: &[u8]) {
     let mut a = [0u8; 140000];
     let mut b = [0u8; 140000];
     let mut c = [0u8; 140000];
     let mut d = [0u8; 140000];
-    words(s, &mut a, &mut b, &mut c, &mut d);
+    words(rt, s, &mut a, &mut b, &mut c, &mut d);
 }
 
 // Answers one line.
-fn line(s: &[u8], is_cut: bool) {
+fn line(rt: &impl Print, s: &[u8], is_cut: bool) {
     if is_cut {
-        put(b"bad question\n");
+        put(rt, b"bad question\n");
         return;
     }
     let group = find(s, 0, b'*');
     if s.len() < 2000 {
         if group == s.len() {
-            line_short(s);
+            line_short(rt, s);
             return;
         }
     }
-    line_long(s);
+    line_long(rt, s);
 }
 
 // Answers the lines of standard input, which is read into `s`. A line that is longer than the store is no question.
-fn lines_of(s: &mut [u8]) {
+fn lines_of(rt: &(impl Input + Print), s: &mut [u8]) {
+    let mut input = rt.reader();
     let mut steps = u64::MAX;
     let mut at = before_first();
     while steps > 0 {
-        at = next_line(s, at);
+        at = next_line(&mut input, s, at);
         if at.is_over {
             return;
         }
         if at.is_there {
-            line(bytes_of(s, at), at.is_cut);
+            line(rt, bytes_of(s, at), at.is_cut);
         }
         steps -= 1;
     }
 }
 
 // Answers standard input on standard output.
-fn main() {
+fn main(rt: HostRuntime) {
     let mut input = [0u8; 300000];
-    lines_of(&mut input);
+    lines_of(&rt, &mut input);
 }

@@ -13,92 +13,92 @@ use packet::{header, opcode, packet as packets, response};
 // ---- bytes that name things
 
 // Answers a question on the first byte of a request: opcode, Final bit, and the byte that the two make again.
-pub(crate) fn first(byte: u8) {
+pub(crate) fn first(rt: &impl Print, byte: u8) {
     let FirstByte::Known {
         opcode: op,
         is_final,
     } = opcode::from_byte(byte)
     else {
-        put(b"unknown");
+        put(rt, b"unknown");
         return;
     };
-    put_name(op);
-    put(b" ");
-    put_byte(opcode::value(op));
-    put(b" ");
-    put_final(is_final);
-    put(b" ");
-    put_byte(opcode::to_byte(op, is_final));
+    put_name(rt, op);
+    put(rt, b" ");
+    put_byte(rt, opcode::value(op));
+    put(rt, b" ");
+    put_final(rt, is_final);
+    put(rt, b" ");
+    put_byte(rt, opcode::to_byte(op, is_final));
 }
 
 // Answers a question on a response code. The Final bit of `byte` is taken away first, as the original does.
-pub(crate) fn code(byte: u8) {
+pub(crate) fn code(rt: &impl Print, byte: u8) {
     let b = byte & 0x7F;
     if !response::is_code(b) {
-        put(b"unknown");
+        put(rt, b"unknown");
         return;
     }
-    put_byte(b);
+    put_byte(rt, b);
     if response::is_success(b) {
-        put(b" success ");
+        put(rt, b" success ");
     } else {
-        put(b" other ");
+        put(rt, b" other ");
     }
-    put_byte(response::to_byte(b));
+    put_byte(rt, response::to_byte(b));
 }
 
 // Answers with the length that the front of a packet states.
-pub(crate) fn packet_length(s: &[u8]) {
+pub(crate) fn packet_length(rt: &impl Print, s: &[u8]) {
     match packets::packet_length(s) {
-        Length::Known(n) => put_number(n),
-        Length::Missing => put(b"none"),
+        Length::Known(n) => put_number(rt, n),
+        Length::Missing => put(rt, b"none"),
     }
 }
 
 // ---- packets that are read
 
 // Puts version, flags and packet length of a Connect, the length as it limits what is sent.
-fn put_connect(is_connect: bool, p: &[u8]) {
+fn put_connect(rt: &impl Print, is_connect: bool, p: &[u8]) {
     if !is_connect {
-        put(b"none");
+        put(rt, b"none");
         return;
     }
     let n = packets::connect_limit(p);
-    put_byte(byte_at(p, 3));
-    put_byte(byte_at(p, 4));
-    put_byte((n / 256 % 256) as u8);
-    put_byte((n % 256) as u8);
+    put_byte(rt, byte_at(p, 3));
+    put_byte(rt, byte_at(p, 4));
+    put_byte(rt, (n / 256 % 256) as u8);
+    put_byte(rt, (n % 256) as u8);
 }
 
 // Puts the flags of a SetPath.
-fn put_set_path(op: Opcode, p: &[u8]) {
+fn put_set_path(rt: &impl Print, op: Opcode, p: &[u8]) {
     if opcode::value(op) != 5 {
-        put(b"none");
+        put(rt, b"none");
         return;
     }
     let flags = packets::set_path_flags(p);
-    put_byte(flag_bits(flags.backup, flags.no_create));
+    put_byte(rt, flag_bits(flags.backup, flags.no_create));
 }
 
 // Puts a request: its opcode, the fields of its prefix, how many bytes are left behind it, and its headers.
-fn put_request(op: Opcode, is_final: bool, p: &[u8], left: usize, headers: &[u8]) {
-    put_name(op);
-    put(b" ");
-    put_byte(opcode::value(op));
-    put(b" ");
-    put_final(is_final);
-    put(b" connect=");
-    put_connect(opcode::value(op) == 0, p);
-    put(b" set_path=");
-    put_set_path(op, p);
-    put(b" left=");
-    put_number(left);
-    put(b" ");
-    put_headers(headers);
+fn put_request(rt: &impl Print, op: Opcode, is_final: bool, p: &[u8], left: usize, headers: &[u8]) {
+    put_name(rt, op);
+    put(rt, b" ");
+    put_byte(rt, opcode::value(op));
+    put(rt, b" ");
+    put_final(rt, is_final);
+    put(rt, b" connect=");
+    put_connect(rt, opcode::value(op) == 0, p);
+    put(rt, b" set_path=");
+    put_set_path(rt, op, p);
+    put(rt, b" left=");
+    put_number(rt, left);
+    put(rt, b" ");
+    put_headers(rt, headers);
 }
 
 // Answers with the request at the front of `s`.
-pub(crate) fn parsed(s: &[u8]) {
+pub(crate) fn parsed(rt: &impl Print, s: &[u8]) {
     let Parsed::Request {
         opcode,
         is_final,
@@ -106,13 +106,13 @@ pub(crate) fn parsed(s: &[u8]) {
         length,
     } = packets::parse(s)
     else {
-        put(b"unreadable");
+        put(rt, b"unreadable");
         return;
     };
     let p = piece_at(s.len(), 0, headers, length);
     let start = p.start;
     let end = p.end;
-    put_request(opcode, is_final, &s[0..end], s.len() - end, &s[start..end]);
+    put_request(rt, opcode, is_final, &s[0..end], s.len() - end, &s[start..end]);
 }
 
 // Returns the length of the packet at the front of `s`, or 0 if it is not whole.
@@ -126,7 +126,7 @@ fn front_len(s: &[u8]) -> usize
 }
 
 // Answers a question on a response, to a Connect or to another request.
-pub(crate) fn answered(s: &[u8], connect: bool) {
+pub(crate) fn answered(rt: &impl Print, s: &[u8], connect: bool) {
     let n = front_len(s);
     let ParsedResponse::Response {
         code,
@@ -135,21 +135,21 @@ pub(crate) fn answered(s: &[u8], connect: bool) {
         length,
     } = packets::parse_response(&s[0..n], connect)
     else {
-        put(b"unreadable");
+        put(rt, b"unreadable");
         return;
     };
-    put_byte(code);
-    put(b" ");
-    put_final(is_final);
-    put(b" connect=");
-    put_connect(connect, s);
-    put(b" left=");
-    put_number(s.len() - n);
-    put(b" ");
+    put_byte(rt, code);
+    put(rt, b" ");
+    put_final(rt, is_final);
+    put(rt, b" connect=");
+    put_connect(rt, connect, s);
+    put(rt, b" left=");
+    put_number(rt, s.len() - n);
+    put(rt, b" ");
     let p = piece_at(n, 0, headers, length);
     let start = p.start;
     let end = p.end;
-    put_headers(&s[start..end]);
+    put_headers(rt, &s[start..end]);
 }
 
 // ---- packets that are written
@@ -194,26 +194,27 @@ fn parameters_of(b: &[u8], is_none: bool) -> ConnectParameters {
 }
 
 // Answers with the bytes of a request. `byte` names an opcode only if it is the opcode's own value.
-pub(crate) fn request(byte: u8, is_final: bool, fields: Fields, headers: &[u8]) {
+pub(crate) fn request(rt: &impl Print, byte: u8, is_final: bool, fields: Fields, headers: &[u8]) {
     let FirstByte::Known {
         opcode: op,
         is_final: _,
     } = opcode::from_byte(byte)
     else {
-        put(b"unknown");
+        put(rt, b"unknown");
         return;
     };
     if opcode::value(op) != byte {
-        put(b"unknown");
+        put(rt, b"unknown");
         return;
     }
     if !header::is_readable(headers, 0) {
-        put(b"unreadable");
+        put(rt, b"unreadable");
         return;
     }
     let mut store = [0u8; 150000];
     let done = packets::write_request(&mut store, op, is_final, fields, headers);
     put_done(
+        rt,
         done,
         &store,
         b"error PacketTooLarge ",
@@ -227,20 +228,21 @@ fn prefix(is_none: bool) -> usize {
 }
 
 // Answers with the bytes of a response. `is_none` says that the response has no Connect parameters; otherwise `parameters` are their bytes.
-pub(crate) fn reply(byte: u8, is_none: bool, parameters: &[u8], headers: &[u8]) {
+pub(crate) fn reply(rt: &impl Print, byte: u8, is_none: bool, parameters: &[u8], headers: &[u8]) {
     let code = byte & 0x7F;
     if !response::is_code(code) {
-        put(b"unknown");
+        put(rt, b"unknown");
         return;
     }
     if !header::is_readable(headers, 0) {
-        put(b"unreadable");
+        put(rt, b"unreadable");
         return;
     }
     let mut store = [0u8; 150000];
     let connect = parameters_of(parameters, is_none);
     let done = packets::write_response(&mut store, code, connect, headers);
     put_done(
+        rt,
         done,
         &store,
         b"error PacketTooLarge ",

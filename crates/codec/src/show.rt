@@ -1,97 +1,96 @@
 // The words of an answer, put to standard output.
 use digest::md5;
 use digest::md5::Octets16;
-use libc::STDOUT_FILENO;
-use lines::output::{digits, pair};
+use lines::output::{digits, pair, print};
 use lines::word::line_at;
 use packet::opcode::Opcode;
 use packet::tlv::Wrote;
 
 // Writes `s` to standard output.
-pub(crate) fn put(s: &[u8]) {
-    io::write_all(STDOUT_FILENO, s);
+pub(crate) fn put(rt: &impl Print, s: &[u8]) {
+    print(rt, s);
 }
 
 // Puts `n` in decimal.
-pub(crate) fn put_number(n: usize) {
-    io::print_decimal(STDOUT_FILENO, n as u64);
+pub(crate) fn put_number(rt: &impl Print, n: usize) {
+    let _ = rt.print(n);
 }
 
 // Puts a byte as two hexadecimal digits.
-pub(crate) fn put_byte(b: u8) {
+pub(crate) fn put_byte(rt: &impl Print, b: u8) {
     let two = pair(b);
-    put(&two);
+    put(rt, &two);
 }
 
 // Puts a number as four bytes in hexadecimal, the highest first.
-pub(crate) fn put_u32(n: u32) {
-    put_byte((n / 16777216 % 256) as u8);
-    put_byte((n / 65536 % 256) as u8);
-    put_byte((n / 256 % 256) as u8);
-    put_byte((n % 256) as u8);
+pub(crate) fn put_u32(rt: &impl Print, n: u32) {
+    put_byte(rt, (n / 16777216 % 256) as u8);
+    put_byte(rt, (n / 65536 % 256) as u8);
+    put_byte(rt, (n / 256 % 256) as u8);
+    put_byte(rt, (n % 256) as u8);
 }
 
 // Puts sixteen bytes in hexadecimal.
-pub(crate) fn put_octets(n: Octets16) {
+pub(crate) fn put_octets(rt: &impl Print, n: Octets16) {
     let bytes = md5::octets(n);
     let mut out = [0u8; 32];
     let n = digits(&bytes, &mut out);
-    put(&out[0..n]);
+    put(rt, &out[0..n]);
 }
 
 // Puts the bytes `s` in hexadecimal; of more than 512, how many there are and their MD5.
-pub(crate) fn put_digits(s: &[u8]) {
+pub(crate) fn put_digits(rt: &impl Print, s: &[u8]) {
     if 512 < s.len() {
-        put(b"#");
-        put_number(s.len());
-        put(b":");
+        put(rt, b"#");
+        put_number(rt, s.len());
+        put(rt, b":");
         let sum = md5::digest(s);
-        put_octets(md5::octets16_at(&sum, 0));
+        put_octets(rt, md5::octets16_at(&sum, 0));
         return;
     }
     let mut out = [0u8; 1024];
     let n = digits(s, &mut out);
-    put(&out[0..n]);
+    put(rt, &out[0..n]);
 }
 
 // Puts the bytes `s` in hexadecimal, or a dash if there are none.
-pub(crate) fn put_hex(s: &[u8]) {
+pub(crate) fn put_hex(rt: &impl Print, s: &[u8]) {
     if s.len() == 0 {
-        put(b"-");
+        put(rt, b"-");
     }
-    put_digits(s);
+    put_digits(rt, s);
 }
 
 // Puts a name, and bytes in hexadecimal.
-pub(crate) fn put_named(name: &[u8], v: &[u8]) {
-    put(name);
-    put_hex(v);
+pub(crate) fn put_named(rt: &impl Print, name: &[u8], v: &[u8]) {
+    put(rt, name);
+    put_hex(rt, v);
 }
 
 // Puts 1 for true and 0 for false.
-pub(crate) fn put_flag(b: bool) {
+pub(crate) fn put_flag(rt: &impl Print, b: bool) {
     if b {
-        put(b"1");
+        put(rt, b"1");
     } else {
-        put(b"0");
+        put(rt, b"0");
     }
 }
 
 // Puts whether the Final bit is set.
-pub(crate) fn put_final(is_final: bool) {
+pub(crate) fn put_final(rt: &impl Print, is_final: bool) {
     if is_final {
-        put(b"final");
+        put(rt, b"final");
     } else {
-        put(b"more");
+        put(rt, b"more");
     }
 }
 
 // Puts the line of `text` with the number `k`.
-fn put_line(text: &[u8], k: usize) {
+fn put_line(rt: &impl Print, text: &[u8], k: usize) {
     let place = line_at(text, k);
     let start = place.start;
     let end = place.end;
-    put(&text[start..end]);
+    put(rt, &text[start..end]);
 }
 
 // Returns which line of the names in `put_name` is that of an opcode.
@@ -110,27 +109,27 @@ fn line_of(op: Opcode) -> usize {
 }
 
 // Puts the name of an opcode.
-pub(crate) fn put_name(op: Opcode) {
+pub(crate) fn put_name(rt: &impl Print, op: Opcode) {
     let names = b"connect\ndisconnect\nput\nget\nset_path\naction\nsession\nabort\nuser_defined\n";
-    put_line(names, line_of(op));
+    put_line(rt, names, line_of(op));
 }
 
 // Puts what became of a packet or a tag list: its bytes, or which length is refused.
-pub(crate) fn put_done(done: Wrote, store: &[u8], refusal: &[u8], size: usize) {
+pub(crate) fn put_done(rt: &impl Print, done: Wrote, store: &[u8], refusal: &[u8], size: usize) {
     match done {
         Wrote::Written(n) => {
             if n <= store.len() {
-                put_digits(&store[0..n]);
+                put_digits(rt, &store[0..n]);
             }
         }
         Wrote::TooLong => {
-            put(refusal);
-            put_number(size);
+            put(rt, refusal);
+            put_number(rt, size);
         }
         Wrote::BadValue => {
-            put(refusal);
-            put_number(size);
+            put(rt, refusal);
+            put_number(rt, size);
         }
-        Wrote::Short => put(b"short"),
+        Wrote::Short => put(rt, b"short"),
     }
 }

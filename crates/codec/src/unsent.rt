@@ -102,26 +102,26 @@ fn begin(limit: usize, o: Outgoing, headers: &[u8], reply: &mut [u8]) -> NextPac
 }
 
 // Puts a packet, and returns its length, or 3 if none was made.
-fn put_packet(p: NextPacket, reply: &[u8]) -> usize {
+fn put_packet(rt: &impl Print, p: NextPacket, reply: &[u8]) -> usize {
     let next = p.next;
     let Next::Send { length, last } = next else {
-        put(b"large");
+        put(rt, b"large");
         return 3;
     };
     if last {
-        put(b"last:");
+        put(rt, b"last:");
     } else {
-        put(b"more:");
+        put(rt, b"more:");
     }
     let x = piece_at(reply.len(), 0, 3, length);
     let start = x.start;
     let end = x.end;
-    put_hex(&reply[start..end]);
+    put_hex(rt, &reply[start..end]);
     length
 }
 
 // Makes the next packet. A byte that was read ahead is given again with the next.
-fn make(q: Unsent, limit: usize, headers: &[u8], body: &[u8], reply: &mut [u8]) -> Unsent {
+fn make(rt: &impl Print, q: Unsent, limit: usize, headers: &[u8], body: &[u8], reply: &mut [u8]) -> Unsent {
     let o = Outgoing {
         total: q.total,
         sent: q.sent,
@@ -145,7 +145,7 @@ fn make(q: Unsent, limit: usize, headers: &[u8], body: &[u8], reply: &mut [u8]) 
         given: if done.has_pending { less_one(to) } else { to },
         end: q.end,
         has_body: q.has_body,
-        made: put_packet(third, reply),
+        made: put_packet(rt, third, reply),
     }
 }
 
@@ -155,8 +155,8 @@ fn less_one(n: usize) -> usize {
 }
 
 // Puts the packet back that was made last.
-fn put_again(q: Unsent, headers: &mut [u8], body: &mut [u8], reply: &[u8]) -> Unsent {
-    put(b"r");
+fn put_again(rt: &impl Print, q: Unsent, headers: &mut [u8], body: &mut [u8], reply: &[u8]) -> Unsent {
+    put(rt, b"r");
     let p = piece_at(reply.len(), 0, 3, q.made);
     let from = p.start;
     let to = p.end;
@@ -172,17 +172,17 @@ fn put_again(q: Unsent, headers: &mut [u8], body: &mut [u8], reply: &[u8]) -> Un
         &mut body[given..],
         b.end - given,
     );
-    put_back(q, done)
+    put_back(rt, q, done)
 }
 
 // Returns what is still to be sent once a packet was put back.
-fn put_back(q: Unsent, done: Rewound) -> Unsent {
+fn put_back(rt: &impl Print, q: Unsent, done: Rewound) -> Unsent {
     let Rewound::Back {
         headers: n,
         pending: m,
     } = done
     else {
-        put(b" short");
+        put(rt, b" short");
         return q;
     };
     Unsent {
@@ -196,13 +196,13 @@ fn put_back(q: Unsent, done: Rewound) -> Unsent {
 }
 
 // Puts a header in early.
-fn put_early(q: Unsent, header: &[u8], headers: &mut [u8]) -> Unsent {
-    put(b"i");
+fn put_early(rt: &impl Print, q: Unsent, header: &[u8], headers: &mut [u8]) -> Unsent {
+    put(rt, b"i");
     let h = piece_at(headers.len(), 0, q.sent, q.total);
     let sent = h.start;
     let done = queues::insert_early(&mut headers[sent..], h.end - sent, header);
     let Wrote::Written(n) = done else {
-        put(b" short");
+        put(rt, b" short");
         return q;
     };
     let mut r = q;
@@ -211,14 +211,15 @@ fn put_early(q: Unsent, header: &[u8], headers: &mut [u8]) -> Unsent {
 }
 
 // Puts the header in early whose digits are `w`.
-fn early(q: Unsent, w: &[u8], headers: &mut [u8]) -> Unsent {
+fn early(rt: &impl Print, q: Unsent, w: &[u8], headers: &mut [u8]) -> Unsent {
     let mut header = [0u8; 1024];
     let n = unhex(w, &mut header);
-    put_early(q, &header[0..n], headers)
+    put_early(rt, q, &header[0..n], headers)
 }
 
 // Does the step that the word `w` names: `n` makes the next packet, `r` puts it back, `i:` and a header puts that in early.
 fn step(
+    rt: &impl Print,
     q: Unsent,
     limit: usize,
     w: &[u8],
@@ -226,20 +227,21 @@ fn step(
     body: &mut [u8],
     reply: &mut [u8],
 ) -> Unsent {
-    put(b" ");
+    put(rt, b" ");
     let c = byte_at(w, 0);
     if c == b'n' {
-        return make(q, limit, headers, body, reply);
+        return make(rt, q, limit, headers, body, reply);
     }
     if c == b'r' {
-        return put_again(q, headers, body, reply);
+        return put_again(rt, q, headers, body, reply);
     }
     let from = after(w, after(w, 0));
-    early(q, &w[from..], headers)
+    early(rt, q, &w[from..], headers)
 }
 
 // Does the steps of `text`, which are separated by commas.
 fn steps(
+    rt: &impl Print,
     q: Unsent,
     limit: usize,
     text: &[u8],
@@ -251,15 +253,15 @@ fn steps(
     let mut at = 0;
     while at < text.len() {
         let end = find(text, at, b',');
-        now = step(now, limit, &text[at..end], headers, body, reply);
+        now = step(rt, now, limit, &text[at..end], headers, body, reply);
         at = end + 1;
     }
 }
 
 // Answers with a word for each step on what is still to be sent of `headers` and a body.
-pub(crate) fn queue(limit: usize, headers: &[u8], has_body: bool, body: &[u8], text: &[u8]) {
+pub(crate) fn queue(rt: &impl Print, limit: usize, headers: &[u8], has_body: bool, body: &[u8], text: &[u8]) {
     if !header::is_readable(headers, 0) {
-        put(b"unreadable");
+        put(rt, b"unreadable");
         return;
     }
     let mut hs = [0u8; 20000];
@@ -281,6 +283,6 @@ pub(crate) fn queue(limit: usize, headers: &[u8], has_body: bool, body: &[u8], t
         has_body,
         made: 3,
     };
-    put(b"steps");
-    steps(q, limit, text, &mut hs, &mut bs, &mut reply);
+    put(rt, b"steps");
+    steps(rt, q, limit, text, &mut hs, &mut bs, &mut reply);
 }

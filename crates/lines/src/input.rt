@@ -35,6 +35,21 @@ pub fn read(from: &mut impl Read, s: &mut [u8]) -> usize
     }
 }
 
+// Reads the input `from` into `s` until that is full or nothing more comes, and returns how many bytes came.
+pub fn read_full(from: &mut impl Read, s: &mut [u8]) -> usize
+    ensures { result ≤ length s.new }
+{
+    let mut n = 0;
+    while n < s.len() {
+        let k = read(from, &mut s[n..]);
+        if k == 0 {
+            return n;
+        }
+        n += k;
+    }
+    n
+}
+
 // Moves what stands from `from` up to `to` to the front of `s`, and returns how many bytes that are.
 pub fn keep(s: &mut [u8], from: usize, to: usize) -> usize
     requires { (from ≤ to) × (to ≤ length s.old) }

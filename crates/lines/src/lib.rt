@@ -1,6 +1,8 @@
-// Lines of text, for the programs: reading them, bytes as words of a line, and an output that is collected in a lent store.
+// Lines of text, for the programs: reading them, bytes as words of a line, and an output that is collected in a lent store; and the words that a
+// program is started with.
 #![tactic(auto)]
 
+pub mod arguments;
 pub mod input;
 pub mod output;
 pub mod word;

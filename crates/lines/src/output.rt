@@ -8,7 +8,6 @@ ghost use Rattle.lines.specs.Output.{least_of, put_bytes, put_line, hex_pair, he
 use crate::word::line_at;
 use base::copy_into;
 use digest::md5;
-use std::io::Print;
 
 // Returns the smaller number.
 pub fn least(a: usize, b: usize) -> usize

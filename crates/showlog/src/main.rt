@@ -6,11 +6,11 @@ ghost use Rattle.std.specs.Prelude.{◌≤◌, length};
 use calendar::time::write_time;
 use filing::entry::{KindRead, kind_in};
 use filing::frame::{Kind, Turn, read_frame};
-use libc::STDOUT_FILENO;
 use lines::input::{keep, read};
-use lines::output::{least, put_hex, write};
+use lines::output::{least, print, put_hex, write};
 use lines::word::line_at;
 use packet::header::be32_at;
+use std::io::Read;
 use std::num::{wrapping_add_u32, wrapping_add_usize};
 
 // The bytes of a row, and of a frame without payload.
@@ -61,57 +61,54 @@ fn word_of(letters: u32) -> usize {
 }
 
 // Prints the line of `text` with the number `k`.
-fn print_word(text: &[u8], k: usize) {
+fn print_word(rt: &impl Print, text: &[u8], k: usize) {
     let place = line_at(text, k);
     let start = place.start;
     let end = place.end;
-    io::write_all(STDOUT_FILENO, &text[start..end]);
+    print(rt, &text[start..end]);
 }
 
 // Prints the time of a clock.
-fn print_clock(clock: u32) {
+fn print_clock(rt: &impl Print, clock: u32) {
     let mut text = [b'-'; 16];
     write_time(clock, &mut text);
-    io::write_all(STDOUT_FILENO, &text);
+    print(rt, &text);
 }
 
 // Prints a payload.
-fn print_payload(payload: &[u8]) {
+fn print_payload(rt: &impl Print, payload: &[u8]) {
     let mut out = [0u8; 256];
     let n = put_hex(&mut out, 0, payload, LONGEST);
-    write(&out, n);
+    write(rt, &out, n);
 }
 
 // Prints a frame: its number, its clock, what it is, how long its payload is, and the payload.
-fn print_frame(number: u32, letters: u32, clock: u32, payload: &[u8]) {
+fn print_frame(rt: &impl Print, number: u32, letters: u32, clock: u32, payload: &[u8]) {
     let words =
         b"unknown\nopen\nreceived\nreceived-part\nsent\nanswered\nobject\npassword\nnonce\nclosed\nfiling\nfailed\nend\n";
-    io::print_decimal(STDOUT_FILENO, number as u64);
-    io::write_all(STDOUT_FILENO, b" ");
-    print_clock(clock);
-    io::write_all(STDOUT_FILENO, b" ");
-    print_word(words, word_of(letters));
-    io::write_all(STDOUT_FILENO, b" ");
-    io::print_decimal(STDOUT_FILENO, payload.len() as u64);
-    io::write_all(STDOUT_FILENO, b" ");
-    print_payload(payload);
-    io::write_all(STDOUT_FILENO, b"\n");
+    let _ = rt.print(number);
+    print(rt, b" ");
+    print_clock(rt, clock);
+    print(rt, b" ");
+    print_word(rt, words, word_of(letters));
+    print(rt, b" ");
+    let _ = rt.print(payload.len());
+    print(rt, b" ");
+    print_payload(rt, payload);
+    print(rt, b"\n");
 }
 
 // Prints how the log ends: how many frames are sound, where they end, and what is wrong there.
-fn print_end(place: Place, k: usize) {
+fn print_end(rt: &impl Print, place: Place, k: usize) {
     let words =
         b"whole\nbreaks off\nfault 11\nfault 12\nfault 13\nlonger than this program reads\n";
-    io::write_all(STDOUT_FILENO, b"frames ");
-    io::print_decimal(STDOUT_FILENO, place.number as u64);
-    io::write_all(STDOUT_FILENO, b" bytes ");
-    io::print_decimal(
-        STDOUT_FILENO,
-        wrapping_add_usize(place.passed, place.at) as u64,
-    );
-    io::write_all(STDOUT_FILENO, b" ");
-    print_word(words, k);
-    io::write_all(STDOUT_FILENO, b"\n");
+    print(rt, b"frames ");
+    let _ = rt.print(place.number);
+    print(rt, b" bytes ");
+    let _ = rt.print(wrapping_add_usize(place.passed, place.at));
+    print(rt, b" ");
+    print_word(rt, words, k);
+    print(rt, b"\n");
 }
 
 // Returns the place at which the program ends.
@@ -126,13 +123,13 @@ fn over(place: Place) -> Place {
 }
 
 // Ends at `place` with the words of line `k`.
-fn end_with(place: Place, k: usize) -> Place {
-    print_end(place, k);
+fn end_with(rt: &impl Print, place: Place, k: usize) -> Place {
+    print_end(rt, place, k);
     over(place)
 }
 
 // Shows the frame at `place`, whose payload has `n` bytes, and goes behind it.
-fn pass(log: &[u8], place: Place, n: usize) -> Place {
+fn pass(rt: &impl Print, log: &[u8], place: Place, n: usize) -> Place {
     let at = least(place.at, log.len());
     if log.len() - at < LEAST {
         return over(place);
@@ -140,6 +137,7 @@ fn pass(log: &[u8], place: Place, n: usize) -> Place {
     let size = least(n, log.len() - at - LEAST);
     let from = at + ROW;
     print_frame(
+        rt,
         place.number,
         be32_at(log, at),
         be32_at(log, at + 12),
@@ -167,17 +165,17 @@ fn needed_from(at: usize) -> usize
 }
 
 // Reads on, behind what of the store is still needed, which is moved to its front.
-fn read_more(store: &mut [u8], place: Place) -> Place {
+fn read_more(rt: &impl Print, input: &mut impl Read, store: &mut [u8], place: Place) -> Place {
     let to = least(place.have, store.len());
     let at = least(place.at, to);
     let from = needed_from(at);
     let kept = keep(store, from, to);
     if kept == store.len() {
-        return end_with(place, 5);
+        return end_with(rt, place, 5);
     }
-    let n = read(&mut store[kept..]);
+    let n = read(input, &mut store[kept..]);
     if n == 0 {
-        return end_with(place, end_word(at, to));
+        return end_with(rt, place, end_word(at, to));
     }
     Place {
         at: at - from,
@@ -189,20 +187,21 @@ fn read_more(store: &mut [u8], place: Place) -> Place {
 }
 
 // Shows the next frame, reads on or ends, by what stands at `place`.
-fn step(store: &mut [u8], place: Place) -> Place {
+fn step(rt: &impl Print, input: &mut impl Read, store: &mut [u8], place: Place) -> Place {
     let have = least(place.have, store.len());
     match read_frame(&store[0..have], place.at, place.number) {
-        Turn::Frame(n) => pass(&store[0..have], place, n),
-        Turn::End => read_more(store, place),
-        Turn::Cut => read_more(store, place),
-        Turn::Damaged => end_with(place, 2),
-        Turn::Misplaced => end_with(place, 3),
-        Turn::Malformed => end_with(place, 4),
+        Turn::Frame(n) => pass(rt, &store[0..have], place, n),
+        Turn::End => read_more(rt, input, store, place),
+        Turn::Cut => read_more(rt, input, store, place),
+        Turn::Damaged => end_with(rt, place, 2),
+        Turn::Misplaced => end_with(rt, place, 3),
+        Turn::Malformed => end_with(rt, place, 4),
     }
 }
 
 // Shows the frames of standard input, which is read into `store`.
-fn show(store: &mut [u8]) {
+fn show(rt: &(impl Input + Print), store: &mut [u8]) {
+    let mut input = rt.reader();
     let mut steps = u64::MAX;
     let mut place = Place {
         at: 0,
@@ -212,7 +211,7 @@ fn show(store: &mut [u8]) {
         is_over: false,
     };
     while steps > 0 {
-        place = step(store, place);
+        place = step(rt, &mut input, store, place);
         if place.is_over {
             return;
         }
@@ -220,7 +219,7 @@ fn show(store: &mut [u8]) {
     }
 }
 
-fn main() {
+fn main(rt: HostRuntime) {
     let mut store = [0u8; 131072];
-    show(&mut store);
+    show(&rt, &mut store);
 }

@@ -2,13 +2,12 @@
 ghost use Rattle.std.specs.Prelude.{◌≡◌, ◌≤◌, length};
 ghost use Rattle.simulator.specs.Play.{simulated_number, ranged_number};
 
-use libc::STDOUT_FILENO;
-use lines::output::{put, put_number, write};
+use lines::output::{print, put, put_number, write};
 use simulator::{Ranged, Simulated};
 
 // Answers a line that is no question, or has not its form.
-pub(crate) fn bad_question() {
-    io::write_all(STDOUT_FILENO, b"bad question\n");
+pub(crate) fn bad_question(rt: &impl Print) {
+    print(rt, b"bad question\n");
 }
 
 // Puts the line of an answer: its number, or the limit of a row, and two counts.
@@ -24,10 +23,10 @@ fn put_answer(out: &mut [u8], first: usize, a: usize, b: usize) -> usize
 }
 
 // Answers with a line of three numbers: the first says what the two counts are of.
-fn answer(first: usize, a: usize, b: usize) {
+fn answer(rt: &impl Print, first: usize, a: usize, b: usize) {
     let mut out = [0u8; 80];
     let n = put_answer(&mut out, first, a, b);
-    write(&out, n);
+    write(rt, &out, n);
 }
 
 // Returns the number of an answer of `simulate`.
@@ -57,39 +56,39 @@ fn ranged_number(a: Ranged) -> usize
 }
 
 // Answers with what `simulate` returned; a refusal shows 0 for both counts.
-pub(crate) fn simulated(a: Simulated) {
+pub(crate) fn simulated(rt: &impl Print, a: Simulated) {
     let number = simulated_number(a);
     match a {
         Simulated::Counts { packets, requests } => {
-            answer(number, packets as usize, requests as usize);
+            answer(rt, number, packets as usize, requests as usize);
         }
         Simulated::Outside => {
-            answer(number, 0, 0);
+            answer(rt, number, 0, 0);
         }
     }
 }
 
 // Answers with what `simulate_range` returned; a refusal shows 0 for both counts.
-pub(crate) fn ranged(a: Ranged) {
+pub(crate) fn ranged(rt: &impl Print, a: Ranged) {
     let number = ranged_number(a);
     match a {
         Ranged::Packets { least, greatest } => {
-            answer(number, least as usize, greatest as usize);
+            answer(rt, number, least as usize, greatest as usize);
         }
         Ranged::Outside => {
-            answer(number, 0, 0);
+            answer(rt, number, 0, 0);
         }
     }
 }
 
 // Answers with a row of a table: the limit `m`, and what `simulate` returned for it.
-pub(crate) fn row(m: usize, a: Simulated) {
+pub(crate) fn row(rt: &impl Print, m: usize, a: Simulated) {
     match a {
         Simulated::Counts { packets, requests } => {
-            answer(m, packets as usize, requests as usize);
+            answer(rt, m, packets as usize, requests as usize);
         }
         Simulated::Outside => {
-            answer(m, 0, 0);
+            answer(rt, m, 0, 0);
         }
     }
 }

@@ -15,118 +15,119 @@ use lines::word::word_of;
 use simulator::{simulate, simulate_range};
 
 // Answers `get N M on|off`.
-fn get(s: &[u8]) {
+fn get(rt: &impl Print, s: &[u8]) {
     let Number::Known(n) = number_of(word_of(s, 1)) else {
-        bad_question();
+        bad_question(rt);
         return;
     };
     let Number::Known(m) = number_of(word_of(s, 2)) else {
-        bad_question();
+        bad_question(rt);
         return;
     };
     let Mode::Known(srm) = mode_of(word_of(s, 3)) else {
-        bad_question();
+        bad_question(rt);
         return;
     };
     if !is_last(s, 3) {
-        bad_question();
+        bad_question(rt);
         return;
     }
-    simulated(simulate(n, m, srm));
+    simulated(rt, simulate(n, m, srm));
 }
 
 // Answers `range N N M M on|off`.
-fn range(s: &[u8]) {
+fn range(rt: &impl Print, s: &[u8]) {
     let Number::Known(n0) = number_of(word_of(s, 1)) else {
-        bad_question();
+        bad_question(rt);
         return;
     };
     let Number::Known(n1) = number_of(word_of(s, 2)) else {
-        bad_question();
+        bad_question(rt);
         return;
     };
     let Number::Known(m0) = number_of(word_of(s, 3)) else {
-        bad_question();
+        bad_question(rt);
         return;
     };
     let Number::Known(m1) = number_of(word_of(s, 4)) else {
-        bad_question();
+        bad_question(rt);
         return;
     };
     let Mode::Known(srm) = mode_of(word_of(s, 5)) else {
-        bad_question();
+        bad_question(rt);
         return;
     };
     if !is_last(s, 5) {
-        bad_question();
+        bad_question(rt);
         return;
     }
-    ranged(simulate_range(n0, n1, m0, m1, srm));
+    ranged(rt, simulate_range(n0, n1, m0, m1, srm));
 }
 
 // Plays the Get of a body of `n` bytes under the limit `m`, and answers with a row of the table.
-fn play_row(n: u32, m: u32, srm: bool) {
-    row(m as usize, simulate(n, m, srm));
+fn play_row(rt: &impl Print, n: u32, m: u32, srm: bool) {
+    row(rt, m as usize, simulate(n, m, srm));
 }
 
 // Answers `table N on|off`: a row for each limit that is a power of two, for the least and the greatest of all, and for 672.
-fn table(s: &[u8]) {
+fn table(rt: &impl Print, s: &[u8]) {
     let Number::Known(n) = number_of(word_of(s, 1)) else {
-        bad_question();
+        bad_question(rt);
         return;
     };
     let Mode::Known(srm) = mode_of(word_of(s, 2)) else {
-        bad_question();
+        bad_question(rt);
         return;
     };
     if !is_last(s, 2) {
-        bad_question();
+        bad_question(rt);
         return;
     }
-    play_row(n, 255, srm);
-    play_row(n, 512, srm);
-    play_row(n, 672, srm);
-    play_row(n, 1024, srm);
-    play_row(n, 2048, srm);
-    play_row(n, 4096, srm);
-    play_row(n, 8192, srm);
-    play_row(n, 16384, srm);
-    play_row(n, 32768, srm);
-    play_row(n, 65535, srm);
+    play_row(rt, n, 255, srm);
+    play_row(rt, n, 512, srm);
+    play_row(rt, n, 672, srm);
+    play_row(rt, n, 1024, srm);
+    play_row(rt, n, 2048, srm);
+    play_row(rt, n, 4096, srm);
+    play_row(rt, n, 8192, srm);
+    play_row(rt, n, 16384, srm);
+    play_row(rt, n, 32768, srm);
+    play_row(rt, n, 65535, srm);
 }
 
 // Answers one line.
-fn line(s: &[u8], is_cut: bool) {
+fn line(rt: &impl Print, s: &[u8], is_cut: bool) {
     if is_cut {
-        bad_question();
+        bad_question(rt);
         return;
     }
     match question_of(word_of(s, 0)) {
-        Question::Get => get(s),
-        Question::Range => range(s),
-        Question::Table => table(s),
-        Question::Unknown => bad_question(),
+        Question::Get => get(rt, s),
+        Question::Range => range(rt, s),
+        Question::Table => table(rt, s),
+        Question::Unknown => bad_question(rt),
     }
 }
 
 // Answers the lines of standard input, which is read into `s`.
-fn lines_of(s: &mut [u8]) {
+fn lines_of(rt: &(impl Input + Print), s: &mut [u8]) {
+    let mut input = rt.reader();
     let mut steps = u64::MAX;
     let mut at = before_first();
     while steps > 0 {
-        at = next_line(s, at);
+        at = next_line(&mut input, s, at);
         if at.is_over {
             return;
         }
         if at.is_there {
-            line(bytes_of(s, at), at.is_cut);
+            line(rt, bytes_of(s, at), at.is_cut);
         }
         steps -= 1;
     }
 }
 
 // Answers the lines of standard input. Every question fits in the store.
-fn main() {
+fn main(rt: HostRuntime) {
     let mut input = [0u8; 4096];
-    lines_of(&mut input);
+    lines_of(&rt, &mut input);
 }

@@ -4,13 +4,13 @@ use Rattle.lines.proofs.Filled.{filled}
 use Rattle.codec.proofs.line_long.Goals as goal
 
 pub slice_bounds-words-end : goal.slice_bounds-words-end
-slice_bounds-words-end c = filled 140000 0
+slice_bounds-words-end g c = filled 140000 0
 
 pub slice_bounds-words-end-2 : goal.slice_bounds-words-end-2
-slice_bounds-words-end-2 c = filled 140000 0
+slice_bounds-words-end-2 g c = filled 140000 0
 
 pub slice_bounds-words-end-3 : goal.slice_bounds-words-end-3
-slice_bounds-words-end-3 c = filled 140000 0
+slice_bounds-words-end-3 g c = filled 140000 0
 
 pub slice_bounds-words-end-4 : goal.slice_bounds-words-end-4
-slice_bounds-words-end-4 c = filled 140000 0
+slice_bounds-words-end-4 g c = filled 140000 0

@@ -4,4 +4,4 @@ use Rattle.lines.proofs.Filled.{filled}
 use Rattle.codec.proofs.main.Goals as goal
 
 pub slice_bounds-lines_of-end : goal.slice_bounds-lines_of-end
-slice_bounds-lines_of-end c = filled 300000 0
+slice_bounds-lines_of-end g c = filled 300000 0

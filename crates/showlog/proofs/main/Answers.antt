@@ -4,4 +4,4 @@ use Rattle.lines.proofs.Filled.{filled}
 use Rattle.showlog.proofs.main.Goals as goal
 
 pub slice_bounds-show-end : goal.slice_bounds-show-end
-slice_bounds-show-end c = filled 131072 0
+slice_bounds-show-end g c = filled 131072 0

@@ -3,7 +3,7 @@ use Rattle.std.proofs.Common.{◌≡◌, length, rules}
 use Rattle.showlog.proofs.show.Given as goal
 
 abbrev pub invariant-loop-steps : goal.invariant-loop-steps
-invariant-loop-steps l = length l.store ≡ length l.initial.store
+invariant-loop-steps g l = length l.store ≡ length l.initial.store
 
 abbrev pub decreases-loop-steps : goal.decreases-loop-steps
-decreases-loop-steps l = l.steps
+decreases-loop-steps g l = l.steps

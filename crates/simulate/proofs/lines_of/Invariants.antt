@@ -5,7 +5,7 @@ use lib.ListN.{length}
 use Rattle.simulate.proofs.lines_of.Given as goal
 
 abbrev pub invariant-loop-steps : goal.invariant-loop-steps
-invariant-loop-steps l = length l.s ≡ length l.initial.s
+invariant-loop-steps g l = length l.s ≡ length l.initial.s
 
 abbrev pub decreases-loop-steps : goal.decreases-loop-steps
-decreases-loop-steps l = l.steps
+decreases-loop-steps g l = l.steps

@@ -6,7 +6,7 @@ use lib.ListN.{length}
 use Rattle.codec.proofs.unsent.steps.Given as goal
 
 abbrev pub invariant-loop-at : goal.invariant-loop-at
-invariant-loop-at l = (length l.headers ≡ length l.initial.headers) × (length l.body ≡ length l.initial.body) × (length l.reply ≡ length l.initial.reply)
+invariant-loop-at g l = (length l.headers ≡ length l.initial.headers) × (length l.body ≡ length l.initial.body) × (length l.reply ≡ length l.initial.reply)
 
 abbrev pub decreases-loop-at : goal.decreases-loop-at
-decreases-loop-at l = length l.text - l.at
+decreases-loop-at g l = length l.text - l.at

@@ -1,0 +1,24 @@
+// The words that a program is started with. They are numbered from 0, and number 0 is the program's name.
+ghost use Rattle.std.specs.Prelude.{◌≤◌, length};
+
+use std::env::{Env, FillError};
+
+// Puts the word with the number `i` at the front of `s`, and returns its length. It is 0 if there is no such word, or if it is longer than `s`.
+pub fn argument(rt: &impl Env, i: usize, s: &mut [u8]) -> usize
+    ensures { result ≤ length s.new }
+{
+    match rt.arg(i, s) {
+        Ok(n) => n,
+        Err(_) => 0,
+    }
+}
+
+// Tells whether there is a word with the number `i`.
+pub fn has_argument(rt: &impl Env, i: usize) -> bool {
+    let mut front = [0u8; 1];
+    match rt.arg(i, &mut front) {
+        Ok(_) => true,
+        Err(FillError::TooLong) => true,
+        Err(FillError::NotPresent) => false,
+    }
+}
