@@ -25,7 +25,7 @@ returns-in-3 c =
     simp (
       c.is_set-in-3-2.ensures,
       c.is_set-in-3.ensures,
-      c.Chunk-of.ensures,
+      c.chunk_of.ensures,
       c.outgoing_of.ensures,
       c.in-3.is,
     )

@@ -11,7 +11,7 @@ returns c =
     let at-awaits = c in
     let at-settings = c in
     let r = c.args.r in
-    written_back _ r
+    let w = written_back _ r
     (simp (
       c.wide-3.ensures,
       c.wide-2.ensures,
@@ -24,4 +24,5 @@ returns c =
       c.settings_numbers-s.ensures.numbers,
     ))
     c.settings_numbers-s.ensures.back c.peer_numbers-p.ensures.back
-    c.operation_numbers-o.ensures.back
+    c.operation_numbers-o.ensures.back in
+    record { written = w.0; read = w.1 }
