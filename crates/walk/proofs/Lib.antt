@@ -1,3 +1,2 @@
--- What the walks by hand share, and the theorems of the walk.
-pub mod Held
+-- The theorems of the walk.
 pub mod Walks
