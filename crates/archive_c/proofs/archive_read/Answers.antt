@@ -1,6 +1,5 @@
 -- `archive_c::archive_read` meets its contract: it gives the number of what `archive::block::read` answers. Assumes nothing.
 use mathlib.Core.Path.{ap}
-use borrow.Author.Rules.{rules}
 use Rattle.archive_c.specs.Told.{told_reading}
 use Rattle.archive_c.proofs.archive_read.Goals as goal
 

@@ -1,6 +1,5 @@
 -- `archive_c::archive_write` meets its contract: it gives the number of what `archive::block::write` answers. Assumes nothing.
 use mathlib.Core.Path.{ap}
-use borrow.Author.Rules.{rules}
 use Rattle.archive_c.specs.Told.{told_writing}
 use Rattle.archive_c.proofs.archive_write.Goals as goal
 
