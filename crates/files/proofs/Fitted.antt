@@ -1,15 +1,14 @@
 -- Bytes at the front of a store: those that fit are laid there, and others leave it was. Assumes nothing.
-use mathlib.Core.Path.{◌≡◌, refl, sym, ap, ◌∙◌}
-use mathlib.Core.Bool.{true, false}
+use mathlib.Core.Path.{◌≡◌, refl, ap, ◌∙◌}
 use mathlib.Core.List.{List, ◌++◌}
 use Prim.Native.Nat.{ℕ, ◌+◌, ◌≤◌, ◌<◌}
 use native.Mathlib.Omega.{arith}
-use lib.ListN.{length, drop, length-append, length-drop}
+use lib.ListN.{length, drop}
 use lib.Seq.{take-length}
 use borrow.Author.Tests.{lt-ltb, le-ltb}
 use Rattle.packet.specs.Placed.{laid}
 use Rattle.packet.proofs.Laid.{length-laid}
-use Rattle.files.specs.Store.{Filled, filled, fit}
+use Rattle.files.specs.Store.{filled, fit}
 
 -- bytes laid at the very front
 pub laid-front : (d t : List ℕ) → laid d 0 t ≡ t ++ drop (length t) d

@@ -2,11 +2,10 @@
 use mathlib.Core.Path.{◌≡◌, refl, sym, ap, ◌∙◌}
 use mathlib.Core.Bool.{Bool, true, false}
 use mathlib.Core.List.{List, [], ◌++◌}
-use Prim.Native.Nat.{ℕ, ◌+◌, ◌≤◌}
+use Prim.Native.Nat.{ℕ, ◌≤◌}
 use native.Mathlib.Omega.{arith}
 use lib.Dec.{ltb}
-use lib.ListN.{length, drop, length-append, length-drop}
-use borrow.Author.Tests.{ltb-false}
+use lib.ListN.{length, drop, length-append}
 use Rattle.base.specs.Pick.{pick}
 use Rattle.text.specs.Text.{Stored, stored, numbered, store_text, unicode_text}
 use Rattle.text.specs.declared.Decoded.{Decoded}
@@ -15,7 +14,7 @@ use Rattle.packet.specs.Header.{part, first_place}
 use Rattle.packet.specs.declared.tlv.Found.{Found}
 use Rattle.packet.specs.declared.tlv.Found.TheVariants as place
 use Rattle.packet.proofs.Laid.{laid-nothing}
-use Rattle.files.specs.Store.{Filled, filled, fit}
+use Rattle.files.specs.Store.{filled, fit}
 use Rattle.files.specs.Name.{text_at, name_text}
 use Rattle.files.proofs.Fitted.{fit-fits}
 

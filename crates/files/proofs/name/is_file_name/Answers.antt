@@ -1,5 +1,4 @@
 -- files::name::is_file_name meets its contract, test by test. Assumes nothing.
-use borrow.Author.Rules.{rules}
 use borrow.Author.Tests.{eq-eqb, ne_eqb, lt-ltb, le-ltb}
 use Rattle.files.specs.Name.{file_name}
 use Rattle.files.proofs.name.is_file_name.Goals as goal

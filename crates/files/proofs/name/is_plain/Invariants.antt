@@ -1,13 +1,8 @@
 -- files::name::is_plain meets its contract: as long as it goes on, the name is plain exactly where the rest of it is. Assumes nothing.
-use borrow.Author.Rules.{rules}
-use mathlib.Core.Path.{◌≡◌, sym, ap, ◌∙◌}
-use mathlib.Core.Bool.{true, false}
-use mathlib.Core.List.{List}
-use Prim.Native.Nat.{ℕ, ◌+◌, ◌-◌, ◌≤◌, ◌<◌}
-use native.Mathlib.Numerals.{add-one}
-use lib.ListN.{length, get_or, drop, drop_of_length-le}
-use lib.Seq.{drop-cons}
-use Rattle.files.specs.Name.{part, plain}
+use mathlib.Core.Path.{◌≡◌}
+use Prim.Native.Nat.{◌-◌, ◌≤◌}
+use lib.ListN.{length, drop}
+use Rattle.files.specs.Name.{plain}
 use Rattle.files.proofs.name.is_plain.Given as goal
 
 abbrev pub invariant-loop-i : goal.invariant-loop-i

@@ -1,15 +1,9 @@
 -- `files::path::put_hex` meets its contract. The invariant: the digits of the first `i` bytes are laid. Assumes nothing.
-use mathlib.Core.Path.{◌≡◌, refl, sym, ap, ◌∙◌}
-use mathlib.Core.List.{List}
-use Prim.Native.Nat.{ℕ, ◌+◌, ◌-◌, ◌*◌, ◌≤◌}
-use native.Mathlib.Omega.{arith}
+use mathlib.Core.Path.{◌≡◌}
+use Prim.Native.Nat.{◌-◌, ◌≤◌}
 use lib.ListN.{length, take}
-use lib.Seq.{take_all, length-paste}
-use borrow.Author.Rules.{rules}
 use Rattle.packet.specs.Placed.{laid}
-use Rattle.packet.proofs.Laid.{laid-nothing, length-laid}
 use Rattle.files.specs.Path.{hex_of}
-use Rattle.files.proofs.Joins.{pair-laid}
 use Rattle.files.proofs.path.put_hex.Given as goal
 
 abbrev pub invariant-loop-i : goal.invariant-loop-i
