@@ -1,5 +1,4 @@
 -- `headers_c::answer_of` meets its contract: each case has its number. Assumes nothing.
-use borrow.Author.Rules.{rules}
 use Rattle.headers_c.proofs.answer_of.Goals as goal
 
 pub returns-in-Written : goal.returns-in-Written

@@ -1,6 +1,5 @@
 -- `headers_c::obex_challenge_read` meets its contract: it gives what `read_challenge` reads as numbers. Assumes nothing.
 use mathlib.Core.Path.{sym, ◌∙◌}
-use borrow.Author.Rules.{rules}
 use Rattle.headers_c.proofs.obex_challenge_read.Goals as goal
 
 pub returns-in-Challenge : goal.returns-in-Challenge

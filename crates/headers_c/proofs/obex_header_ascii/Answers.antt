@@ -1,7 +1,6 @@
 -- `headers_c::obex_header_ascii` meets its contract: it gives the answer of the reader of `text` as numbers. Assumes nothing.
 use mathlib.Core.Path.{ap}
 use Rattle.headers_c.specs.Crossing.{given_text}
-use borrow.Author.Rules.{rules}
 use Rattle.headers_c.proofs.obex_header_ascii.Goals as goal
 
 pub returns : goal.returns

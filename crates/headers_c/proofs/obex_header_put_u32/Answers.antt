@@ -1,7 +1,6 @@
 -- `headers_c::obex_header_put_u32` meets its contract: it gives the answer of the writer of `packet` as numbers. Assumes nothing.
 use mathlib.Core.Path.{ap}
 use Rattle.headers_c.specs.Crossing.{given_putting}
-use borrow.Author.Rules.{rules}
 use Rattle.headers_c.proofs.obex_header_put_u32.Goals as goal
 
 pub returns : goal.returns

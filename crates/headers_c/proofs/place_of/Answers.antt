@@ -1,5 +1,4 @@
 -- `headers_c::place_of` meets its contract: each case has its numbers. Assumes nothing.
-use borrow.Author.Rules.{rules}
 use Rattle.headers_c.proofs.place_of.Goals as goal
 
 pub returns-in-At : goal.returns-in-At
