@@ -13,19 +13,13 @@ use Rattle.client.proofs.answer.act.Goals as goal
 
 pub requests_next-requires : goal.requests_next-requires
 requests_next-requires c =
-    let at-kind = c in
-    let at-way-of = c in
-    let start = c in
     let args = c.args in
     let pre = c.requires in
-    let t = way-total args.c args.h args.c.operation _ _ _ _ c.Way-of.ensures c.kind.given.1 pre.2 in
+    let t = way-total args.c args.h args.c.operation _ _ _ _ c.way_of.ensures c.in-Next.is pre.2 in
     (pre.1, omega (arith, t, pre.3), pre.5)
 
 pub gather-g-requires : goal.gather-g-requires
 gather-g-requires c =
-    let at-nothing-gathered = c in
-    let above = c in
-    let start = c in
     let args = c.args in
     let pre = c.requires in
     let nothing-gathered-says = c.nothing_gathered.ensures in
@@ -35,53 +29,38 @@ gather-g-requires c =
 
 pub returns-in-Tell : goal.returns-in-Tell
 returns-in-Tell c =
-    let at-way-of = c in
-    let start = c in
     λ q.
     let args = c.args in
     let hs = list_of (read_headers args.p.now args.from) in
     let lent = stores q args.headers.now args.body.now args.request.now in
-    by_way args.c args.h args.c.operation args.h.code hs lent _ _ _ c.Way-of.ensures c.in-Tell.is
+    by_way args.c args.h args.c.operation args.h.code hs lent _ _ _ c.way_of.ensures c.in-Tell.is
     refl
 
 pub returns-in-Abort : goal.returns-in-Abort
 returns-in-Abort c =
-    let at-send-abort = c in
-    let at-enum-told = c in
-    let at-way-of = c in
-    let start = c in
     λ q.
     let args = c.args in
     let hs = list_of (read_headers args.p.now args.from) in
     let lent = stores q args.headers.now args.body.now args.request.now in
-    by_way args.c args.h args.c.operation args.h.code hs lent _ _ _ c.Way-of.ensures
+    by_way args.c args.h args.c.operation args.h.code hs lent _ _ _ c.way_of.ensures
     c.in-Abort.is (c.send_abort.ensures lent)
 
 pub returns-in-Next : goal.returns-in-Next
 returns-in-Next c =
-    let at-requests-next = c in
-    let at-kind = c in
-    let at-way-of = c in
-    let start = c in
     λ q.
     let args = c.args in
     let hs = list_of (read_headers args.p.now args.from) in
     let lent = stores q args.headers.now args.body.now args.request.now in
-    by_way args.c args.h args.c.operation args.h.code hs lent _ _ _ c.Way-of.ensures c.kind.given.1
+    by_way args.c args.h args.c.operation args.h.code hs lent _ _ _ c.way_of.ensures c.in-Next.is
     (c.requests_next.ensures q args.body.now)
 
 pub returns-in-Part : goal.returns-in-Part
 returns-in-Part c =
-    let at-gather = c in
-    let at-nothing-gathered = c in
-    let at-srm = c in
-    let at-way-of = c in
-    let start = c in
     λ q.
     let args = c.args in
     let hs = list_of (read_headers args.p.now args.from) in
     let lent = stores q args.headers.now args.body.now args.request.now in
-    by_way args.c args.h args.c.operation args.h.code hs lent _ _ _ c.Way-of.ensures c.in-Part.is
+    by_way args.c args.h args.c.operation args.h.code hs lent _ _ _ c.way_of.ensures c.in-Part.is
     (part-call args.c _ _ args.h.code _ q args.headers.now args.body.now args.request.now _ _ _ _ c.part.ensures
     (c.gather-g.ensures.model ∙ ap (λ (g : Gathered). gather_all keep.Put 65535 hs (gathering g args.headers.now args.body.now))
     c.nothing_gathered.ensures))

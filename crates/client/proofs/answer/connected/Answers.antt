@@ -1,6 +1,5 @@
 -- `client::answer::connected` meets its contract. Each `return` rewrites with the tests that led there. Assumes nothing.
 use borrow.Author.Rules.{rules}
-use borrow.Author.Tests.{not-true, not-false}
 use mathlib.Core.Path.{sym, ◌∙◌}
 use Rattle.client.specs.Answer.{connected_by}
 use Rattle.client.proofs.answer.connected.Goals as goal
@@ -8,12 +7,9 @@ use Rattle.client.proofs.answer.connected.Goals as goal
 pub returns-then-not-is_success : goal.returns-then-not-is_success
 unfolding connected_by
 returns-then-not-is_success c =
-    let at-is-success = c in
-    simp (sym c.is_success_lem.ensures ∙ not-true c.is_success_lem.result c.if-not-is_success.true, c.goes.ensures)
+    simp (sym c.is_success.ensures ∙ c.if-not-is_success.true, c.goes.ensures)
 
 pub returns : goal.returns
 unfolding connected_by
 returns c =
-    let at-if-1 = c in
-    let at-is-success = c in
-    simp (sym c.is_success_lem.ensures ∙ not-false c.is_success_lem.result c.if-not-is_success.false, c.client_with.ensures)
+    simp (sym c.is_success.ensures ∙ c.if-not-is_success.false, c.client_with.ensures)

@@ -11,7 +11,6 @@ returns-then-last c = simp (c.if-last.true, c.received_way.ensures)
 pub returns-then-code-eq-CONTINUE : goal.returns-then-code-eq-CONTINUE
 unfolding get_way
 returns-then-code-eq-CONTINUE c =
-    let at-if-1 = c in
     simp (c.if-last.false, eq-eqb _ _ c.if-code-eq-CONTINUE.true, c.continued_way.ensures)
 
 pub returns : goal.returns

@@ -5,28 +5,20 @@ use Rattle.client.proofs.answer.grants.Goals as goal
 
 pub returns-then-not-c : goal.returns-then-not-c
 returns-then-not-c c =
-    let at-if-1 = c in
-    let start = c in
     let args = c.args in simp (c.if-srm.false, not-true args.c.settings.srm_wanted c.if-not-c.true)
 
 pub returns-then-not-first : goal.returns-then-not-first
 returns-then-not-first c =
-    let at-if-1 = c in
-    let start = c in
     let args = c.args in simp (
       c.if-srm.false,
       not-false args.c.settings.srm_wanted c.if-not-c.false,
-      not-true
-          args.first c.if-not-first.true,
+      c.if-not-first.true,
     )
 
 pub returns : goal.returns
 returns c =
-    let at-if-1 = c in
-    let start = c in
     let args = c.args in simp (
       c.if-srm.false,
       not-false args.c.settings.srm_wanted c.if-not-c.false,
-      not-false
-          args.first c.if-not-first.false,
+      c.if-not-first.false,
     )

@@ -11,12 +11,9 @@ returns-then-not-c c = simp (not-true c.args.c.aborting c.if-not-c.true)
 pub returns-then-srm : goal.returns-then-srm
 unfolding more_way
 returns-then-srm c =
-    let at-if-1 = c in
-    let start = c in
     simp (not-false c.args.c.aborting c.if-not-c.false, c.if-srm.true, c.wants.ensures)
 
 pub returns : goal.returns
 unfolding more_way
 returns c =
-    let start = c in
     simp (not-false c.args.c.aborting c.if-not-c.false, c.if-srm.false)

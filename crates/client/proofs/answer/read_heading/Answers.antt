@@ -5,8 +5,6 @@ use Rattle.client.proofs.answer.read_heading.Goals as goal
 
 pub returns : goal.returns
 returns c =
-    let at-survey-headers = c in
-    let start = c in
     let args = c.args in heading-read args.code args.p.now args.from _ _ _ c.survey_headers-v.ensures
     c.id_of.ensures
     c.limit_of-limit.ensures

@@ -4,10 +4,8 @@ use Rattle.client.proofs.answer.request_way.Goals as goal
 
 pub returns-in-Put : goal.returns-in-Put
 returns-in-Put c =
-    let at-grants = c in
     simp (c.in-Put.is, c.put_way.ensures, c.grants-granted.ensures)
 
 pub returns-in-Get : goal.returns-in-Get
 returns-in-Get c =
-    let at-grants = c in
     simp (c.in-Get.is, c.get_way.ensures, c.grants-granted.ensures)

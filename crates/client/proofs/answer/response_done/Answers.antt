@@ -11,50 +11,32 @@ use Rattle.client.proofs.answer.response_done.Goals as goal
 
 pub slice_bounds-parse_response-end : goal.slice_bounds-parse_response-end
 slice_bounds-parse_response-end c =
-    let above = c in
-    let start = c in
     sym (length-take-le _ _ c.requires.0)
 
 pub returns-in_default : goal.returns-in_default
 returns-in_default c =
-    let at-parse-response = c in
-    let at-is-connecting = c in
-    let at-arrived = c in
-    let start = c in
     let args = c.args in
     let lent = stores args.packet.now args.headers.now args.body.now args.request.now in
     unreadable args.c args.n lent _ c.is_connecting.ensures _ c.parse_response.ensures _
-    c.arrived.ensures _ c.in_default.is
+    c.arrived-at.ensures _ c.in_default.is
     c.ends.ensures
 
 pub slice_bounds-read_heading-end : goal.slice_bounds-read_heading-end
 slice_bounds-read_heading-end c =
-    let above = c in
-    let higher = c in
-    let start = c in
     sym (length-take-le _ _ c.requires.0)
 
 pub slice_bounds-act-end : goal.slice_bounds-act-end
 slice_bounds-act-end c =
-    let above = c in
-    let higher = c in
-    let start = c in
     sym (length-take-le _ _ c.requires.0)
 
 pub act-requires : goal.act-requires
 act-requires c =
-    let above = c in
-    let at_code = c in
-    let at-parse-response = c in
-    let at-is-connecting = c in
-    let at-arrived = c in
-    let start = c in
     let args = c.args in
     let lent = stores args.packet.now args.headers.now args.body.now args.request.now in
     let pre = c.requires in
-    let arrived-says = c.arrived.ensures in (
-      reads args.c args.n lent _ c.is-connecting.ensures _ c.parse-response.ensures _
-          c.arrived.ensures _ _ _ _ c.code.given.1,
+    let arrived-says = c.arrived-at.ensures in (
+      reads args.c args.n lent _ c.is_connecting.ensures _ c.parse_response.ensures _
+          c.arrived-at.ensures _ _ _ _ c.in-Response.is,
       omega (arith, pre.1, arrived-remote args.c _ args.n arrived-says),
       ap sound_operation (arrived-operation args.c _ args.n arrived-says) ∙ pre.2,
       pre.3,
@@ -64,16 +46,8 @@ act-requires c =
 
 pub returns : goal.returns
 returns c =
-    let above = c in
-    let at-act = c in
-    let at-read-heading = c in
-    let at_code = c in
-    let at-parse-response = c in
-    let at-is-connecting = c in
-    let at-arrived = c in
-    let start = c in
     let args = c.args in
     let lent = stores args.packet.now args.headers.now args.body.now args.request.now in
-    answered args.c args.n lent _ c.is-connecting.ensures _ c.parse-response.ensures _
-    c.arrived.ensures _ _ _ _ c.code.given.1 _ _
-    c.read-heading.ensures (c.act.ensures args.packet.now)
+    answered args.c args.n lent _ c.is_connecting.ensures _ c.parse_response.ensures _
+    c.arrived-at.ensures _ _ _ _ c.in-Response.is _ _
+    c.read_heading-h.ensures (c.act.ensures args.packet.now)

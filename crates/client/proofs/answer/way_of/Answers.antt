@@ -7,7 +7,6 @@ returns-in-Connecting c = simp (c.in-Connecting.is, c.took.ensures, c.connected.
 
 pub returns-in-Disconnecting : goal.returns-in-Disconnecting
 returns-in-Disconnecting c =
-    let at-enum-told-2 = c in
     simp (c.in-Disconnecting.is, c.took-in-Disconnecting.ensures, c.disconnected.ensures)
 
 pub returns-in-Requesting : goal.returns-in-Requesting

@@ -12,10 +12,6 @@ use Rattle.client.proofs.calls.abort.Goals as goal
 pub returns-in-Refuse : goal.returns-in-Refuse
 unfolding abort_step
 returns-in-Refuse c =
-    let at-refusal = c in
-    let at-guard = c in
-    let at-is-abortable = c in
-    let start = c in
     let args = c.args in
     let lent = stores args.packet.now args.headers.now args.body.now args.request.now in
     refused-call _ (abort_fits args.c) args.c lent _ _ _ _ c.is_abortable-fits.ensures c.refuse.ensures
@@ -23,10 +19,6 @@ returns-in-Refuse c =
 
 pub send_abort-requires : goal.send_abort-requires
 send_abort-requires c =
-    let at-enum-told = c in
-    let at-guard = c in
-    let at-is-abortable = c in
-    let start = c in
     let args = c.args in
     let lent = stores args.packet.now args.headers.now args.body.now args.request.now in
     let passes = passed_call _ (abort_fits args.c) args.c lent _ c.is_abortable-fits.ensures c.guard.ensures
@@ -36,11 +28,6 @@ send_abort-requires c =
 pub returns-in-First : goal.returns-in-First
 unfolding abort_step
 returns-in-First c =
-    let at-after-abort = c in
-    let at-enum-told = c in
-    let at-guard = c in
-    let at-is-abortable = c in
-    let start = c in
     let args = c.args in
     let lent = stores args.packet.now args.headers.now args.body.now args.request.now in
     let passes = passed_call _ (abort_fits args.c) args.c lent _ c.is_abortable-fits.ensures c.guard.ensures
@@ -51,11 +38,6 @@ returns-in-First c =
 pub returns-in-Drain : goal.returns-in-Drain
 unfolding abort_step
 returns-in-Drain c =
-    let at-after-abort = c in
-    let at-enum-told = c in
-    let at-guard = c in
-    let at-is-abortable = c in
-    let start = c in
     let args = c.args in
     let lent = stores args.packet.now args.headers.now args.body.now args.request.now in
     let passes = passed_call _ (abort_fits args.c) args.c lent _ c.is_abortable-fits.ensures c.guard.ensures
@@ -67,13 +49,6 @@ returns-in-Drain c =
 pub returns-in-Send : goal.returns-in-Send
 unfolding abort_step
 returns-in-Send c =
-    let at-send-abort = c in
-    let at-enum-told-4 = c in
-    let at-after-abort = c in
-    let at-enum-told = c in
-    let at-guard = c in
-    let at-is-abortable = c in
-    let start = c in
     let args = c.args in
     let lent = stores args.packet.now args.headers.now args.body.now args.request.now in
     let passes = passed_call _ (abort_fits args.c) args.c lent _ c.is_abortable-fits.ensures c.guard.ensures

@@ -14,40 +14,26 @@ use Rattle.client.proofs.calls.part_taken.Goals as goal
 pub returns-in-Refuse : goal.returns-in-Refuse
 unfolding part_taken_step
 returns-in-Refuse c =
-    let at-refusal = c in
-    let at-guard = c in
-    let at-same-await = c in
-    let start = c in
     let args = c.args in
     let lent = stores args.packet.now args.headers.now args.body.now args.request.now in
-    refused-call _ (awaiting args.c await.Taken) args.c lent _ _ _ _ c.same_await_lem.ensures c.refuse.ensures
+    refused-call _ (awaiting args.c await.Taken) args.c lent _ _ _ _ c.same_await-fits.ensures c.refuse.ensures
     c.guard.ensures
     c.in-Refuse.is
 
 pub ask_part-requires : goal.ask_part-requires
 ask_part-requires c =
-    let at-enum-told = c in
-    let at-guard = c in
-    let at-same-await = c in
-    let start = c in
     let args = c.args in
     let lent = stores args.packet.now args.headers.now args.body.now args.request.now in
-    let passes = passed_call _ (awaiting args.c await.Taken) args.c lent _ c.same_await_lem.ensures c.guard.ensures
+    let passes = passed_call _ (awaiting args.c await.Taken) args.c lent _ c.same_await-fits.ensures c.guard.ensures
     c.in_default.is in
     passes.room.request
 
 pub returns-in-Over : goal.returns-in-Over
 unfolding part_taken_step
 returns-in-Over c =
-    let at_code = c in
-    let at-after-part = c in
-    let at-enum-told = c in
-    let at-guard = c in
-    let at-same-await = c in
-    let start = c in
     let args = c.args in
     let lent = stores args.packet.now args.headers.now args.body.now args.request.now in
-    let passes = passed_call _ (awaiting args.c await.Taken) args.c lent _ c.same_await_lem.ensures c.guard.ensures
+    let passes = passed_call _ (awaiting args.c await.Taken) args.c lent _ c.same_await-fits.ensures c.guard.ensures
     c.in_default.is in
     part-call args.c.operation args.c lent _ _ _ c.after_part.ensures c.in-Over.is
     (ap (λ (r : CallResult). stepped r lent) c.over.ensures)
@@ -56,14 +42,9 @@ returns-in-Over c =
 pub returns-in-Wait : goal.returns-in-Wait
 unfolding part_taken_step
 returns-in-Wait c =
-    let at-after-part = c in
-    let at-enum-told = c in
-    let at-guard = c in
-    let at-same-await = c in
-    let start = c in
     let args = c.args in
     let lent = stores args.packet.now args.headers.now args.body.now args.request.now in
-    let passes = passed_call _ (awaiting args.c await.Taken) args.c lent _ c.same_await_lem.ensures c.guard.ensures
+    let passes = passed_call _ (awaiting args.c await.Taken) args.c lent _ c.same_await-fits.ensures c.guard.ensures
     c.in_default.is in
     part-call args.c.operation args.c lent _ _ _ c.after_part.ensures c.in-Wait.is
     (ap (λ (r : CallResult). stepped r lent) c.wants.ensures) ∙ sym (passes.whole _)
@@ -71,16 +52,9 @@ returns-in-Wait c =
 pub returns-in-Ask : goal.returns-in-Ask
 unfolding part_taken_step
 returns-in-Ask c =
-    let at-ask-part = c in
-    let at-enum-told-3 = c in
-    let at-after-part = c in
-    let at-enum-told = c in
-    let at-guard = c in
-    let at-same-await = c in
-    let start = c in
     let args = c.args in
     let lent = stores args.packet.now args.headers.now args.body.now args.request.now in
-    let passes = passed_call _ (awaiting args.c await.Taken) args.c lent _ c.same_await_lem.ensures c.guard.ensures
+    let passes = passed_call _ (awaiting args.c await.Taken) args.c lent _ c.same_await-fits.ensures c.guard.ensures
     c.in_default.is in
     part-call args.c.operation args.c lent _ _ _ c.after_part.ensures c.in-Ask.is
     (c.ask_part.ensures lent) ∙ sym (passes.whole _)
@@ -88,14 +62,9 @@ returns-in-Ask c =
 pub returns-in-Wrong : goal.returns-in-Wrong
 unfolding part_taken_step
 returns-in-Wrong c =
-    let at-after-part = c in
-    let at-enum-told = c in
-    let at-guard = c in
-    let at-same-await = c in
-    let start = c in
     let args = c.args in
     let lent = stores args.packet.now args.headers.now args.body.now args.request.now in
-    let passes = passed_call _ (awaiting args.c await.Taken) args.c lent _ c.same_await_lem.ensures c.guard.ensures
+    let passes = passed_call _ (awaiting args.c await.Taken) args.c lent _ c.same_await-fits.ensures c.guard.ensures
     c.in_default.is in
     part-call args.c.operation args.c lent _ _ _ c.after_part.ensures c.in-Wrong.is
     (ap (λ (r : CallResult). stepped r lent) c.refuse-in-Wrong.ensures) ∙ sym (passes.whole _)

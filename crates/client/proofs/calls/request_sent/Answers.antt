@@ -11,38 +11,25 @@ use Rattle.client.proofs.calls.request_sent.Goals as goal
 pub returns-in-Refuse : goal.returns-in-Refuse
 unfolding request_sent_step
 returns-in-Refuse c =
-    let at-refusal = c in
-    let at-guard = c in
-    let at-same-await = c in
-    let start = c in
     let args = c.args in
     let lent = stores args.packet.now args.headers.now args.body.now args.request.now in
-    refused-call _ (awaiting args.c await.Sent) args.c lent _ _ _ _ c.same_await_lem.ensures c.refuse.ensures
+    refused-call _ (awaiting args.c await.Sent) args.c lent _ _ _ _ c.same_await-fits.ensures c.refuse.ensures
     c.guard.ensures
     c.in-Refuse.is
 
 pub goes_on-requires : goal.goes_on-requires
 goes_on-requires c =
-    let at-enum-told = c in
-    let at-guard = c in
-    let at-same-await = c in
-    let start = c in
     let args = c.args in
     let lent = stores args.packet.now args.headers.now args.body.now args.request.now in
-    let passes = passed_call _ (awaiting args.c await.Sent) args.c lent _ c.same_await_lem.ensures c.guard.ensures
-    c.enum_told.given.1 in
+    let passes = passed_call _ (awaiting args.c await.Sent) args.c lent _ c.same_await-fits.ensures c.guard.ensures
+    c.in_default.is in
     (passes.bounds.remote, passes.bounds.operation, passes.room.headers, passes.room.request)
 
 pub returns : goal.returns
 unfolding request_sent_step
 returns c =
-    let at-goes-on = c in
-    let at-enum-told = c in
-    let at-guard = c in
-    let at-same-await = c in
-    let start = c in
     let args = c.args in
     let lent = stores args.packet.now args.headers.now args.body.now args.request.now in
-    let passes = passed_call _ (awaiting args.c await.Sent) args.c lent _ c.same_await_lem.ensures c.guard.ensures
-    c.enum_told.given.1 in
+    let passes = passed_call _ (awaiting args.c await.Sent) args.c lent _ c.same_await-fits.ensures c.guard.ensures
+    c.in_default.is in
     c.goes_on.ensures args.packet.now args.body.now ∙ sym (passes.whole _)

@@ -6,9 +6,6 @@ use Rattle.client.proofs.calls.start.Goals as goal
 
 pub returns-then-is_short : goal.returns-then-is_short
 returns-then-is_short c =
-    let at-if-1 = c in
-    let at-is-short = c in
-    let start = c in
     let args = c.args in
     let lent = stores args.packet.now args.headers.now args.body.now args.request.now in
     start-refused args.settings lent _ c.is_short.ensures _ _ c.if-is_short.true c.fresh.ensures
@@ -16,9 +13,6 @@ returns-then-is_short c =
 
 pub returns : goal.returns
 returns c =
-    let at-if-1 = c in
-    let at-is-short = c in
-    let start = c in
     let args = c.args in
     let lent = stores args.packet.now args.headers.now args.body.now args.request.now in
     start-goes args.settings lent _ c.is_short.ensures _ _ c.if-is_short.false c.fresh-2.ensures c.took.ensures

@@ -18,10 +18,6 @@ use Rattle.client.proofs.calls.stream_ended.Goals as goal
 pub returns-in-Refuse : goal.returns-in-Refuse
 unfolding stream_ended_step
 returns-in-Refuse c =
-    let at-refusal = c in
-    let at-guard = c in
-    let at-awaits-stream = c in
-    let start = c in
     let args = c.args in
     let lent = stores args.packet.now args.headers.now args.body.now args.request.now in
     refused-call _ (awaiting args.c await.Bytes || awaiting args.c await.Call) args.c lent _ _ _ _
@@ -31,10 +27,6 @@ returns-in-Refuse c =
 pub returns : goal.returns
 unfolding stream_ended_step
 returns c =
-    let at-enum-told = c in
-    let at-guard = c in
-    let at-awaits-stream = c in
-    let start = c in
     let args = c.args in
     let lent = stores args.packet.now args.headers.now args.body.now args.request.now in
     let g = passed_call _ (awaiting args.c await.Bytes || awaiting args.c await.Call) args.c lent _

@@ -4,9 +4,8 @@ use mathlib.Core.Path.{◌∙◌, sym}
 use Rattle.client.proofs.guard.awaits_stream.Goals as goal
 
 pub returns-then-same_await : goal.returns-then-same_await
-returns-then-same_await c = simp (sym c.same_await_lem.ensures ∙ c.if-same_await.true)
+returns-then-same_await c = simp (sym c.same_await.ensures ∙ c.if-same_await.true)
 
 pub returns : goal.returns
 returns c =
-    let at-same-await = c in
-    simp (sym c.same_await_lem.ensures ∙ c.if-same_await.false, c.same_await-2.ensures)
+    simp (sym c.same_await.ensures ∙ c.if-same_await.false, c.same_await-2.ensures)

@@ -12,16 +12,12 @@ returns-then-is_bad_headers c = simp (sym c.is_bad_headers.ensures ∙ c.if-is_b
 
 pub returns-then-lead-s : goal.returns-then-lead-s
 returns-then-lead-s c =
-    let at-is-bad-headers = c in
-    let start = c in
     let args = c.args in
     let f : 248 < args.lead + length args.s.now = omega arith in
     simp (sym c.is_bad_headers.ensures ∙ c.if-is_bad_headers.false, lt-ltb _ _ f)
 
 pub returns : goal.returns
 returns c =
-    let at-is-bad-headers = c in
-    let start = c in
     let args = c.args in
     let f : args.lead + length args.s.now ≤ 248 = omega arith in
     simp (sym c.is_bad_headers.ensures ∙ c.if-is_bad_headers.false, le-ltb _ _ f)

@@ -12,12 +12,8 @@ has_long-requires c = (good _ (sym c.is_bad_headers.ensures ∙ c.if-is_bad_head
 
 pub returns-then-has_long : goal.returns-then-has_long
 returns-then-has_long c =
-    let at-if-1 = c in
-    let at-is-bad-headers = c in
     simp (sym c.is_bad_headers.ensures ∙ c.if-is_bad_headers.false, sym c.has_long.ensures ∙ c.if-has_long.true)
 
 pub returns : goal.returns
 returns c =
-    let at-if-1 = c in
-    let at-is-bad-headers = c in
     simp (sym c.is_bad_headers.ensures ∙ c.if-is_bad_headers.false, sym c.has_long.ensures ∙ c.if-has_long.false)

@@ -6,6 +6,7 @@ use mathlib.Core.Path.{refl, sym, ap, ◌∙◌}
 use lib.ListN.{length}
 use lib.Dec.{ltb}
 use borrow.Author.Tests.{lt-ltb, le-ltb}
+use borrow.Enum.Refused.{opened}
 use Rattle.packet.specs.declared.header.HeaderAt.TheVariants.{At}
 use Rattle.packet.specs.Header.{Header, bytes_of}
 use Rattle.packet.proofs.HeaderLaws.{by_cursor_lem}
@@ -18,19 +19,14 @@ unfolding too_long_of
 loop-end-init c = record { readable = c.requires; gives = refl }
 
 pub returns-in_default : goal.returns-in_default
-returns-in_default c = ends _ _ _ _ c.loop-end.invariant _ c.step.ensures c.in_default.in_default-own.keys2
+returns-in_default c = ends _ _ _ _ c.loop-end.invariant _ c.step.ensures (opened c.in_default.in_default-own.keys2)
 
 pub overflow_sub-end : goal.overflow_sub-end
 overflow_sub-end c =
-    let at-header-at = c in
     let h = by_cursor_lem _ _ (At _ _ _ _) (sym c.step.ensures ∙ c.in-At.is) in omega (arith, h.next)
 
 pub returns-then-capacity-end : goal.returns-then-capacity-end
 returns-then-capacity-end c =
-    let at_end = c in
-    let at-header-at = c in
-    let at-loop = c in
-    let at-shared-slice-known = c in
     let h = by_cursor_lem _ _ (At _ _ _ _) (sym c.step.ensures ∙ c.in-At.is) in
     found _ _ _ _ c.loop-end.invariant _ _ _ _ h _
     (ap (ltb _) (header-length _ _ _ _ _ _ (λ i. omega (arith, c.shared_slice_known-1.given i))
@@ -38,16 +34,10 @@ returns-then-capacity-end c =
 
 pub loop-end-smaller : goal.loop-end-smaller
 loop-end-smaller c =
-    let at_end = c in
-    let at-header-at = c in
     let h = by_cursor_lem _ _ (At _ _ _ _) (sym c.step.ensures ∙ c.in-At.is) in omega (arith, h.next, h.stands.fits)
 
 pub loop-end-preserved : goal.loop-end-preserved
 loop-end-preserved c =
-    let at_end = c in
-    let at-header-at = c in
-    let at-loop = c in
-    let at-shared-slice-known = c in
     let h = by_cursor_lem _ _ (At _ _ _ _) (sym c.step.ensures ∙ c.in-At.is) in
     on _ _ _ _ c.loop-end.invariant _ _ _ _ h _
     (ap (ltb _) (header-length _ _ _ _ _ _ (λ i. omega (arith, c.shared_slice_known-1.given i))

@@ -4,6 +4,7 @@ use native.Mathlib.Omega.{arith}
 use Prim.Native.Nat.{◌-◌}
 use mathlib.Core.Path.{refl, sym, ◌∙◌}
 use lib.ListN.{length}
+use borrow.Enum.Refused.{opened}
 use Rattle.packet.specs.declared.header.HeaderAt.TheVariants.{At}
 use Rattle.packet.specs.Header.{read_headers}
 use Rattle.packet.proofs.HeaderLaws.{by_cursor_lem}
@@ -16,26 +17,18 @@ pub loop-id-init : goal.loop-id-init
 loop-id-init c = record { readable = c.requires; gives = refl }
 
 pub returns-in_default : goal.returns-in_default
-returns-in_default c = ends _ _ _ _ c.loop-id.invariant _ c.step.ensures c.in_default.in_default-own.keys2
+returns-in_default c = ends _ _ _ _ c.loop-id.invariant _ c.step.ensures (opened c.in_default.in_default-own.keys2)
 
 pub returns-then-is_reserved : goal.returns-then-is_reserved
 returns-then-is_reserved c =
-    let at-id = c in
-    let at-header-at = c in
-    let at-loop = c in
     found _ _ _ _ c.loop-id.invariant _ _ _ _ (by_cursor_lem _ _ (At _ _ _ _) (sym c.step.ensures ∙ c.in-At.is)) _
     (sym c.is_reserved.ensures) c.if-is_reserved.true
 
 pub loop-id-smaller : goal.loop-id-smaller
 loop-id-smaller c =
-    let at-id = c in
-    let at-header-at = c in
     let h = by_cursor_lem _ _ (At _ _ _ _) (sym c.step.ensures ∙ c.in-At.is) in omega (arith, h.next, h.stands.fits)
 
 pub loop-id-preserved : goal.loop-id-preserved
 loop-id-preserved c =
-    let at-id = c in
-    let at-header-at = c in
-    let at-loop = c in
     on _ _ _ _ c.loop-id.invariant _ _ _ _ (by_cursor_lem _ _ (At _ _ _ _) (sym c.step.ensures ∙ c.in-At.is)) _
     (sym c.is_reserved.ensures) c.if-is_reserved.false

@@ -1,6 +1,6 @@
 -- `client::guard::is_bad_headers` meets its contract. The tests of the code are those of the definition. Assumes nothing.
 use borrow.Author.Rules.{rules}
-use borrow.Author.Tests.{lt-ltb, le-ltb, not-true, not-false}
+use borrow.Author.Tests.{lt-ltb, le-ltb}
 use mathlib.Core.Path.{sym, ◌∙◌}
 use Rattle.client_model.specs.Guard.{bad_headers}
 use Rattle.client.proofs.Walks.{canonical-readable}
@@ -13,19 +13,16 @@ returns-then-s-gt-MAX_PACKET c = simp (lt-ltb _ _ c.if-s-gt-MAX_PACKET.true)
 pub returns-then-not-is_canonical : goal.returns-then-not-is_canonical
 unfolding bad_headers
 returns-then-not-is_canonical c =
-    let at-if-1 = c in
-    simp (le-ltb _ _ c.if-s-gt-MAX_PACKET.false, sym c.is_canonical.ensures ∙ not-true _ c.if-not-is_canonical.true)
+    simp (le-ltb _ _ c.if-s-gt-MAX_PACKET.false, sym c.is_canonical.ensures ∙ c.if-not-is_canonical.true)
 
 pub has_reserved-requires : goal.has_reserved-requires
-has_reserved-requires c = canonical-readable _ (sym c.is_canonical.ensures ∙ not-false _ c.if-not-is_canonical.false)
+has_reserved-requires c = canonical-readable _ (sym c.is_canonical.ensures ∙ c.if-not-is_canonical.false)
 
 pub returns : goal.returns
 unfolding bad_headers
 returns c =
-    let at-is-canonical = c in
-    let at-if-1 = c in
     simp (
       le-ltb _ _ c.if-s-gt-MAX_PACKET.false,
-      sym c.is_canonical.ensures ∙ not-false _ c.if-not-is_canonical.false,
+      sym c.is_canonical.ensures ∙ c.if-not-is_canonical.false,
       c.has_reserved.ensures,
     )

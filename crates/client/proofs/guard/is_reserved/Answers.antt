@@ -15,20 +15,15 @@ returns-then-id-eq-SINGLE_RESPONSE_MODE c = simp (ne_eqb _ _ c.if-id-eq-CONNECTI
 pub returns-then-id-eq-SINGLE_RESPONSE_MODE_PARAMETERS : goal.returns-then-id-eq-SINGLE_RESPONSE_MODE_PARAMETERS
 unfolding is_srm is_body
 returns-then-id-eq-SINGLE_RESPONSE_MODE_PARAMETERS c =
-    let at-if-1 = c in
     simp (ne_eqb _ _ c.if-id-eq-CONNECTION_ID.false, ne_eqb _ _ c.if-id-eq-SINGLE_RESPONSE_MODE.false, eq-eqb _ _ c.if-id-eq-SINGLE_RESPONSE_MODE_PARAMETERS.true)
 
 pub returns-then-id-eq-BODY : goal.returns-then-id-eq-BODY
 unfolding is_srm is_body
 returns-then-id-eq-BODY c =
-    let at-if-2 = c in
-    let at-if-1 = c in
     simp (ne_eqb _ _ c.if-id-eq-CONNECTION_ID.false, ne_eqb _ _ c.if-id-eq-SINGLE_RESPONSE_MODE.false, ne_eqb _ _ c.if-id-eq-SINGLE_RESPONSE_MODE_PARAMETERS.false, eq-eqb _ _ c.if-id-eq-BODY.true)
 
 pub returns : goal.returns
 unfolding is_srm is_body
 returns c =
-    let at-if-2 = c in
-    let at-if-1 = c in
     reserved_last _ _ _ _ _ (ne_eqb _ _ c.if-id-eq-CONNECTION_ID.false) (ne_eqb _ _ c.if-id-eq-SINGLE_RESPONSE_MODE.false) (ne_eqb _ _ c.if-id-eq-SINGLE_RESPONSE_MODE_PARAMETERS.false)
     (ne_eqb _ _ c.if-id-eq-BODY.false)

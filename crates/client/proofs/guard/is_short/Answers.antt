@@ -14,11 +14,9 @@ returns-then-headers-lt-MAX_PACKET c = simp (le-ltb _ _ c.if-packet-lt-MAX_PACKE
 pub returns-then-body-lt-MAX_PACKET : goal.returns-then-body-lt-MAX_PACKET
 unfolding short_by
 returns-then-body-lt-MAX_PACKET c =
-    let at-if-1 = c in
     simp (le-ltb _ _ c.if-packet-lt-MAX_PACKET.false, le-ltb _ _ c.if-headers-lt-MAX_PACKET.false, lt-ltb _ _ c.if-body-lt-MAX_PACKET.true)
 
 pub returns : goal.returns
 unfolding short_by
 returns c =
-    let at-if-1 = c in
     simp (le-ltb _ _ c.if-packet-lt-MAX_PACKET.false, le-ltb _ _ c.if-headers-lt-MAX_PACKET.false, le-ltb _ _ c.if-body-lt-MAX_PACKET.false)

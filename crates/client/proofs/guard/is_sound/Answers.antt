@@ -15,14 +15,9 @@ returns-then-c-gt-MAX_PACKET c = simp (lt-ltb _ _ c.if-c-ge-MAX_PACKET.false, lt
 pub returns-then-c-lt-MIN_PACKET : goal.returns-then-c-lt-MIN_PACKET
 unfolding sound
 returns-then-c-lt-MIN_PACKET c =
-    let at-if-2 = c in
-    let at-if-1 = c in
     simp (lt-ltb _ _ c.if-c-ge-MAX_PACKET.false, le-leb _ _ c.if-c-gt-MAX_PACKET.false, lt-leb _ _ c.if-c-lt-MIN_PACKET.true)
 
 pub returns : goal.returns
 unfolding sound
 returns c =
-    let at-if-3 = c in
-    let at-if-2 = c in
-    let at-if-1 = c in
     simp (lt-ltb _ _ c.if-c-ge-MAX_PACKET.false, le-leb _ _ c.if-c-gt-MAX_PACKET.false, le-leb _ _ c.if-c-lt-MIN_PACKET.false, c.sound_operation.ensures)

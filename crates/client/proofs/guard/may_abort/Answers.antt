@@ -8,19 +8,12 @@ use Rattle.client.proofs.guard.may_abort.Goals as goal
 
 pub returns-in-Requesting : goal.returns-in-Requesting
 returns-in-Requesting c =
-    let at-operation = c in
-    let start = c in
     let args = c.args in
-    let given-0 = c.operation-1.given.0 in
-    c.may_abort_request.ensures ∙ may_request given-0.0 given-0.1.0 given-0.1.1.0 given-0.1.1.1.0 given-0.1.1.1.1.0
-    given-0.1.1.1.1.1.0 args.a
+    c.may_abort_request.ensures ∙ may_request _ _ _ _ _ _ args.a
     ∙ ap (λ (o : Operation). may_abort o args.a) (sym c.in-Requesting.is)
 
 pub returns-in-Receiving : goal.returns-in-Receiving
 returns-in-Receiving c =
-    let at-operation-2 = c in
-    let start = c in
     let args = c.args in
-    let given-0 = c.operation-in-Receiving-1.given.0 in
-    c.may_abort_object.ensures ∙ may_object given-0.0 given-0.1.0 given-0.1.1.0 args.a
+    c.may_abort_object.ensures ∙ may_object c.in-Receiving.srm _ c.in-Receiving.code args.a
     ∙ ap (λ (o : Operation). may_abort o args.a) (sym c.in-Receiving.is)

@@ -24,17 +24,12 @@ returns-then-o c = simp (le-leb _ _ c.if-o-gt-MAX_PACKET.false, lt-leb _ _ c.if-
 
 pub returns-then-h-gt-MAX_CAPACITY : goal.returns-then-h-gt-MAX_CAPACITY
 returns-then-h-gt-MAX_CAPACITY c =
-    let at-if-2 = c in
-    let at-if-1 = c in
     let the-h = c.args.h in
     let f : 65532 < the-h.at + the-h.got = omega arith in
     simp (le-leb _ _ c.if-o-gt-MAX_PACKET.false, le-leb _ _ c.if-o.false, lt-leb _ _ f)
 
 pub returns-then-h : goal.returns-then-h
 returns-then-h c =
-    let above = c in
-    let at-if-2 = c in
-    let at-if-1 = c in
     let the-h = c.args.h in
     let f : 65532 < the-h.at + the-h.got = omega arith in
     simp (le-leb _ _ c.if-o-gt-MAX_PACKET.false, le-leb _ _ c.if-o.false, lt-leb _ _ f)
@@ -43,8 +38,6 @@ pub returns : goal.returns
 returns c =
     let above = c in
     let above = c in
-    let at-if-2 = c in
-    let at-if-1 = c in
     let the-h = c.args.h in
     let f : the-h.at + the-h.got ≤ 65532 = omega arith in
     simp (le-leb _ _ c.if-o-gt-MAX_PACKET.false, le-leb _ _ c.if-o.false, le-leb _ _ f) (within the-h.at the-h.got the-h.room f)

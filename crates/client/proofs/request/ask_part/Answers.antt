@@ -10,9 +10,6 @@ use Rattle.client.proofs.request.ask_part.Goals as goal
 
 pub returns : goal.returns
 returns c =
-    let at-put-reply-code = c in
-    let at-to-byte = c in
-    let start = c in
     let args = c.args in
     let t = byte_of op.Get true in
     sent-call args.c args.c.operation (packet_bytes t [] []) args.request.now _ _ _ c.sends.ensures (ask_length t)

@@ -10,23 +10,15 @@ use Rattle.client.proofs.request.begin_packet.Goals as goal
 
 pub slice_bounds-copy_into-end : goal.slice_bounds-copy_into-end
 slice_bounds-copy_into-end c =
-    let above = c in
-    let at-leading-bytes = c in
     sym (length-take-le _ _ (omega (arith, c.leading_bytes-lead.ensures.2, c.leading_bytes-lead.ensures.3)))
 
 pub copy_into-requires : goal.copy_into-requires
 copy_into-requires c =
-    let above = c in
-    let at-leading-bytes = c in
     let the-leading-bytes = c.leading_bytes-lead in omega
     (arith, the-leading-bytes.ensures.2, length-take the-leading-bytes.result.count the-leading-bytes.result.bytes)
 
 pub returns : goal.returns
 returns c =
-    let at-copy-into = c in
-    let at-put-prefix = c in
-    let at-leading-bytes = c in
-    let start = c in
     let args = c.args in
     let leading-bytes-says = c.leading_bytes-lead.ensures in
     let n = length (id_bytes args.id) in (

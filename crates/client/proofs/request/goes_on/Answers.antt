@@ -10,9 +10,6 @@ use Rattle.client.proofs.request.goes_on.Goals as goal
 
 pub requests_next-requires : goal.requests_next-requires
 requests_next-requires c =
-    let at-kind = c in
-    let at-sent-turn = c in
-    let start = c in
     let args = c.args in
     let pre = c.requires in
     let t = turn-total args.c.operation _ _ _ _ _ c.sent_turn.ensures c.in-Next.is pre.1 in
@@ -20,10 +17,6 @@ requests_next-requires c =
 
 pub returns-in-Next : goal.returns-in-Next
 returns-in-Next c =
-    let at-requests-next = c in
-    let at-kind = c in
-    let at-sent-turn = c in
-    let start = c in
     λ p b.
     let args = c.args in
     let lent = stores p args.headers.now b args.request.now in
@@ -32,8 +25,6 @@ returns-in-Next c =
 
 pub returns-in-Wait : goal.returns-in-Wait
 returns-in-Wait c =
-    let at-sent-turn = c in
-    let start = c in
     λ p b.
     let args = c.args in
     let lent = stores p args.headers.now b args.request.now in

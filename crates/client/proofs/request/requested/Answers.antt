@@ -4,13 +4,10 @@ use Rattle.client.proofs.request.requested.Goals as goal
 
 pub returns-in-Send : goal.returns-in-Send
 returns-in-Send c =
-    let at_next = c in
     simp (c.in-Send.is, c.sends.ensures, c.requesting.ensures)
 
 pub returns-in-Read : goal.returns-in-Read
 returns-in-Read c =
-    let at-requesting-2 = c in
-    let at-enum-told = c in
     simp (c.in-Read.is, c.took.ensures, c.goes.ensures, c.requesting-in-Read.ensures)
 
 pub returns-in-TooLarge : goal.returns-in-TooLarge

@@ -5,8 +5,6 @@ use Rattle.client.proofs.request.requests.Goals as goal
 
 pub returns : goal.returns
 returns c =
-    let at-put-first = c in
-    let start = c in
     let args = c.args in
     made-call args.c args.kind args.srm args.first args.k args.request.now _ _ c.requested.ensures
     c.put_first.ensures

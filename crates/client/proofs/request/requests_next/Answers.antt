@@ -6,10 +6,6 @@ use Rattle.client.proofs.request.requests_next.Goals as goal
 
 pub returns : goal.returns
 returns c =
-    let at-requests = c in
-    let at-next-after = c in
-    let at-capacity-of = c in
-    let start = c in
     λ p b.
     let args = c.args in
     let lent = stores p args.headers.now b args.request.now in

@@ -12,9 +12,6 @@ use Rattle.client.proofs.request.send_abort.Goals as goal
 
 pub returns : goal.returns
 returns c =
-    let at-begin-packet = c in
-    let at-to-byte = c in
-    let start = c in
     λ s.
     let args = c.args in
     let begin-packet-says = c.begin_packet-n.ensures in

@@ -13,14 +13,10 @@ use Rattle.client.proofs.request.send_connect.Goals as goal
 
 pub returns : goal.returns
 returns c =
-    let at-copy-into = c in
-    let at-put-connect-prefix = c in
-    let at-to-byte = c in
-    let start = c in
     let args = c.args in
     let b = byte_of op.Connect true in
     let m = args.c.settings.max_packet_length in
-    let hs = args.header-bytes.now in
+    let hs = args.header_bytes.now in
     sent-call args.c Connecting (packet_bytes b (fields_of m) hs) args.request.now _ _ _ c.sends.ensures (connect_length_lem b m _ hs refl)
     (connect_front _ b m _ hs args.request.now _ _ c.to_byte.ensures refl c.put_connect_prefix.ensures
     c.copy_into.ensures (omega arith))

@@ -16,14 +16,10 @@ use Rattle.client.proofs.request.send_disconnect.Goals as goal
 
 pub returns : goal.returns
 returns c =
-    let at-copy-into = c in
-    let at-begin-packet = c in
-    let at-to-byte = c in
-    let start = c in
     let args = c.args in
     let begin-packet-says = c.begin_packet-at.ensures in
     let t = byte_of op.Disconnect true in
-    let hs = args.header-bytes.now in
+    let hs = args.header_bytes.now in
     let id = id_bytes args.c.connection_id in
     let r : 3 + length id + length hs ≤ length args.request.now = omega (arith, begin-packet-says.0, begin-packet-says.1) in
     sent-call args.c Disconnecting (packet_bytes t [] (id ++ hs)) args.request.now _ _ _ c.sends.ensures

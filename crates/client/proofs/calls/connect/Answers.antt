@@ -1,0 +1,66 @@
+-- `client::calls::connect` meets its contract. The guard and the headers are refused as in the model. Assumes nothing.
+use mathlib.Core.Path.{sym, ap, ◌∙◌}
+use lib.ListN.{length}
+use lib.Dec.{ltb}
+use Prim.Native.Nat.{ℕ}
+use mathlib.Core.Bool.{true}
+use borrow.Author.Tests.{ltb-false}
+use Rattle.client_model.specs.Guard.{bad_headers}
+use Rattle.client.specs.Guard.{checked_by}
+use Rattle.packet.specs.FirstByte.{byte_of}
+use Rattle.packet.specs.Packet.{packet_bytes}
+use Rattle.packet.specs.declared.opcode.Opcode.TheVariants as op
+use Rattle.connection.specs.Reply.{fields_of}
+use Rattle.client_model.specs.declared.Operation.TheVariants.{Connecting}
+use Rattle.client_model.specs.Step.{sends}
+use Rattle.client_model.specs.Calls.{connect_step}
+use Rattle.client_model.specs.declared.Await.TheVariants as await
+use Rattle.client_model.specs.declared.CallResult.{CallResult}
+use Rattle.client_model.specs.Step.{stores, stepped}
+use Rattle.client_model.specs.Guard.{awaiting}
+use Rattle.client.proofs.Guards.{refused-call, passed_call, unchecked, checks}
+use Rattle.client.proofs.Called.{nothing-leads, passes}
+use Rattle.client.proofs.calls.connect.Goals as goal
+
+pub returns-in-Refuse : goal.returns-in-Refuse
+unfolding connect_step
+returns-in-Refuse c =
+    let args = c.args in
+    let lent = stores args.packet.now args.headers.now args.body.now args.request.now in
+    refused-call _ (awaiting args.c await.Call) args.c lent _ _ _ _ c.same_await-fits.ensures c.refuse.ensures c.guard.ensures
+    c.in-Refuse.is
+
+pub returns-in-Refuse-check_connect : goal.returns-in-Refuse-check_connect
+unfolding connect_step
+returns-in-Refuse-check_connect c =
+    let args = c.args in
+    let lent = stores args.packet.now args.headers.now args.body.now args.request.now in
+    let guarded = passed_call _ (awaiting args.c await.Call) args.c lent _ c.same_await-fits.ensures c.guard.ensures c.in_default.is in
+    let hs = args.header_bytes.now in
+    let k = c.check_connect.ensures ∙ ap (λ (n : ℕ). checked_by (bad_headers hs) (ltb 248 n)) (nothing-leads (length hs)) in
+    let d = sends args.c Connecting (packet_bytes (byte_of op.Connect true) (fields_of args.c.settings.max_packet_length) hs) lent in
+    ap (λ (r : CallResult). stepped r lent) c.refuse-in-Refuse-check_connect.ensures
+    ∙ unchecked (bad_headers hs) (ltb 248 (length hs)) args.c lent d _ _ k c.in-Refuse-check_connect.is ∙ sym (guarded.whole _)
+
+pub send_connect-requires : goal.send_connect-requires
+send_connect-requires c =
+    let args = c.args in
+    let lent = stores args.packet.now args.headers.now args.body.now args.request.now in
+    let guarded = passed_call _ (awaiting args.c await.Call) args.c lent _ c.same_await-fits.ensures c.guard.ensures c.in_default.is in
+    let hs = args.header_bytes.now in
+    let k = c.check_connect.ensures ∙ ap (λ (n : ℕ). checked_by (bad_headers hs) (ltb 248 n)) (nothing-leads (length hs)) in
+    (ltb-false 248 (length hs) (checks (bad_headers hs) (ltb 248 (length hs)) _ k c.in_default-check_connect.is).brief, guarded.room.request)
+
+pub returns : goal.returns
+unfolding connect_step
+returns c =
+    let args = c.args in
+    let lent = stores args.packet.now args.headers.now args.body.now args.request.now in
+    let guarded = passed_call _ (awaiting args.c await.Call) args.c lent _ c.same_await-fits.ensures c.guard.ensures c.in_default.is in
+    let hs = args.header_bytes.now in
+    let k = c.check_connect.ensures ∙ ap (λ (n : ℕ). checked_by (bad_headers hs) (ltb 248 n)) (nothing-leads (length hs)) in
+    let d = sends args.c Connecting (packet_bytes (byte_of op.Connect true) (fields_of args.c.settings.max_packet_length) hs) lent in
+    c.send_connect.ensures lent
+    ∙ passes (bad_headers hs) (ltb 248 (length hs)) args.c lent d
+    (checks (bad_headers hs) (ltb 248 (length hs)) _ k c.in_default-check_connect.is)
+    ∙ sym (guarded.whole _)
