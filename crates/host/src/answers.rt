@@ -7,6 +7,7 @@ use digest::md5::{Octets16, octets16_of};
 use engine::calls;
 use packet::response::{NOT_IMPLEMENTED, SUCCESS};
 use server::{CallResult, Engine, HostRequest};
+use std::random::RandomSource;
 
 // Which call answers a request.
 #[derive(Clone, Copy)]
@@ -28,9 +29,9 @@ enum Drawn {
 }
 
 // Draws a nonce. The kernel gives no sixteen bytes twice, as far as anybody can tell.
-fn draw() -> Drawn {
+fn draw(random: &impl RandomSource) -> Drawn {
     let mut bytes = [0u8; 16];
-    if libc::getentropy(&mut bytes) == 0 {
+    if random.fill_bytes(&mut bytes).is_ok() {
         return Drawn::Fresh(octets16_of(bytes));
     }
     Drawn::Missing
@@ -69,6 +70,7 @@ fn kind_of(request: HostRequest) -> Kind
 // Answers `request` with the call that is due. If the kernel has no random bytes for a nonce, no call can answer, and the one that is made
 // is refused. The stores are arrays, since a program's stores have lengths that are known; the engine is lent them whole.
 pub fn answer(
+    random: &impl RandomSource,
     e: Engine,
     request: HostRequest,
     tables: &mut [u64; 320],
@@ -88,7 +90,7 @@ pub fn answer(
         Kind::NoCredentials => calls::credentials_given(
             e, false, false, b"", b"", packet, headers, body, reply,
         ),
-        Kind::Nonce => match draw() {
+        Kind::Nonce => match draw(random) {
             Drawn::Fresh(n) => calls::nonce_given(e, n, b"", tables, packet, headers, body, reply),
             Drawn::Missing => calls::body_failed(e, packet, headers, body, reply),
         },

@@ -1,13 +1,16 @@
 // Offering the peer's bytes to the engine. Bytes that the engine does not take are offered again. A read of standard input that fails is
 // reported on standard error, and the engine is told that the stream has ended: no more bytes will come.
-ghost use Rattle.std.specs.Prelude.{◌≡◌, length, ◌≤◌};
+ghost use Rattle.std.specs.Prelude.{◌≡◌, length, ◌≤◌, IfOk};
 ghost use Rattle.model.specs.Step.{stores};
 ghost use Rattle.host.specs.Rest.{ended_by};
 ghost use Rattle.host.specs.Feed.{front_of, Refilled, Feeds};
 
 use engine::calls;
-use libc::{STDERR_FILENO, STDIN_FILENO};
+use files::fault::{fail, number_of};
+use lines::output::print;
 use server::{CallResult, Engine, Outcome, end_number, refusal_number};
+use std::io;
+use std::io::{ErrorKind, Print, Read};
 
 // The part of the input store that was read and that the engine has not taken yet.
 #[derive(Clone, Copy)]
@@ -48,41 +51,50 @@ pub const INPUT: usize = 67584;
 // How often a read is tried again that a signal has interrupted.
 const TRIES: usize = 1000;
 
+// The system's number of the error of a read that waited too long: try again.
+const EAGAIN: i32 = 11;
+
 // Reads standard input once. A process that is stopped and continued may find its read interrupted, which is no failure.
-fn read_once(s: &mut [u8]) -> isize {
-    let mut got = libc::read(STDIN_FILENO, s);
+fn read_once(from: &mut impl Read, s: &mut [u8]) -> io::Result<usize>
+    ensures { IfOk result (λ n. n ≤ length s.new) }
+{
     let mut tries = TRIES;
     while tries > 0 {
-        if got >= 0 {
-            return got;
+        match from.read(s) {
+            Ok(n) => {
+                return Ok(n);
+            }
+            Err(e) => {
+                if e.kind() != ErrorKind::Interrupted {
+                    return Err(e);
+                }
+            }
         }
-        if os::errno() != libc::EINTR {
-            return got;
-        }
-        got = libc::read(STDIN_FILENO, s);
         tries -= 1;
     }
-    got
+    from.read(s)
 }
 
 // Tells on standard error that standard input could not be read, and why. A socket whose time is up says that it should be tried again.
-fn report_input() {
-    if os::errno() == libc::EAGAIN {
-        io::write_all(STDERR_FILENO, b"input: nothing came in time\n");
+fn report_input(err: &impl Print, e: &io::Error) {
+    if number_of(e) == EAGAIN {
+        print(err, b"input: nothing came in time\n");
         return;
     }
-    os::fail(b"input");
+    fail(err, b"input", e);
 }
 
 // Returns how many bytes were read. None were if the stream has ended or cannot be read; the latter is reported.
-fn read(s: &mut [u8]) -> usize
+fn read(from: &mut impl Read, err: &impl Print, s: &mut [u8]) -> usize
     ensures { result ≤ length s.new }
 {
-    let got = read_once(s);
-    if got < 0 {
-        report_input();
+    match read_once(from, s) {
+        Ok(n) => n,
+        Err(e) => {
+            report_input(err, &e);
+            0
+        }
     }
-    io::count(got, s)
 }
 
 // Returns where a read of standard input begins in a store of `len` bytes.
@@ -96,7 +108,7 @@ fn front_of(len: usize) -> usize
 }
 
 // Reads standard input once if nothing is left. If nothing is left after that, the stream has ended.
-fn refilled(rest: Rest, input: &mut [u8]) -> Rest
+fn refilled(from: &mut impl Read, err: &impl Print, rest: Rest, input: &mut [u8]) -> Rest
     ensures { Refilled rest input.old result input.new }
 {
     if rest.at < rest.end {
@@ -105,13 +117,15 @@ fn refilled(rest: Rest, input: &mut [u8]) -> Rest
         }
     }
     let at = front_of(input.len());
-    let n = read(&mut input[at..]);
+    let n = read(from, err, &mut input[at..]);
     Rest { at, end: at + n }
 }
 
 // Offers the engine what is left of the input, or tells it that the stream has ended. A call never takes more than it was offered, so what
 // is left afterwards lies in `input`.
 pub fn feed(
+    from: &mut impl Read,
+    err: &impl Print,
     e: Engine,
     rest: Rest,
     input: &mut [u8],
@@ -125,7 +139,7 @@ pub fn feed(
         reply.old) tables.now result input.new (stores packet.new headers.new
         body.new reply.new) }
 {
-    let r = refilled(rest, input);
+    let r = refilled(from, err, rest, input);
     let at = r.at;
     let end = r.end;
     if at == end {
