@@ -6,7 +6,7 @@ use native.Mathlib.Omega.{arith}
 use lib.Dec.{ltb}
 use borrow.Author.Tests.{ltb-true, ltb-false, eq-eqb}
 use Rattle.base.specs.Pick.{pick}
-use Rattle.calendar.specs.Day.{date, days_in, is_date, isLast, days_before_month, day_number, next_day}
+use Rattle.calendar.specs.Day.{date, days_in, is_date, is_last, days_before_month, day_number, next_day}
 use Rattle.calendar.specs.Day.{rolled_number, rolled_date, rolling, rolled_by}
 use Rattle.calendar.specs.Claims.{Later, Counts}
 use Rattle.calendar.specs.declared.date.Date.{Date}
@@ -14,18 +14,18 @@ use Rattle.calendar.proofs.Months.{first_month, january, december, month_size, t
 use Rattle.calendar.proofs.Count.{month_after, year_after}
 
 -- a date that is rolled exists and is not the last
-pub accepted : (d : Date) → rolled_number d ≡ 0 → (is_date d ≡ true) × (isLast d ≡ false)
+pub accepted : (d : Date) → rolled_number d ≡ 0 → (is_date d ≡ true) × (is_last d ≡ false)
 unfolding rolled_number
-accepted d = go (is_date d) (isLast d)
+accepted d = go (is_date d) (is_last d)
   where
     go : (a b : Bool) → ◌≡◌ {A = ℕ} (pick a (pick b 18 0) 17) 0 → (a ≡ true) × (b ≡ false)
     go true true h = absurd (omega arith)
     go true false h = (refl, refl)
     go false b h = absurd (omega arith)
 
-pub is_last : (d : Date) → d.year ≡ 9999 → d.month ≡ 12 → d.day ≡ 31 → isLast d ≡ true
-unfolding isLast
-is_last d y m n = rw (eq-eqb d.year 9999 y, eq-eqb d.month 12 m, eq-eqb d.day 31 n)
+pub last_day : (d : Date) → d.year ≡ 9999 → d.month ≡ 12 → d.day ≡ 31 → is_last d ≡ true
+unfolding is_last
+last_day d y m n = rw (eq-eqb d.year 9999 y, eq-eqb d.month 12 m, eq-eqb d.day 31 n)
 
 module _ (d : Date) (x : Existing d.year d.month d.day) where
   abbrev size : ℕ
@@ -64,7 +64,7 @@ module _ (d : Date) (x : Existing d.year d.month d.day) where
         let first = first_month (d.year + 1) in
         record { there = exists_day (d.year + 1) 1 1 (omega arith) (omega arith) (omega arith); counted = omega (arith, year_after d.year) }
 
-next-later : (d : Date) → is_date d ≡ true → isLast d ≡ false → Later d (next_day d)
+next-later : (d : Date) → is_date d ≡ true → is_last d ≡ false → Later d (next_day d)
 unfolding next_day
 next-later d p q = go (ltb d.day (days_in d.year d.month)) (ltb d.month 12) (ltb d.year 9999) refl refl refl
   where
@@ -82,7 +82,7 @@ next-later d p q = go (ltb d.day (days_in d.year d.month)) (ltb d.month 12) (ltb
         let h = ltb-false d.day (days_in d.year d.month) e in
         let l = ltb-false d.month 12 f in
         let y = ltb-false d.year 9999 g in
-        let last = is_last d (omega (arith, x.year)) (is_december d x h l) (thirty_first d x h l) in
+        let last = last_day d (omega (arith, x.year)) (is_december d x h l) (thirty_first d x h l) in
         let z : ◌≡◌ {A = ℕ} 0 1 = cc in
         absurd (omega arith)
 

@@ -2,8 +2,7 @@
 -- Assumes nothing.
 use mathlib.Core.Path.{◌∙◌}
 use Rattle.calendar.proofs.Months.{year_size}
-use Rattle.calendar.proofs.Place.{InYears, year_first, year_next, year_found}
-use borrow.Author.Rules.{rules}
+use Rattle.calendar.proofs.Place.{year_first, year_next, year_found}
 use native.Mathlib.Omega.{arith}
 use Rattle.calendar.proofs.date.date_after_epoch.Goals as goal
 

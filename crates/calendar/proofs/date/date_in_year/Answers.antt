@@ -1,7 +1,6 @@
 -- `calendar::date::date_in_year` meets its contract. The invariant: what is left of the days counts from the first of `month`. Assumes nothing.
 use Rattle.calendar.proofs.Months.{month_size, month_most}
-use Rattle.calendar.proofs.Place.{InYear, month_first, month_high, month_next, month_found}
-use borrow.Author.Rules.{rules}
+use Rattle.calendar.proofs.Place.{month_first, month_high, month_next, month_found}
 use native.Mathlib.Omega.{arith}
 use Rattle.calendar.proofs.date.date_in_year.Goals as goal
 

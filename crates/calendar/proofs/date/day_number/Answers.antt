@@ -1,6 +1,5 @@
 -- `calendar::date::day_number` meets its contract: the days before the year, the month and the day. Assumes nothing.
 use Rattle.calendar.specs.Day.{day_number}
-use borrow.Author.Rules.{rules}
 use Rattle.calendar.proofs.date.day_number.Goals as goal
 
 pub returns : goal.returns

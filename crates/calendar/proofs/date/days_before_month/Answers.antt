@@ -1,10 +1,8 @@
 -- `calendar::date::days_before_month` meets its contract. The invariant: the days of the months before `m` are counted. Assumes nothing.
 use mathlib.Core.Path.{◌≡◌, refl}
-use Prim.Native.Nat.{◌-◌, ◌*◌, ◌≤◌}
 use Rattle.calendar.specs.Day.{days_before_month}
 use Rattle.calendar.proofs.Months.{month_most}
 use Rattle.calendar.proofs.Count.{month_after}
-use borrow.Author.Rules.{rules}
 use native.Mathlib.Omega.{arith}
 use Rattle.calendar.proofs.date.days_before_month.Goals as goal
 

@@ -1,11 +1,7 @@
 -- `calendar::date::days_before_month` meets its contract. The invariant: the days of the months before `m` are counted. Assumes nothing.
-use mathlib.Core.Path.{◌≡◌, refl}
+use mathlib.Core.Path.{◌≡◌}
 use Prim.Native.Nat.{◌-◌, ◌*◌, ◌≤◌}
 use Rattle.calendar.specs.Day.{days_before_month}
-use Rattle.calendar.proofs.Months.{month_most}
-use Rattle.calendar.proofs.Count.{month_after}
-use borrow.Author.Rules.{rules}
-use native.Mathlib.Omega.{arith}
 use Rattle.calendar.proofs.date.days_before_month.Given as goal
 
 abbrev pub invariant-loop-m : goal.invariant-loop-m

@@ -1,6 +1,5 @@
 -- `calendar::date::days_in_year` meets its contract: the year's days go by its leap day. Assumes nothing.
 use mathlib.Core.Path.{sym, ◌∙◌}
-use borrow.Author.Rules.{rules}
 use Rattle.calendar.proofs.date.days_in_year.Goals as goal
 
 pub returns-then-is_leap : goal.returns-then-is_leap

@@ -1,7 +1,6 @@
 -- `calendar::date::is_date` meets its contract: its three tests are those of `is_date`, in their order. Assumes nothing.
 use borrow.Author.Tests.{le-leb, lt-leb}
 use Rattle.calendar.specs.Day.{is_date}
-use borrow.Author.Rules.{rules}
 use Rattle.calendar.proofs.date.is_date.Goals as goal
 
 pub returns-then-date-gt-LAST_YEAR : goal.returns-then-date-gt-LAST_YEAR

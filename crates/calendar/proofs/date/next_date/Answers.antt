@@ -1,7 +1,6 @@
 -- `calendar::date::next_date` meets its contract: its two tests are those of `next_day`, in their order. Assumes nothing.
 use borrow.Author.Tests.{lt-ltb, le-ltb}
 use Rattle.calendar.specs.Day.{next_day}
-use borrow.Author.Rules.{rules}
 use Rattle.calendar.proofs.date.next_date.Goals as goal
 
 pub returns-then-date-days_in : goal.returns-then-date-days_in

@@ -4,7 +4,6 @@ use borrow.Author.Tests.{eq-eqb, ne_eqb}
 use Rattle.calendar.specs.Day.{rolled_date}
 use Rattle.calendar.proofs.Months.{existing}
 use Rattle.calendar.proofs.Rolls.{accepted}
-use borrow.Author.Rules.{rules}
 use Rattle.calendar.proofs.date.rolled.Goals as goal
 
 pub returns-then-rolled_number-ne-ROLLED : goal.returns-then-rolled_number-ne-ROLLED

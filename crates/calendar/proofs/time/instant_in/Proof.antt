@@ -45,17 +45,17 @@ start d = d.before.before.before.before.before
 number-at-requires-5 : tie.Need-number_at-requires-3
 number-at-requires-5 c κs =
     let x = start c in
-    in_clock x.args.text.now (form x.args.text.now x.pre) _ (omega arith) (omega arith)
+    in_clock x.args.text.now (form x.args.text.now x.requires) _ (omega arith) (omega arith)
 
 number-at-requires-6 : tie.Need-number_at-requires-4
 number-at-requires-6 c κs =
     let x = start c.before in
-    in_clock x.args.text.now (form x.args.text.now x.pre) _ (omega arith) (omega arith)
+    in_clock x.args.text.now (form x.args.text.now x.requires) _ (omega arith) (omega arith)
 
 number-at-requires-7 : tie.Need-number_at-requires-5
 number-at-requires-7 c κs =
     let x = start c.before.before in
-    in_clock x.args.text.now (form x.args.text.now x.pre) _ (omega arith) (omega arith)
+    in_clock x.args.text.now (form x.args.text.now x.requires) _ (omega arith) (omega arith)
 
 returns : tie.Need-returns
 unfolding read_instant

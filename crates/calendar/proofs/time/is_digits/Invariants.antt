@@ -1,12 +1,8 @@
 -- `calendar::time::is_digits` meets its contract. The invariant: the bytes passed are digits. Assumes nothing.
-use mathlib.Core.Path.{◌≡◌, refl, sym, ◌∙◌}
+use mathlib.Core.Path.{◌≡◌}
 use Prim.Native.Nat.{◌-◌, ◌≤◌}
-use lib.ListN.{length, drop, get_or}
-use borrow.Author.Tests.{le-leb, lt-leb}
+use lib.ListN.{length, drop}
 use Rattle.calendar.specs.Time.{all_digits}
-use Rattle.calendar.proofs.Text.{digits_from, no_digits_left}
-use borrow.Author.Rules.{rules}
-use native.Mathlib.Omega.{arith}
 use Rattle.calendar.proofs.time.is_digits.Given as goal
 
 abbrev pub invariant-loop-i : goal.invariant-loop-i

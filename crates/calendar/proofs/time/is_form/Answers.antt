@@ -1,9 +1,8 @@
 -- `calendar::time::is_form` meets its contract: its five tests are those of `is_form`, in their order. Assumes nothing.
 use mathlib.Core.Path.{sym, ◌∙◌}
 use lib.ListN.{length, get_or}
-use borrow.Author.Tests.{eq-eqb, ne_eqb, not-true, not-false}
+use borrow.Author.Tests.{eq-eqb, ne_eqb}
 use Rattle.calendar.specs.Time.{is_form}
-use borrow.Author.Rules.{rules}
 use Rattle.calendar.proofs.time.is_form.Goals as goal
 
 pub returns-then-text-ne-TEXT : goal.returns-then-text-ne-TEXT
@@ -17,7 +16,7 @@ unfolding is_form
 returns-then-not-is_digits c =
     let t = c.args.text.now in
     let d = c.is_digits in
-    rw (eq-eqb (length t) 16 c.if-text-ne-TEXT.false, sym d.ensures ∙ not-true d.result c.if-not-is_digits.true)
+    rw (eq-eqb (length t) 16 c.if-text-ne-TEXT.false, sym d.ensures ∙ c.if-not-is_digits.true)
 
 pub returns-then-text-ne84 : goal.returns-then-text-ne84
 unfolding is_form
@@ -27,7 +26,7 @@ returns-then-text-ne84 c =
     let d = c.is_digits in
     rw (
       eq-eqb (length t) 16 c.if-text-ne-TEXT.false,
-      sym d.ensures ∙ not-false d.result c.if-not-is_digits.false,
+      sym d.ensures ∙ c.if-not-is_digits.false,
       ne_eqb (get_or t 8 0) 0x54 c.if-text-ne84.true,
     )
 
@@ -41,9 +40,9 @@ returns-then-not-is_digits-2 c =
     let e = c.is_digits-2 in
     rw (
       eq-eqb (length t) 16 c.if-text-ne-TEXT.false,
-      sym d.ensures ∙ not-false d.result c.if-not-is_digits.false,
+      sym d.ensures ∙ c.if-not-is_digits.false,
       eq-eqb (get_or t 8 0) 0x54 c.if-text-ne84.false,
-      sym e.ensures ∙ not-true e.result c.if-not-is_digits-2.true,
+      sym e.ensures ∙ c.if-not-is_digits-2.true,
     )
 
 pub returns : goal.returns
@@ -56,7 +55,7 @@ returns c =
     let e = c.is_digits-2 in
     rw (
       eq-eqb (length t) 16 c.if-text-ne-TEXT.false,
-      sym d.ensures ∙ not-false d.result c.if-not-is_digits.false,
+      sym d.ensures ∙ c.if-not-is_digits.false,
       eq-eqb (get_or t 8 0) 0x54 c.if-text-ne84.false,
-      sym e.ensures ∙ not-false e.result c.if-not-is_digits-2.false,
+      sym e.ensures ∙ c.if-not-is_digits-2.false,
     )

@@ -1,6 +1,5 @@
 -- `calendar::time::seconds_to` meets its contract: the days of the count, and the seconds of the last of them. Assumes nothing.
 use Rattle.calendar.specs.Time.{moment}
-use borrow.Author.Rules.{rules}
 use Rattle.calendar.proofs.time.seconds_to.Goals as goal
 
 pub returns : goal.returns

@@ -1,7 +1,6 @@
 -- `calendar::time::text_of` meets its contract: each byte is a digit of its number. Assumes nothing.
 use mathlib.Core.Path.{sym}
 use Rattle.calendar.proofs.Text.{text_digits}
-use borrow.Author.Rules.{rules}
 use Rattle.calendar.proofs.time.text_of.Goals as goal
 
 pub returns : goal.returns

@@ -4,7 +4,6 @@ use lib.ListN.{length}
 use borrow.Author.Tests.{lt-ltb}
 use Rattle.calendar.specs.Time.{text_of, time_of, write_time}
 use Rattle.calendar.proofs.Times.{written}
-use borrow.Author.Rules.{rules}
 use native.Mathlib.Omega.{arith}
 use Rattle.calendar.proofs.time.write_time.Goals as goal
 
@@ -20,5 +19,5 @@ returns c =
     let a = c in
     let i = c.instant_of in
     let x = c.args in
-    written x.seconds c.text_of-made.result x.text.now c.copy_into.new.0 (omega arith)
+    written x.seconds c.text_of-made.result x.text.now c.copy_into.new.dst (omega arith)
     (c.text_of-made.ensures ∙ ap text_of i.ensures) c.copy_into.ensures
