@@ -1,5 +1,4 @@
 -- `outgoing::object::begin_chunk` meets its contract. The tests are those of `begin_chunk`. Assumes nothing.
-use borrow.Author.Rules.{rules}
 use mathlib.Core.Path.{◌∙◌, refl, ap}
 use Rattle.outgoing.specs.Object.{reading}
 use Rattle.outgoing.proofs.Sending.{made_alike, begun-empty, begun_ahead, begun_new}

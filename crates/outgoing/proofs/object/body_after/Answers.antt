@@ -1,5 +1,4 @@
 -- `outgoing::object::body_after` meets its contract. The tests are those of `body_after`. Assumes nothing.
-use borrow.Author.Rules.{rules}
 use mathlib.Core.Path.{◌∙◌}
 use Rattle.outgoing.proofs.Sending.{after_none, after-short, after-room}
 use Rattle.outgoing.proofs.object.body_after.Goals as goal

@@ -1,5 +1,4 @@
 -- `outgoing::object::body_given` meets its contract. The tests are those of `body_given_of`, and the copy is its paste. Assumes nothing.
-use borrow.Author.Rules.{rules}
 use borrow.Author.Tests.{eq-eqb, ne_eqb, lt-ltb, le-ltb}
 use native.Mathlib.Omega.{arith}
 use Prim.Native.Nat.{◌+◌, ◌-◌}

@@ -1,5 +1,4 @@
 -- `outgoing::object::full_chunk` meets its contract. An empty chunk has no header; else Body in front of it, then the prefix. Assumes nothing.
-use borrow.Author.Rules.{rules}
 use borrow.Author.Tests.{eq-eqb, ne_eqb}
 use Prim.Native.Nat.{◌+◌}
 use mathlib.Core.Bool.{false}

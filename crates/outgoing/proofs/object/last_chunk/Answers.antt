@@ -1,5 +1,4 @@
 -- `outgoing::object::last_chunk` meets its contract. EndOfBody in front of what stands there, then the prefix. Assumes nothing.
-use borrow.Author.Rules.{rules}
 use Prim.Native.Nat.{◌+◌}
 use mathlib.Core.Bool.{true}
 use mathlib.Core.Path.{◌∙◌}

@@ -1,5 +1,4 @@
 -- `outgoing::object::next_after` meets its contract. The headers that fit are those of `fill`, and what follows is `next_filled`. Assumes nothing.
-use borrow.Author.Rules.{rules}
 use native.Mathlib.Omega.{arith}
 use mathlib.Core.Path.{sym, ap, ◌∙◌}
 use lib.Seq.{length-take-le}

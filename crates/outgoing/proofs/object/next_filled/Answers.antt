@@ -1,5 +1,4 @@
 -- `outgoing::object::next_filled` meets its contract. By the reason, what `next_filled` says. Assumes nothing.
-use borrow.Author.Rules.{rules}
 use mathlib.Core.Path.{refl}
 use Rattle.outgoing.proofs.Sending.{made_alike}
 use Rattle.outgoing.proofs.object.next_filled.Goals as goal

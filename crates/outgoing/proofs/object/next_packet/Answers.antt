@@ -1,5 +1,4 @@
 -- `outgoing::object::next_packet` meets its contract: the packet is that of `next_after`, behind what leads it. Assumes nothing.
-use borrow.Author.Rules.{rules}
 use native.Mathlib.Omega.{arith}
 use mathlib.Core.Path.{◌∙◌}
 use Rattle.outgoing.proofs.Fitting.{lead-within, led}

@@ -1,5 +1,4 @@
 -- `outgoing::object::put_head` meets its contract. The three stores are one paste. Assumes nothing.
-use borrow.Author.Rules.{rules}
 use native.Mathlib.Omega.{arith}
 use Prim.Native.Nat.{◌/◌, ◌%◌}
 use lib.ListN.{length-set}

@@ -1,5 +1,4 @@
 -- `outgoing::object::put_lead` meets its contract. Both bytes are those of `lead_store`. Assumes nothing.
-use borrow.Author.Rules.{rules}
 use mathlib.Core.Path.{refl}
 use Rattle.outgoing.proofs.object.put_lead.Goals as goal
 

@@ -1,5 +1,4 @@
 -- `outgoing::object::send` meets its contract. What `put_head` writes at the front is the prefix. Assumes nothing.
-use borrow.Author.Rules.{rules}
 use mathlib.Core.Path.{ap, ◌∙◌}
 use Rattle.outgoing.specs.Object.{made}
 use Rattle.outgoing.proofs.Sending.{prefix_pasted}

@@ -1,5 +1,4 @@
 -- `outgoing::queue::back_from` meets its contract: its arms are those of `back_from`. Assumes nothing.
-use borrow.Author.Rules.{rules}
 use mathlib.Core.Path.{sym, ◌∙◌}
 use Rattle.outgoing.proofs.queue.back_from.Goals as goal
 

@@ -1,5 +1,4 @@
 -- `outgoing::queue::both_room` meets its contract: it asks `room` of one store, then of the other. Assumes nothing.
-use borrow.Author.Rules.{rules}
 use borrow.Author.Tests.{le-ltb}
 use mathlib.Core.Path.{sym, ◌∙◌}
 use Rattle.packet.specs.declared.store.LengthField.TheVariants.{TwoBytes}

@@ -1,9 +1,9 @@
 -- `outgoing::queue::move_up` meets its contract. The invariant: the bytes from `i` on stand `by` places higher, and those before it are as
 -- they were. Assumes nothing.
 use native.Mathlib.Omega.{arith}
-use Prim.Native.Nat.{ℕ, ◌+◌, ◌-◌, ◌≤◌}
-use mathlib.Core.Path.{◌≡◌, refl, ap, ◌∙◌}
-use lib.ListN.{length, length-set}
+use Prim.Native.Nat.{ℕ, ◌+◌, ◌-◌}
+use mathlib.Core.Path.{refl, ap, ◌∙◌}
+use lib.ListN.{length-set}
 use native.Mathlib.Nat.{le_antisymm}
 use Rattle.packet.specs.Header.{part}
 use Rattle.packet.specs.Placed.{laid}

@@ -1,13 +1,10 @@
 -- `outgoing::queue::move_up` meets its contract. The invariant: the bytes from `i` on stand `by` places higher, and those before it are as
 -- they were. Assumes nothing.
-use native.Mathlib.Omega.{arith}
-use Prim.Native.Nat.{ℕ, ◌+◌, ◌-◌, ◌≤◌}
-use mathlib.Core.Path.{◌≡◌, refl, ap, ◌∙◌}
-use lib.ListN.{length, length-set}
-use native.Mathlib.Nat.{le_antisymm}
+use Prim.Native.Nat.{◌+◌, ◌≤◌}
+use mathlib.Core.Path.{◌≡◌}
+use lib.ListN.{length}
 use Rattle.packet.specs.Header.{part}
 use Rattle.packet.specs.Placed.{laid}
-use Rattle.outgoing.proofs.Between.{moved, nothing-moved}
 use Rattle.outgoing.proofs.queue.move_up.Given as goal
 
 abbrev pub invariant-loop-i : goal.invariant-loop-i

@@ -1,5 +1,4 @@
 -- `outgoing::queue::piece_at` meets its contract: by what the cursor finds at the place. Assumes nothing.
-use borrow.Author.Rules.{rules}
 use mathlib.Core.Path.{sym, ◌∙◌}
 use Rattle.outgoing.proofs.queue.piece_at.Goals as goal
 

@@ -1,5 +1,4 @@
 -- `outgoing::queue::put_front` meets its contract: what stands there is moved up, and what goes back is laid before it. Assumes nothing.
-use borrow.Author.Rules.{rules}
 use native.Mathlib.Omega.{arith}
 use mathlib.Core.Path.{ap, ◌∙◌}
 use mathlib.Core.List.{List}

@@ -1,5 +1,4 @@
 -- `outgoing::queue::put_in` meets its contract: what stands behind is moved up, and the bytes are laid before it. Assumes nothing.
-use borrow.Author.Rules.{rules}
 use native.Mathlib.Omega.{arith}
 use mathlib.Core.Path.{refl, ap, ◌∙◌}
 use mathlib.Core.List.{List}
