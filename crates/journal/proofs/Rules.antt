@@ -19,7 +19,7 @@ use Rattle.journal.specs.Record.{Record, joined, carried_by}
 use Rattle.journal.specs.Ids.{member, without, without_all, new_id}
 use Rattle.journal.specs.Calls.{Call, bytes_offered_of, stream_ended_of, reply_taken_of, reply_given_of, object_given_of, body_given_of, body_failed_of, abort_acknowledged_of, password_given_of, nonce_given_of, credentials_given_of, connections_closed_of, Fed, no_step, step_by_of, reply_sent}
 use Rattle.journal.specs.Checks.{Check, stop, too_many_of, Ruled}
-use Rattle.journal.specs.Journal.{Settings, Standing, Opened, nothing, trailing, putting, getting, sending, gathering, draining, busy, Journal, Entry, after, opens, admitted, asks_srm, is_stopped, with_check, trails, put_read, first_read, request_read, packet_read, journal_packet, Read, more, whole, short, read_up, bytes_read, open_id, opens_for, connected, leaves, disconnected, closes, reply_to, reply_last, replied, object_sent, taken_at, password_checked, passes, journal_call, journal_fed, journal_step, list_of}
+use Rattle.journal.specs.Journal.{Settings, Standing, Opened, nothing, trailing, putting, getting, sending, gathering, draining, busy, Journal, Entry, opens, admitted, asks_srm, is_stopped, with_check, trails, put_read, first_read, request_read, packet_read, journal_packet, Read, more, whole, short, read_up, bytes_read, open_id, opens_for, connected, leaves, disconnected, closes, reply_to, reply_last, replied, object_sent, taken_at, password_checked, passes, journal_call, journal_fed, journal_step, list_of}
 
 -- the checks after an entry
 abbrev checks_in : Entry → List Check

@@ -20,7 +20,7 @@ use Rattle.outgoing.specs.declared.object.Chunk.{Chunk}
 use Rattle.connection.specs.Reply.{front}
 use Rattle.connection.specs.declared.peer.Peer.{Peer}
 use Rattle.model.specs.Step.{Stores, with_headers, with_reply, engine_with, Done, done, DoneTabled, wants, asks, ends, replies, replies_code, continue_bytes, continues, limit_of}
-use Rattle.model.specs.Guard.{short, short_tables, long_realm, sound_operation, sound}
+use Rattle.model.specs.Guard.{short, short_tables, sound_operation, sound}
 use Rattle.model.specs.Runs.{State}
 use Rattle.model.specs.Refusals.{Waits, bytes, taking, reply, object, acknowledgement, password, nonce, credentials, nothing, reading, asked, told, verdict_of}
 use Rattle.server.specs.declared.Operation.{Operation}

@@ -4,7 +4,7 @@ use mathlib.Core.Path.{◌≡◌, refl, sym, ap, ◌∙◌, subst}
 use mathlib.Core.List.{List, [], ◌∷◌, ◌++◌, append-nil}
 use mathlib.Core.Bool.{Bool, true, false, ◌&&◌, ◌||◌, not, and-false, false≢true}
 use mathlib.Core.Option.{Option, none, some}
-use Prim.Native.Nat.{ℕ, ◌+◌, ◌≤◌}
+use Prim.Native.Nat.{ℕ, ◌+◌}
 use native.Mathlib.Omega.{arith}
 use lib.ListN.{length, take, drop, length-drop, take-append-drop, drop_of_length-le}
 use lib.Dec.{ltb}
@@ -38,7 +38,7 @@ use Rattle.outgoing.specs.declared.object.Next.{Next}
 use Rattle.outgoing.specs.declared.object.Next.TheVariants as next
 use Rattle.outgoing.specs.declared.object.Outgoing.{Outgoing}
 use Rattle.connection.specs.Reply.{fields_of, send_bytes, front}
-use Rattle.connection.specs.Peer.{Linked, linked, limited, checked_peer, challenged_peer, disconnected_peer, opened_for, ids_of}
+use Rattle.connection.specs.Peer.{Linked, limited, checked_peer, challenged_peer, disconnected_peer, opened_for, ids_of}
 use Rattle.connection.specs.Pieces.{id_given}
 use Rattle.connection.specs.ConnectReply.{answered_challenge, connect_headers}
 use Rattle.connection.specs.declared.peer.Peer.{Peer}

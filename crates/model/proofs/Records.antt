@@ -9,7 +9,7 @@ use native.Mathlib.Omega.{arith}
 use lib.ListN.{get_or}
 use Rattle.journal.specs.Record.{Record}
 use Rattle.journal.specs.Calls.{Call, bytes_offered_of, stream_ended_of, reply_taken_of, reply_given_of, object_given_of, body_given_of, body_failed_of, abort_acknowledged_of, password_given_of, nonce_given_of, credentials_given_of, connections_closed_of, Verdict, Fed}
-use Rattle.journal.specs.Journal.{Journal, fresh, journal_step, journal_records, journal_counts, journal_ends, Marked, fed_reads, packets}
+use Rattle.journal.specs.Journal.{Journal, journal_step, journal_records, journal_counts, journal_ends, Marked, fed_reads, packets}
 use Rattle.journal.specs.Checks.{window_of}
 use Rattle.journal.specs.PutForm.{Exactly}
 use Rattle.connection.specs.Peer.{peer_with}

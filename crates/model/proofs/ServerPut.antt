@@ -1,40 +1,37 @@
 -- A readable Put packet at a server, by what is open: what it makes of the packet, in terms of the record that the packets have carried so far.
 -- Assumes nothing.
-use mathlib.Core.Path.{◌≡◌, refl, sym, ap, ap₂, subst, ◌∙◌}
+use mathlib.Core.Path.{◌≡◌, refl, sym, ap₂, subst, ◌∙◌}
 use mathlib.Core.List.{List, [], ◌∷◌, ◌++◌}
 use mathlib.Core.Bool.{Bool, true, false, ◌&&◌, not}
 use mathlib.Core.Option.{Option, none, some}
 use Prim.Native.Nat.{ℕ, ◌≤◌, ◌<◌}
-use native.Mathlib.Omega.{arith}
 use lib.ListN.{length, take}
-use lib.Dec.{leb, ltb, eqb}
+use lib.Dec.{ltb, eqb}
 use borrow.Author.Tests.{ltb-true, ltb-false}
 use Rattle.base.specs.Pick.{pick}
 use Rattle.packet.specs.FirstByte.{same_opcode}
 use Rattle.packet.specs.Codes.{codes, is_code, is_success}
 use Rattle.packet.specs.Packet.{Request as Packet}
-use Rattle.packet.specs.declared.opcode.Opcode.{Opcode}
 use Rattle.packet.specs.declared.opcode.Opcode.TheVariants as op
-use Rattle.journal.specs.Record.{Record, joined, size_of, bare, carried_by}
+use Rattle.journal.specs.Record.{Record, joined, size_of, carried_by}
 use Rattle.incoming.specs.Gather.{Gathering, gathering as gatheringOf}
 use Rattle.incoming.specs.Survey.{survey_of}
 use Rattle.incoming.specs.declared.survey.Survey.{Survey}
 use Rattle.incoming.specs.declared.gather.Keep.TheVariants as keep
 use Rattle.incoming.specs.declared.gather.Gathered.{Gathered}
-use Rattle.incoming.proofs.Gathers.{PutAgrees, put-agrees, put_full, put-begins, gather_lengths}
+use Rattle.incoming.proofs.Gathers.{PutAgrees, put-agrees, put_full, gather_lengths}
 use Rattle.model.specs.Step.{Stores, with_gathered, Done, wants, asks, ends, replies_code, continues, limit_of}
-use Rattle.model.specs.Operation.{nothing_gathered, put_body, overrun, put_continues, put_final, put_gathered, put_packet, gathers}
-use Rattle.model.specs.Dispatch.{Rejection, admits, rejects, known_in, rejection, confirms, admitted_as, dispatch, trails, trailed, inside, busy, read_as}
+use Rattle.model.specs.Operation.{nothing_gathered, put_body, overrun, put_gathered, put_packet, gathers}
+use Rattle.model.specs.Dispatch.{Rejection, admits, rejects, known_in, rejection, confirms, dispatch, trails, trailed, inside, busy, read_as}
 use Rattle.model.specs.Runs.{body_in, handed_by}
 use Rattle.server.specs.declared.Operation.{Operation}
 use Rattle.server.specs.declared.Operation.TheVariants.{Nothing, Trailing, Putting, Getting, Sending, Gathering as GatheringOp, Connecting, Draining}
 use Rattle.server.specs.declared.Await.TheVariants as await
 use Rattle.server.specs.declared.End.TheVariants as end
 use Rattle.server.specs.declared.Engine.{Engine}
-use Rattle.server.specs.declared.Body.{Body}
 use Rattle.server.specs.declared.Body.TheVariants as body
 use Rattle.server.specs.declared.HostRequest.TheVariants as request
-use Rattle.model.proofs.Fit.{Room, Base}
+use Rattle.model.proofs.Fit.{Room}
 
 -- ---- a packet of a Put that is gathered
 

@@ -74,7 +74,7 @@ use Rattle.connection.proofs.Standings.{own_fits, opened-standing, full-standing
 use Rattle.model.proofs.Fit.{and_right, Shape, Seated, ids-room, nonces-room}
 use Rattle.model.proofs.Coupling.{Held, AskedBy, Fixed, connects, CoupledAt, Coupled}
 use Rattle.model.proofs.Packets.{busy-same}
-use Rattle.model.proofs.Answers.{headers_are, replied-to, stood, srm, target, connected-is}
+use Rattle.model.proofs.Answers.{headers_are, replied-to, stood, srm as srm_granted, target, connected-is}
 use Rattle.model.proofs.Moments.{same_await_lem, or_second, fed-goes, go_for, refuses, lacks_in, at_moment, step_is}
 use Rattle.model.proofs.Records.{Between, between_on, fed_to, performed-agrees, between_next, start_between}
 use Rattle.model.proofs.Contracts.{accepted-started}
@@ -579,7 +579,7 @@ module _ (s : State) (h : Seated s) (j : Journal) (x : Coupled s.tables s.engine
       asked = target ts e st j op.Connect w
 
       abbrev grants : Bool
-      grants = srm ts e st j op.Connect w
+      grants = srm_granted ts e st j op.Connect w
 
       abbrev before : Standing
       before = stood ts e st j op.Connect w

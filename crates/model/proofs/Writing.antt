@@ -2,10 +2,9 @@
 -- the front of the store stays, and nothing else of it is spoken of. Assumes nothing.
 use mathlib.Core.Path.{◌≡◌, sym, ap, ◌∙◌, subst}
 use mathlib.Core.List.{List, [], ◌∷◌}
-use mathlib.Core.Bool.{true, false≢true}
 use Prim.Native.Nat.{ℕ}
 use native.Mathlib.Omega.{arith}
-use lib.ListN.{length, take}
+use lib.ListN.{take}
 use lib.Seq.{sets, length-sets}
 use Rattle.text.specs.Unicode.{Octets}
 use Rattle.journal.specs.Journal.{Journal}

@@ -15,7 +15,6 @@ use Rattle.server.specs.declared.Await.TheVariants as await
 use Rattle.server.specs.declared.End.{End}
 use Rattle.server.specs.declared.End.TheVariants as end
 use Rattle.server.specs.declared.Engine.{Engine}
-use Rattle.server.specs.declared.Body.TheVariants as body
 use Rattle.server.specs.declared.HostRequest.{HostRequest}
 use Rattle.server.specs.declared.Outcome.{Outcome}
 use Rattle.server.specs.declared.Outcome.TheVariants as outcome
