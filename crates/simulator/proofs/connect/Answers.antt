@@ -10,15 +10,6 @@ use Rattle.simulator.proofs.connect.Goals as goal
 
 pub returns : goal.returns
 returns c =
-    let accepted = c in
-    let given = c in
-    let o = c in
-    let offered = c in
-    let k = c in
-    let began = c in
-    let x = c in
-    let y = c in
-    let a = c in
     let s = stores c.args.packet.now c.args.headers.now c.args.body.now c.args.reply.now in
     connected_by_lem c.args.srm c.args.m s _ _ _ _ c.args.tables.now _ c.start-started.result c.offer_connect-offered.result
     c.reply_given-accepted.result c.reply_taken.result

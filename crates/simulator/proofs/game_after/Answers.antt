@@ -6,6 +6,5 @@ use Rattle.simulator.proofs.game_after.Goals as goal
 pub returns : goal.returns
 unfolding game_after
 returns c =
-    let d = c in
     let g = c.given_by.ensures in
-    rw (c.minus.ensures, g, c.taken_by.ensures.0, c.asked_by.ensures.value, c.is_over_by.ensures)
+    rw (c.minus.ensures, g, c.taken_by.ensures.value, c.asked_by.ensures.value, c.is_over_by.ensures)

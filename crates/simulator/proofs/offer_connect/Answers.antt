@@ -10,9 +10,6 @@ use Rattle.simulator.proofs.offer_connect.Goals as goal
 
 pub returns-then-srm : goal.returns-then-srm
 returns-then-srm c =
-    let moved = c in
-    let tested = c in
-    let a = c in
     c.bytes_offered.ensures.step
     ∙ ap (λ (l : List ℕ). bytes_offered_step c.args.e l
     (stores c.args.packet.now c.args.headers.now c.args.body.now c.args.reply.now) c.args.tables.now)
@@ -20,9 +17,6 @@ returns-then-srm c =
 
 pub returns : goal.returns
 returns c =
-    let moved = c in
-    let tested = c in
-    let a = c in
     c.bytes_offered-2.ensures.step
     ∙ ap (λ (l : List ℕ). bytes_offered_step c.args.e l
     (stores c.args.packet.now c.args.headers.now c.args.body.now c.args.reply.now) c.args.tables.now)

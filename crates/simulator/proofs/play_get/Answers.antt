@@ -8,9 +8,6 @@ use Rattle.simulator.proofs.play_get.Goals as goal
 pub returns : goal.returns
 unfolding blank_store
 returns c =
-    let moved = c in
-    let k = c in
-    let stored = c in
     let a = c.args in
     ap (λ (x : Moment). x.game)
     (played_by a.n a.m a.srm c.connect-took.result _ _ (moment c.play_on.result _ _) c.connect-took.ensures c.play_on.ensures)

@@ -7,10 +7,6 @@ use Rattle.simulator.proofs.take_turn.Goals as goal
 
 pub returns : goal.returns
 returns c =
-    let called = c in
-    let copied = c in
-    let due = c in
-    let a = c in
     turned c.args.bytes.now
     (moment c.args.g (stores c.args.packet.now c.args.headers.now c.args.body.now c.args.reply.now) c.args.tables.now)
     c.move_for-v.result c.make_move-took.result _ c.game_after.result

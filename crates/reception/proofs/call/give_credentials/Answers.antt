@@ -63,7 +63,6 @@ slice_bounds-credentials_given-start c = part-within _ c.args.user c.args.lent.n
 
 pub returns : goal.returns
 returns c =
-    let u = c in
     let a = c.args in
     c.credentials_given.ensures
     ∙ ap (λ (o : Credentials). credentials_given_step a.e (some o) (stores a.packet.now a.headers.now a.body.now a.reply.now))
