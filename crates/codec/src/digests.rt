@@ -115,7 +115,13 @@ pub(crate) fn verify(rt: &impl Print, challenge: &[u8], response: &[u8], passwor
 }
 
 // Answers with the response to a challenge.
-pub(crate) fn respond(rt: &impl Print, challenge: &[u8], has_user: bool, user: &[u8], password: &[u8]) {
+pub(crate) fn respond(
+    rt: &impl Print,
+    challenge: &[u8],
+    has_user: bool,
+    user: &[u8],
+    password: &[u8],
+) {
     let DigestChallenge::Challenge {
         nonce,
         user_id_required: _,
@@ -167,5 +173,8 @@ pub(crate) fn digest(rt: &impl Print, nonce: &[u8], password: &[u8]) {
         put(rt, b"bad nonce");
         return;
     }
-    put_octets(rt, md5::request_digest(md5::octets16_at(nonce, 0), password));
+    put_octets(
+        rt,
+        md5::request_digest(md5::octets16_at(nonce, 0), password),
+    );
 }

@@ -14,6 +14,7 @@ use lines::input::{before_first, bytes_of, next_line};
 use lines::word::{byte_at, find, line_number, number, unhex, word_of};
 use packets::{answered, code, fields_of, first, packet_length, parsed, reply, request};
 use show::put;
+use std::io::Read;
 use unsent::queue;
 
 // What a line asks about.
@@ -177,12 +178,11 @@ fn line(rt: &impl Print, s: &[u8], is_cut: bool) {
 }
 
 // Answers the lines of standard input, which is read into `s`. A line that is longer than the store is no question.
-fn lines_of(rt: &(impl Input + Print), s: &mut [u8]) {
-    let mut input = rt.reader();
+fn lines_of(rt: &impl Print, input: &mut impl Read, s: &mut [u8]) {
     let mut steps = u64::MAX;
     let mut at = before_first();
     while steps > 0 {
-        at = next_line(&mut input, s, at);
+        at = next_line(input, s, at);
         if at.is_over {
             return;
         }
@@ -196,5 +196,5 @@ fn lines_of(rt: &(impl Input + Print), s: &mut [u8]) {
 // Answers standard input on standard output.
 fn main(rt: HostRuntime) {
     let mut input = [0u8; 300000];
-    lines_of(&rt, &mut input);
+    lines_of(&rt, &mut rt.stdin(), &mut input);
 }

@@ -112,7 +112,14 @@ pub(crate) fn parsed(rt: &impl Print, s: &[u8]) {
     let p = piece_at(s.len(), 0, headers, length);
     let start = p.start;
     let end = p.end;
-    put_request(rt, opcode, is_final, &s[0..end], s.len() - end, &s[start..end]);
+    put_request(
+        rt,
+        opcode,
+        is_final,
+        &s[0..end],
+        s.len() - end,
+        &s[start..end],
+    );
 }
 
 // Returns the length of the packet at the front of `s`, or 0 if it is not whole.

@@ -121,7 +121,14 @@ fn put_packet(rt: &impl Print, p: NextPacket, reply: &[u8]) -> usize {
 }
 
 // Makes the next packet. A byte that was read ahead is given again with the next.
-fn make(rt: &impl Print, q: Unsent, limit: usize, headers: &[u8], body: &[u8], reply: &mut [u8]) -> Unsent {
+fn make(
+    rt: &impl Print,
+    q: Unsent,
+    limit: usize,
+    headers: &[u8],
+    body: &[u8],
+    reply: &mut [u8],
+) -> Unsent {
     let o = Outgoing {
         total: q.total,
         sent: q.sent,
@@ -155,7 +162,13 @@ fn less_one(n: usize) -> usize {
 }
 
 // Puts the packet back that was made last.
-fn put_again(rt: &impl Print, q: Unsent, headers: &mut [u8], body: &mut [u8], reply: &[u8]) -> Unsent {
+fn put_again(
+    rt: &impl Print,
+    q: Unsent,
+    headers: &mut [u8],
+    body: &mut [u8],
+    reply: &[u8],
+) -> Unsent {
     put(rt, b"r");
     let p = piece_at(reply.len(), 0, 3, q.made);
     let from = p.start;
@@ -259,7 +272,14 @@ fn steps(
 }
 
 // Answers with a word for each step on what is still to be sent of `headers` and a body.
-pub(crate) fn queue(rt: &impl Print, limit: usize, headers: &[u8], has_body: bool, body: &[u8], text: &[u8]) {
+pub(crate) fn queue(
+    rt: &impl Print,
+    limit: usize,
+    headers: &[u8],
+    has_body: bool,
+    body: &[u8],
+    text: &[u8],
+) {
     if !header::is_readable(headers, 0) {
         put(rt, b"unreadable");
         return;

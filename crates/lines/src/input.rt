@@ -25,7 +25,7 @@ pub struct Line {
 }
 
 // Reads the input `from` once into `s`, and returns how many bytes came: none at the end, and none if the system cannot read. A program reads
-// standard input by `rt.reader()`.
+// standard input by `rt.stdin()`.
 pub fn read(from: &mut impl Read, s: &mut [u8]) -> usize
     ensures { result ≤ length s.new }
 {

@@ -7,10 +7,13 @@ ghost use Rattle.std.specs.Prelude.{◌≤◌};
 
 use base::{be16_at, copy_into};
 use engine::calls;
-use libc::STDIN_FILENO;
+use lines::arguments;
+use lines::input::read_full;
 use lines::output::{least, put, put_number, write};
 use lines::word::{byte_at, number};
 use server::{Body, CallResult, Engine, HostRequest, Outcome, default_settings};
+use std::env::Env;
+use std::io::Read;
 use std::num::wrapping_add_usize;
 
 // The stores are arrays of known lengths, so that the proof need not be told that no call changes them. The table store is longer than the
@@ -344,13 +347,13 @@ fn play(
 
 // ---- the program
 
-fn argument(i: usize) -> usize {
+fn argument(rt: &impl Env, i: usize) -> usize {
     let mut word = [0u8; 20];
-    let n = os::arg(i, &mut word);
+    let n = arguments::argument(rt, i, &mut word);
     number(&word[..n])
 }
 
-fn print(p: Progress) {
+fn print(rt: &impl Print, p: Progress) {
     let mut out = [0u8; 160];
     let a = put(&mut out, 0, b"replies ");
     let b = put_number(&mut out, a, p.replies);
@@ -361,7 +364,7 @@ fn print(p: Progress) {
     let h = put(&mut out, g, b" sum ");
     let i = put_number(&mut out, h, p.sum);
     let n = put(&mut out, i, b"\n");
-    write(&out, n);
+    write(rt, &out, n);
 }
 
 // Returns the progress before the first session: nothing is read, and nothing has come back.
@@ -390,6 +393,8 @@ fn places(longest: usize, offered: usize) -> bool {
 
 // Plays the session on standard input as often as the first argument says.
 fn run(
+    rt: &impl Env,
+    from: &mut impl Read,
     stream: &mut [u8],
     zeros: &[u8],
     input: &mut [u8; READ],
@@ -399,10 +404,10 @@ fn run(
     body: &mut [u8; BODY],
     reply: &mut [u8; PACKET],
 ) -> Progress {
-    let n = io::read_full(STDIN_FILENO, stream);
-    let count = argument(1);
-    let longest = argument(2);
-    let mut p = nothing_yet(places(longest, argument(3)));
+    let n = read_full(from, stream);
+    let count = argument(rt, 1);
+    let longest = argument(rt, 2);
+    let mut p = nothing_yet(places(longest, argument(rt, 3)));
     let mut i = 0;
     while i < count {
         p = play(
@@ -422,7 +427,7 @@ fn run(
     p
 }
 
-fn main() {
+fn main(rt: HostRuntime) {
     let mut stream = [0u8; 1048576];
     let zeros = [0u8; 65536];
     let mut input = [0u8; READ];
@@ -431,7 +436,9 @@ fn main() {
     let mut headers = [0u8; PACKET];
     let mut body = [0u8; BODY];
     let mut reply = [0u8; PACKET];
-    print(run(
+    let p = run(
+        &rt,
+        &mut rt.stdin(),
         &mut stream,
         &zeros,
         &mut input,
@@ -440,5 +447,6 @@ fn main() {
         &mut headers,
         &mut body,
         &mut reply,
-    ));
+    );
+    print(&rt, p);
 }

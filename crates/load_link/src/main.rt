@@ -6,10 +6,12 @@
 use client::calls;
 use client_model::Outcome;
 use engine::calls as serving;
+use lines::arguments;
 use lines::output::{least, put, put_number, write};
 use lines::word::number;
 use packet::response::SUCCESS;
 use server::{HostRequest, default_settings};
+use std::env::Env;
 use std::num::wrapping_add_usize;
 
 // The stores are longer than both ends ask: arrays of 65,535 bytes side by side begin a byte apart, counted from the start of a page, and some
@@ -348,38 +350,38 @@ fn server_with(limit: u16) -> server::Settings {
 }
 
 // Whether Puts are to be played. Otherwise Gets are.
-fn is_put() -> bool {
+fn is_put(rt: &impl Env) -> bool {
     let mut word = [0u8; 16];
-    let n = os::arg(1, &mut word);
+    let n = arguments::argument(rt, 1, &mut word);
     check::same(&word[..n], b"put")
 }
 
-fn argument(i: usize) -> usize {
+fn argument(rt: &impl Env, i: usize) -> usize {
     let mut word = [0u8; 20];
-    let n = os::arg(i, &mut word);
+    let n = arguments::argument(rt, i, &mut word);
     number(&word[..n])
 }
 
-fn limit() -> u16 {
-    let n = least(argument(3), 65535);
+fn limit(rt: &impl Env) -> u16 {
+    let n = least(argument(rt, 3), 65535);
     n as u16
 }
 
-fn print(p: Progress) {
+fn print(rt: &impl Print, p: Progress) {
     let mut out = [0u8; 160];
     let a = put(&mut out, 0, b"records ");
     let b = put_number(&mut out, a, p.records);
     let c = put(&mut out, b, b" bytes ");
     let d = put_number(&mut out, c, p.bytes);
     let n = put(&mut out, d, b"\n");
-    write(&out, n);
+    write(rt, &out, n);
 }
 
 // Returns the progress before the first operation.
-fn nothing_yet() -> Progress {
+fn nothing_yet(rt: &impl Env) -> Progress {
     Progress {
-        is_put: is_put(),
-        operations: argument(2),
+        is_put: is_put(rt),
+        operations: argument(rt, 2),
         left: 0,
         given: 0,
         records: 0,
@@ -387,7 +389,7 @@ fn nothing_yet() -> Progress {
     }
 }
 
-fn main() {
+fn main(rt: HostRuntime) {
     let zeros = [0u8; 65536];
     let mut c_packet = [0u8; PACKET];
     let mut c_headers = [0u8; PACKET];
@@ -398,9 +400,9 @@ fn main() {
     let mut headers = [0u8; PACKET];
     let mut body = [0u8; BODY];
     let mut reply = [0u8; PACKET];
-    print(play(
-        nothing_yet(),
-        limit(),
+    let p = play(
+        nothing_yet(&rt),
+        limit(&rt),
         &zeros,
         &mut c_packet,
         &mut c_headers,
@@ -411,5 +413,6 @@ fn main() {
         &mut headers,
         &mut body,
         &mut reply,
-    ));
+    );
+    print(&rt, p);
 }

@@ -41,7 +41,12 @@ fn put_long_answer(out: &mut [u8], number: usize, size: usize, target: &[u8]) ->
 }
 
 // Answers with a number, a length and the target's bytes.
-pub(crate) fn number_length_and_target(rt: &impl Print, number: usize, length: usize, target: &[u8]) {
+pub(crate) fn number_length_and_target(
+    rt: &impl Print,
+    number: usize,
+    length: usize,
+    target: &[u8],
+) {
     let mut out = [0u8; 1100];
     let n = put_long_answer(&mut out, number, length, target);
     write(rt, &out, n);

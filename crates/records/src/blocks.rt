@@ -43,7 +43,14 @@ fn call(is_write: bool, source: &[u8], target: &mut [u8]) -> Told {
 }
 
 // Calls with the bytes of `digits` and the first `room` places of `store`, and shows what was told and these places.
-fn show(rt: &impl Print, is_write: bool, digits: &[u8], room: usize, source: &mut [u8], store: &mut [u8]) {
+fn show(
+    rt: &impl Print,
+    is_write: bool,
+    digits: &[u8],
+    room: usize,
+    source: &mut [u8],
+    store: &mut [u8],
+) {
     let n = unhex(digits, source);
     let size = least(room, store.len());
     let told = call(is_write, &source[0..n], &mut store[0..size]);

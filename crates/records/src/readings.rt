@@ -93,7 +93,15 @@ fn show_short(rt: &impl Print, is_store: bool, digits: &[u8], room: usize) {
     let mut octets = [0u8; 512];
     let mut words = [0u16; 256];
     let mut store = [0xEEEEu16; 256];
-    show(rt, is_store, digits, room, &mut octets, &mut words, &mut store);
+    show(
+        rt,
+        is_store,
+        digits,
+        room,
+        &mut octets,
+        &mut words,
+        &mut store,
+    );
 }
 
 // Answers any question. No line has digits for more than 65,536 words.
@@ -101,7 +109,15 @@ fn show_long(rt: &impl Print, is_store: bool, digits: &[u8], room: usize) {
     let mut octets = [0u8; 1048576];
     let mut words = [0u16; 65536];
     let mut store = [0xEEEEu16; 524288];
-    show(rt, is_store, digits, room, &mut octets, &mut words, &mut store);
+    show(
+        rt,
+        is_store,
+        digits,
+        room,
+        &mut octets,
+        &mut words,
+        &mut store,
+    );
 }
 
 // Answers `ROOM WORDS`.

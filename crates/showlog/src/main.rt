@@ -200,8 +200,7 @@ fn step(rt: &impl Print, input: &mut impl Read, store: &mut [u8], place: Place) 
 }
 
 // Shows the frames of standard input, which is read into `store`.
-fn show(rt: &(impl Input + Print), store: &mut [u8]) {
-    let mut input = rt.reader();
+fn show(rt: &impl Print, input: &mut impl Read, store: &mut [u8]) {
     let mut steps = u64::MAX;
     let mut place = Place {
         at: 0,
@@ -211,7 +210,7 @@ fn show(rt: &(impl Input + Print), store: &mut [u8]) {
         is_over: false,
     };
     while steps > 0 {
-        place = step(rt, &mut input, store, place);
+        place = step(rt, input, store, place);
         if place.is_over {
             return;
         }
@@ -221,5 +220,5 @@ fn show(rt: &(impl Input + Print), store: &mut [u8]) {
 
 fn main(rt: HostRuntime) {
     let mut store = [0u8; 131072];
-    show(&rt, &mut store);
+    show(&rt, &mut rt.stdin(), &mut store);
 }

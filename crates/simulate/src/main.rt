@@ -13,6 +13,7 @@ use crate::question::{Mode, Number, Question, is_last, mode_of, number_of, quest
 use lines::input::{before_first, bytes_of, next_line};
 use lines::word::word_of;
 use simulator::{simulate, simulate_range};
+use std::io::Read;
 
 // Answers `get N M on|off`.
 fn get(rt: &impl Print, s: &[u8]) {
@@ -110,12 +111,11 @@ fn line(rt: &impl Print, s: &[u8], is_cut: bool) {
 }
 
 // Answers the lines of standard input, which is read into `s`.
-fn lines_of(rt: &(impl Input + Print), s: &mut [u8]) {
-    let mut input = rt.reader();
+fn lines_of(rt: &impl Print, input: &mut impl Read, s: &mut [u8]) {
     let mut steps = u64::MAX;
     let mut at = before_first();
     while steps > 0 {
-        at = next_line(&mut input, s, at);
+        at = next_line(input, s, at);
         if at.is_over {
             return;
         }
@@ -129,5 +129,5 @@ fn lines_of(rt: &(impl Input + Print), s: &mut [u8]) {
 // Answers the lines of standard input. Every question fits in the store.
 fn main(rt: HostRuntime) {
     let mut input = [0u8; 4096];
-    lines_of(&rt, &mut input);
+    lines_of(&rt, &mut rt.stdin(), &mut input);
 }
