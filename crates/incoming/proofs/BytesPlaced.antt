@@ -13,7 +13,6 @@ use Rattle.base.specs.Pick.{pick}
 use Rattle.base.specs.Bytes.{be16}
 use Rattle.incoming.specs.declared.frame.Frame.{Frame}
 use Rattle.incoming.specs.declared.frame.Frame.TheVariants.{More, Whole, Short}
-use Rattle.incoming.specs.declared.frame.Framed.{Framed}
 use Rattle.incoming.specs.Frame.{Frames, frames, frames_at, framed, frame_end, placed_in, coming}
 use Rattle.packet.proofs.TextForms.{octets-take}
 use Rattle.incoming.proofs.Frames.{Octets, frame_prefix}

@@ -4,7 +4,6 @@ use mathlib.Core.Path.{subst}
 use Prim.Native.Nat.{ℕ, zero, suc, ◌+◌, ◌-◌, ◌≤◌, ◌<◌}
 use lib.ListN.{drop, length-take}
 use Rattle.incoming.proofs.Jump.{jumped}
-use borrow.Author.Rules.{rules}
 use Rattle.incoming.proofs.frame.bulk.Goals as goal
 
 -- a piece that fits

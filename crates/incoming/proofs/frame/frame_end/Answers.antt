@@ -1,5 +1,4 @@
 -- `incoming::frame::frame_end` meets its contract. Each return rewrites with the tests that led there, and a 16-bit length is at most 65,535.
-use borrow.Author.Rules.{rules}
 use native.Mathlib.Omega.{arith}
 use borrow.Author.Tests.{lt-ltb, le-ltb, le-leb, lt-leb}
 use mathlib.Core.Path.{◌≡◌, sym}

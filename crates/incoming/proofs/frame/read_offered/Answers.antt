@@ -1,5 +1,4 @@
 -- `incoming::frame::read_offered` meets its contract. A packet that is offered whole is, taken at once, what it is byte by byte (`Jump`).
-use borrow.Author.Rules.{rules}
 use native.Mathlib.Omega.{arith}
 use mathlib.Core.Path.{sym, ap, ◌∙◌}
 use Prim.Native.Nat.{ℕ}

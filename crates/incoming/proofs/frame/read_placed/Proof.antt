@@ -6,14 +6,12 @@ use borrow.Author.Tests.{lt-ltb, le-ltb}
 use mathlib.Core.Path.{◌≡◌, refl, sym, ap, ◌∙◌}
 use mathlib.Core.Bool.{Bool}
 use mathlib.Core.List.{List}
-use Prim.Native.Nat.{ℕ, ◌+◌, ◌-◌, ◌≤◌, ◌<◌}
-use lib.ListN.{length}
-use lib.Dec.{ltb}
+use Prim.Native.Nat.{ℕ, ◌+◌, ◌-◌, ◌≤◌}
 use Rattle.base.specs.Pick.{pick}
 use Rattle.base.specs.Bytes.{be16}
 use Rattle.incoming.specs.declared.frame.Frame.{Frame}
 use Rattle.incoming.specs.declared.frame.Frame.TheVariants.{More, Whole, Short}
-use Rattle.incoming.specs.Frame.{Frames, framed, frames, placed_in}
+use Rattle.incoming.specs.Frame.{framed, frames, placed_in}
 use Rattle.incoming.proofs.BytesPlaced.{EndsAt, ending_of, goes_on, ends_there, up_to}
 use Rattle.incoming.proofs.frame.read_placed.Statement.{statement}
 use Rattle.incoming.proofs.frame.read_placed.Tie as tie

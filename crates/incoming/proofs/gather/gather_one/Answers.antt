@@ -3,7 +3,6 @@ use mathlib.Core.Path.{sym, ap, ◌∙◌}
 use Rattle.packet.specs.Header.{part}
 use Rattle.incoming.specs.Gather.{gathering, keep_bytes}
 use Rattle.incoming.proofs.Turns.{one-stored, one-dropped, one_kept}
-use borrow.Author.Rules.{rules}
 use Rattle.incoming.proofs.gather.gather_one.Goals as goal
 
 pub returns-then-is_stored : goal.returns-then-is_stored

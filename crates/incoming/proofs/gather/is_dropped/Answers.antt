@@ -1,5 +1,4 @@
 -- `incoming::gather::is_dropped` meets its contract. Each kind of operation has its own row, and Put and Get ask `is_srm`.
-use borrow.Author.Rules.{rules}
 use Rattle.incoming.proofs.gather.is_dropped.Goals as goal
 
 pub returns-in-Put : goal.returns-in-Put

@@ -1,7 +1,6 @@
 -- `incoming::gather::keep_bytes` meets its contract. By the test the bytes fit, and are pasted where the kept ones end, or they do not.
 use native.Mathlib.Omega.{arith}
 use Rattle.incoming.proofs.Stored.{keeps, keeps-not}
-use borrow.Author.Rules.{rules}
 use Rattle.incoming.proofs.gather.keep_bytes.Goals as goal
 
 pub returns-then-kept-bytes : goal.returns-then-kept-bytes

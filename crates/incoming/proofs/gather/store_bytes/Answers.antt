@@ -1,7 +1,6 @@
 -- `incoming::gather::store_bytes` meets its contract. By the test the bytes fit, and are pasted where the stored ones end, or they do not.
 use native.Mathlib.Omega.{arith}
 use Rattle.incoming.proofs.Stored.{stores, stores-not}
-use borrow.Author.Rules.{rules}
 use Rattle.incoming.proofs.gather.store_bytes.Goals as goal
 
 pub returns-then-limit-stored : goal.returns-then-limit-stored

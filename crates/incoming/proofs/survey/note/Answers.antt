@@ -27,6 +27,4 @@ pub returns-in-152 : goal.returns-in-152
 returns-in-152 c = c.note_parameter.ensures ∙ one-parameter _ _ c.in-152.is
 
 pub returns-in_default : goal.returns-in_default
-returns-in_default c =
-    let r = c.in_default.in_default-own.rest in
-    one-other _ _ r.0.0.1 r.0.1 r.1
+returns-in_default c = one-other _ _ (search rules) (search rules) (search rules)

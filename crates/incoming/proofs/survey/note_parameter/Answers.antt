@@ -1,6 +1,5 @@
 -- `incoming::survey::note_parameter` meets its contract. The test is the definition's.
 use Rattle.incoming.specs.Noted.{note_parameter}
-use borrow.Author.Rules.{rules}
 use Rattle.incoming.proofs.survey.note_parameter.Goals as goal
 
 pub returns-then-n : goal.returns-then-n
