@@ -8,7 +8,6 @@ use Rattle.client_c.proofs.obex_client_part_taken.Goals as goal
 
 pub returns : goal.returns
 returns c =
-    let lent = c in
     let called = c in record {
       step = rw (c.store.ensures.read, ← c.client_of.ensures) c.part_taken-r.ensures;
       numbers = (c.store.ensures.written ∙ ap words_of (sym c.store.ensures.read));

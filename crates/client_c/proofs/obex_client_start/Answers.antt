@@ -8,9 +8,6 @@ use Rattle.client_c.proofs.obex_client_start.Goals as goal
 
 pub returns : goal.returns
 returns c =
-    let admitting = c in
-    let lent = c in
-    let called = c in
     let reading = c in record {
       step = rw c.store.ensures.read
           (judged-start _ _ _ _ _ _ _ c.is_settings-fit.ensures c.settings_of-settings.ensures c.start-r.ensures

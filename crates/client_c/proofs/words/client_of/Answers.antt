@@ -6,8 +6,6 @@ use Rattle.client_c.proofs.words.client_of.Goals as goal
 pub returns : goal.returns
 unfolding client_of
 returns c =
-    let at-is-set-arg = c in
-    let at-id-of = c in
     simp (
       c.size-2.ensures,
       c.size.ensures,

@@ -32,7 +32,6 @@ returns-in-Disconnecting c =
 pub returns-in-Requesting : goal.returns-in-Requesting
 unfolding operation_of
 returns-in-Requesting c =
-    let called = c in
     let known = c in record {
       numbers = simp (
         c.requesting_numbers.ensures.numbers,

@@ -4,8 +4,6 @@ use Rattle.client_c.proofs.words.requesting_of.Goals as goal
 
 pub returns : goal.returns
 returns c =
-    let at-size3 = c in
-    let at-size2 = c in
     simp (
       c.is_set-6.ensures,
       c.is_set-5.ensures,

@@ -1,18 +1,14 @@
 -- `client_c::words::store` meets its contract. The numbers are those that the definition says, and the result is read back from them
 -- (`Back`). Assumes nothing.
-use Rattle.client_c.specs.Words.{words_of}
+use mathlib.Core.Path.{refl, ap, ◌∙◌}
+use Rattle.client_c.specs.Words.{words_of, result_of}
 use Rattle.client_c.proofs.Back.{written_back}
-use borrow.Author.Rules.{rules}
 use Rattle.client_c.proofs.words.store.Goals as goal
 
-pub returns : goal.returns
+pub returns-clause-written : goal.returns-clause-written
 unfolding words_of
-returns c =
-    let at-wide8 = c in
-    let at-outcome-numbers = c in
-    let r = c.args.r in
-    written_back _ r
-    (simp (
+returns-clause-written c =
+    simp (
       c.wide-3.ensures,
       c.wide-2.ensures,
       c.wide.ensures,
@@ -25,6 +21,10 @@ returns c =
       c.outcome_numbers-t.ensures,
       c.operation_numbers-o.ensures.numbers,
       c.id_numbers-i.ensures.numbers,
-    ))
-    c.wide16.ensures.1 c.wide16-2.ensures.1
-    c.id_numbers-i.ensures.back c.operation_numbers-o.ensures.back
+    )
+
+pub returns-clause-read : goal.returns-clause-read
+returns-clause-read c =
+    ap result_of (returns-clause-written c)
+    ∙ (written_back (words_of c.args.r) c.args.r refl c.wide16.ensures.1 c.wide16-2.ensures.1 c.id_numbers-i.ensures.back
+    c.operation_numbers-o.ensures.back).1
