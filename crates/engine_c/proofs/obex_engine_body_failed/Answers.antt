@@ -11,6 +11,6 @@ returns c =
       step = rw (
         c.store.ensures.read,
         ← c.engine_of.ensures,
-      ) c.body_failed.ensures;
+      ) c.body_failed-r.ensures;
       numbers = (c.store.ensures.written ∙ ap words_of (sym c.store.ensures.read));
     }
