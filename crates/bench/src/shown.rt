@@ -23,34 +23,34 @@ fn put_counts(out: &mut [u8], n: usize, request: HostRequest) -> usize {
 }
 
 // Prints a request by the name of the handler's method.
-pub(crate) fn request(request: HostRequest) {
+pub(crate) fn request(rt: &impl Print, request: HostRequest) {
     let mut out = [0u8; 64];
     let a = put_name(&mut out, 0, request);
     let b = put_counts(&mut out, a, request);
     let n = output::put(&mut out, b, b"\n");
-    output::write(&out, n);
+    output::write(rt, &out, n);
 }
 
-fn packet(s: &[u8]) {
+fn packet(rt: &impl Print, s: &[u8]) {
     let mut out = [0u8; 131080];
     let a = output::put(&mut out, 0, b"out ");
     let b = output::put_digits(&mut out, a, s);
     let n = output::put(&mut out, b, b"\n");
-    output::write(&out, n);
+    output::write(rt, &out, n);
 }
 
 // Prints a reply, the first `length` bytes of its store, in hexadecimal.
-pub(crate) fn reply(store: &[u8], length: usize) {
+pub(crate) fn reply(rt: &impl Print, store: &[u8], length: usize) {
     if length <= store.len() {
-        packet(&store[0..length]);
+        packet(rt, &store[0..length]);
     }
 }
 
 // Prints the number with which the session ended.
-pub(crate) fn end(number: u8) {
+pub(crate) fn end(rt: &impl Print, number: u8) {
     let mut out = [0u8; 16];
     let a = output::put(&mut out, 0, b"end ");
     let b = output::put_number(&mut out, a, base::wide(number));
     let n = output::put(&mut out, b, b"\n");
-    output::write(&out, n);
+    output::write(rt, &out, n);
 }

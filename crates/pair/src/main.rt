@@ -14,9 +14,9 @@ mod user;
 ghost use Rattle.std.specs.Prelude.{◌≤◌, length};
 
 use answers::{ANSWERS, bytes_of, keep_answer};
-use libc::STDERR_FILENO;
+use lines::arguments::{argument, has_argument};
 use lines::input::{keep, read};
-use lines::output::{flush, least, put, write};
+use lines::output::{flush, least, print, put, write};
 use lines::word::{Place, find, number, word_of};
 use script::{Command, WORDS, client_of, command_of, is_alone, lent_of, server_of, with_call};
 use server::Outcome;
@@ -25,6 +25,8 @@ use state::{
     with_down, with_due, with_end, with_input, with_line_at, with_output, with_random,
     with_session,
 };
+use std::env::Env;
+use std::io::Read;
 use stream::{Move, WAY, next_move};
 use user::with_close;
 
@@ -69,13 +71,13 @@ fn is_cut(s: State, is_full: bool) -> bool {
 
 // Moves what is left of the input to the front of its store, and reads on behind it. A line that fills the store has no room for its end,
 // so its start is dropped.
-fn refill(s: State, input: &mut [u8]) -> State {
+fn refill(from: &mut impl Read, s: State, input: &mut [u8]) -> State {
     let end = least(s.lines.end, input.len());
-    let from = least(s.lines.at, end);
-    let left = keep(input, from, end);
+    let start = least(s.lines.at, end);
+    let left = keep(input, start, end);
     let is_full = input.len() <= left;
     let at = unless_full(left, is_full);
-    let n = read(&mut input[at..]);
+    let n = read(from, &mut input[at..]);
     with_input(s, at + n, is_cut(s, is_full), n == 0)
 }
 
@@ -149,6 +151,7 @@ fn follow(
 
 // Carries out the next line, reads on if there is no whole one, or ends the last session if the input has ended.
 fn take_line(
+    from: &mut impl Read,
     s: State,
     server: Outcome,
     input: &mut [u8],
@@ -162,7 +165,7 @@ fn take_line(
     let end = place.end;
     if s.lines.end <= end {
         if !s.lines.is_over {
-            return refill(s, input);
+            return refill(from, s, input);
         }
         if start == end {
             return print_end(s, server, records, out);
@@ -388,6 +391,7 @@ fn is_line(step: Step) -> bool {
 
 // Carries out a line, if one is due.
 fn script_turn(
+    from: &mut impl Read,
     before: Pair,
     input: &mut [u8; INPUT],
     answers: &mut [u8; ANSWERS],
@@ -402,7 +406,10 @@ fn script_turn(
     let server = p.server;
     let told = server.outcome;
     let s = p.state;
-    with_state(p, take_line(s, told, input, answers, words, records, out))
+    with_state(
+        p,
+        take_line(from, s, told, input, answers, words, records, out),
+    )
 }
 
 // Does what is due at the client's end.
@@ -470,9 +477,9 @@ fn server_turn(
 // ---- the program
 
 // Returns the pair with what was collected of the output written out if that is much.
-fn flushed(p: Pair, out: &[u8; 262144]) -> Pair {
+fn flushed(rt: &impl Print, p: Pair, out: &[u8; 262144]) -> Pair {
     let s = p.state;
-    let n = flush(out, s.output);
+    let n = flush(rt, out, s.output);
     with_state(p, with_output(s, n))
 }
 
@@ -489,6 +496,8 @@ fn output_of(p: Pair) -> usize {
 // Plays the sessions of standard input. A proved loop has to end, and nothing says that the input does, so the turns are counted down from a
 // number that no run uses up.
 fn play(
+    from: &mut impl Read,
+    rt: &impl Print,
     s: State,
     input: &mut [u8; INPUT],
     answers: &mut [u8; ANSWERS],
@@ -516,16 +525,16 @@ fn play(
     };
     let mut left = u64::MAX;
     while left > 0 {
-        p = script_turn(p, input, answers, words, records, out);
+        p = script_turn(from, p, input, answers, words, records, out);
         p = client_turn(
             p, words, up, down, c_packet, c_headers, c_body, request, out,
         );
         p = server_turn(
             p, answers, words, up, down, tables, packet, headers, body, reply, records, out,
         );
-        p = flushed(p, out);
+        p = flushed(rt, p, out);
         if is_done(p) {
-            write(out, output_of(p));
+            write(rt, out, output_of(p));
             return;
         }
         left -= 1;
@@ -533,33 +542,33 @@ fn play(
 }
 
 // Whether the first argument is `shuffle`.
-fn is_shuffle() -> bool {
+fn is_shuffle(rt: &impl Env) -> bool {
     let mut word = [0u8; 16];
-    let n = os::arg(1, &mut word);
+    let n = argument(rt, 1, &mut word);
     check::same(&word[..n], b"shuffle")
 }
 
 // Returns the number that the second argument is.
-fn seed() -> usize {
+fn seed(rt: &impl Env) -> usize {
     let mut word = [0u8; 20];
-    let n = os::arg(2, &mut word);
+    let n = argument(rt, 2, &mut word);
     number(&word[..n])
 }
 
 // Whether the program was started with no argument, or with `shuffle SEED`.
-fn is_started_right() -> bool {
-    if os::arg_count() < 2 {
+fn is_started_right(rt: &impl Env) -> bool {
+    if !has_argument(rt, 1) {
         return true;
     }
-    if os::arg_count() != 3 {
+    if !has_argument(rt, 2) || has_argument(rt, 3) {
         return false;
     }
-    is_shuffle()
+    is_shuffle(rt)
 }
 
-fn main() {
-    if !is_started_right() {
-        io::write_all(STDERR_FILENO, b"usage: pair [shuffle SEED]\n");
+fn main(rt: HostRuntime) {
+    if !is_started_right(&rt) {
+        print(&rt.stderr(), b"usage: pair [shuffle SEED]\n");
         return;
     }
     let mut input = [0u8; INPUT];
@@ -579,7 +588,9 @@ fn main() {
     let mut records = [0u8; 131072];
     let mut out = [0u8; 262144];
     play(
-        begun(is_shuffle(), seed()),
+        &mut rt.stdin(),
+        &rt,
+        begun(is_shuffle(&rt), seed(&rt)),
         &mut input,
         &mut answers,
         &mut words,
