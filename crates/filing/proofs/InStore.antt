@@ -325,14 +325,14 @@ module _ (s : List ℕ) (at number : ℕ) where
 -- ---- a turn is a step of reading
 
 -- by the tests of check, number and filling
-by_tests : (a b d : Bool) (size : ℕ) (y : List ℕ) (l : Log)
+by_tests : (a b d : Bool) (m : ℕ) (y : List ℕ) (l : Log)
     → let f : ℕ = pick a (pick b (pick d 0 13) 12) 11 in
-    pick (eqb f 0) (put_first (content_of y) l) (log [] f) ≡ after_turn (turn_for f size) y l
+    pick (eqb f 0) (put_first (content_of y) l) (log [] f) ≡ after_turn (turn_for f m) y l
 unfolding turn_for
-by_tests true true true size y l = refl
-by_tests true true false size y l = refl
-by_tests true false d size y l = refl
-by_tests false b d size y l = refl
+by_tests true true true m y l = refl
+by_tests true true false m y l = refl
+by_tests true false d m y l = refl
+by_tests false b d m y l = refl
 
 by_fault : (before : List ℕ) (n : ℕ) (y : List ℕ) (l : Log)
     → pick (eqb (frame_fault before n y) 0) (put_first (content_of y) l) (log [] (frame_fault before n y))

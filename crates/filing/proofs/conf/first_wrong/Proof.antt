@@ -39,16 +39,16 @@ line : (c : tie.After-find-n invariant-loop decreases-loop)
 line c = line_found _ _ _ c.loop-at-test.true c.find-n.ensures.0
 
 add-end : tie.Need-overflow_add-end invariant-loop decreases-loop
-add-end c = omega (arith, (line c).ranges)
+add-end c = omega (arith, (line c).fits)
 
 sub-is-line-right : tie.Need-slice_bounds-is_line_right-count invariant-loop decreases-loop
-sub-is-line-right c = omega (arith, (line c).ranges)
+sub-is-line-right c = omega (arith, (line c).fits)
 
 part-is-line-right-start : tie.Need-slice_bounds-is_line_right-start invariant-loop decreases-loop
-part-is-line-right-start c = omega (arith, (line c).ranges)
+part-is-line-right-start c = omega (arith, (line c).fits)
 
 part-is-line-right-end : tie.Need-slice_bounds-is_line_right-end invariant-loop decreases-loop
-part-is-line-right-end c = omega (arith, (line c).ranges)
+part-is-line-right-end c = omega (arith, (line c).fits)
 
 is-line-right-requires : tie.Need-is_line_right-requires invariant-loop decreases-loop
 is-line-right-requires c κs = search rules
@@ -76,8 +76,8 @@ loop-again : tie.Need-loop-at-preserved invariant-loop decreases-loop
 loop-again c =
     let f = c.before.before.before in
     let l = f.before.before.before in (
-      omega (arith, (line f).ranges),
-      omega (arith, (line f).ranges),
+      omega (arith, (line f).fits),
+      omega (arith, (line f).fits),
       l.loop-at.invariant.2 ∙ wrong-later l.args.text.now l.loop-at.at f.find-n.result l.loop-at.number (line f) (sym (told
           c.before) ∙ c.if-is_line_right.true),
     )

@@ -1,15 +1,9 @@
 -- `filing::conf::flags_said` meets its contract, flag by flag. Assumes nothing.
 use mathlib.Core.Path.{refl}
-use borrow.Author.Rules.{rules}
 use Rattle.filing.proofs.conf.flags_said.Goals as goal
 
 pub returns : goal.returns
 returns c =
-    let four = c in
-    let three = c in
-    let u = c in
-    let two = c in
-    let first = c in
     rw (
       c.is_said.ensures,
       c.is_said-2.ensures,

@@ -1,9 +1,5 @@
 -- `filing::conf::is_all_hex` meets its contract. The invariant: the digits so far are right. Assumes nothing.
-use native.Mathlib.Omega.{arith}
-use mathlib.Core.Path.{◌≡◌, sym, ◌∙◌}
-use Prim.Native.Nat.{◌-◌, ◌≤◌}
-use lib.ListN.{length, drop}
-use Rattle.filing.specs.Conf.{all_hex}
+use mathlib.Core.Path.{sym, ◌∙◌}
 use Rattle.filing.proofs.Configured.{hex_next, hex_stop, hex_end}
 use borrow.Author.Rules.{rules}
 use Rattle.filing.proofs.conf.is_all_hex.Goals as goal
@@ -18,11 +14,9 @@ loop-i-preserved c =
 
 pub returns-else-is_hex : goal.returns-else-is_hex
 returns-else-is_hex c =
-    let k = c in
     hex_stop c.args.s.now c.loop-i.i c.loop-i-test.true (sym c.is_hex.ensures
     ∙ c.if-is_hex.false) ∙ sym c.loop-i.invariant.1
 
 pub returns : goal.returns
 returns c =
-    let k = c in
     hex_end c.args.s.now c.loop-i.i c.loop-i-test.false ∙ sym c.loop-i.invariant.1

@@ -1,11 +1,8 @@
 -- `filing::conf::is_all_hex` meets its contract. The invariant: the digits so far are right. Assumes nothing.
-use native.Mathlib.Omega.{arith}
-use mathlib.Core.Path.{◌≡◌, sym, ◌∙◌}
+use mathlib.Core.Path.{◌≡◌}
 use Prim.Native.Nat.{◌-◌, ◌≤◌}
 use lib.ListN.{length, drop}
 use Rattle.filing.specs.Conf.{all_hex}
-use Rattle.filing.proofs.Configured.{hex_next, hex_stop, hex_end}
-use borrow.Author.Rules.{rules}
 use Rattle.filing.proofs.conf.is_all_hex.Given as goal
 
 abbrev pub invariant-loop-i : goal.invariant-loop-i

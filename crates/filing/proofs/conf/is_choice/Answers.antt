@@ -3,7 +3,6 @@ use mathlib.Core.Path.{◌≡◌, refl, sym, ◌∙◌}
 use mathlib.Core.Bool.{true, false}
 use Rattle.filing.specs.Lines.{bytes}
 use Rattle.filing.specs.Conf.{is_in, is_choice}
-use borrow.Author.Rules.{rules}
 use Rattle.filing.proofs.conf.is_choice.Goals as goal
 
 pub returns-then-is_in : goal.returns-then-is_in
@@ -17,7 +16,6 @@ returns-then-is_in c =
 pub returns : goal.returns
 unfolding is_choice
 returns c =
-    let k = c in
     let l = c.args.line.now in
     let e : is_in (bytes "srm yes\t\nsrm no\t\npassword no\t\npassword required\t\nread-only no\t\nread-only yes\t\n") l ≡ false =
     sym c.is_in.ensures ∙ c.if-is_in.false in

@@ -8,7 +8,6 @@ use borrow.Author.Tests.{eq-eqb, ne_eqb, lt-ltb, le-ltb}
 use Rattle.filing.specs.Lines.{up_to}
 use Rattle.filing.specs.Conf.{is_choice, right_line}
 use Rattle.filing.proofs.Configured.{setting_right}
-use borrow.Author.Rules.{rules}
 use Rattle.filing.proofs.conf.is_line_right.Goals as goal
 
 pub returns-then-line-eq0 : goal.returns-then-line-eq0
@@ -22,14 +21,11 @@ returns-then-line-eq35 c = simp (ne_eqb _ _ c.if-line-eq0.false, eq-eqb _ _ c.if
 pub returns-then-is_choice : goal.returns-then-is_choice
 unfolding right_line
 returns-then-is_choice c =
-    let k = c in
     simp (ne_eqb _ _ c.if-line-eq0.false, ne_eqb _ _ c.if-line-eq35.false, sym c.is_choice.ensures ∙ c.if-is_choice.true)
 
 pub returns-then-n-line : goal.returns-then-n-line
 unfolding right_line
 returns-then-n-line c =
-    let f = c in
-    let k = c in
     let l = c.args.line.now in
     let e : is_choice l ≡ false = sym c.is_choice.ensures ∙ c.if-is_choice.false in
     let g = c.find-n.ensures.value in
@@ -41,8 +37,6 @@ returns-then-n-line c =
 pub returns : goal.returns
 unfolding right_line
 returns c =
-    let f = c in
-    let k = c in
     let l = c.args.line.now in
     let e : is_choice l ≡ false = sym c.is_choice.ensures ∙ c.if-is_choice.false in
     let g = c.find-n.ensures.value in

@@ -1,7 +1,6 @@
 -- `filing::conf::is_target` meets its contract, test by test. Assumes nothing.
 use borrow.Author.Tests.{lt-ltb, le-ltb, eq-eqb, ne_eqb}
 use Rattle.filing.specs.Conf.{right_target}
-use borrow.Author.Rules.{rules}
 use Rattle.filing.proofs.conf.is_target.Goals as goal
 
 pub returns-then-v-lt2 : goal.returns-then-v-lt2

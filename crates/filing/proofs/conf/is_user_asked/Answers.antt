@@ -3,7 +3,6 @@ use mathlib.Core.Path.{◌≡◌, refl, sym, ◌∙◌}
 use mathlib.Core.Bool.{true, false}
 use Rattle.filing.specs.Lines.{bytes}
 use Rattle.filing.specs.Conf.{is_said}
-use borrow.Author.Rules.{rules}
 use Rattle.filing.proofs.conf.is_user_asked.Goals as goal
 
 pub returns-then-is_said : goal.returns-then-is_said
@@ -14,7 +13,6 @@ returns-then-is_said c =
 
 pub returns : goal.returns
 returns c =
-    let k = c in
     let e : is_said c.args.text.now (bytes "user-id") (bytes "asked") ≡ false = sym c.is_said.ensures
     ∙ c.if-is_said.false in
     rw e c.is_said-2.ensures

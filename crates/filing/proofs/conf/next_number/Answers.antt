@@ -4,7 +4,6 @@ use mathlib.Core.Path.{◌≡◌, refl, ap}
 use Prim.Native.Nat.{ℕ, ◌+◌, ◌-◌, ◌*◌}
 use borrow.Author.Tests.{le-leb, lt-leb, lt-ltb, le-ltb}
 use Rattle.filing.specs.Conf.{digit_next}
-use borrow.Author.Rules.{rules}
 use Rattle.filing.proofs.conf.next_number.Goals as goal
 
 pub returns-then-b-lt48 : goal.returns-then-b-lt48

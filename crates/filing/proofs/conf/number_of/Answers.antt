@@ -1,12 +1,11 @@
 -- `filing::conf::number_of` meets its contract. The invariant: the digits that are left go behind the number so far. Assumes nothing.
 use native.Mathlib.Omega.{arith}
-use mathlib.Core.Path.{◌≡◌, refl, sym, ap, ◌∙◌}
-use Prim.Native.Nat.{ℕ, ◌+◌, ◌-◌, ◌≤◌}
+use mathlib.Core.Path.{refl, sym, ap, ◌∙◌}
+use Prim.Native.Nat.{ℕ, ◌+◌}
 use lib.ListN.{length, drop}
 use borrow.Author.Tests.{eq-eqb, ne_eqb}
 use Rattle.filing.specs.Conf.{digits_from, number_of}
 use Rattle.filing.proofs.Configured.{digits_next, digits_end}
-use borrow.Author.Rules.{rules}
 use Rattle.filing.proofs.conf.number_of.Goals as goal
 
 pub returns-then-v-eq0 : goal.returns-then-v-eq0
@@ -21,7 +20,6 @@ loop-i-init c =
 
 pub loop-i-preserved : goal.loop-i-preserved
 loop-i-preserved c =
-    let l = c in
     let t = c in (
       omega arith,
       c.loop-i.invariant.1 ∙ digits_next c.args.v.now c.loop-i.n c.loop-i.i c.loop-i-test.true
@@ -30,5 +28,4 @@ loop-i-preserved c =
 
 pub returns : goal.returns
 returns c =
-    let l = c in
     sym (c.loop-i.invariant.1 ∙ digits_end c.args.v.now c.loop-i.n c.loop-i.i c.loop-i-test.false)

@@ -1,12 +1,8 @@
 -- `filing::conf::number_of` meets its contract. The invariant: the digits that are left go behind the number so far. Assumes nothing.
-use native.Mathlib.Omega.{arith}
-use mathlib.Core.Path.{◌≡◌, refl, sym, ap, ◌∙◌}
-use Prim.Native.Nat.{ℕ, ◌+◌, ◌-◌, ◌≤◌}
+use mathlib.Core.Path.{◌≡◌}
+use Prim.Native.Nat.{◌-◌, ◌≤◌}
 use lib.ListN.{length, drop}
-use borrow.Author.Tests.{eq-eqb, ne_eqb}
 use Rattle.filing.specs.Conf.{digits_from, number_of}
-use Rattle.filing.proofs.Configured.{digits_next, digits_end}
-use borrow.Author.Rules.{rules}
 use Rattle.filing.proofs.conf.number_of.Given as goal
 
 abbrev pub invariant-loop-i : goal.invariant-loop-i

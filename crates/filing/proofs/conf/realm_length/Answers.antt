@@ -1,6 +1,5 @@
 -- `filing::conf::realm_length` meets its contract, by whether there are more. Assumes nothing.
 use borrow.Author.Tests.{le-leb, lt-leb}
-use borrow.Author.Rules.{rules}
 use Rattle.filing.proofs.conf.realm_length.Goals as goal
 
 pub returns-then-n-le254 : goal.returns-then-n-le254

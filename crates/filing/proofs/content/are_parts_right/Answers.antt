@@ -1,5 +1,4 @@
 -- `filing::content::are_parts_right` meets its contract. The arms of the code are those of the definition. Assumes nothing.
-use borrow.Author.Rules.{rules}
 use Rattle.filing.proofs.content.are_parts_right.Goals as goal
 
 pub returns-in-Opened : goal.returns-in-Opened

@@ -1,7 +1,6 @@
 -- `filing::content::check_row` meets its contract: the two bytes of a check, and zeros. Assumes nothing.
 use mathlib.Core.Path.{refl}
 use Rattle.filing.specs.Kinds.{check_pair}
-use borrow.Author.Rules.{rules}
 use Rattle.filing.proofs.content.check_row.Goals as goal
 
 pub returns : goal.returns

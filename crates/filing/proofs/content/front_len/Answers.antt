@@ -2,7 +2,6 @@
 use mathlib.Core.Path.{refl}
 use native.Mathlib.Omega.{arith}
 use Rattle.filing.specs.Kinds.{check_pair, open_row}
-use borrow.Author.Rules.{rules}
 use Rattle.filing.proofs.content.front_len.Goals as goal
 
 pub returns-in-Opened : goal.returns-in-Opened

@@ -1,6 +1,5 @@
 -- `filing::content::front_row` meets its contract. The arms of the code are those of the definition. Assumes nothing.
 use Rattle.filing.specs.Kinds.{open_row}
-use borrow.Author.Rules.{rules}
 use Rattle.filing.proofs.content.front_row.Goals as goal
 
 pub returns-in-Opened : goal.returns-in-Opened

@@ -2,7 +2,6 @@
 use mathlib.Core.Path.{refl}
 use native.Mathlib.Omega.{arith}
 use borrow.Author.Tests.{eq-eqb, ne_eqb}
-use borrow.Author.Rules.{rules}
 use Rattle.filing.proofs.content.is_opening.Goals as goal
 
 pub returns-then-m-ne-NAME : goal.returns-then-m-ne-NAME

@@ -1,16 +1,9 @@
 -- `filing::content::lay` meets its contract: four parts stand one behind the other. Assumes nothing.
 use Rattle.filing.proofs.Contents.{four-laid}
-use borrow.Author.Rules.{rules}
 use Rattle.filing.proofs.content.lay.Goals as goal
 
 pub returns : goal.returns
 returns c =
-    let fourth = c in
-    let third = c in
-    let second = c in
-    let first = c in
-    let at-start-₁ = c in
-    let start = c in
     let a = c.args in
     four-laid a.store.now _ _ _ _ a.row.now a.first.now a.second.now a.third.now c.requires c.copy_into.ensures
     c.copy_into-2.ensures c.copy_into-3.ensures c.copy_into-4.ensures

@@ -1,6 +1,5 @@
 -- `filing::content::object_row` meets its contract: a flag and two bytes of a length. Assumes nothing.
 use mathlib.Core.Path.{refl}
-use borrow.Author.Rules.{rules}
 use Rattle.filing.proofs.content.object_row.Goals as goal
 
 pub returns-then-has_body : goal.returns-then-has_body

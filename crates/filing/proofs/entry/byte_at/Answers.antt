@@ -2,7 +2,6 @@
 use native.Mathlib.Omega.{arith}
 use mathlib.Core.Path.{sym}
 use lib.ListN.{get_or-eq_default}
-use borrow.Author.Rules.{rules}
 use Rattle.filing.proofs.entry.byte_at.Goals as goal
 
 pub returns-else-i-payload : goal.returns-else-i-payload

@@ -1,5 +1,4 @@
 -- `filing::entry::entry_in` meets its contract. The arms of the code are those of the definition. Assumes nothing.
-use borrow.Author.Rules.{rules}
 use Rattle.filing.proofs.entry.entry_in.Goals as goal
 
 pub returns-in-Sent : goal.returns-in-Sent
@@ -12,4 +11,4 @@ pub returns-in-Pass : goal.returns-in-Pass
 returns-in-Pass c = simp (c.in-Pass.is, c.byte_at-b.ensures)
 
 pub returns-in-Done : goal.returns-in-Done
-returns-in-Done c = simp (c.in-Done.is, c.End-read.ensures, c.byte_at-b.ensures)
+returns-in-Done c = simp (c.in-Done.is, c.end_read.ensures, c.byte_at-b.ensures)

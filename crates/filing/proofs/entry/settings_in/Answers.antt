@@ -4,18 +4,11 @@ use Prim.Native.Nat.{◌/◌}
 use native.Mathlib.Omega.{arith}
 use lib.ListN.{get_or}
 use Rattle.filing.specs.Kinds.{settings_in}
-use borrow.Author.Rules.{rules}
 use Rattle.filing.proofs.entry.settings_in.Goals as goal
 
 pub returns : goal.returns
 unfolding settings_in
 returns c =
-    let b = c in
-    let x₅ = c in
-    let x₄ = c in
-    let x₃ = c in
-    let x₂ = c in
-    let x₁ = c in
     let p = c.args.payload.now in
     let d : get_or p 10 0 / 1 ≡ get_or p 10 0 = omega arith in
     rw (

@@ -1,6 +1,5 @@
 -- `filing::file::body_len` meets its contract: what is missing has no bytes. Assumes nothing.
 use mathlib.Core.Path.{refl}
-use borrow.Author.Rules.{rules}
 use Rattle.filing.proofs.file.body_len.Goals as goal
 
 pub returns-then-has_body : goal.returns-then-has_body

@@ -1,11 +1,9 @@
 -- `filing::file::target_mark` meets its contract: the length, or 255. Assumes nothing.
 use mathlib.Core.Path.{refl}
-use borrow.Author.Tests.{not-true, not-false}
-use borrow.Author.Rules.{rules}
 use Rattle.filing.proofs.file.target_mark.Goals as goal
 
 pub returns-then-not-has_target : goal.returns-then-not-has_target
-returns-then-not-has_target c = rw (not-true c.args.has-target c.if-not-has_target.true) refl
+returns-then-not-has_target c = rw c.if-not-has_target.true refl
 
 pub returns : goal.returns
-returns c = rw (not-false c.args.has-target c.if-not-has_target.false) refl
+returns c = rw c.if-not-has_target.false refl

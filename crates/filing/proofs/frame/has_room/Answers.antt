@@ -6,7 +6,6 @@ use lib.Dec.{leb}
 use borrow.Author.Tests.{lt-leb}
 use Rattle.filing.specs.Frame.{frame_length, filling}
 use Rattle.filing.proofs.InStore.{room_is}
-use borrow.Author.Rules.{rules}
 use Rattle.filing.proofs.frame.has_room.Goals as goal
 
 pub returns-then-total-at : goal.returns-then-total-at

@@ -11,16 +11,10 @@ use Rattle.filing.proofs.frame.write_rows.Goals as goal
 
 pub returns : goal.returns
 returns c =
-    let third = c in
-    let f = c in
-    let second = c in
-    let first = c in
-    let r = c in
-    let k = c in
     let a = c.args in
     let p = a.payload.now in
-    rows_written a.store.now _ _ _ c.first-row.result p a.at (length p) c.filling.result a.head.number c.kind-number.result
-    a.head.clock refl c.filling.ensures c.requires c.first-row.ensures c.copy_into-arg-1.ensures
-    c.copy-into2.ensures c.copy_into-3.ensures
+    rows_written a.store.now _ _ _ c.first_row-row.result p a.at (length p) c.filling.result a.head.number c.kind_number.result
+    a.head.clock refl c.filling.ensures c.requires c.first_row-row.ensures c.copy_into.ensures
+    c.copy_into-2.ensures c.copy_into-3.ensures
     ∙ ap (λ (w : ℕ). rows_laid a.store.now a.at a.head.number (record { kind = bytes32 w; clock = a.head.clock; payload = p }))
-    c.kind-number.ensures
+    c.kind_number.ensures

@@ -1,10 +1,5 @@
 -- `filing::line::find` meets its contract. The invariant: no byte so far is the one that is looked for. Assumes nothing.
-use mathlib.Core.Path.{◌≡◌, sym, ap, ◌∙◌}
-use Prim.Native.Nat.{◌+◌, ◌-◌, ◌≤◌}
 use native.Mathlib.Omega.{arith}
-use lib.ListN.{length, drop}
-use borrow.Author.Rules.{rules}
-use Rattle.filing.specs.Lines.{up_to}
 use Rattle.filing.proofs.Lined.{before_here, before-next, before-none}
 use Rattle.filing.proofs.line.find.Goals as goal
 
@@ -13,7 +8,6 @@ loop-i-init c = (omega arith, omega arith)
 
 pub returns-then-s-i : goal.returns-then-s-i
 returns-then-s-i c =
-    let t = c in
     let l = c.loop-i in
     let a = c.args in
     let h = before_here a.byte a.s.now l.i c.loop-i-test.true c.if-s-i.true in record {
@@ -23,7 +17,6 @@ returns-then-s-i c =
 
 pub loop-i-preserved : goal.loop-i-preserved
 loop-i-preserved c =
-    let t = c in
     let l = c.loop-i in
     let a = c.args in
     let h = before-next a.byte a.s.now l.i c.loop-i-test.true c.if-s-i.false in

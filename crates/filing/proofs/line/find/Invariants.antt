@@ -1,11 +1,8 @@
 -- `filing::line::find` meets its contract. The invariant: no byte so far is the one that is looked for. Assumes nothing.
-use mathlib.Core.Path.{◌≡◌, sym, ap, ◌∙◌}
+use mathlib.Core.Path.{◌≡◌}
 use Prim.Native.Nat.{◌+◌, ◌-◌, ◌≤◌}
-use native.Mathlib.Omega.{arith}
 use lib.ListN.{length, drop}
-use borrow.Author.Rules.{rules}
 use Rattle.filing.specs.Lines.{up_to}
-use Rattle.filing.proofs.Lined.{before_here, before-next, before-none}
 use Rattle.filing.proofs.line.find.Given as goal
 
 abbrev pub invariant-loop-i : goal.invariant-loop-i

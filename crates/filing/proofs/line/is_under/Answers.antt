@@ -2,19 +2,15 @@
 use native.Mathlib.Omega.{arith}
 use Rattle.packet.proofs.SameBytes.{same_is}
 use Rattle.filing.proofs.Lined.{not-under, under_by}
-use borrow.Author.Rules.{rules}
 use Rattle.filing.proofs.line.is_under.Goals as goal
 
 pub returns-then-line-n : goal.returns-then-line-n
 returns-then-line-n c =
-    let k = c in
     let a = c.args in
     not-under a.separator a.word.now a.line.now (omega (arith, c.find-n.ensures.value, c.if-line-n.true))
 
 pub returns : goal.returns
 returns c =
-    let i = c in
-    let k = c in
     let a = c.args in
     under_by a.separator a.word.now a.line.now c.find-n.result c.same.result c.find-n.ensures.value c.if-line-n.false
     (same_is _ a.word.now c.same.result c.same.ensures.0 c.same.ensures.1)

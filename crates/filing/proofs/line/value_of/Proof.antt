@@ -40,16 +40,16 @@ line : (c : tie.After-find-n invariant-loop decreases-loop)
 line c = line_found _ _ _ c.loop-at-test.true c.find-n.ensures.0
 
 add-end : tie.Need-overflow_add-end invariant-loop decreases-loop
-add-end c = omega (arith, (line c).ranges)
+add-end c = omega (arith, (line c).fits)
 
 sub-is-under : tie.Need-slice_bounds-is_under-count invariant-loop decreases-loop
-sub-is-under c = omega (arith, (line c).ranges)
+sub-is-under c = omega (arith, (line c).fits)
 
 part-is-under-start : tie.Need-slice_bounds-is_under-start invariant-loop decreases-loop
-part-is-under-start c = omega (arith, (line c).ranges)
+part-is-under-start c = omega (arith, (line c).fits)
 
 part-is-under-end : tie.Need-slice_bounds-is_under-end invariant-loop decreases-loop
-part-is-under-end c = omega (arith, (line c).ranges)
+part-is-under-end c = omega (arith, (line c).fits)
 
 is-under-requires : tie.Need-is_under-requires invariant-loop decreases-loop
 is-under-requires c κs = search rules
@@ -96,7 +96,7 @@ returns c =
     let a = l.args in (
       value-here a.text.now a.word.now a.separator l.loop-at.at f.find-n.result (line f) (sym (told c.before) ∙ c.if-is_under.true)
           ∙ sym l.loop-at.invariant.1,
-      (omega (arith, short c), (line f).ranges),
+      (omega (arith, short c), (line f).fits),
     )
 
 add_at : tie.Need-overflow_add-at invariant-loop decreases-loop
@@ -110,7 +110,7 @@ loop-again c =
     let f = c.before.before.before in
     let l = f.before.before.before in
     let a = l.args in (
-      omega (arith, (line f).ranges),
+      omega (arith, (line f).fits),
       l.loop-at.invariant.1
           ∙ value-later a.text.now a.word.now a.separator l.loop-at.at f.find-n.result (line f) (sym (told c.before) ∙ c.if-is_under.false),
     )

@@ -1,12 +1,9 @@
 -- `filing::names::hex8` meets its contract: each digit is that of its place. Assumes nothing.
 use mathlib.Core.Path.{refl}
-use borrow.Author.Rules.{rules}
 use Rattle.filing.proofs.names.hex8.Goals as goal
 
 pub returns : goal.returns
 returns c =
-    let d = c in
-    let a = c in
     rw (
       c.hex_digit.ensures,
       c.hex_digit-2.ensures,

@@ -1,6 +1,5 @@
 -- `filing::names::hex_digit` meets its contract: a digit below ten, and a letter from ten on. Assumes nothing.
 use borrow.Author.Tests.{lt-ltb, le-ltb}
-use borrow.Author.Rules.{rules}
 use Rattle.filing.proofs.names.hex_digit.Goals as goal
 
 pub returns-then-low-lt10 : goal.returns-then-low-lt10

@@ -2,7 +2,6 @@
 use mathlib.Core.Path.{refl}
 use Rattle.calendar.specs.Time.{decimal}
 use Rattle.filing.specs.Names.{record_name, part_name}
-use borrow.Author.Rules.{rules}
 use Rattle.filing.proofs.names.part_name.Goals as goal
 
 pub returns : goal.returns

@@ -2,13 +2,11 @@
 use mathlib.Core.Path.{refl}
 use Rattle.calendar.specs.Time.{decimal}
 use Rattle.filing.specs.Names.{record_name}
-use borrow.Author.Rules.{rules}
 use Rattle.filing.proofs.names.record_name.Goals as goal
 
 pub returns : goal.returns
 unfolding record_name decimal
 returns c =
-    let d = c in
     rw (
       c.decimal_digit.ensures,
       c.decimal_digit-2.ensures,

@@ -12,15 +12,9 @@ use Rattle.filing.proofs.names.session_name.Goals as goal
 pub returns : goal.returns
 unfolding session_name
 returns c =
-    let third = c in
-    let second = c in
-    let first = c in
-    let low = c in
-    let high = c in
-    let w = c in
     let a = c.args in
-    let t = time-written c.write_time.result a.clock c.write_time.new.1.0 c.write_time.ensures in
-    let e = name-laid c.write_time.new.1.0 c.hex8-front.result c.hex8-back.result _ _ _
+    let t = time-written c.write_time.result a.clock c.write_time.new.text c.write_time.ensures in
+    let e = name-laid c.write_time.new.text c.hex8-front.result c.hex8-back.result _ _ _
     (ap length t ∙ length-time a.clock)
     (ap length c.hex8-front.ensures) (ap length c.hex8-back.ensures)
     c.copy_into.ensures c.copy_into-2.ensures c.copy_into-3.ensures in

@@ -1,11 +1,7 @@
 -- `filing::note::first_digit` meets its contract. The invariant: what stands before is zeros, which are left out. Assumes nothing.
-use mathlib.Core.Path.{◌≡◌, refl, sym, ◌∙◌}
-use Prim.Native.Nat.{◌+◌, ◌-◌, ◌≤◌}
+use mathlib.Core.Path.{refl, sym, ◌∙◌}
 use native.Mathlib.Omega.{arith}
-use lib.ListN.{length, drop}
-use Rattle.filing.specs.Note.{stripped}
 use Rattle.filing.proofs.NoteText.{strip_last, strip_stop, strip_on, strip_none}
-use borrow.Author.Rules.{rules}
 use Rattle.filing.proofs.note.first_digit.Goals as goal
 
 pub loop-i-init : goal.loop-i-init

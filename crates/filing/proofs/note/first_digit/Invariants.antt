@@ -1,11 +1,8 @@
 -- `filing::note::first_digit` meets its contract. The invariant: what stands before is zeros, which are left out. Assumes nothing.
-use mathlib.Core.Path.{◌≡◌, refl, sym, ◌∙◌}
-use Prim.Native.Nat.{◌+◌, ◌-◌, ◌≤◌}
-use native.Mathlib.Omega.{arith}
+use mathlib.Core.Path.{◌≡◌}
+use Prim.Native.Nat.{◌-◌, ◌≤◌}
 use lib.ListN.{length, drop}
 use Rattle.filing.specs.Note.{stripped}
-use Rattle.filing.proofs.NoteText.{strip_last, strip_stop, strip_on, strip_none}
-use borrow.Author.Rules.{rules}
 use Rattle.filing.proofs.note.first_digit.Given as goal
 
 abbrev pub invariant-loop-i : goal.invariant-loop-i

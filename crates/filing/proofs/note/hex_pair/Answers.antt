@@ -1,6 +1,5 @@
 -- `filing::note::hex_pair` meets its contract: the high digit and the low one. Assumes nothing.
 use mathlib.Core.Path.{refl}
-use borrow.Author.Rules.{rules}
 use Rattle.filing.proofs.note.hex_pair.Goals as goal
 
 pub returns : goal.returns

@@ -1,14 +1,13 @@
 -- `filing::note::put_hex` meets its contract. The invariant: the digits of the bytes that were passed stand in the store. Assumes nothing.
-use mathlib.Core.Path.{◌≡◌, refl, sym, ap, ◌∙◌}
+use mathlib.Core.Path.{refl, ap}
 use mathlib.Core.List.{List, []}
-use Prim.Native.Nat.{ℕ, ◌+◌, ◌-◌, ◌*◌, ◌≤◌}
+use Prim.Native.Nat.{ℕ}
 use native.Mathlib.Omega.{arith}
-use lib.ListN.{length, take}
+use lib.ListN.{length}
 use lib.Seq.{take_all}
 use Rattle.files.specs.Path.{hex_of}
 use Rattle.filing.specs.Note.{Laid}
-use Rattle.filing.proofs.NoteText.{hex_next, length_hex, laid_none, laid_more, laid_as}
-use borrow.Author.Rules.{rules}
+use Rattle.filing.proofs.NoteText.{hex_next, laid_none, laid_more, laid_as}
 use Rattle.filing.proofs.note.put_hex.Goals as goal
 
 -- before the first byte nothing is laid
@@ -24,10 +23,7 @@ put_text-to-requires c = omega (arith, ap length c.hex_pair-two.ensures)
 
 pub loop-i-preserved : goal.loop-i-preserved
 loop-i-preserved c =
-    let t = c in
-    let h = c in
     let l = c.loop-i in
-    let at-a-₁ = c in
     let a = c.args in
     let two = ap length c.hex_pair-two.ensures in
     let e = c.put_text-to.ensures.value.ends in (

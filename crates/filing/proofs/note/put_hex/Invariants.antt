@@ -1,14 +1,9 @@
 -- `filing::note::put_hex` meets its contract. The invariant: the digits of the bytes that were passed stand in the store. Assumes nothing.
-use mathlib.Core.Path.{◌≡◌, refl, sym, ap, ◌∙◌}
-use mathlib.Core.List.{List, []}
-use Prim.Native.Nat.{ℕ, ◌+◌, ◌-◌, ◌*◌, ◌≤◌}
-use native.Mathlib.Omega.{arith}
+use mathlib.Core.Path.{◌≡◌}
+use Prim.Native.Nat.{◌+◌, ◌-◌, ◌*◌, ◌≤◌}
 use lib.ListN.{length, take}
-use lib.Seq.{take_all}
 use Rattle.files.specs.Path.{hex_of}
 use Rattle.filing.specs.Note.{Laid}
-use Rattle.filing.proofs.NoteText.{hex_next, length_hex, laid_none, laid_more, laid_as}
-use borrow.Author.Rules.{rules}
 use Rattle.filing.proofs.note.put_hex.Given as goal
 
 abbrev pub invariant-loop-i : goal.invariant-loop-i

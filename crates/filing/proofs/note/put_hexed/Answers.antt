@@ -1,14 +1,10 @@
 -- `filing::note::put_hexed` meets its contract: three parts stand one behind the other. Assumes nothing.
 use native.Mathlib.Omega.{arith}
 use Rattle.filing.proofs.NoteText.{laid_three}
-use borrow.Author.Rules.{rules}
 use Rattle.filing.proofs.note.put_hexed.Goals as goal
 
 pub returns : goal.returns
 returns c =
-    let third = c in
-    let second = c in
-    let first = c in
     let x = c.put_text-a.ensures in
     let y = c.put_hex-b.ensures in
     let z = c.put_text.ensures in record {

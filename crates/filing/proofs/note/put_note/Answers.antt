@@ -15,30 +15,22 @@ use Rattle.filing.proofs.note.put_note.Goals as goal
 
 pub put_record-a-requires : goal.put_record-a-requires
 put_record-a-requires c =
-    let back₁ = c in
     omega (arith, c.requires)
 
 pub put_sizes-b-requires : goal.put_sizes-b-requires
 put_sizes-b-requires c =
-    let back₁ = c in
     omega (arith, c.requires, c.put_record-a.ensures.small)
 
 pub slice_bounds-put_target-count : goal.slice_bounds-put_target-count
 slice_bounds-put_target-count c =
-    let back₁ = c in
-    let back₂ = c in
     omega (arith, c.requires)
 
 pub slice_bounds-put_target-start : goal.slice_bounds-put_target-start
 slice_bounds-put_target-start c =
-    let back₁ = c in
-    let back₂ = c in
     omega (arith, c.requires)
 
 pub put_target-c-requires : goal.put_target-c-requires
 put_target-c-requires c =
-    let back₁ = c in
-    let back₂ = c in
     omega (
       arith,
       c.requires,
@@ -48,9 +40,6 @@ put_target-c-requires c =
 
 pub put_place-d-requires : goal.put_place-d-requires
 put_place-d-requires c =
-    let back₁ = c in
-    let back₂ = c in
-    let back₃ = c in
     omega (
       arith,
       c.requires,
@@ -61,18 +50,10 @@ put_place-d-requires c =
 
 pub slice_bounds-put_sums-end : goal.slice_bounds-put_sums-end
 slice_bounds-put_sums-end c =
-    let back₁ = c in
-    let back₂ = c in
-    let back₃ = c in
-    let back₄ = c in
     omega (arith, c.requires)
 
 pub put_sums-requires : goal.put_sums-requires
 put_sums-requires c =
-    let back₁ = c in
-    let back₂ = c in
-    let back₃ = c in
-    let back₄ = c in
     omega (
       arith,
       c.requires,
@@ -85,13 +66,6 @@ put_sums-requires c =
 pub returns : goal.returns
 unfolding note_of
 returns c =
-    let fifth = c in
-    let fourth = c in
-    let third = c in
-    let second = c in
-    let first = c in
-    let at-s-₁ = c in
-    let s = c in
     let a = c.args in
     let h = c.requires in
     let x₁ = c.put_record-a.ensures in

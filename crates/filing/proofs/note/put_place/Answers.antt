@@ -2,20 +2,10 @@
 use native.Mathlib.Omega.{arith}
 use mathlib.Core.List.{append_assoc}
 use Rattle.filing.proofs.NoteText.{laid_as, laid_more}
-use borrow.Author.Rules.{rules}
 use Rattle.filing.proofs.note.put_place.Goals as goal
 
 pub returns : goal.returns
 returns c =
-    let back₁ = c in
-    let back₂ = c in
-    let back₃ = c in
-    let back₄ = c in
-    let third = c in
-    let at-second-₁ = c in
-    let second = c in
-    let at-first-₁ = c in
-    let first = c in
     let x = c.put_counted-a.ensures in
     let y = c.put_counted-b.ensures in
     let z = c.put_hexed.ensures in

@@ -10,14 +10,8 @@ use Rattle.filing.proofs.note.put_record.Goals as goal
 
 pub returns : goal.returns
 returns c =
-    let fifth = c in
-    let fourth = c in
-    let third = c in
-    let second = c in
-    let first = c in
-    let w = c in
     let a = c.args in
-    let t = time-written c.write_time.result a.clock c.write_time.new.1.0 c.write_time.ensures in
+    let t = time-written c.write_time.result a.clock c.write_time.new.text c.write_time.ensures in
     let n = ap length t ∙ length-time a.clock in
     let x₁ = c.put_counted-a.ensures in
     let x₂ = c.put_text-b.ensures in

@@ -4,15 +4,10 @@ use native.Mathlib.Omega.{arith}
 use mathlib.Core.List.{append_assoc}
 use borrow.Author.Tests.{eq-eqb, ne_eqb}
 use Rattle.filing.proofs.NoteText.{laid_as, laid_more}
-use borrow.Author.Rules.{rules}
 use Rattle.filing.proofs.note.put_sizes.Goals as goal
 
 pub returns-then-numbers-eq0 : goal.returns-then-numbers-eq0
 returns-then-numbers-eq0 c =
-    let second = c in
-    let i = c in
-    let first = c in
-    let at-a-₁ = c in
     let a = c.args in
     let x = c.put_counted-a.ensures in
     let y = c.put_text.ensures in record {
@@ -22,16 +17,6 @@ returns-then-numbers-eq0 c =
 
 pub returns : goal.returns
 returns c =
-    let back₁ = c in
-    let back₂ = c in
-    let back₃ = c in
-    let back₄ = c in
-    let third = c in
-    let at-second-₁ = c in
-    let second = c in
-    let i = c in
-    let first = c in
-    let at-a-₁ = c in
     let a = c.args in
     let x = c.put_counted-a.ensures in
     let y = c.put_counted-b.ensures in

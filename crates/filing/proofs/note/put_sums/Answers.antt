@@ -4,13 +4,10 @@ use native.Mathlib.Omega.{arith}
 use mathlib.Core.List.{append_assoc}
 use borrow.Author.Tests.{eq-eqb, ne_eqb}
 use Rattle.filing.proofs.NoteText.{laid_as, laid_more}
-use borrow.Author.Rules.{rules}
 use Rattle.filing.proofs.note.put_sums.Goals as goal
 
 pub returns-then-blocks-eq0 : goal.returns-then-blocks-eq0
 returns-then-blocks-eq0 c =
-    let h = c in
-    let at-a-₁ = c in
     let a = c.args in record {
       value = laid_as c.put_hexed-a.ensures.value (rw (eq-eqb a.blocks 0 c.if-blocks-eq0.true) refl);
       small = omega (arith, c.put_hexed-a.ensures.small);
@@ -18,10 +15,6 @@ returns-then-blocks-eq0 c =
 
 pub returns : goal.returns
 returns c =
-    let second = c in
-    let i = c in
-    let first = c in
-    let at-a-₁ = c in
     let a = c.args in
     let x = c.put_hexed-a.ensures in
     let y = c.put_hexed.ensures in record {

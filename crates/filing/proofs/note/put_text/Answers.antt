@@ -1,7 +1,6 @@
 -- `filing::note::put_text` meets its contract: it copies. Assumes nothing.
 use mathlib.Core.Path.{refl}
 use native.Mathlib.Omega.{arith}
-use borrow.Author.Rules.{rules}
 use Rattle.filing.proofs.note.put_text.Goals as goal
 
 pub returns : goal.returns

@@ -1,13 +1,10 @@
 -- `filing::note::write_digits` meets its contract. The invariant: the digits that are left to write, and those that stand already, are all digits.
 -- Assumes nothing.
-use mathlib.Core.Path.{◌≡◌, refl, sym, ap, ◌∙◌}
+use mathlib.Core.Path.{◌≡◌}
 use mathlib.Core.List.{◌++◌}
-use Prim.Native.Nat.{suc, ◌+◌, ◌-◌, ◌%◌, ◌≤◌}
-use native.Mathlib.Omega.{arith}
-use lib.ListN.{length, drop, length-set}
+use Prim.Native.Nat.{◌≤◌}
+use lib.ListN.{length, drop}
 use Rattle.calendar.specs.Time.{decimal}
-use Rattle.filing.proofs.NoteText.{digits_all, digits_next, digits_done}
-use borrow.Author.Rules.{rules}
 use Rattle.filing.proofs.note.write_digits.Given as goal
 
 abbrev pub invariant-loop-i : goal.invariant-loop-i

@@ -7,13 +7,6 @@ use Rattle.filing.proofs.paths.path_below.Goals as goal
 
 pub returns : goal.returns
 returns c =
-    let fourth = c in
-    let third = c in
-    let second = c in
-    let first = c in
-    let f = c in
-    let l = c in
-    let n = c in
     let a = c.args in
     let w = layout c.session_name-name.result c.leaf_of-leaf.result c.file_of-file.result _ _ _ _
     (ap length c.session_name-name.ensures ∙ length-session a.session) (ap length c.leaf_of-leaf.ensures ∙ length_leaf a.place a.number)

@@ -11,9 +11,6 @@ use Rattle.filing.proofs.paths.record_path.Goals as goal
 pub returns : goal.returns
 unfolding record_path
 returns c =
-    let j = c in
-    let f = c in
-    let p = c in
     let a = c.args in record {
       value = c.join.ensures.value ∙ ap (λ (l : List ℕ). fit (in_folder a.folder.now l) a.path.now) (c.front.ensures
           ∙ c.path_below-found.ensures.value);

@@ -2,34 +2,22 @@
 -- nothing.
 use mathlib.Core.Path.{sym, ◌∙◌}
 use native.Mathlib.Omega.{arith}
-use borrow.Author.Tests.{not-true, not-false}
 use Rattle.filing.proofs.Placed.{no_rule, rule_laid}
-use borrow.Author.Rules.{rules}
 use Rattle.filing.proofs.paths.rule_path.Goals as goal
 
 pub returns-then-not-is_file_name : goal.returns-then-not-is_file_name
 returns-then-not-is_file_name c =
-    let k = c in
     let a = c.args in record {
-      value = no_rule a.folder.now a.name.now a.path.now a.target (sym c.is_file_name.ensures ∙ not-true c.is_file_name.result
-          c.if-not-is_file_name.true);
+      value = no_rule a.folder.now a.name.now a.path.now a.target (sym c.is_file_name.ensures ∙ c.if-not-is_file_name.true);
       room = omega arith;
     }
 
 pub returns : goal.returns
 returns c =
-    let j₃ = c in
-    let f₃ = c in
-    let j₂ = c in
-    let f₂ = c in
-    let j₁ = c in
-    let f₁ = c in
-    let s = c in
-    let k = c in
     let a = c.args in record {
       value = rule_laid a.folder.now a.name.now a.path.now _ c.service_folder-service.result.name _ _ _ _ _ a.target
           c.service_folder-service.result.length c.join-n.result c.join-m.result _
-          (sym c.is_file_name.ensures ∙ not-false c.is_file_name.result c.if-not-is_file_name.false) c.front.ensures
+          (sym c.is_file_name.ensures ∙ c.if-not-is_file_name.false) c.front.ensures
           c.service_folder-service.ensures.value
           c.service_folder-service.ensures.room c.join-n.ensures.value c.front-2.ensures c.join-m.ensures.value c.front-3.ensures
           c.join.ensures.value;

@@ -1,13 +1,11 @@
 -- `filing::payload::flag_byte` meets its contract: each flag has its place. Assumes nothing.
 use mathlib.Core.Path.{refl}
 use Rattle.filing.specs.Kinds.{flags_in}
-use borrow.Author.Rules.{rules}
 use Rattle.filing.proofs.payload.flag_byte.Goals as goal
 
 pub returns : goal.returns
 unfolding flags_in
 returns c =
-    let d = c in
     rw (
       c.number-user.ensures.value,
       c.number-only.ensures.value,

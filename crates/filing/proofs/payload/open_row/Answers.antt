@@ -1,7 +1,6 @@
 -- `filing::payload::open_row` meets its contract: numbers and flags stand at their places. Assumes nothing.
 use mathlib.Core.Path.{refl}
 use Rattle.filing.specs.Kinds.{flags_in, open_row}
-use borrow.Author.Rules.{rules}
 use Rattle.filing.proofs.payload.open_row.Goals as goal
 
 pub returns : goal.returns

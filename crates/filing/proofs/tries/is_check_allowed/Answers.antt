@@ -7,7 +7,6 @@ use native.Mathlib.Omega.{arith}
 use lib.Dec.{leb, ltb}
 use lib.ListN.{length, take, drop, length-drop}
 use lib.Seq.{take_all}
-use borrow.Author.Rules.{rules}
 use borrow.Author.Tests.{leb-true, leb-false, lt-ltb, le-ltb}
 use Rattle.journal.specs.Checks.{wrongs, too_many_of}
 use Rattle.filing.specs.Tries.{history_of, last_letters, check_allowed}
@@ -33,7 +32,6 @@ part l from e = take_all (length l - from) (drop from l) (omega (arith, length-d
 
 pub returns : goal.returns
 returns c =
-    let w = c in
     let l = c.args.letters.now in
     let e = c.wrong_letters.ensures ∙ ap (λ (m : List ℕ). wrongs (history_of m)) (part l c.window_at-from.result c.window_at-from.ensures) in
     ap (λ (k : ℕ). ltb k 8) e ∙ may-by (last_letters l) (omega (arith, length-drop (length l - 64) l))

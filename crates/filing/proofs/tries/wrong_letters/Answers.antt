@@ -2,12 +2,10 @@
 -- nothing.
 use mathlib.Core.Path.{◌≡◌}
 use mathlib.Core.List.{[]}
-use Prim.Native.Nat.{◌+◌, ◌-◌, ◌≤◌}
 use native.Mathlib.Omega.{arith}
-use lib.ListN.{length, get_or, drop, drop_of_length-le}
-use borrow.Author.Rules.{rules}
-use Rattle.journal.specs.Checks.{bit, wrongs}
-use Rattle.filing.specs.Tries.{letter_check, history_of}
+use lib.ListN.{get_or, drop, drop_of_length-le}
+use Rattle.journal.specs.Checks.{wrongs}
+use Rattle.filing.specs.Tries.{letter_check}
 use Rattle.filing.proofs.Letters.{bit_most, count_next}
 use Rattle.filing.proofs.tries.wrong_letters.Goals as goal
 
@@ -16,12 +14,10 @@ loop-i-init c = (omega arith, omega arith, omega arith)
 
 pub overflow_add-count : goal.overflow_add-count
 overflow_add-count c =
-    let x = c in
     omega (arith, c.wrong_number-count.ensures, bit_most (letter_check (get_or c.args.letters.now c.loop-i.i 0)))
 
 pub loop-i-preserved : goal.loop-i-preserved
 loop-i-preserved c =
-    let x = c in
     let l = c.loop-i in
     let s = c.args.letters.now in
     let e = c.wrong_number-count.ensures in
@@ -32,7 +28,6 @@ loop-i-preserved c =
 pub returns : goal.returns
 unfolding wrongs
 returns c =
-    let x = c in
     let s = c.args.letters.now in
     let e : drop c.loop-i.i s ≡ [] = drop_of_length-le s {i = c.loop-i.i} (omega arith) in
     let h = rw e at c.loop-i.invariant.2 in
