@@ -4,7 +4,7 @@ use Rattle.std.proofs.Common.{◌≡◌, ℕ, suc, ◌+◌, ◌<◌, ◌≤◌, 
 use mathlib.Core.Bool.{false≢true}
 use borrow.Author.Tests.{eqb-false}
 use Rattle.base.specs.Pick.{pick}
-use Rattle.table.specs.Targets.{target, target_bytes, place_of, target_at, target_set, beside, column_closed, targets_closed}
+use Rattle.table.specs.Targets.{target_bytes, place_of, target_at, target_set, beside, column_closed, targets_closed}
 use Rattle.table.specs.declared.targets.Target.{Target}
 use Rattle.journal.specs.Ids.{member, without}
 use Rattle.journal.specs.Naming.{Opening, target_of}

@@ -1,6 +1,5 @@
 -- `connection::challenge::first_in` meets its contract. It is the definition's test. Assumes nothing.
 use Rattle.connection.specs.Pieces.{first_in}
-use Rattle.std.proofs.Common.{rules}
 use Rattle.connection.proofs.challenge.first_in.Goals as goal
 
 pub returns-then-not-is_readable : goal.returns-then-not-is_readable

@@ -1,5 +1,5 @@
 -- `connection::challenge::is_known` meets its contract. Its branches are the definition's tests. Assumes nothing.
-use Rattle.std.proofs.Common.{rules, eq-eqb, ne_eqb}
+use Rattle.std.proofs.Common.{eq-eqb, ne_eqb}
 use Rattle.connection.proofs.challenge.is_known.Goals as goal
 
 pub returns-then-id-ne-AUTHENTICATE_CHALLENGE : goal.returns-then-id-ne-AUTHENTICATE_CHALLENGE

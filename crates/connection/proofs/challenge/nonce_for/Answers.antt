@@ -1,5 +1,4 @@
 -- `connection::challenge::nonce_for` meets its contract. It is the answered challenge's, where there are credentials. Assumes nothing.
-use Rattle.std.proofs.Common.{rules}
 use Rattle.connection.proofs.challenge.nonce_for.Goals as goal
 
 pub returns-then-not-has_credentials : goal.returns-then-not-has_credentials

@@ -1,5 +1,4 @@
 -- `connection::challenge::verify_client` meets its contract. The two values are taken apart, and each failure is the definition's. Assumes nothing.
-use Rattle.std.proofs.Common.{rules}
 use Rattle.connection.proofs.challenge.verify_client.Goals as goal
 
 pub returns-then-not-has_password : goal.returns-then-not-has_password

@@ -1,5 +1,5 @@
 -- `connection::checks::pushed` meets its contract. The highest bit is dropped before the others move up, so nothing wraps. Assumes nothing.
-use Rattle.std.proofs.Common.{arith, rules}
+use Rattle.std.proofs.Common.{arith}
 use Rattle.connection.proofs.checks.pushed.Goals as goal
 
 pub returns-then-wrong : goal.returns-then-wrong

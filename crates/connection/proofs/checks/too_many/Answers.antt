@@ -1,6 +1,5 @@
 -- `connection::checks::too_many` meets its contract. The count is that of the window, and by it that of the history. Assumes nothing.
 use Rattle.journal.specs.Checks.{too_many_of}
-use Rattle.std.proofs.Common.{rules}
 use Rattle.connection.proofs.checks.too_many.Goals as goal
 
 pub returns : goal.returns

@@ -1,5 +1,5 @@
 -- `connection::connect_reply::answer_size` meets its contract. It adds up the three tags, and the header's three bytes. Assumes nothing.
-use Rattle.std.proofs.Common.{◌≤◌, arith, rules}
+use Rattle.std.proofs.Common.{◌≤◌, arith}
 use Rattle.connection.proofs.connect_reply.answer_size.Goals as goal
 
 pub returns-then-not-has_user : goal.returns-then-not-has_user

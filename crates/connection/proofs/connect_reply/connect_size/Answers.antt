@@ -1,5 +1,5 @@
 -- `connection::connect_reply::connect_size` meets its contract. It is the sum of the pieces, each of which is small. Assumes nothing.
-use Rattle.std.proofs.Common.{arith, rules}
+use Rattle.std.proofs.Common.{arith}
 use Rattle.connection.proofs.Putting.{id_at_most, who_at_most, answer_at_most, grant_at_most}
 use Rattle.connection.proofs.connect_reply.connect_size.Goals as goal
 

@@ -1,7 +1,6 @@
 -- `connection::connect_reply::put_added` meets its contract. SRM stands behind the answer to the challenge. Assumes nothing.
 use Rattle.connection.specs.Pieces.{added_bytes}
 use Rattle.connection.proofs.Putting.{room-left, grant-puts, no_grant}
-use Rattle.std.proofs.Common.{rules}
 use Rattle.connection.proofs.connect_reply.put_added.Goals as goal
 
 pub put_answer-next-requires : goal.put_answer-next-requires

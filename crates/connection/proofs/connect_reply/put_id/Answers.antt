@@ -1,6 +1,5 @@
 -- `connection::connect_reply::put_id` meets its contract. Where there is an id, its header is laid there. Assumes nothing.
 use Rattle.connection.proofs.Putting.{puts-nothing, id_puts}
-use Rattle.std.proofs.Common.{rules}
 use Rattle.connection.proofs.connect_reply.put_id.Goals as goal
 
 pub returns-in_default : goal.returns-in_default

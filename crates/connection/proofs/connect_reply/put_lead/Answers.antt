@@ -1,5 +1,5 @@
 -- `connection::connect_reply::put_lead` meets its contract. Three stores one behind the other are the three bytes there. Assumes nothing.
-use Rattle.std.proofs.Common.{arith, length-set, rules}
+use Rattle.std.proofs.Common.{arith, length-set}
 use Rattle.packet.proofs.Laid.{three_laid}
 use Rattle.connection.proofs.connect_reply.put_lead.Goals as goal
 

@@ -1,5 +1,4 @@
 -- `connection::connect_reply::readable_len` meets its contract. It is the definition's test. Assumes nothing.
-use Rattle.std.proofs.Common.{rules}
 use Rattle.connection.proofs.connect_reply.readable_len.Goals as goal
 
 pub returns-then-not-is_readable : goal.returns-then-not-is_readable

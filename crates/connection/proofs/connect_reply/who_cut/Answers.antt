@@ -1,5 +1,4 @@
 -- `connection::connect_reply::who_cut` meets its contract. Behind an id in front nothing stands before Who; else the first header does. Assumes nothing.
-use Rattle.std.proofs.Common.{rules}
 use Rattle.connection.proofs.connect_reply.who_cut.Goals as goal
 
 pub returns-in-At : goal.returns-in-At

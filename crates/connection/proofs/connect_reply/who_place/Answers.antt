@@ -1,5 +1,4 @@
 -- `connection::connect_reply::who_place` meets its contract. If the host gave no Who, the place is the Target's. Assumes nothing.
-use Rattle.std.proofs.Common.{rules}
 use Rattle.connection.proofs.connect_reply.who_place.Goals as goal
 
 pub returns-in-At : goal.returns-in-At

@@ -1,5 +1,5 @@
 -- `connection::connect_reply::who_size` meets its contract. The header takes three bytes more than its value. Assumes nothing.
-use Rattle.std.proofs.Common.{arith, rules}
+use Rattle.std.proofs.Common.{arith}
 use Rattle.connection.proofs.connect_reply.who_size.Goals as goal
 
 pub overflow_sub-result : goal.overflow_sub-result

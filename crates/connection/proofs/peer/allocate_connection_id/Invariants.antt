@@ -1,8 +1,7 @@
 -- `connection::peer::allocate_connection_id` meets its contract. All candidates passed over are different and are open or reserved, so that
 -- there are at most 65 (`enough`), and the search from the one looked at yields what the search from the counter does. Assumes nothing.
-use Rattle.std.proofs.Common.{◌≡◌, ℕ, suc, ◌+◌, ◌-◌, ◌%◌, ◌^◌, ◌<◌, ◌≤◌, true, false, length, take, sym, refl, ap, ◌∙◌, not-suc-le-zero, arith, length-take-le, rules, below_more}
+use Rattle.std.proofs.Common.{◌≡◌, ℕ, ◌+◌, ◌-◌, ◌%◌, ◌^◌, ◌<◌, ◌≤◌, true, take}
 use Rattle.journal.specs.Ids.{taken, first_free}
-use Rattle.connection.proofs.Open.{enough, passed, found}
 use Rattle.connection.proofs.peer.allocate_connection_id.Given as goal
 
 abbrev pub invariant-loop-at : goal.invariant-loop-at

@@ -1,6 +1,5 @@
 -- `connection::peer::challenged` meets its contract. Only the challenge, the authentication and the count of nonces change. Assumes nothing.
 use Rattle.connection.specs.Peer.{peer_with}
-use Rattle.std.proofs.Common.{rules}
 use Rattle.connection.proofs.peer.challenged.Goals as goal
 
 pub returns : goal.returns

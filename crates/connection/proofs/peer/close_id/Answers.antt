@@ -1,6 +1,6 @@
 -- `connection::peer::close_id` meets its contract. The numbers kept of those gone through stand in front (`Closed`), and what is still to
 -- be read lies behind them. Assumes nothing.
-use Rattle.std.proofs.Common.{◌≡◌, ◌+◌, ◌-◌, ◌<◌, ◌≤◌, length, refl, le_antisymm, arith, rules}
+use Rattle.std.proofs.Common.{◌≡◌, ◌+◌, ◌<◌, length, refl, le_antisymm, arith}
 use Rattle.connection.proofs.Closing.{Closed, closed_none, closed_bounds, closed-keeps, closed_skips}
 use Rattle.connection.proofs.peer.close_id.Goals as goal
 use Rattle.connection.proofs.peer.close_id.Goals.{then-x-closed, else-x-closed}

@@ -1,7 +1,7 @@
 -- `connection::peer::close_id` meets its contract. The numbers kept of those gone through stand in front (`Closed`), and what is still to
 -- be read lies behind them. Assumes nothing.
-use Rattle.std.proofs.Common.{◌≡◌, ◌+◌, ◌-◌, ◌<◌, ◌≤◌, length, refl, ⊎_elim, le_antisymm, arith, rules}
-use Rattle.connection.proofs.Closing.{Closed, closed_none, closed_bounds, closed-keeps, closed_skips}
+use Rattle.std.proofs.Common.{◌≡◌, ◌-◌, ◌≤◌, length}
+use Rattle.connection.proofs.Closing.{Closed}
 use Rattle.connection.proofs.peer.close_id.Given as goal
 
 abbrev pub invariant-loop-i : goal.invariant-loop-i

@@ -1,5 +1,5 @@
 -- `connection::peer::close_link` meets its contract: taking the Target out leaves the ids, which are closed then. Assumes nothing.
-use Rattle.std.proofs.Common.{refl, arith, rules}
+use Rattle.std.proofs.Common.{refl, arith}
 use Rattle.table.proofs.Columns.{columns_front}
 use Rattle.connection.specs.Peer.{closed_tables}
 use Rattle.connection.proofs.peer.close_link.Goals as goal

@@ -1,5 +1,4 @@
 -- `connection::peer::disconnected` meets its contract. If it names no id, all is cleared; else that id is closed, by `close_link`. Assumes nothing.
-use Rattle.std.proofs.Common.{rules}
 use Rattle.connection.proofs.peer.disconnected.Goals as goal
 
 pub returns-in_default : goal.returns-in_default

@@ -1,6 +1,5 @@
 -- `connection::peer::is_open` meets its contract. What is left to search decides the membership, as no number passed was the id. Assumes nothing.
-use Rattle.std.proofs.Common.{◌≡◌, ◌-◌, ◌≤◌, get_or, take, drop, sym, refl, ◌∙◌, arith, rules, eq-eqb, ne_eqb}
-use Rattle.journal.specs.Ids.{member}
+use Rattle.std.proofs.Common.{◌≡◌, get_or, sym, refl, ◌∙◌, arith, eq-eqb, ne_eqb}
 use Rattle.connection.proofs.Open.{turn, at_end}
 use Rattle.connection.proofs.peer.is_open.Goals as goal
 

@@ -1,7 +1,6 @@
 -- `connection::peer::is_open` meets its contract. What is left to search decides the membership, as no number passed was the id. Assumes nothing.
-use Rattle.std.proofs.Common.{◌≡◌, ◌-◌, ◌≤◌, get_or, take, drop, sym, refl, ◌∙◌, arith, rules, eq-eqb, ne_eqb}
+use Rattle.std.proofs.Common.{◌≡◌, ◌-◌, ◌≤◌, take, drop}
 use Rattle.journal.specs.Ids.{member}
-use Rattle.connection.proofs.Open.{turn, at_end}
 use Rattle.connection.proofs.peer.is_open.Given as goal
 
 abbrev pub invariant-loop-i : goal.invariant-loop-i

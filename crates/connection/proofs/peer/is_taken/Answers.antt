@@ -1,5 +1,5 @@
 -- `connection::peer::is_taken` meets its contract. The reserved id is passed over before any is looked up. Assumes nothing.
-use Rattle.std.proofs.Common.{rules, eq-eqb, ne_eqb}
+use Rattle.std.proofs.Common.{eq-eqb, ne_eqb}
 use Rattle.connection.proofs.peer.is_taken.Goals as goal
 
 pub returns-then-id-eq-INVALID_ID : goal.returns-then-id-eq-INVALID_ID

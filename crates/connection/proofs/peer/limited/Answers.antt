@@ -1,5 +1,4 @@
 -- `connection::peer::limited` meets its contract. Only the limit changes. Assumes nothing.
-use Rattle.std.proofs.Common.{rules}
 use Rattle.connection.specs.Peer.{peer_with}
 use Rattle.connection.proofs.peer.limited.Goals as goal
 

@@ -1,5 +1,5 @@
 -- `connection::peer::opened` meets its contract. Its tests are those of the definition, in its order. Assumes nothing.
-use Rattle.std.proofs.Common.{take, sym, ◌∙◌, arith, length-set, length-take, rules, le-leb}
+use Rattle.std.proofs.Common.{take, sym, ◌∙◌, arith, length-set, length-take, le-leb}
 use borrow.Author.Tests.{lt-leb}
 use Rattle.table.proofs.Naming.{length-target-set}
 use Rattle.connection.specs.Peer.{opened}

@@ -1,5 +1,5 @@
 -- `connection::peer::opened_for` meets its contract. It goes by the answer's id and the Target as the definition does. Assumes nothing.
-use Rattle.std.proofs.Common.{ap, rules}
+use Rattle.std.proofs.Common.{ap}
 use Rattle.connection.specs.declared.peer.ConnectionId.TheVariants.{Id, Missing}
 use Rattle.connection.specs.Peer.{Opens, answer_from}
 use Rattle.connection.proofs.peer.opened_for.Goals as goal

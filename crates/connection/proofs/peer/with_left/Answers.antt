@@ -1,5 +1,5 @@
 -- `connection::peer::with_left` meets its contract: the definition asks the same of the count. Assumes nothing.
-use Rattle.std.proofs.Common.{rules, eq-eqb, ne_eqb}
+use Rattle.std.proofs.Common.{eq-eqb, ne_eqb}
 use Rattle.connection.specs.Peer.{peer_with}
 use Rattle.connection.proofs.peer.with_left.Goals as goal
 

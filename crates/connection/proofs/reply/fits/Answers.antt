@@ -1,5 +1,5 @@
 -- `connection::reply::fits` meets its contract. Its tests are the definition's, without a sum that could wrap. Assumes nothing.
-use Rattle.std.proofs.Common.{◌+◌, arith, rules}
+use Rattle.std.proofs.Common.{◌+◌, arith}
 use Rattle.connection.proofs.Replies.{too_large, replaced, whole}
 use Rattle.connection.proofs.reply.fits.Goals as goal
 

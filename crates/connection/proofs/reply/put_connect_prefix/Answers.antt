@@ -1,5 +1,5 @@
 -- `connection::reply::put_connect_prefix` meets its contract. The prefix stands in front, and four stores behind it are Connect's fields. Assumes nothing.
-use Rattle.std.proofs.Common.{arith, length-set, rules}
+use Rattle.std.proofs.Common.{arith, length-set}
 use Rattle.connection.proofs.Replies.{prefix_fields}
 use Rattle.connection.proofs.reply.put_connect_prefix.Goals as goal
 

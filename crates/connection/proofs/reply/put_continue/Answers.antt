@@ -1,5 +1,5 @@
 -- `connection::reply::put_continue` meets its contract. Its five bytes, or three, are those of the definition. Assumes nothing.
-use Rattle.std.proofs.Common.{refl, rules}
+use Rattle.std.proofs.Common.{refl}
 use Rattle.connection.proofs.Replies.{prefix-two}
 use Rattle.packet.specs.Packet.{packet_bytes}
 use Rattle.connection.proofs.reply.put_continue.Goals as goal

@@ -1,6 +1,5 @@
 -- `connection::reply::put_reply_code` meets its contract. It is a packet of nothing but its prefix. Assumes nothing.
 use Rattle.packet.specs.Packet.{packet_bytes}
-use Rattle.std.proofs.Common.{rules}
 use Rattle.connection.proofs.reply.put_reply_code.Goals as goal
 
 pub returns : goal.returns

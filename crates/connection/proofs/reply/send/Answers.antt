@@ -1,5 +1,5 @@
 -- `connection::reply::send` meets its contract. It is decided by the length first; then the pieces go one after the other. Assumes nothing.
-use Rattle.std.proofs.Common.{◌+◌, ◌≤◌, [], length, refl, ◌∙◌, arith, rules}
+use Rattle.std.proofs.Common.{◌+◌, ◌≤◌, [], length, refl, ◌∙◌, arith}
 use Rattle.packet.specs.Codes.{sent_code}
 use Rattle.connection.proofs.Replies.{sent-none, sent_replaced, sent-whole, whole-fits, prefix_alone, prefix-headers}
 use Rattle.connection.proofs.reply.send.Goals as goal

@@ -1,7 +1,7 @@
 -- `connection::request::connect_request` meets its contract. The invariant: what is noted and what is left give the places (`Walked`).
-use Rattle.std.proofs.Common.{◌-◌, length, sym, ◌∙◌, arith, rules}
+use Rattle.std.proofs.Common.{sym, ◌∙◌, arith}
 use Rattle.packet.proofs.HeaderBytes.{header_at_within}
-use Rattle.connection.proofs.Requests.{Walked, begins, goes_on, ends, stops}
+use Rattle.connection.proofs.Requests.{begins, goes_on, ends, stops}
 use Rattle.connection.proofs.request.connect_request.Goals as goal
 
 pub loop-id-init : goal.loop-id-init

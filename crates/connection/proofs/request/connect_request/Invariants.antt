@@ -1,7 +1,6 @@
 -- `connection::request::connect_request` meets its contract. The invariant: what is noted and what is left give the places (`Walked`).
-use Rattle.std.proofs.Common.{◌-◌, length, sym, ◌∙◌, arith, rules}
-use Rattle.packet.proofs.HeaderBytes.{header_at_within}
-use Rattle.connection.proofs.Requests.{Walked, begins, goes_on, ends, stops}
+use Rattle.std.proofs.Common.{◌-◌, length}
+use Rattle.connection.proofs.Requests.{Walked}
 use Rattle.connection.proofs.request.connect_request.Given as goal
 
 abbrev pub invariant-loop-id : goal.invariant-loop-id

@@ -1,6 +1,5 @@
 -- `connection::request::note` meets its contract: each place is noted as the definition says.
 use Rattle.connection.specs.Request.{noted_request}
-use Rattle.std.proofs.Common.{rules}
 use Rattle.connection.proofs.request.note.Goals as goal
 
 pub returns : goal.returns

@@ -1,5 +1,5 @@
 -- `connection::request::noted` meets its contract: the test is the definition's, and a place that was found stays.
-use Rattle.std.proofs.Common.{rules, eq-eqb, ne_eqb}
+use Rattle.std.proofs.Common.{eq-eqb, ne_eqb}
 use Rattle.connection.proofs.request.noted.Goals as goal
 
 pub returns-then-id-wanted : goal.returns-then-id-wanted
