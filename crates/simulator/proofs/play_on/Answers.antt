@@ -30,8 +30,7 @@ loop-left-preserved c =
     let e = c.take_turn-g.ensures in
     let n = turn-counted c.args.bytes.now m in
     let p = ap (λ (y : Moment). y.game.packets) e in
-    let q = ap (λ (y : Moment). y.game.requests) e in
-    (
+    let q = ap (λ (y : Moment). y.game.requests) e in (
       plays-one c.args.bytes.now c.loop-left.left m _ (omega arith) c.if-g.false e ∙ c.loop-left.invariant.0,
       (omega (arith, n.packets, p, c.loop-left.invariant.1.0), omega (arith, n.requests, q, c.loop-left.invariant.1.1)),
     )

@@ -37,8 +37,7 @@ packet_done-requires c =
     let k = c.args in
     let s = stores k.packet.now k.headers.now k.body.now k.reply.now in
     let g : GoesLent kind.FromPeer k.e s k.tables.now = going-lent kind.FromPeer _ _ _ _ c.guard_lent.ensures c.in_default.is in
-    let w = c.read_packet-f.ensures.whole c.in-Whole.is in
-    (
+    let w = c.read_packet-f.ensures.whole c.in-Whole.is in (
       omega (arith, w.0),
       omega (arith, w.1, g.goes.room.packet),
       g.goes.bounds.count,

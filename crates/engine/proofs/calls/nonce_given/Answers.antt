@@ -69,7 +69,7 @@ returns c =
     let g : GoesLent kind.NonceGiven k.e s k.tables.now = going-lent kind.NonceGiven _ _ _ _ c.guard_lent.ensures c.in_default.is in
     let header = bytes_of (challenge_header (octets16 k.nonce) (options_of k.e.settings) (realm_of k.e.settings k.realm.now)) in
     let bytes : Peer → Option (List ℕ)
-        = λ p. send_bytes p.remote_max_packet_length 0x41 (fields_of k.e.settings.max_packet_length) header in
+    = λ p. send_bytes p.remote_max_packet_length 0x41 (fields_of k.e.settings.max_packet_length) header in
     let p = c.challenged-peer.result in
     ap₂ (λ (x : Stepped) (u : List ℕ). called x u)
     (sent-stepped k.e s p (bytes p) _ _ _ c.send_challenge-sent.ensures c.sent_plan.ensures c.took.ensures

@@ -50,7 +50,7 @@ copy_into-requires c =
     let s = stores k.packet.now k.headers.now k.body.now k.reply.now in
     let g : Goes kind.ObjectGiven k.e s = going kind.ObjectGiven _ _ _ c.guard.ensures c.in_default.is in
     let fits : length k.header_bytes.now ≤ length k.headers.now
-        = omega (arith, good_length k.header_bytes.now _ c.is_bad_headers.ensures c.if-is_bad_headers.false, g.room.headers) in
+    = omega (arith, good_length k.header_bytes.now _ c.is_bad_headers.ensures c.if-is_bad_headers.false, g.room.headers) in
     omega (arith, fits)
 
 pub sends_next-requires : goal.sends_next-requires
@@ -59,7 +59,7 @@ sends_next-requires c =
     let s = stores k.packet.now k.headers.now k.body.now k.reply.now in
     let g : Goes kind.ObjectGiven k.e s = going kind.ObjectGiven _ _ _ c.guard.ensures c.in_default.is in
     let fits : length k.header_bytes.now ≤ length k.headers.now
-        = omega (arith, good_length k.header_bytes.now _ c.is_bad_headers.ensures c.if-is_bad_headers.false, g.room.headers) in
+    = omega (arith, good_length k.header_bytes.now _ c.is_bad_headers.ensures c.if-is_bad_headers.false, g.room.headers) in
     let f = c.copy_into.ensures ∙ store-front k.header_bytes.now k.headers.now fits in
     let h = ap (λ (x : List ℕ). length x) f ∙ front_length k.header_bytes.now k.headers.now fits in
     let t = ap (λ (x : Outgoing). x.total) c.object_of-o.ensures in
@@ -72,7 +72,7 @@ returns c =
     let s = stores k.packet.now k.headers.now k.body.now k.reply.now in
     let g : Goes kind.ObjectGiven k.e s = going kind.ObjectGiven _ _ _ c.guard.ensures c.in_default.is in
     let fits : length k.header_bytes.now ≤ length k.headers.now
-        = omega (arith, good_length k.header_bytes.now _ c.is_bad_headers.ensures c.if-is_bad_headers.false, g.room.headers) in
+    = omega (arith, good_length k.header_bytes.now _ c.is_bad_headers.ensures c.if-is_bad_headers.false, g.room.headers) in
     object-goes k.e.operation _ _ _ _ c.in-Getting.is
     k.e k.header_bytes.now _ c.is_bad_headers.ensures k.has_body s c.if-is_bad_headers.false _ _ _ _
     c.sends_next.ensures c.object_of-o.ensures c.either.ensures

@@ -47,8 +47,7 @@ pub connect_answer-requires : goal.connect_answer-requires
 connect_answer-requires c =
     let k = c.args in
     let s = stores k.packet.now k.headers.now k.body.now k.reply.now in
-    let g : GoesLent kind.ReplyGiven k.e s k.tables.now = going-lent kind.ReplyGiven _ _ _ _ c.guard_lent.ensures c.in_default.is in
-    (
+    let g : GoesLent kind.ReplyGiven k.e s k.tables.now = going-lent kind.ReplyGiven _ _ _ _ c.guard_lent.ensures c.in_default.is in (
       g.goes.bounds.count,
       g.tables,
       g.goes.room.reply,

@@ -28,8 +28,7 @@ slice_bounds-connect_sends-end c =
 pub connect_sends-requires : goal.connect_sends-requires
 connect_sends-requires c =
     let k = c.args in
-    let p = c.requires in
-    (
+    let p = c.requires in (
       p.3,
       p.1,
       (prefix_in _ _ (waiting-length _ _ _ _ _ c.in-Connecting.is p.0) p.2).short,

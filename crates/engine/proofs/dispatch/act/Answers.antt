@@ -20,7 +20,7 @@ pub handle_connect-requires : goal.handle_connect-requires
 handle_connect-requires c =
     let a = c.args in
     let way : packet_route a.e a.p.now a.tables.now ≡ c.route_packet-routed.result.route
-        = ap (λ (x : Routed). x.route) (sym c.route_packet-routed.ensures) in
+    = ap (λ (x : Routed). x.route) (sym c.route_packet-routed.ensures) in
     ready_at a.e a.e.target a.p.now a.tables.now _ (way ∙ c.in-Connect.is) c.requires.4
 
 pub gather_packet-requires : goal.gather_packet-requires
@@ -28,9 +28,9 @@ unfolding engine_with
 gather_packet-requires c =
     let a = c.args in
     let way : packet_route a.e a.p.now a.tables.now ≡ c.route_packet-routed.result.route
-        = ap (λ (x : Routed). x.route) (sym c.route_packet-routed.ensures) in
+    = ap (λ (x : Routed). x.route) (sym c.route_packet-routed.ensures) in
     let here : c.with_target-at.result ≡ targeted a.e (packet_target (request_of a.p.now) a.e a.tables.now)
-        = c.with_target-at.ensures ∙ ap (λ (x : Routed). targeted a.e x.target) c.route_packet-routed.ensures in
+    = c.with_target-at.ensures ∙ ap (λ (x : Routed). targeted a.e x.target) c.route_packet-routed.ensures in
     let g = packet_target (request_of a.p.now) a.e a.tables.now in
     let y = ready_at a.e g a.p.now a.tables.now _ (way ∙ c.in-Gather.is) c.requires.4 in
     rw here (y.0, y.1, c.requires.5, c.requires.6)
@@ -40,9 +40,9 @@ unfolding engine_with
 object_plan-requires c =
     let a = c.args in
     let way : packet_route a.e a.p.now a.tables.now ≡ c.route_packet-routed.result.route
-        = ap (λ (x : Routed). x.route) (sym c.route_packet-routed.ensures) in
+    = ap (λ (x : Routed). x.route) (sym c.route_packet-routed.ensures) in
     let here : c.with_target-at.result ≡ targeted a.e (packet_target (request_of a.p.now) a.e a.tables.now)
-        = c.with_target-at.ensures ∙ ap (λ (x : Routed). targeted a.e x.target) c.route_packet-routed.ensures in
+    = c.with_target-at.ensures ∙ ap (λ (x : Routed). targeted a.e x.target) c.route_packet-routed.ensures in
     let g = packet_target (request_of a.p.now) a.e a.tables.now in
     let y = ready_at a.e g a.p.now a.tables.now _ (way ∙ c.in-Send.is) c.requires.4 in
     let z = outgoing_within c.in-Send.outgoing y.0 y.1 in
@@ -53,9 +53,9 @@ returns-in-Plain c =
     λ q.
     let a = c.args in
     let way : packet_route a.e a.p.now a.tables.now ≡ c.route_packet-routed.result.route
-        = ap (λ (x : Routed). x.route) (sym c.route_packet-routed.ensures) in
+    = ap (λ (x : Routed). x.route) (sym c.route_packet-routed.ensures) in
     let here : c.with_target-at.result ≡ targeted a.e (packet_target (request_of a.p.now) a.e a.tables.now)
-        = c.with_target-at.ensures ∙ ap (λ (x : Routed). targeted a.e x.target) c.route_packet-routed.ensures in
+    = c.with_target-at.ensures ∙ ap (λ (x : Routed). targeted a.e x.target) c.route_packet-routed.ensures in
     let g = packet_target (request_of a.p.now) a.e a.tables.now in
     let s = stores q a.headers.now a.body.now a.reply.now in
     by_route a.e g a.p.now a.tables.now s _ _ (way ∙ c.in-Plain.is)
@@ -66,9 +66,9 @@ returns-in-Connect c =
     λ q.
     let a = c.args in
     let way : packet_route a.e a.p.now a.tables.now ≡ c.route_packet-routed.result.route
-        = ap (λ (x : Routed). x.route) (sym c.route_packet-routed.ensures) in
+    = ap (λ (x : Routed). x.route) (sym c.route_packet-routed.ensures) in
     let here : c.with_target-at.result ≡ targeted a.e (packet_target (request_of a.p.now) a.e a.tables.now)
-        = c.with_target-at.ensures ∙ ap (λ (x : Routed). targeted a.e x.target) c.route_packet-routed.ensures in
+    = c.with_target-at.ensures ∙ ap (λ (x : Routed). targeted a.e x.target) c.route_packet-routed.ensures in
     let g = packet_target (request_of a.p.now) a.e a.tables.now in
     let s = stores q a.headers.now a.body.now a.reply.now in
     by_route a.e g a.p.now a.tables.now s _ _ (way ∙ c.in-Connect.is)
@@ -79,9 +79,9 @@ returns-in-Gather c =
     λ q.
     let a = c.args in
     let way : packet_route a.e a.p.now a.tables.now ≡ c.route_packet-routed.result.route
-        = ap (λ (x : Routed). x.route) (sym c.route_packet-routed.ensures) in
+    = ap (λ (x : Routed). x.route) (sym c.route_packet-routed.ensures) in
     let here : c.with_target-at.result ≡ targeted a.e (packet_target (request_of a.p.now) a.e a.tables.now)
-        = c.with_target-at.ensures ∙ ap (λ (x : Routed). targeted a.e x.target) c.route_packet-routed.ensures in
+    = c.with_target-at.ensures ∙ ap (λ (x : Routed). targeted a.e x.target) c.route_packet-routed.ensures in
     let g = packet_target (request_of a.p.now) a.e a.tables.now in
     let s = stores q a.headers.now a.body.now a.reply.now in
     by_route a.e g a.p.now a.tables.now s _ _ (way ∙ c.in-Gather.is)
@@ -92,9 +92,9 @@ returns-in-Send c =
     λ q.
     let a = c.args in
     let way : packet_route a.e a.p.now a.tables.now ≡ c.route_packet-routed.result.route
-        = ap (λ (x : Routed). x.route) (sym c.route_packet-routed.ensures) in
+    = ap (λ (x : Routed). x.route) (sym c.route_packet-routed.ensures) in
     let here : c.with_target-at.result ≡ targeted a.e (packet_target (request_of a.p.now) a.e a.tables.now)
-        = c.with_target-at.ensures ∙ ap (λ (x : Routed). targeted a.e x.target) c.route_packet-routed.ensures in
+    = c.with_target-at.ensures ∙ ap (λ (x : Routed). targeted a.e x.target) c.route_packet-routed.ensures in
     let g = packet_target (request_of a.p.now) a.e a.tables.now in
     let s = stores q a.headers.now a.body.now a.reply.now in
     by_route a.e g a.p.now a.tables.now s _ _ (way ∙ c.in-Send.is)
