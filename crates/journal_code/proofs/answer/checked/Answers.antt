@@ -14,5 +14,5 @@ returns-then-s c = c.quiet.ensures ∙ on_true _ _ _ c.if-s.true
 pub returns : goal.returns
 unfolding checked_state
 returns c =
-    c.Standing-by.ensures ∙ ap (λ (p : Peer). standing_by c.args.s p) c.checked_peer.ensures
+    c.standing_by.ensures ∙ ap (λ (p : Peer). standing_by c.args.s p) c.checked_peer.ensures
     ∙ on_false _ _ _ c.if-s.false

@@ -1,6 +1,5 @@
 -- `journal_code::answer::connect` meets its contract: a success opens the id that is due, and any other code changes nothing.
 use mathlib.Core.Path.{sym, ap, ◌∙◌}
-use borrow.Author.Tests.{not-true, not-false}
 use Rattle.connection.specs.Peer.{Answers}
 use Rattle.journal_code.specs.Answer.{stands_answered, connected_step}
 use borrow.Author.Rules.{rules}
@@ -10,8 +9,8 @@ pub returns-then-not-is_success : goal.returns-then-not-is_success
 unfolding connected_step
 returns-then-not-is_success c =
     rw (
-      sym c.is_success_lem.ensures
-          ∙ not-true c.is_success_lem.result c.if-not-is_success.true,
+      sym c.is_success.ensures
+          ∙ c.if-not-is_success.true,
       c.quiet.ensures,
     )
 
@@ -21,10 +20,10 @@ returns c =
     let c5 = c in
     let c10 = c in
     rw (
-      sym c.is_success_lem.ensures
-          ∙ not-false c.is_success_lem.result c.if-not-is_success.false,
+      sym c.is_success.ensures
+          ∙ c.if-not-is_success.false,
       ← c.is_srm_on-srm.ensures,
       ← c.first_id-given.ensures,
-      c.Standing-by.ensures,
+      c.standing_by.ensures,
     )
-    (ap (λ (a : Answers). stands_answered c.args.s a) c.opened_for_lem.ensures)
+    (ap (λ (a : Answers). stands_answered c.args.s a) c.opened_for-a.ensures)

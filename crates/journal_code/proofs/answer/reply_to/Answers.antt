@@ -26,6 +26,6 @@ pub returns-in-Disconnect : goal.returns-in-Disconnect
 returns-in-Disconnect c =
     let k = c in
     let l = c in
-    rw c.Standing-by.ensures
+    rw c.standing_by.ensures
     (ap (λ (y : Linked). stands_linked c.args.s y) c.disconnected-peer.ensures
     ∙ sym (ap (λ (y : Last). reply_step y c.args.s c.args.code c.args.hs.now c.args.tables.now) c.in-Disconnect.is))

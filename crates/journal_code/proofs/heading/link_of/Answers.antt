@@ -21,7 +21,7 @@ returns-then-not-is_open c =
     rw (
       not-false c.args.v.has_id c.if-not-v.false,
       sym c.is_open.ensures
-          ∙ not-true c.is_open.result c.if-not-is_open.true,
+          ∙ c.if-not-is_open.true,
       c.unnamed-then-not-is_open.ensures,
     )
 
@@ -30,7 +30,7 @@ target_at-requires c =
     let k = c in
     let x = c.args in
     let m : member x.v.id (take x.count x.tables.now) ≡ true = sym c.is_open.ensures
-    ∙ not-false c.is_open.result c.if-not-is_open.false in (
+    ∙ c.if-not-is_open.false in (
       omega (
         arith,
         c.find_place-place.ensures,
@@ -47,7 +47,7 @@ returns c =
     let k = c in
     rw (
       not-false c.args.v.has_id c.if-not-v.false,
-      sym c.is_open.ensures ∙ not-false c.is_open.result c.if-not-is_open.false,
+      sym c.is_open.ensures ∙ c.if-not-is_open.false,
       c.target_at.ensures,
       c.find_place-place.ensures,
     )

@@ -1,20 +1,19 @@
 -- `journal_code::receive::peer_after` meets its contract: only a Connect that is stopped, with nothing open, changes the peer.
 use mathlib.Core.Path.{sym, ◌∙◌}
-use borrow.Author.Tests.{not-true, not-false}
 use Rattle.journal_code.specs.Receive.{peer_after}
 use borrow.Author.Rules.{rules}
 use Rattle.journal_code.proofs.receive.peer_after.Goals as goal
 
 pub returns-then-not-same : goal.returns-then-not-same
 unfolding peer_after
-returns-then-not-same c = rw (sym c.same.ensures ∙ not-true c.same.result c.if-not-same.true)
+returns-then-not-same c = rw (sym c.same.ensures ∙ c.if-not-same.true)
 
 pub returns-then-is_busy : goal.returns-then-is_busy
 unfolding peer_after
 returns-then-is_busy c =
     rw (
       sym c.same.ensures
-          ∙ not-false c.same.result c.if-not-same.false,
+          ∙ c.if-not-same.false,
       sym
           c.is_busy.ensures ∙ c.if-is_busy.true,
     )
@@ -24,10 +23,10 @@ unfolding peer_after
 returns-then-is_stopped c =
     let k = c in
     rw (
-      sym c.same.ensures ∙ not-false c.same.result c.if-not-same.false,
+      sym c.same.ensures ∙ c.if-not-same.false,
       sym
           c.is_busy.ensures ∙ c.if-is_busy.false,
-      sym c.is_stopped_lem.ensures
+      sym c.is_stopped.ensures
           ∙ c.if-is_stopped.true,
     ) c.with_check.ensures
 
@@ -36,9 +35,9 @@ unfolding peer_after
 returns c =
     let k = c in
     rw (
-      sym c.same.ensures ∙ not-false c.same.result c.if-not-same.false,
+      sym c.same.ensures ∙ c.if-not-same.false,
       sym
           c.is_busy.ensures ∙ c.if-is_busy.false,
-      sym c.is_stopped_lem.ensures
+      sym c.is_stopped.ensures
           ∙ c.if-is_stopped.false,
     )

@@ -3,7 +3,6 @@
 use mathlib.Core.Path.{sym, ap, ◌∙◌}
 use native.Mathlib.Omega.{arith}
 use lib.Seq.{length-take-le}
-use borrow.Author.Tests.{not-true, not-false}
 use Rattle.journal_code.specs.declared.state.State.{State}
 use Rattle.journal_code.proofs.Picks.{on_true, on_false}
 use Rattle.journal_code.specs.Receive.{came, received_step}
@@ -24,14 +23,14 @@ returns-then-not-is_fitting c =
     let k = c in
     ap (λ (r : State). came r c.args.packet.now c.args.headers.now
     c.args.body.now) c.quiet-then-not-is_fitting.ensures
-    ∙ on_false _ _ _ (sym c.is_fitting.ensures ∙ not-true c.is_fitting.result c.if-not-is_fitting.true)
+    ∙ on_false _ _ _ (sym c.is_fitting.ensures ∙ c.if-not-is_fitting.true)
     ∙ on_false _ _ _ c.if-s.false
 
 pub read_packet-f-requires : goal.read_packet-f-requires
 read_packet-f-requires c =
     let k = c in
     let w = fits c.args.s _ _ _ _
-    (sym c.is_fitting.ensures ∙ not-false c.is_fitting.result c.if-not-is_fitting.false) in
+    (sym c.is_fitting.ensures ∙ c.if-not-is_fitting.false) in
     (w.begun, w.packet)
 
 pub slice_bounds-take_packet-end : goal.slice_bounds-take_packet-end
@@ -43,7 +42,7 @@ slice_bounds-take_packet-end c =
       c.read_packet-f.ensures.whole c.in-Whole.is,
       c.packet-1.given,
       (fits c.args.s _ _ _ _
-          (sym c.is_fitting.ensures ∙ not-false c.is_fitting.result c.if-not-is_fitting.false)).packet,
+          (sym c.is_fitting.ensures ∙ c.if-not-is_fitting.false)).packet,
     )
 
 pub slice_bounds-take_packet-end-in-Whole : goal.slice_bounds-take_packet-end-in-Whole
@@ -56,7 +55,7 @@ slice_bounds-take_packet-end-in-Whole c =
       c.read_packet-f.ensures.whole c.in-Whole.is,
       c.packet-1.given,
       (fits c.args.s _ _ _ _ (sym c.is_fitting.ensures
-          ∙ not-false c.is_fitting.result c.if-not-is_fitting.false)).packet,
+          ∙ c.if-not-is_fitting.false)).packet,
     )))
 
 pub take_packet-requires : goal.take_packet-requires
@@ -65,7 +64,7 @@ take_packet-requires c =
     let l = c in
     let j = c in
     let w = fits c.args.s _ _ _ _
-    (sym c.is-fitting.ensures ∙ not-false c.is-fitting.result c.if-not-is_fitting.false) in
+    (sym c.is_fitting.ensures ∙ c.if-not-is_fitting.false) in
     (w.count, w.tables, w.headers, w.body, w.kept, w.within)
 
 pub returns-in-More : goal.returns-in-More
@@ -78,7 +77,7 @@ returns-in-More c =
     (goes_on c.args.s c.args.tables.now c.args.headers.now c.args.body.now _ _ _
     c.read_packet-f.ensures.model c.in-More.is
     ∙ on_true _ _ _ (sym c.is_fitting.ensures
-    ∙ not-false c.is_fitting.result c.if-not-is_fitting.false)
+    ∙ c.if-not-is_fitting.false)
     ∙ on_false _ _ _ c.if-s.false)
 
 pub returns-in-Short : goal.returns-in-Short
@@ -91,7 +90,7 @@ returns-in-Short c =
     (too_short c.args.s c.args.tables.now c.args.headers.now c.args.body.now _ _ _
     c.read_packet-f.ensures.model c.in-Short.is
     ∙ on_true _ _ _ (sym c.is_fitting.ensures
-    ∙ not-false c.is_fitting.result c.if-not-is_fitting.false)
+    ∙ c.if-not-is_fitting.false)
     ∙ on_false _ _ _ c.if-s.false)
 
 pub returns-in-Whole : goal.returns-in-Whole
@@ -104,5 +103,5 @@ returns-in-Whole c =
     is_whole c.args.s c.args.tables.now c.args.headers.now
     c.args.body.now _ _ _ c.read_packet-f.ensures.model
     c.in-Whole.is _ _ _ c.take_packet.ensures
-    ∙ on_true _ _ _ (sym c.is-fitting.ensures ∙ not-false c.is-fitting.result c.if-not-is_fitting.false)
+    ∙ on_true _ _ _ (sym c.is_fitting.ensures ∙ c.if-not-is_fitting.false)
     ∙ on_false _ _ _ c.if-s.false

@@ -1,6 +1,5 @@
 -- `journal_code::route::trailing_route` meets its contract: what trails is refused, and any other packet is read as with nothing open.
 use mathlib.Core.Path.{sym, ◌∙◌}
-use borrow.Author.Tests.{not-true, not-false}
 use Rattle.journal_code.specs.Route.{trailing_route}
 use borrow.Author.Rules.{rules}
 use Rattle.journal_code.proofs.route.trailing_route.Goals as goal
@@ -8,7 +7,7 @@ use Rattle.journal_code.proofs.route.trailing_route.Goals as goal
 pub returns-then-not-is_trailing : goal.returns-then-not-is_trailing
 unfolding trailing_route
 returns-then-not-is_trailing c =
-    rw (sym c.is_trailing.ensures ∙ not-true c.is_trailing.result c.if-not-is_trailing.true)
+    rw (sym c.is_trailing.ensures ∙ c.if-not-is_trailing.true)
     c.first_route.ensures
 
 pub returns-then-h : goal.returns-then-h
@@ -16,7 +15,7 @@ unfolding trailing_route
 returns-then-h c =
     rw (
       sym c.is_trailing.ensures
-          ∙ not-false c.is_trailing.result c.if-not-is_trailing.false,
+          ∙ c.if-not-is_trailing.false,
       c.if-h.true,
     )
 
@@ -25,6 +24,6 @@ unfolding trailing_route
 returns c =
     rw (
       sym c.is_trailing.ensures
-          ∙ not-false c.is_trailing.result c.if-not-is_trailing.false,
+          ∙ c.if-not-is_trailing.false,
       c.if-h.false,
     )
