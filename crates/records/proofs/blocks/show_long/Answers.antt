@@ -1,0 +1,10 @@
+-- `records::blocks::show_long` meets its contract: the stores have the lengths that they are made with. Assumes nothing.
+use borrow.Author.Rules.{rules}
+use Rattle.lines.proofs.Filled.{filled}
+use Rattle.records.proofs.blocks.show_long.Goals as goal
+
+pub slice_bounds-show-end : goal.slice_bounds-show-end
+slice_bounds-show-end g c = filled 131072 0
+
+pub slice_bounds-show-end-2 : goal.slice_bounds-show-end-2
+slice_bounds-show-end-2 g c = filled 1048576 0xEE
