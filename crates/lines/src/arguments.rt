@@ -22,3 +22,13 @@ pub fn has_argument(rt: &impl Env, i: usize) -> bool {
         Err(FillError::NotPresent) => false,
     }
 }
+
+// Returns how many words there are, with the program's name.
+pub fn argument_count(rt: &impl Env) -> usize {
+    for i in 0..usize::MAX {
+        if !has_argument(rt, i) {
+            return i;
+        }
+    }
+    usize::MAX
+}

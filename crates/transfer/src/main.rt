@@ -8,15 +8,22 @@ mod order;
 mod say;
 mod words;
 
-use crate::file::CLOSED;
+ghost use Rattle.std.specs.Prelude.{◌≤◌, length, IfOk};
+
 use crate::words::{Demand, HEADERS};
 use client::calls;
 use client_model::{Body, CallResult, Client, Outcome, Settings};
 use digest::md5::Octets16;
-use libc::{STDERR_FILENO, STDIN_FILENO, STDOUT_FILENO};
-use lines::output::least;
+use files::fault::fail;
+use lines::input::read;
+use lines::output::{least, print};
 use packet::response::{UNAUTHORIZED, is_success};
+use std::env::Env;
+use std::fs::Files;
+use std::io;
+use std::io::Read;
 use std::num::wrapping_add_usize;
+use std::random::RandomSource;
 
 // How many bytes are read at most at once.
 const CHUNK: usize = 65536;
@@ -47,8 +54,7 @@ pub struct State {
     // What of the input store was read, and not taken by the client.
     from: usize,
     to: usize,
-    // The file, and how long the path is of one that is written.
-    fd: i32,
+    // How long the path is of a file that is written.
     path: usize,
     // How many packets of the operation went and parts came, and how many body bytes.
     events: usize,
@@ -83,14 +89,13 @@ enum Step {
     Abort,
 }
 
-fn begun(fd: i32) -> State {
+fn begun() -> State {
     State {
         at: At {
             stage: Stage::Connecting,
         },
         from: 0,
         to: 0,
-        fd,
         path: 0,
         events: 0,
         bytes: 0,
@@ -172,7 +177,7 @@ fn after_refused(stage: Stage) -> Step {
 }
 
 // Whether the user aborts in the place of the packet that waits, or does not take the part that waits.
-fn aborts(s: State) -> bool {
+fn aborts(rt: &impl Env, s: State) -> bool {
     let stage = stage_of(s);
     if !is_working(stage) {
         return false;
@@ -180,14 +185,14 @@ fn aborts(s: State) -> bool {
     if s.is_aborted {
         return false;
     }
-    if !order::has_word(b"abort") {
+    if !order::has_word(rt, b"abort") {
         return false;
     }
-    s.events == order::events_before_abort()
+    s.events == order::events_before_abort(rt)
 }
 
-fn unless_aborted(s: State, step: Step) -> Step {
-    if aborts(s) {
+fn unless_aborted(rt: &impl Env, s: State, step: Step) -> Step {
+    if aborts(rt, s) {
         return Step::Abort;
     }
     step
@@ -201,14 +206,14 @@ fn size_of(body: Body) -> usize {
 }
 
 // Returns what the program does next.
-fn step_of(s: State, outcome: Outcome) -> Step {
+fn step_of(rt: &impl Env, s: State, outcome: Outcome) -> Step {
     let stage = stage_of(s);
     match outcome {
         Outcome::Ready => Step::Connect,
-        Outcome::Send { length } => unless_aborted(s, Step::Send(length)),
+        Outcome::Send { length } => unless_aborted(rt, s, Step::Send(length)),
         Outcome::WantsBytes => Step::Hear,
         Outcome::Read { room } => Step::Give(room),
-        Outcome::Part { kept: _, body } => unless_aborted(s, Step::Take(size_of(body))),
+        Outcome::Part { kept: _, body } => unless_aborted(rt, s, Step::Take(size_of(body))),
         Outcome::Done { code, length: _ } => after_done(stage, code),
         Outcome::Stopped { code: _, length: _ } => Step::Leave,
         Outcome::Aborted { code: _, length: _ } => Step::Leave,
@@ -218,11 +223,11 @@ fn step_of(s: State, outcome: Outcome) -> Step {
 }
 
 // Returns the number of the operation's name that is told.
-fn name_of(stage: Stage) -> usize {
+fn name_of(rt: &impl Env, stage: Stage) -> usize {
     match stage {
         Stage::Connecting => 0,
         Stage::Answering => 0,
-        Stage::Working => { if order::is_put() { 1 } else { 2 } }
+        Stage::Working => { if order::is_put(rt) { 1 } else { 2 } }
         Stage::Leaving => 3,
     }
 }
@@ -248,22 +253,28 @@ fn is_accepted(outcome: Outcome) -> bool {
 }
 
 // Tells what became of a request, and ends the file that was written once the operation is over.
-fn told(s: State, outcome: Outcome, path: &[u8; PATH]) -> State {
+fn told<R: Env + Files>(
+    rt: &R,
+    err: &impl Print,
+    held: &mut Option<R::File>,
+    s: State,
+    outcome: Outcome,
+    path: &[u8; PATH],
+) -> State {
     if !is_told(outcome) {
         return s;
     }
     let stage = stage_of(s);
-    say::outcome(name_of(stage), outcome);
+    say::outcome(err, name_of(rt, stage), outcome);
     if !is_working(stage) {
         return s;
     }
     let mut r = s;
     r.is_done = is_accepted(outcome);
-    if order::is_put() {
+    if order::is_put(rt) {
         return r;
     }
-    r.is_done = file::end(s.fd, front(path, s.path), is_accepted(outcome));
-    r.fd = CLOSED;
+    r.is_done = file::end(rt, err, held, front(path, s.path), is_accepted(outcome));
     r
 }
 
@@ -271,6 +282,7 @@ fn told(s: State, outcome: Outcome, path: &[u8; PATH]) -> State {
 
 // Calls Connect with the Target, if there is one.
 fn connect(
+    rt: &impl Env,
     c: Client,
     s: State,
     words: &mut [u8; HEADERS],
@@ -279,7 +291,7 @@ fn connect(
     body: &mut [u8; STORE],
     request: &mut [u8; STORE],
 ) -> Turned {
-    let n = words::put_target(words);
+    let n = words::put_target(rt, words);
     Turned {
         took: calls::connect(c, front(words, n), packet, headers, body, request),
         state: s,
@@ -288,6 +300,7 @@ fn connect(
 
 // Calls Connect again, with the answer to a nonce.
 fn answer(
+    rt: &impl Env,
     c: Client,
     s: State,
     nonce: Octets16,
@@ -297,7 +310,7 @@ fn answer(
     body: &mut [u8; STORE],
     request: &mut [u8; STORE],
 ) -> Turned {
-    let n = words::put_answered(words, nonce);
+    let n = words::put_answered(rt, words, nonce);
     Turned {
         took: calls::connect(c, front(words, n), packet, headers, body, request),
         state: with_stage(s, Stage::Answering),
@@ -305,8 +318,8 @@ fn answer(
 }
 
 // Returns what the response in the packet store asks for, if there is a password to answer with.
-fn demanded(c: Client, packet: &[u8; STORE]) -> Demand {
-    if !order::has_word(b"password") {
+fn demanded(rt: &impl Env, c: Client, packet: &[u8; STORE]) -> Demand {
+    if !order::has_word(rt, b"password") {
         return Demand::Nothing;
     }
     words::demand_in(front(packet, c.length))
@@ -314,6 +327,7 @@ fn demanded(c: Client, packet: &[u8; STORE]) -> Demand {
 
 // Calls the operation.
 fn work(
+    rt: &impl Env,
     c: Client,
     s: State,
     words: &mut [u8; HEADERS],
@@ -322,9 +336,9 @@ fn work(
     body: &mut [u8; STORE],
     request: &mut [u8; STORE],
 ) -> Turned {
-    let n = words::put_name(words);
+    let n = words::put_name(rt, words);
     let state = with_stage(s, Stage::Working);
-    if order::is_put() {
+    if order::is_put(rt) {
         return Turned {
             took: calls::put(c, front(words, n), true, packet, headers, body, request),
             state,
@@ -344,6 +358,8 @@ fn with_event(s: State) -> State {
 
 // Sends the packet that waits. One that cannot be sent ends the transfer.
 fn send(
+    rt: &impl Print,
+    err: &impl Print,
     c: Client,
     s: State,
     length: usize,
@@ -352,18 +368,20 @@ fn send(
     body: &mut [u8; STORE],
     request: &mut [u8; STORE],
 ) -> Turned {
-    let is_sent = io::write_all(STDOUT_FILENO, front(request, length));
+    let sent = rt.write_all(front(request, length));
     let took = calls::request_sent(c, packet, headers, body, request);
-    if is_sent {
-        return Turned {
+    match sent {
+        Ok(()) => Turned {
             took,
             state: counted(s),
-        };
-    }
-    os::fail(b"output");
-    Turned {
-        took,
-        state: quit(s),
+        },
+        Err(e) => {
+            fail(err, b"output", &e);
+            Turned {
+                took,
+                state: quit(s),
+            }
+        }
     }
 }
 
@@ -384,17 +402,17 @@ fn with_input(s: State, from: usize, to: usize) -> State {
 }
 
 // Reads standard input once if nothing is left of it. If nothing is left after that, the stream has ended.
-fn refilled(s: State, input: &mut [u8; CHUNK]) -> State {
+fn refilled(from: &mut impl Read, s: State, input: &mut [u8; CHUNK]) -> State {
     if s.from < s.to {
         return s;
     }
-    let got = libc::read(STDIN_FILENO, input);
-    let n = io::count(got, input);
+    let n = read(from, input);
     with_input(s, 0, n)
 }
 
 // Offers the server's bytes, or tells the client that the stream has ended.
 fn hear(
+    from: &mut impl Read,
     c: Client,
     before: State,
     input: &mut [u8; CHUNK],
@@ -403,7 +421,7 @@ fn hear(
     body: &mut [u8; STORE],
     request: &mut [u8; STORE],
 ) -> Turned {
-    let s = refilled(before, input);
+    let s = refilled(from, before, input);
     let offered = between(input, s.from, s.to);
     if offered.len() == 0 {
         return Turned {
@@ -431,15 +449,19 @@ fn with_abort(s: State) -> State {
 }
 
 // Reads once, at most `room` bytes.
-fn read_some(fd: i32, room: usize, store: &mut [u8]) -> isize {
+fn read_some<F: Read>(held: &mut Option<F>, room: usize, store: &mut [u8]) -> io::Result<usize>
+    ensures { IfOk result (λ n. n ≤ length store.new) }
+{
     if room < store.len() {
-        return libc::read(fd, &mut store[0..room]);
+        return file::read(held, &mut store[0..room]);
     }
-    libc::read(fd, store)
+    file::read(held, store)
 }
 
 // Gives the next bytes of the file, as many as there is room for. A file that cannot be read on is an Abort.
-fn give(
+fn give<F: Read>(
+    err: &impl Print,
+    held: &mut Option<F>,
     c: Client,
     s: State,
     room: usize,
@@ -449,36 +471,43 @@ fn give(
     body: &mut [u8; STORE],
     request: &mut [u8; STORE],
 ) -> Turned {
-    let got = read_some(s.fd, room, chunk);
-    if got < 0 {
-        os::fail(b"file");
-        return Turned {
-            took: calls::abort(c, packet, headers, body, request),
-            state: with_abort(s),
-        };
-    }
-    let n = io::count(got, chunk);
-    Turned {
-        took: calls::body_given(c, front(chunk, n), packet, headers, body, request),
-        state: with_bytes(s, n),
+    match read_some(held, room, chunk) {
+        Ok(n) => Turned {
+            took: calls::body_given(c, front(chunk, n), packet, headers, body, request),
+            state: with_bytes(s, n),
+        },
+        Err(e) => {
+            fail(err, b"file", &e);
+            Turned {
+                took: calls::abort(c, packet, headers, body, request),
+                state: with_abort(s),
+            }
+        }
     }
 }
 
 // Makes the file that is written if there is none yet.
-fn opened(s: State, path: &mut [u8; PATH]) -> State {
-    if 0 <= s.fd {
+fn opened<R: Env + Files + RandomSource>(
+    rt: &R,
+    err: &impl Print,
+    held: &mut Option<R::File>,
+    s: State,
+    path: &mut [u8; PATH],
+) -> State {
+    if held.is_some() {
         return s;
     }
-    let part = file::create(path);
     let mut r = s;
-    r.fd = part.fd;
-    r.path = part.length;
+    r.path = file::create(rt, err, held, path);
     r
 }
 
 // Writes the body bytes of a part. A file that cannot be written is an Abort; it is refused after the last part, and then the transfer has
 // failed, since no file was written.
-fn take(
+fn take<R: Env + Files + RandomSource>(
+    rt: &R,
+    err: &impl Print,
+    held: &mut Option<R::File>,
     c: Client,
     before: State,
     size: usize,
@@ -488,17 +517,19 @@ fn take(
     body: &mut [u8; STORE],
     request: &mut [u8; STORE],
 ) -> Turned {
-    let s = opened(before, path);
-    if io::write_all(s.fd, front(body, size)) {
-        return Turned {
+    let s = opened(rt, err, held, before, path);
+    match file::write(held, front(body, size)) {
+        Ok(()) => Turned {
             took: calls::part_taken(c, packet, headers, body, request),
             state: with_bytes(with_event(s), size),
-        };
-    }
-    os::fail(b"write");
-    Turned {
-        took: calls::abort(c, packet, headers, body, request),
-        state: with_abort(s),
+        },
+        Err(e) => {
+            fail(err, b"write", &e);
+            Turned {
+                took: calls::abort(c, packet, headers, body, request),
+                state: with_abort(s),
+            }
+        }
     }
 }
 
@@ -506,6 +537,7 @@ fn take(
 
 // Does a step in which the client is called with headers, or makes the last call.
 fn begin(
+    rt: &impl Env,
     c: Client,
     s: State,
     step: Step,
@@ -516,8 +548,8 @@ fn begin(
     request: &mut [u8; STORE],
 ) -> Turned {
     match step {
-        Step::Connect => connect(c, s, words, packet, headers, body, request),
-        Step::Work => work(c, s, words, packet, headers, body, request),
+        Step::Connect => connect(rt, c, s, words, packet, headers, body, request),
+        Step::Work => work(rt, c, s, words, packet, headers, body, request),
         Step::Leave => Turned {
             took: calls::disconnect(c, b"", packet, headers, body, request),
             state: with_stage(s, Stage::Leaving),
@@ -531,6 +563,7 @@ fn begin(
 
 // Answers a challenge. Without one, or without a password, the transfer is over.
 fn challenged(
+    rt: &impl Env,
     last: CallResult,
     s: State,
     words: &mut [u8; HEADERS],
@@ -540,8 +573,8 @@ fn challenged(
     request: &mut [u8; STORE],
 ) -> Turned {
     let c = last.client;
-    match demanded(c, packet) {
-        Demand::Nonce(nonce) => answer(c, s, nonce, words, packet, headers, body, request),
+    match demanded(rt, c, packet) {
+        Demand::Nonce(nonce) => answer(rt, c, s, nonce, words, packet, headers, body, request),
         Demand::Nothing => Turned {
             took: last,
             state: quit(s),
@@ -550,7 +583,11 @@ fn challenged(
 }
 
 // Does the next step.
-fn turn(
+fn turn<R: Env + Files + Print + RandomSource>(
+    from: &mut impl Read,
+    rt: &R,
+    err: &impl Print,
+    held: &mut Option<R::File>,
     last: CallResult,
     before: State,
     input: &mut [u8; CHUNK],
@@ -564,19 +601,19 @@ fn turn(
 ) -> Turned {
     let c = last.client;
     let outcome = last.outcome;
-    let s = told(before, outcome, path);
-    let step = step_of(s, outcome);
+    let s = told(rt, err, held, before, outcome, path);
+    let step = step_of(rt, s, outcome);
     match step {
-        Step::Send(n) => send(c, s, n, packet, headers, body, request),
-        Step::Hear => hear(c, s, input, packet, headers, body, request),
-        Step::Give(n) => give(c, s, n, chunk, packet, headers, body, request),
-        Step::Take(n) => take(c, s, n, path, packet, headers, body, request),
-        Step::Answer => challenged(last, s, words, packet, headers, body, request),
+        Step::Send(n) => send(rt, err, c, s, n, packet, headers, body, request),
+        Step::Hear => hear(from, c, s, input, packet, headers, body, request),
+        Step::Give(n) => give(err, held, c, s, n, chunk, packet, headers, body, request),
+        Step::Take(n) => take(rt, err, held, c, s, n, path, packet, headers, body, request),
+        Step::Answer => challenged(rt, last, s, words, packet, headers, body, request),
         Step::Quit => Turned {
             took: last,
             state: quit(s),
         },
-        _ => begin(c, s, step, words, packet, headers, body, request),
+        _ => begin(rt, c, s, step, words, packet, headers, body, request),
     }
 }
 
@@ -587,8 +624,11 @@ fn is_over(t: Turned) -> bool {
 
 // Takes turns until the transfer is over, and returns the last state. A proved loop has to end, and nothing says that the server does, so
 // the turns are counted down from a number that no run uses up.
-fn transfer(
-    fd: i32,
+fn transfer<R: Env + Files + Print + RandomSource>(
+    from: &mut impl Read,
+    rt: &R,
+    err: &impl Print,
+    held: &mut Option<R::File>,
     input: &mut [u8; CHUNK],
     chunk: &mut [u8; CHUNK],
     words: &mut [u8; HEADERS],
@@ -604,12 +644,13 @@ fn transfer(
     };
     let mut t = Turned {
         took: calls::start(settings, packet, headers, body, request),
-        state: begun(fd),
+        state: begun(),
     };
     let mut left = u64::MAX;
     while left > 0 {
         t = turn(
-            t.took, t.state, input, chunk, words, path, packet, headers, body, request,
+            from, rt, err, held, t.took, t.state, input, chunk, words, path, packet, headers, body,
+            request,
         );
         if is_over(t) {
             return t.state;
@@ -620,22 +661,27 @@ fn transfer(
 }
 
 // Opens the file that is put. One that is got is made once its first bytes come.
-fn opened_file() -> i32 {
-    if order::is_put() {
-        return file::open();
+fn opened_file<R: Env + Files>(rt: &R, err: &impl Print) -> Option<R::File> {
+    if order::is_put(rt) {
+        return file::open(rt, err);
     }
-    CLOSED
+    None
 }
 
 // Whether there is no file to put.
-fn is_missing(fd: i32) -> bool {
-    if order::is_put() {
-        return fd < 0;
+fn is_missing(rt: &impl Env, is_open: bool) -> bool {
+    if order::is_put(rt) {
+        return !is_open;
     }
     false
 }
 
-fn run(fd: i32) {
+fn run<R: Env + Files + Print + RandomSource>(
+    from: &mut impl Read,
+    rt: &R,
+    err: &impl Print,
+    held: &mut Option<R::File>,
+) {
     let mut input = [0u8; CHUNK];
     let mut chunk = [0u8; CHUNK];
     let mut words = [0u8; HEADERS];
@@ -645,7 +691,10 @@ fn run(fd: i32) {
     let mut body = [0u8; STORE];
     let mut request = [0u8; STORE];
     let s = transfer(
-        fd,
+        from,
+        rt,
+        err,
+        held,
         &mut input,
         &mut chunk,
         &mut words,
@@ -655,21 +704,21 @@ fn run(fd: i32) {
         &mut body,
         &mut request,
     );
-    say::end(s.is_done, s.bytes);
+    say::end(err, s.is_done, s.bytes);
 }
 
-fn main() {
-    if !order::is_clear() {
-        io::write_all(
-            STDERR_FILENO,
+fn main(rt: HostRuntime) {
+    if !order::is_clear(&rt) {
+        print(
+            &rt.stderr(),
             b"usage: transfer put|get NAME FILE [target HEX] [user TEXT] [password TEXT] [abort N]\n",
         );
         return;
     }
-    let fd = opened_file();
-    if is_missing(fd) {
-        say::end(false, 0);
+    let mut held = opened_file(&rt, &rt.stderr());
+    if is_missing(&rt, held.is_some()) {
+        say::end(&rt.stderr(), false, 0);
         return;
     }
-    run(fd);
+    run(&mut rt.stdin(), &rt, &rt.stderr(), &mut held);
 }

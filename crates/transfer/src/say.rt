@@ -1,8 +1,7 @@
 // What became of each request, in lines on standard error. The last line says `transferred N bytes` or `failed`.
 use base::wide;
 use client_model::{Outcome, end_number, refusal_number};
-use libc::STDERR_FILENO;
-use lines::output::{least, put, put_byte, put_line_at, put_number};
+use lines::output::{least, print, put, put_byte, put_line_at, put_number};
 
 // What a line says behind the operation's name.
 #[derive(Clone, Copy)]
@@ -12,9 +11,9 @@ enum Said {
     Nothing,
 }
 
-fn write(out: &[u8], n: usize) {
+fn write(err: &impl Print, out: &[u8], n: usize) {
     let k = least(n, out.len());
-    io::write_all(STDERR_FILENO, &out[0..k]);
+    print(err, &out[0..k]);
 }
 
 fn said_of(outcome: Outcome) -> Said {
@@ -50,23 +49,23 @@ fn put_said(out: &mut [u8], n: usize, said: Said) -> usize {
 }
 
 // Tells what became of the operation with the number `k`: connect, put, get or disconnect.
-pub(crate) fn outcome(k: usize, outcome: Outcome) {
+pub(crate) fn outcome(err: &impl Print, k: usize, outcome: Outcome) {
     let mut out = [0u8; 64];
     let a = put_line_at(&mut out, 0, b"connect\nput\nget\ndisconnect\n", k);
     let b = put_said(&mut out, a, said_of(outcome));
     let c = put(&mut out, b, b"\n");
-    write(&out, c);
+    write(err, &out, c);
 }
 
 // Tells how the transfer ended.
-pub(crate) fn end(is_done: bool, bytes: usize) {
+pub(crate) fn end(err: &impl Print, is_done: bool, bytes: usize) {
     if !is_done {
-        io::write_all(STDERR_FILENO, b"failed\n");
+        print(err, b"failed\n");
         return;
     }
     let mut out = [0u8; 64];
     let a = put(&mut out, 0, b"transferred ");
     let b = put_number(&mut out, a, bytes);
     let c = put(&mut out, b, b" bytes\n");
-    write(&out, c);
+    write(err, &out, c);
 }
