@@ -3,7 +3,10 @@
 ghost use Rattle.std.specs.Prelude.{◌≤◌, length};
 
 use files::error::is_missing;
+use files::fault::number_of;
 use files::path::{Folder, LONGEST_FOLDER, front, service_folder};
+use files::system;
+use std::fs::Files;
 use table::targets::Target;
 
 // How long a path may be: the name of a service's folder, a slash, and a name of 255 bytes.
@@ -27,24 +30,22 @@ pub(crate) fn join(folder: Folder, file: &[u8], path: &mut [u8]) -> usize
 
 // Returns whether there is such a folder. One that cannot be opened is there, so that the files of its service do not go elsewhere; a file of
 // its name, which a client may have put there, is no folder.
-fn is_there(folder: Folder) -> bool {
+fn is_there<R: Files>(rt: &R, folder: Folder) -> bool {
     let mut path = [0u8; LONGEST];
     let n = join(folder, b".", &mut path);
-    let fd = os::open_read(&path[0..n]);
-    if fd < 0 {
-        return !is_missing(os::errno());
+    match system::open(rt, &path[0..n]) {
+        Ok(_) => true,
+        Err(e) => !is_missing(number_of(&e)),
     }
-    libc::close(fd);
-    true
 }
 
 // Returns the folder in which a request that names `target` finds its file.
-pub(crate) fn folder_of(target: Target) -> Folder {
+pub(crate) fn folder_of<R: Files>(rt: &R, target: Target) -> Folder {
     let folder = service_folder(target);
     if folder.length == 0 {
         return folder;
     }
-    if is_there(folder) {
+    if is_there(rt, folder) {
         return folder;
     }
     working()

@@ -1,17 +1,18 @@
 // What is done, in lines on standard error.
-use crate::file::Opened;
+use files::fault::fail;
 use files::path::front;
 use host::names::put_name;
-use libc::STDERR_FILENO;
 use lines::output;
+use lines::output::print;
 use packet::response::{
     CONFLICT, CONTINUE_BYTE, FORBIDDEN, INTERNAL_SERVER_ERROR, NOT_FOUND, NOT_IMPLEMENTED, SUCCESS,
     SUCCESS_BYTE,
 };
 use server::{HostRequest, Operation};
+use std::io;
 
-fn write(out: &[u8], n: usize) {
-    io::write_all(STDERR_FILENO, front(out, n));
+fn write(err: &impl Print, out: &[u8], n: usize) {
+    print(err, front(out, n));
 }
 
 // Returns the sign by which the log shows the byte `b`, which stands behind `before`. A peer names its files, and no control character of
@@ -67,37 +68,30 @@ fn put_size(out: &mut [u8], n: usize, size: usize, code: u8) -> usize {
 }
 
 // Tells of a Put of `size` bytes to the file `name`, by the code of the reply.
-pub(crate) fn put(name: &[u8], size: usize, code: u8) {
+pub(crate) fn put(err: &impl Print, name: &[u8], size: usize, code: u8) {
     let mut out = [0u8; 400];
     let a = output::put(&mut out, 0, b"put ");
     let b = put_text(&mut out, a, name);
     let c = put_size(&mut out, b, size, code);
     let d = put_code(&mut out, c, code);
     let n = output::put(&mut out, d, b"\n");
-    write(&out, n);
+    write(err, &out, n);
 }
 
-fn code_of(opened: Opened) -> u8 {
-    match opened {
-        Opened::File(_) => SUCCESS,
-        Opened::Code(code) => code,
-    }
-}
-
-// Tells of a Get of the file `name`, and why it could not be opened, if so.
-pub(crate) fn get(name: &[u8], opened: Opened) {
+// Tells of a Get of the file `name`, by the code that says why it could not be opened, or by Success.
+pub(crate) fn get(err: &impl Print, name: &[u8], code: u8) {
     let mut out = [0u8; 400];
     let a = output::put(&mut out, 0, b"get ");
     let b = put_text(&mut out, a, name);
-    let c = put_code(&mut out, b, code_of(opened));
+    let c = put_code(&mut out, b, code);
     let n = output::put(&mut out, c, b"\n");
-    write(&out, n);
+    write(err, &out, n);
 }
 
 // Tells of a file whose bytes could not be read on.
-pub(crate) fn get_failed() {
-    os::fail(b"read");
-    io::write_all(STDERR_FILENO, b"get failed 50\n");
+pub(crate) fn get_failed(err: &impl Print, e: &io::Error) {
+    fail(err, b"read", e);
+    print(err, b"get failed 50\n");
 }
 
 // Returns which line of the names in `own_reply` is that of a packet's first byte.
@@ -117,7 +111,7 @@ fn line_of(opcode: u8) -> usize {
 
 // Tells of a reply that the engine gave without asking, such as that to a Put over the limit or to a packet that cannot be read. `opcode`
 // is the packet's first byte, `code` the reply's. Continue and Success are no news.
-pub(crate) fn own_reply(opcode: u8, code: u8) {
+pub(crate) fn own_reply(err: &impl Print, opcode: u8, code: u8) {
     if code == CONTINUE_BYTE {
         return;
     }
@@ -130,35 +124,35 @@ pub(crate) fn own_reply(opcode: u8, code: u8) {
     let b = output::put(&mut out, a, b" refused ");
     let c = output::put_byte(&mut out, b, code % 128);
     let n = output::put(&mut out, c, b"\n");
-    write(&out, n);
+    write(err, &out, n);
 }
 
 // Tells of a Put or a Get that was open when the session ended. Nothing is stored of a Put that is cut off.
-pub(crate) fn cut_off(operation: Operation) {
+pub(crate) fn cut_off(err: &impl Print, operation: Operation) {
     match operation {
         Operation::Putting { .. } => {
-            io::write_all(STDERR_FILENO, b"put cut off\n");
+            print(err, b"put cut off\n");
         }
         Operation::Sending { .. } => {
-            io::write_all(STDERR_FILENO, b"get cut off\n");
+            print(err, b"get cut off\n");
         }
         _ => {}
     }
 }
 
 // Tells of a request by its name alone.
-pub(crate) fn request(request: HostRequest) {
+pub(crate) fn request(err: &impl Print, request: HostRequest) {
     let mut out = [0u8; 32];
     let a = put_name(&mut out, 0, request);
     let n = output::put(&mut out, a, b"\n");
-    write(&out, n);
+    write(err, &out, n);
 }
 
 // Tells with which number the session ended.
-pub(crate) fn end(number: u8) {
+pub(crate) fn end(err: &impl Print, number: u8) {
     let mut out = [0u8; 16];
     let a = output::put(&mut out, 0, b"end ");
     let b = output::put_number(&mut out, a, base::wide(number));
     let n = output::put(&mut out, b, b"\n");
-    write(&out, n);
+    write(err, &out, n);
 }

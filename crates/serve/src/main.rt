@@ -9,18 +9,24 @@ mod folder;
 mod log;
 mod path;
 
-use crate::answers::{Answered, CHUNK, answer};
+use crate::answers::{CHUNK, answer};
 use engine::calls;
+use files::fault::fail;
 use files::path::front;
 use host::feed::{INPUT, Rest, Step, feed, over};
-use libc::{STDERR_FILENO, STDOUT_FILENO};
+use lines::arguments::{argument, has_argument};
+use lines::output::print;
 use server::{CallResult, Engine, Operation, Outcome, Settings, default_settings};
+use std::env::Env;
+use std::fs::Files;
+use std::io::Read;
+use std::process::id;
+use std::random::RandomSource;
 
-// The last step, the file that is being sent, or -1, and whether a reply could not be sent.
+// The last step, and whether a reply could not be sent.
 #[derive(Clone, Copy)]
 struct Serving {
     step: Step,
-    file: i32,
     lost: bool,
 }
 
@@ -31,33 +37,28 @@ fn settings() -> Settings {
     s
 }
 
-fn after_call(took: CallResult, rest: Rest, file: i32) -> Serving {
+fn after_call(took: CallResult, rest: Rest) -> Serving {
     Serving {
         step: Step { took, rest },
-        file,
         lost: false,
     }
 }
 
-fn after_answer(a: Answered, rest: Rest) -> Serving {
-    let took = a.took;
-    after_call(took, rest, a.file)
-}
-
 // Tells what the peer's bytes led to without a request: a reply of the engine's own, or the end inside an operation.
-fn tell(before: Operation, outcome: Outcome, opcode: u8, code: u8) {
+fn tell(err: &impl Print, before: Operation, outcome: Outcome, opcode: u8, code: u8) {
     match outcome {
-        Outcome::Reply { length: _ } => log::own_reply(opcode, code),
-        Outcome::End(_) => log::cut_off(before),
+        Outcome::Reply { length: _ } => log::own_reply(err, opcode, code),
+        Outcome::End(_) => log::cut_off(err, before),
         _ => {}
     }
 }
 
 // Offers the peer's bytes, and tells what they led to.
 fn hear(
+    from: &mut impl Read,
+    err: &impl Print,
     e: Engine,
     rest: Rest,
-    file: i32,
     input: &mut [u8; INPUT],
     tables: &mut [u64; 320],
     packet: &mut [u8; 65535],
@@ -65,20 +66,20 @@ fn hear(
     body: &mut [u8; 1048576],
     reply: &mut [u8; 65535],
 ) -> Serving {
-    let step = feed(e, rest, input, tables, packet, headers, body, reply);
+    let step = feed(
+        from, err, e, rest, input, tables, packet, headers, body, reply,
+    );
     let took = step.took;
     let before = e.operation;
     let outcome = took.outcome;
-    tell(before, outcome, packet[0], reply[0]);
-    Serving {
-        step,
-        file,
-        lost: false,
-    }
+    tell(err, before, outcome, packet[0], reply[0]);
+    Serving { step, lost: false }
 }
 
 // Sends the reply, and says that it was taken only if it was. A reply that cannot be sent ends the session.
 fn send(
+    rt: &impl Print,
+    err: &impl Print,
     e: Engine,
     length: usize,
     s: Serving,
@@ -87,26 +88,22 @@ fn send(
     body: &mut [u8; 1048576],
     reply: &mut [u8; 65535],
 ) -> Serving {
-    if io::write_all(STDOUT_FILENO, front(reply, length)) {
-        let step = s.step;
-        let rest = step.rest;
-        return after_call(
-            calls::reply_taken(e, packet, headers, body, reply),
-            rest,
-            s.file,
-        );
-    }
-    os::fail(b"output");
     let step = s.step;
-    Serving {
-        step,
-        file: s.file,
-        lost: true,
+    if let Err(e) = rt.write_all(front(reply, length)) {
+        fail(err, b"output", &e);
+        return Serving { step, lost: true };
     }
+    let rest = step.rest;
+    after_call(calls::reply_taken(e, packet, headers, body, reply), rest)
 }
 
 // Makes the call that the last call's outcome asks for. After the end it makes none.
-fn turn(
+fn turn<R: Env + Files + Print + RandomSource>(
+    from: &mut impl Read,
+    rt: &R,
+    err: &impl Print,
+    sent: &mut Option<R::File>,
+    process: u32,
     s: Serving,
     input: &mut [u8; INPUT],
     chunk: &mut [u8; CHUNK],
@@ -116,18 +113,19 @@ fn turn(
     body: &mut [u8; 1048576],
     reply: &mut [u8; 65535],
 ) -> Serving {
-    let file = s.file;
     let before = s.step;
     let rest = before.rest;
     let last = before.took;
     let e = last.engine;
     let outcome = last.outcome;
     match outcome {
-        Outcome::WantsBytes => hear(e, rest, file, input, tables, packet, headers, body, reply),
-        Outcome::Reply { length } => send(e, length, s, packet, headers, body, reply),
-        Outcome::Request(request) => after_answer(
+        Outcome::WantsBytes => hear(
+            from, err, e, rest, input, tables, packet, headers, body, reply,
+        ),
+        Outcome::Reply { length } => send(rt, err, e, length, s, packet, headers, body, reply),
+        Outcome::Request(request) => after_call(
             answer(
-                e, request, file, chunk, tables, packet, headers, body, reply,
+                rt, err, sent, process, e, request, chunk, tables, packet, headers, body, reply,
             ),
             rest,
         ),
@@ -148,7 +146,12 @@ fn end_of(s: Serving) -> u8 {
 
 // Serves one session. A proved loop has to end, and nothing says that the input does, so the turns are counted down from a number that no
 // run uses up.
-fn serve(
+fn serve<R: Env + Files + Print + RandomSource>(
+    from: &mut impl Read,
+    rt: &R,
+    err: &impl Print,
+    sent: &mut Option<R::File>,
+    process: u32,
     input: &mut [u8; INPUT],
     chunk: &mut [u8; CHUNK],
     tables: &mut [u64; 320],
@@ -158,37 +161,40 @@ fn serve(
     reply: &mut [u8; 65535],
 ) {
     let took = calls::start(settings(), b"", tables, packet, headers, body, reply);
-    let mut s = after_call(took, Rest { at: 0, end: 0 }, -1);
+    let mut s = after_call(took, Rest { at: 0, end: 0 });
     let mut left = u64::MAX;
     while left > 0 {
         let number = end_of(s);
         if number != 0 {
-            log::end(number);
+            log::end(err, number);
             return;
         }
-        s = turn(s, input, chunk, tables, packet, headers, body, reply);
+        s = turn(
+            from, rt, err, sent, process, s, input, chunk, tables, packet, headers, body, reply,
+        );
         left -= 1;
     }
 }
 
 // Returns whether the program was started with no argument, or with `--keep` alone.
-fn is_started_right() -> bool {
-    if os::arg_count() < 2 {
+fn is_started_right(rt: &impl Env) -> bool {
+    if !has_argument(rt, 1) {
         return true;
     }
-    if 2 < os::arg_count() {
+    if has_argument(rt, 2) {
         return false;
     }
     let mut word = [0u8; 16];
-    let n = os::arg(1, &mut word);
+    let n = argument(rt, 1, &mut word);
     check::same(&word[..n], b"--keep")
 }
 
-fn main() {
-    if !is_started_right() {
-        io::write_all(STDERR_FILENO, b"usage: serve [--keep]\n");
+fn main(rt: HostRuntime) {
+    if !is_started_right(&rt) {
+        print(&rt.stderr(), b"usage: serve [--keep]\n");
         return;
     }
+    let mut sent = None;
     let mut input = [0u8; INPUT];
     let mut chunk = [0u8; CHUNK];
     let mut tables = [0u64; 320];
@@ -197,6 +203,11 @@ fn main() {
     let mut body = [0u8; 1048576];
     let mut reply = [0u8; 65535];
     serve(
+        &mut rt.stdin(),
+        &rt,
+        &rt.stderr(),
+        &mut sent,
+        id(rt.process()),
         &mut input,
         &mut chunk,
         &mut tables,
