@@ -1,22 +1,21 @@
 -- A header that is put in early keeps those that lead in front, and a packet that is put back leaves what was there before it was made.
 -- Assumes nothing.
 use mathlib.Core.Path.{◌≡◌, refl, sym, ap, ◌∙◌}
-use mathlib.Core.Bool.{Bool, true, false, ◌||◌}
+use mathlib.Core.Bool.{Bool, true, false}
 use mathlib.Core.Option.{Option, none, some}
 use mathlib.Core.List.{List, [], ◌∷◌, ◌++◌}
 use Prim.Native.Nat.{ℕ, ◌+◌, ◌≤◌}
 use lib.ListN.{length, take}
-use lib.Dec.{eqb}
 use Rattle.base.specs.Pick.{pick}
 use Rattle.base.specs.Bytes.{bytes32}
 use Rattle.packet.specs.HeaderIds as header_id
 use Rattle.packet.specs.Modes as modes
-use Rattle.packet.specs.Header.{Header, encoding_of, tagged, allowed, bytes_of, all_bytes, read_headers}
+use Rattle.packet.specs.Header.{Header, encoding_of, tagged, allowed, all_bytes, read_headers}
 use Rattle.packet.specs.Modes.{is_mode}
 use Rattle.packet.specs.HeaderWriter.{header}
 use Rattle.packet.proofs.HeaderBytes.{Octets}
 use Rattle.packet.proofs.HeaderWrites.{AllShaped}
-use Rattle.journal.specs.Record.{Record, is_body, is_srm, carried_one, carried_by}
+use Rattle.journal.specs.Record.{is_body, is_srm, carried_one, carried_by}
 use Rattle.outgoing.specs.Queue.{must_lead, insert_early, Pending, Queue, is_chunk, put_back, rewind, headers_back, body_back, back_bytes, rewound}
 use Rattle.outgoing.proofs.QueueLaws.{rewound-read}
 use Rattle.connection.specs.declared.peer.ConnectionId.{ConnectionId}

@@ -1,21 +1,19 @@
 -- The packets of a request hold no header of Single Response Mode (SRM) but those that lead its first packet, if its own headers have none. So
 -- the packets of a client that does not ask for SRM have none at all, and those of one that does ask in the first packet alone. Assumes nothing.
 use mathlib.Core.Path.{◌≡◌, refl, sym, ap, subst, ◌∙◌}
-use mathlib.Core.Bool.{Bool, true, false, ◌||◌, not, true≢false}
+use mathlib.Core.Bool.{Bool, true, false, ◌||◌, true≢false}
 use mathlib.Core.Option.{Option, none, some}
 use mathlib.Core.List.{List, [], ◌∷◌, ◌++◌, append-nil, append_assoc}
 use Prim.Native.Nat.{ℕ, ◌+◌, ◌-◌}
-use native.Mathlib.Omega.{arith}
 use lib.ListN.{length, drop}
 use lib.Dec.{ltb, eqb}
 use Rattle.base.specs.Pick.{pick}
 use Rattle.packet.specs.HeaderIds as header_id
 use Rattle.packet.specs.Header.{Header, encoding_of, tagged, allowed, bytes_of, all_bytes, first}
 use Rattle.packet.proofs.HeaderWrites.{Shaped, AllShaped, read_shaped}
-use Rattle.packet.specs.Modes as modes
 use Rattle.journal.specs.Record.{is_body, is_srm}
 use Rattle.journal.specs.Journal.{is_enable}
-use Rattle.outgoing.specs.Packets.{packet, header, chunks, more_body, chunk_packets, body_packets, cannot_go, before, packets_from}
+use Rattle.outgoing.specs.Packets.{packet, chunks, chunk_packets, body_packets, cannot_go, before, packets_from}
 use Rattle.outgoing.specs.Queue.{must_lead, insert_early}
 use Rattle.connection.specs.declared.peer.ConnectionId.{ConnectionId}
 use Rattle.connection.specs.declared.peer.ConnectionId.TheVariants.{Id, Missing}

@@ -4,20 +4,20 @@ use mathlib.Core.Path.{◌≡◌, refl, sym, ap, subst, ◌∙◌}
 use mathlib.Core.Bool.{Bool, true, false, ◌&&◌, ◌||◌, not, true≢false, false≢true}
 use mathlib.Core.Option.{Option, none, some}
 use mathlib.Core.List.{List, [], ◌∷◌, ◌++◌, append_assoc, append-nil}
-use Prim.Native.Nat.{ℕ, zero, suc, ◌+◌, ◌-◌, ◌*◌, ◌/◌, ◌%◌, ◌≤◌, ◌<◌}
+use Prim.Native.Nat.{ℕ, zero, suc, ◌+◌, ◌≤◌, ◌<◌}
 use native.Mathlib.Omega.{arith}
 use lib.ListN.{length, get_or, take, drop, set, length-append, length-set}
 use lib.Seq.{paste, take-append_seam}
-use lib.Dec.{ltb, leb, eqb}
-use borrow.Author.Tests.{ltb-false, le-leb, leb-true, lt-ltb, le-ltb}
+use lib.Dec.{ltb}
+use borrow.Author.Tests.{le-leb, lt-ltb, le-ltb}
 use Rattle.base.specs.Pick.{pick}
-use Rattle.base.specs.Bytes.{be16, bytes16}
+use Rattle.base.specs.Bytes.{bytes16}
 use Rattle.text.specs.Unicode.{Octets}
 use Rattle.packet.specs.HeaderIds as header_id
-use Rattle.packet.specs.Header.{Header, read_headers, bytes_of, all_bytes, first}
+use Rattle.packet.specs.Header.{Header, all_bytes, first}
 use Rattle.journal.specs.Journal.{is_enable}
 use Rattle.packet.specs.FirstByte.{named, first_byte, byte_of}
-use Rattle.packet.specs.Packet.{Request, request_of}
+use Rattle.packet.specs.Packet.{request_of}
 use Rattle.packet.specs.ResponsePacket.{ResponsePacket}
 use Rattle.packet.specs.declared.opcode.Opcode.TheVariants as op
 use Rattle.packet.specs.declared.opcode.FirstByte.TheVariants.{Known}
@@ -31,15 +31,15 @@ use Rattle.outgoing.specs.declared.object.Chunk.{Chunk}
 use Rattle.outgoing.specs.declared.object.NextPacket.{NextPacket}
 use Rattle.outgoing.specs.declared.object.Next.{Next}
 use Rattle.outgoing.specs.declared.object.Next.TheVariants as next
-use Rattle.outgoing.proofs.Sender.{Left, headers_left, ahead_left, packets_left, ending, At, Follows, Reading, Makes, Making, given_making, next_making}
+use Rattle.outgoing.proofs.Sender.{Left, headers_left, ahead_left, packets_left, ending, At, Reading, Makes, Making, given_making, next_making}
 use Rattle.outgoing.proofs.Sent.{SendsFrom, next-after-sends, body-sends}
 use Rattle.outgoing.proofs.Sized.{Sized, AllSized, packets-sized}
 use Rattle.connection.specs.Reply.{front}
 use Rattle.connection.specs.declared.peer.ConnectionId.{ConnectionId}
 use Rattle.client_model.specs.Leading.{leading_headers, leading}
-use Rattle.client_model.specs.Step.{Stores, stores, with_request, client_with, goes, capacity_of, Done, done, wants, over}
+use Rattle.client_model.specs.Step.{Stores, stores, with_request, client_with, goes, capacity_of, Done}
 use Rattle.client_model.specs.Request.{request_of as requestBegins, requests_by, requests, requests_next, requests_first, sends_abort}
-use Rattle.client_model.specs.Answer.{is_continue, grants, continued, request_answered, responded}
+use Rattle.client_model.specs.Answer.{grants, continued}
 use Rattle.client_model.specs.Guard.{short, sound, sound_request, sound_operation}
 use Rattle.client_model.specs.declared.Settings.{Settings}
 use Rattle.client_model.specs.declared.Kind.TheVariants as kind
@@ -50,10 +50,10 @@ use Rattle.client_model.specs.declared.Await.TheVariants as await
 use Rattle.client_model.specs.declared.Client.{Client}
 use Rattle.client_model.specs.declared.Outcome.{Outcome}
 use Rattle.client_model.specs.declared.Outcome.TheVariants as outcome
-use Rattle.client_model.proofs.Conveyed.{Holding, carried_all, Conveyed, reads-back}
+use Rattle.client_model.proofs.Conveyed.{Holding, carried_all, reads-back}
 use Rattle.client_model.proofs.Only.{NoSrm, AllNoSrm, Leading, put-led, none_first, no_parameter, lead-asks}
 use Rattle.client_model.proofs.Requests.{all-fits, Given, put_record, put_conveyed, request-read}
-use Rattle.client_model.proofs.Sending.{lead-small, first-request, next-request, sent-behind}
+use Rattle.client_model.proofs.Sending.{lead-small, first-request, sent-behind}
 
 -- ---- the Put
 

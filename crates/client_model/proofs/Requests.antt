@@ -6,7 +6,7 @@ use mathlib.Core.Option.{Option, none, some}
 use mathlib.Core.List.{List, [], ◌∷◌, ◌++◌, append-nil}
 use Prim.Native.Nat.{ℕ, ◌+◌, ◌%◌, ◌≤◌}
 use native.Mathlib.Omega.{arith}
-use lib.ListN.{length, get_or, drop}
+use lib.ListN.{length, get_or}
 use lib.Dec.{ltb, leb, eqb}
 use borrow.Author.Tests.{le-ltb}
 use Rattle.base.specs.Pick.{pick}
@@ -16,8 +16,8 @@ use Rattle.packet.specs.Codes.{is_code}
 use Rattle.packet.specs.FirstByte.{first_byte}
 use Rattle.packet.specs.Header.{Header, read_headers, bytes_of, all_bytes}
 use Rattle.packet.specs.Canonical.{canonical_as, canonical}
-use Rattle.packet.specs.Packet.{Request, prefix_of, request_by, request_of}
-use Rattle.packet.specs.ResponsePacket.{ResponsePacket, response_with, response_packet}
+use Rattle.packet.specs.Packet.{prefix_of, request_by, request_of}
+use Rattle.packet.specs.ResponsePacket.{response_packet}
 use Rattle.packet.specs.declared.opcode.Opcode.{Opcode}
 use Rattle.packet.specs.declared.opcode.FirstByte.{FirstByte}
 use Rattle.packet.specs.declared.opcode.FirstByte.TheVariants.{Known}
@@ -25,7 +25,7 @@ use Rattle.packet.proofs.HeaderBytes.{header-bytes}
 use Rattle.packet.proofs.HeaderWrites.{read_shaped}
 use Rattle.journal.specs.Record.{Record, joined, is_body, is_srm, carried_one, carried_by}
 use Rattle.journal.specs.Journal.{list_of}
-use Rattle.outgoing.specs.Packets.{packet, cannot_go, before, packets_from}
+use Rattle.outgoing.specs.Packets.{packet, before, packets_from}
 use Rattle.connection.specs.declared.peer.ConnectionId.{ConnectionId}
 use Rattle.client_model.specs.Leading.{leading_headers, leading}
 use Rattle.client_model.specs.Guard.{any_of, is_reserved, bad_headers, too_long_of}

@@ -4,20 +4,19 @@ use mathlib.Core.Path.{◌≡◌, refl, sym, ap, subst, ◌∙◌}
 use mathlib.Core.Bool.{Bool, true, false}
 use mathlib.Core.Option.{Option, none, some}
 use mathlib.Core.List.{List, [], ◌∷◌, ◌++◌, append-nil}
-use Prim.Native.Nat.{ℕ, ◌+◌, ◌≤◌}
+use Prim.Native.Nat.{ℕ, ◌≤◌}
 use native.Mathlib.Omega.{arith}
 use lib.ListN.{length, length-append}
 use Rattle.base.specs.Pick.{pick}
 use Rattle.packet.specs.Header.{Header}
-use Rattle.journal.specs.Record.{Record, join_body, joined, bare, body_length, size_of, carried_by}
+use Rattle.journal.specs.Record.{Record, join_body, joined, body_length, size_of, carried_by}
 use Rattle.journal.proofs.Laws.{joined_assoc}
-use Rattle.outgoing.specs.Packets.{Packets, all_sent}
+use Rattle.outgoing.specs.Packets.{Packets}
 use Rattle.outgoing.proofs.Sender.{packets_left, ending}
-use Rattle.client_model.specs.Leading.{leading}
 use Rattle.client_model.specs.declared.Client.{Client}
 use Rattle.client_model.proofs.Conveyed.{Holding, carried_all}
 use Rattle.client_model.proofs.Requests.{put_record, put_conveyed}
-use Rattle.client_model.proofs.Putting.{Job, all_of, onto, behind, SoFar, More, Ends, Answered, behind-sent, ending_has, same-headers, onto-ending}
+use Rattle.client_model.proofs.Putting.{Job, all_of, onto, SoFar, Answered, behind-sent, ending_has, same-headers, onto-ending}
 
 -- one record is within another
 pub record Within (c d : Record) : Type 0 where
