@@ -10,7 +10,13 @@ use crate::verdict::{Found, is_same};
 use crate::waiting::Waiting;
 use digest::md5::digest;
 use files::path::front;
+use files::system;
 use filing::names::record_name;
+use lines::arguments::argument;
+use lines::input::read_full;
+use std::env::Env;
+use std::fs::Files;
+use std::io::Write;
 
 // How many bytes the store of a filed file holds: one block more than the longest body takes.
 pub(crate) const FILED: usize = 1096192;
@@ -23,44 +29,54 @@ struct Held {
 }
 
 // Tells whether a file or a folder is there and can be opened.
-fn is_there(path: &[u8]) -> bool {
-    let fd = os::open_read(path);
-    if fd < 0 {
-        return false;
+fn is_there<R: Files>(rt: &R, path: &[u8]) -> bool {
+    match system::open(rt, path) {
+        Ok(_) => true,
+        Err(_) => false,
     }
-    libc::close(fd);
-    true
 }
 
 // Reads a file to the front of `store`, as much of it as there is room for.
-fn read_file(path: &[u8], store: &mut [u8]) -> Held {
-    let fd = os::open_read(path);
-    if fd < 0 {
-        return Held {
+fn read_file<R: Files>(rt: &R, path: &[u8], store: &mut [u8]) -> Held {
+    match system::open(rt, path) {
+        Ok(file) => {
+            let mut file = file;
+            Held {
+                is_there: true,
+                length: read_full(&mut file, store),
+            }
+        }
+        Err(_) => Held {
             is_there: false,
             length: 0,
-        };
-    }
-    let n = io::read_full(fd, store);
-    libc::close(fd);
-    Held {
-        is_there: true,
-        length: n,
+        },
     }
 }
 
 // Reads a file of a record.
-fn read_record(task: Task, number: u32, file: &[u8], store: &mut [u8]) -> Held {
+fn read_record<R: Env + Files>(
+    rt: &R,
+    task: Task,
+    number: u32,
+    file: &[u8],
+    store: &mut [u8],
+) -> Held {
     let mut path = [0u8; PATH];
-    let n = record_file(task.session, number, file, &mut path);
-    read_file(&path[0..n], store)
+    let n = record_file(rt, task.session, number, file, &mut path);
+    read_file(rt, &path[0..n], store)
 }
 
 // ---- one file after the other
 
 // Compares the headers.
-fn headers_filed(task: Task, number: u32, kept: &[u8], filed: &mut [u8; FILED]) -> What {
-    let held = read_record(task, number, b"headers", filed);
+fn headers_filed<R: Env + Files>(
+    rt: &R,
+    task: Task,
+    number: u32,
+    kept: &[u8],
+    filed: &mut [u8; FILED],
+) -> What {
+    let held = read_record(rt, task, number, b"headers", filed);
     headers_what(held.is_there, front(filed, held.length), kept)
 }
 
@@ -91,9 +107,16 @@ fn body_filed(held: Held, came: bool, body: &[u8], filed: &[u8; FILED]) -> What 
 }
 
 // Compares the note; `sum` is the MD5 of the body's blocks.
-fn note_filed(task: Task, number: u32, w: Waiting, name: [u8; NAME], sum: [u8; 16]) -> What {
+fn note_filed<R: Env + Files>(
+    rt: &R,
+    task: Task,
+    number: u32,
+    w: Waiting,
+    name: [u8; NAME],
+    sum: [u8; 16],
+) -> What {
     let mut text = [0u8; 1025];
-    let held = read_record(task, number, b"note", &mut text);
+    let held = read_record(rt, task, number, b"note", &mut text);
     let what = there_what(held.is_there);
     if !is_same(what) {
         return what;
@@ -103,7 +126,8 @@ fn note_filed(task: Task, number: u32, w: Waiting, name: [u8; NAME], sum: [u8; 1
 }
 
 // Compares the frame `file`, and then the note.
-fn rest_filed(
+fn rest_filed<R: Env + Files>(
+    rt: &R,
     task: Task,
     number: u32,
     w: Waiting,
@@ -118,11 +142,12 @@ fn rest_filed(
     if !is_same(what) {
         return what;
     }
-    note_filed(task, number, w, name, digest(blocks))
+    note_filed(rt, task, number, w, name, digest(blocks))
 }
 
 // Compares the files of a record with what the log has: the first that differs is told.
-fn compared(
+fn compared<R: Env + Files>(
+    rt: &R,
     task: Task,
     number: u32,
     w: Waiting,
@@ -131,39 +156,49 @@ fn compared(
     body: &[u8],
     filed: &mut [u8; FILED],
 ) -> What {
-    let first = headers_filed(task, number, kept, filed);
+    let first = headers_filed(rt, task, number, kept, filed);
     if !is_same(first) {
         return first;
     }
-    let held = read_record(task, number, b"body", filed);
+    let held = read_record(rt, task, number, b"body", filed);
     let second = body_filed(held, w.came, body, filed);
     if !is_same(second) {
         return second;
     }
-    rest_filed(task, number, w, name, kept, body, front(filed, held.length))
+    rest_filed(
+        rt,
+        task,
+        number,
+        w,
+        name,
+        kept,
+        body,
+        front(filed, held.length),
+    )
 }
 
 // ---- a record
 
 // Tells whether the folder of a record that was not filed to its end is there.
-fn has_part(task: Task, number: u32) -> bool {
+fn has_part<R: Env + Files>(rt: &R, task: Task, number: u32) -> bool {
     let mut path = [0u8; PATH];
-    let n = part_folder(task.session, number, &mut path);
-    is_there(&path[0..n])
+    let n = part_folder(rt, task.session, number, &mut path);
+    is_there(rt, &path[0..n])
 }
 
 // Tells whether the folder of a record is there.
-fn has_folder(task: Task, number: u32) -> bool {
+fn has_folder<R: Env + Files>(rt: &R, task: Task, number: u32) -> bool {
     if MOST < number {
         return false;
     }
     let mut path = [0u8; PATH];
-    let n = record_file(task.session, number, b".", &mut path);
-    is_there(&path[0..n])
+    let n = record_file(rt, task.session, number, b".", &mut path);
+    is_there(rt, &path[0..n])
 }
 
 // Returns what is found of record `number`, which the log has with these headers and this body.
-pub(crate) fn found_of(
+pub(crate) fn found_of<R: Env + Files>(
+    rt: &R,
     task: Task,
     number: u32,
     w: Waiting,
@@ -172,55 +207,68 @@ pub(crate) fn found_of(
     body: &[u8],
     filed: &mut [u8; FILED],
 ) -> Found {
-    if has_folder(task, number) {
-        return Found::There(compared(task, number, w, name, kept, body, filed));
+    if has_folder(rt, task, number) {
+        return Found::There(compared(rt, task, number, w, name, kept, body, filed));
     }
-    if has_part(task, number) {
+    if has_part(rt, task, number) {
         return Found::Part;
     }
     Found::Absent
 }
 
 // Tells whether the session's folder is there.
-pub(crate) fn is_session(task: Task) -> bool {
+pub(crate) fn is_session<R: Env + Files>(rt: &R, task: Task) -> bool {
     let mut path = [0u8; PATH];
-    let n = below(task.session, b".", &mut path);
-    is_there(&path[0..n])
+    let n = below(rt, task.session, b".", &mut path);
+    is_there(rt, &path[0..n])
 }
 
 // Tells whether something has the name of record `number`.
-pub(crate) fn is_taken(task: Task, number: u32) -> bool {
+pub(crate) fn is_taken<R: Env + Files>(rt: &R, task: Task, number: u32) -> bool {
     let name = record_name(number);
     let mut path = [0u8; PATH];
-    let n = below(task.session, &name, &mut path);
-    is_there(&path[0..n])
+    let n = below(rt, task.session, &name, &mut path);
+    is_there(rt, &path[0..n])
 }
 
 // ---- extracting
 
 // Writes a file of an extracted record, and returns whether all of it was written.
-fn is_extract_written(task: Task, number: u32, end: &[u8], bytes: &[u8]) -> bool {
+fn is_extract_written<R: Env + Files>(
+    rt: &R,
+    task: Task,
+    number: u32,
+    end: &[u8],
+    bytes: &[u8],
+) -> bool {
     let mut path = [0u8; PATH];
-    let n = extract_file(task, number, end, &mut path);
-    let fd = os::open_overwrite(&path[0..n]);
-    if fd < 0 {
-        return false;
+    let n = extract_file(rt, task, number, end, &mut path);
+    match system::open_overwrite(rt, &path[0..n]) {
+        Ok(file) => {
+            let mut file = file;
+            file.write_all(bytes).is_ok()
+        }
+        Err(_) => false,
     }
-    let is_written = io::write_all(fd, bytes);
-    libc::close(fd);
-    is_written
 }
 
 // Writes a record as the log has it to the folder for what is extracted, which is made if it is not there. Returns whether all was written.
-pub(crate) fn is_extracted(task: Task, number: u32, came: bool, kept: &[u8], body: &[u8]) -> bool {
+pub(crate) fn is_extracted<R: Env + Files>(
+    rt: &R,
+    task: Task,
+    number: u32,
+    came: bool,
+    kept: &[u8],
+    body: &[u8],
+) -> bool {
     let mut folder = [0u8; FOLDER];
-    let n = os::arg(task.extract, &mut folder);
-    os::mkdir(&folder[..n]);
-    if !is_extract_written(task, number, b"headers", kept) {
+    let n = argument(rt, task.extract, &mut folder);
+    let _ = system::create_folder(rt, &folder[..n]);
+    if !is_extract_written(rt, task, number, b"headers", kept) {
         return false;
     }
     if came {
-        return is_extract_written(task, number, b"body", body);
+        return is_extract_written(rt, task, number, b"body", body);
     }
     true
 }

@@ -20,34 +20,37 @@ use crate::session::audit_session;
 use crate::shown::{OUT, print_totals};
 use crate::verdict::{Counts, added};
 use check::same;
-use libc::STDERR_FILENO;
+use lines::arguments::{argument, argument_count, has_argument};
+use lines::output::print;
+use std::env::Env;
+use std::fs::Files;
 use std::num::wrapping_add_usize;
 
 // Tells whether the first argument asks that grave records are extracted.
-fn is_extracting() -> bool {
+fn is_extracting(rt: &impl Env) -> bool {
     let mut word = [0u8; FOLDER];
-    let n = os::arg(1, &mut word);
+    let n = argument(rt, 1, &mut word);
     same(&word[..n], b"--extract")
 }
 
 // Returns the first task: the arguments behind the options are sessions.
-fn first_task() -> Task {
-    if is_extracting() {
+fn first_task(rt: &impl Env) -> Task {
+    if is_extracting(rt) {
         return Task {
             session: 3,
             extract: 2,
-            file: -1,
         };
     }
     Task {
         session: 1,
         extract: 0,
-        file: -1,
     }
 }
 
 // Audits all sessions of the task, and prints the counts of all.
-fn audit_all(
+fn audit_all<R: Env + Files + Print>(
+    rt: &R,
+    err: &impl Print,
     first: Task,
     store: &mut [u8; STORE],
     packet: &mut [u8; 65535],
@@ -57,7 +60,7 @@ fn audit_all(
     filed: &mut [u8; FILED],
     out: &mut [u8; OUT],
 ) {
-    let count = os::arg_count();
+    let count = argument_count(rt);
     let mut counts = Counts {
         records: 0,
         same: 0,
@@ -69,20 +72,21 @@ fn audit_all(
         let task = Task {
             session: i,
             extract: first.extract,
-            file: -1,
         };
-        let found = audit_session(task, store, packet, headers, body, tables, filed, out);
+        let found = audit_session(
+            rt, err, task, store, packet, headers, body, tables, filed, out,
+        );
         counts = added(counts, found);
         sessions = wrapping_add_usize(sessions, 1);
         i += 1;
     }
-    print_totals(sessions, counts);
+    print_totals(rt, sessions, counts);
 }
 
-fn main() {
-    let task = first_task();
-    if os::arg_count() <= task.session {
-        io::write_all(STDERR_FILENO, b"usage: audit [--extract DIR] SESSION ..\n");
+fn main(rt: HostRuntime) {
+    let task = first_task(&rt);
+    if !has_argument(&rt, task.session) {
+        print(&rt.stderr(), b"usage: audit [--extract DIR] SESSION ..\n");
         return;
     }
     let mut store = [0u8; STORE];
@@ -93,6 +97,8 @@ fn main() {
     let mut filed = [0u8; FILED];
     let mut out = [0u8; OUT];
     audit_all(
+        &rt,
+        &rt.stderr(),
         task,
         &mut store,
         &mut packet,

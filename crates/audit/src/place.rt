@@ -4,9 +4,10 @@ ghost use Rattle.audit.specs.Place.{four_at, payload_at};
 
 use digest::md5::{Octets16, octets16_at};
 use files::path::front;
-use lines::input::keep;
+use lines::input::{keep, read};
 use lines::output::least;
 use packet::header::be32_at;
+use std::io::Read;
 use std::num::{wrapping_add_u32, wrapping_add_usize};
 
 // How many bytes the store holds: the longest frame of a receiver, and more.
@@ -159,16 +160,8 @@ fn end_at(at: usize, to: usize) -> u8 {
     if at == to { WHOLE } else { CUT }
 }
 
-// Reads the file once, and returns how many bytes came: none at its end.
-fn read(file: i32, s: &mut [u8]) -> usize
-    ensures { result ≤ length s.new }
-{
-    let got = libc::read(file, s);
-    io::count(got, s)
-}
-
-// Reads on, behind what of the store is still needed, which is moved to its front.
-pub(crate) fn read_more(file: i32, store: &mut [u8], place: Place) -> Place {
+// Reads on in the log's file, behind what of the store is still needed, which is moved to its front.
+pub(crate) fn read_more(file: &mut impl Read, store: &mut [u8], place: Place) -> Place {
     let to = least(place.have, store.len());
     let at = least(place.at, to);
     let from = needed_from(at);

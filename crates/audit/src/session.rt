@@ -13,8 +13,13 @@ use crate::shown::{
 use crate::verdict::{Counts, Word, counted, is_grave, with_grave, word_of};
 use crate::waiting::{Phase, Waiting, is_over, is_waiting, must_settle};
 use files::path::front;
+use files::system;
 use filing::frame::{Turn, read_frame};
 use lines::output::write;
+use std::env::Env;
+use std::fs::Files;
+use std::io;
+use std::io::Read;
 use std::num::wrapping_add_u32;
 
 // How many numbers behind the last record are tried for a folder that the log does not have: the system's folders are not listed.
@@ -33,19 +38,30 @@ struct Reading {
 // ---- a record
 
 // Extracts a record if that was asked for and the verdict is grave.
-fn extract_grave(task: Task, number: u32, word: Word, came: bool, kept: &[u8], body: &[u8]) {
+fn extract_grave<R: Env + Files>(
+    rt: &R,
+    err: &impl Print,
+    task: Task,
+    number: u32,
+    word: Word,
+    came: bool,
+    kept: &[u8],
+    body: &[u8],
+) {
     if task.extract == 0 {
         return;
     }
     if is_grave(word) {
-        if !is_extracted(task, number, came, kept, body) {
-            not_extracted(number);
+        if !is_extracted(rt, task, number, came, kept, body) {
+            not_extracted(err, number);
         }
     }
 }
 
 // Judges the last record, whose bytes stand in the stores, and puts the line on it.
-fn settle(
+fn settle<R: Env + Files + Print>(
+    rt: &R,
+    err: &impl Print,
     r: Reading,
     headers: &[u8; 65535],
     body: &[u8; BODY],
@@ -61,15 +77,15 @@ fn settle(
     let name = audit.name;
     let kept = front(headers, w.kept);
     let got = front(body, w.body);
-    let found = found_of(task, number, w, name, kept, got, filed);
+    let found = found_of(rt, task, number, w, name, kept, got, filed);
     let word = word_of(w.code, found);
-    extract_grave(task, number, word, w.came, kept, got);
+    extract_grave(rt, err, task, number, word, w.came, kept, got);
     Reading {
         task,
         place,
         audit: in_phase(audit, Phase::Nothing),
         counts: counted(counts, word),
-        written: put_record(out, r.written, number, w, word),
+        written: put_record(rt, out, r.written, number, w, word),
     }
 }
 
@@ -113,6 +129,7 @@ fn pass(
 
 // Takes the next frame, reads on or ends, by what stands at the place.
 fn advance(
+    file: &mut impl Read,
     r: Reading,
     store: &mut [u8; STORE],
     packet: &mut [u8; 65535],
@@ -120,14 +137,13 @@ fn advance(
     body: &mut [u8; BODY],
     tables: &mut [u64; 320],
 ) -> Reading {
-    let task = r.task;
     let place = r.place;
     let audit = r.audit;
     let have = place.have;
     match read_frame(front(store, have), place.at, place.number) {
         Turn::Frame(n) => pass(r, n, front(store, have), packet, headers, body, tables),
-        Turn::End => moved(r, read_more(task.file, store, place), audit),
-        Turn::Cut => moved(r, read_more(task.file, store, place), audit),
+        Turn::End => moved(r, read_more(file, store, place), audit),
+        Turn::Cut => moved(r, read_more(file, store, place), audit),
         Turn::Damaged => moved(r, over(place, 11), audit),
         Turn::Misplaced => moved(r, over(place, 12), audit),
         Turn::Malformed => moved(r, over(place, 13), audit),
@@ -135,7 +151,10 @@ fn advance(
 }
 
 // Judges a record if one is due, else goes on in the log.
-fn step(
+fn step<R: Env + Files + Print>(
+    rt: &R,
+    err: &impl Print,
+    file: &mut impl Read,
     r: Reading,
     store: &mut [u8; STORE],
     packet: &mut [u8; 65535],
@@ -149,13 +168,15 @@ fn step(
     let waiting = audit.waiting;
     let phase = waiting.phase;
     if is_over(phase) {
-        return settle(r, headers, body, filed, out);
+        return settle(rt, err, r, headers, body, filed, out);
     }
-    advance(r, store, packet, headers, body, tables)
+    advance(file, r, store, packet, headers, body, tables)
 }
 
 // Judges the last record if it still waits at the end of the log.
-fn finished(
+fn finished<R: Env + Files + Print>(
+    rt: &R,
+    err: &impl Print,
     r: Reading,
     headers: &[u8; 65535],
     body: &[u8; BODY],
@@ -166,10 +187,10 @@ fn finished(
     let waiting = audit.waiting;
     let phase = waiting.phase;
     if is_waiting(phase) {
-        return settle(r, headers, body, filed, out);
+        return settle(rt, err, r, headers, body, filed, out);
     }
     if is_over(phase) {
-        return settle(r, headers, body, filed, out);
+        return settle(rt, err, r, headers, body, filed, out);
     }
     r
 }
@@ -202,56 +223,62 @@ fn is_unreadable(place: Place, fault: u8) -> bool {
 }
 
 // Tells whether something has the name of a record with this number, which the log does not have, and prints that.
-fn is_folder(task: Task, number: u32) -> bool {
+fn is_folder<R: Env + Files + Print>(rt: &R, task: Task, number: u32) -> bool {
     if MOST < number {
         return false;
     }
-    if !is_taken(task, number) {
+    if !is_taken(rt, task, number) {
         return false;
     }
-    print_folder(number);
+    print_folder(rt, number);
     true
 }
 
 // Prints the folders that have the numbers of records which the log does not have, and returns the counts with them.
-fn print_folders(task: Task, records: u32, counts: Counts) -> Counts {
+fn print_folders<R: Env + Files + Print>(
+    rt: &R,
+    task: Task,
+    records: u32,
+    counts: Counts,
+) -> Counts {
     let mut c = counts;
     let mut i = 0;
     while i < BEHIND {
         i += 1;
-        c = with_grave(c, is_folder(task, wrapping_add_u32(records, i)));
+        c = with_grave(c, is_folder(rt, task, wrapping_add_u32(records, i)));
     }
     c
 }
 
 // Prints the lines behind the one on the log, and returns the counts of the session.
-fn print_rest(r: Reading, out: &[u8; OUT]) -> Counts {
+fn print_rest<R: Env + Files + Print>(rt: &R, r: Reading, out: &[u8; OUT]) -> Counts {
     let task = r.task;
     let audit = r.audit;
     let counts = r.counts;
     let state = audit.state;
     let is_other = is_other_end(audit.done, state.number);
     if is_other {
-        print_due(audit.done, state.number);
+        print_due(rt, audit.done, state.number);
     }
-    write(out, r.written);
-    let c = print_folders(task, audit.records, with_grave(counts, is_other));
-    print_counts(c);
+    write(rt, out, r.written);
+    let c = print_folders(rt, task, audit.records, with_grave(counts, is_other));
+    print_counts(rt, c);
     c
 }
 
 // Prints the lines on a session, and returns its counts.
-fn print_all(r: Reading, out: &[u8; OUT]) -> Counts {
+fn print_all<R: Env + Files + Print>(rt: &R, r: Reading, out: &[u8; OUT]) -> Counts {
     let place = r.place;
     let audit = r.audit;
     let counts = r.counts;
     let before = with_grave(counts, is_log_grave(place, audit.fault));
-    print_log(place, audit);
+    print_log(rt, place, audit);
     if is_unreadable(place, audit.fault) {
         return before;
     }
     let task = r.task;
     print_rest(
+        rt,
         Reading {
             task,
             place,
@@ -282,7 +309,10 @@ fn begun(task: Task) -> Reading {
 
 // Reads the log to its end. A proved loop has to end, and nothing says that a file does, so the steps are counted down from a number that no run
 // uses up.
-fn read_log(
+fn read_log<R: Env + Files + Print>(
+    rt: &R,
+    err: &impl Print,
+    file: &mut impl Read,
     task: Task,
     store: &mut [u8; STORE],
     packet: &mut [u8; 65535],
@@ -295,10 +325,12 @@ fn read_log(
     let mut r = begun(task);
     let mut left = u64::MAX;
     while left > 0 {
-        r = step(r, store, packet, headers, body, tables, filed, out);
+        r = step(
+            rt, err, file, r, store, packet, headers, body, tables, filed, out,
+        );
         let place = r.place;
         if place.end != 0 {
-            return finished(r, headers, body, filed, out);
+            return finished(rt, err, r, headers, body, filed, out);
         }
         left -= 1;
     }
@@ -306,19 +338,25 @@ fn read_log(
 }
 
 // Opens the log of the session.
-fn open_log(i: usize) -> i32 {
+fn open_log<R: Env + Files>(rt: &R, i: usize) -> io::Result<R::File> {
     let mut path = [0u8; PATH];
-    let n = below(i, b"session", &mut path);
-    os::open_read(&path[0..n])
+    let n = below(rt, i, b"session", &mut path);
+    system::open(rt, &path[0..n])
 }
 
 // Returns what is missing of a session that has no log: the log alone, or its folder.
-fn missing(task: Task) -> u8 {
-    if is_session(task) { NO_LOG } else { NO_FOLDER }
+fn missing<R: Env + Files>(rt: &R, task: Task) -> u8 {
+    if is_session(rt, task) {
+        NO_LOG
+    } else {
+        NO_FOLDER
+    }
 }
 
 // Audits a session, prints its lines, and returns its counts.
-pub(crate) fn audit_session(
+pub(crate) fn audit_session<R: Env + Files + Print>(
+    rt: &R,
+    err: &impl Print,
     task: Task,
     store: &mut [u8; STORE],
     packet: &mut [u8; 65535],
@@ -328,19 +366,18 @@ pub(crate) fn audit_session(
     filed: &mut [u8; FILED],
     out: &mut [u8; OUT],
 ) -> Counts {
-    print_session(task.session);
-    let file = open_log(task.session);
-    let opened = Task {
-        session: task.session,
-        extract: task.extract,
-        file,
-    };
-    if file < 0 {
-        let none = begun(opened);
-        let place = over(at_start(), missing(opened));
-        return print_all(moved(none, place, before_first()), out);
+    print_session(rt, task.session);
+    match open_log(rt, task.session) {
+        Ok(file) => {
+            let mut file = file;
+            let r = read_log(
+                rt, err, &mut file, task, store, packet, headers, body, tables, filed, out,
+            );
+            print_all(rt, r, out)
+        }
+        Err(_) => {
+            let place = over(at_start(), missing(rt, task));
+            print_all(rt, moved(begun(task), place, before_first()), out)
+        }
     }
-    let r = read_log(opened, store, packet, headers, body, tables, filed, out);
-    libc::close(file);
-    print_all(r, out)
 }

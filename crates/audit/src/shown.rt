@@ -9,8 +9,9 @@ use crate::waiting::{NO_CODE, Waiting};
 use digest::md5::octets;
 use files::path::front;
 use filing::names::record_name;
-use libc::{STDERR_FILENO, STDOUT_FILENO};
-use lines::output::{flush, put, put_byte, put_hex, put_line_at, put_number};
+use lines::arguments::argument;
+use lines::output::{flush, print, put, put_byte, put_hex, put_line_at, put_number};
+use std::env::Env;
 use std::num::wrapping_add_usize;
 use table::targets::{Target, is_named};
 
@@ -21,13 +22,13 @@ pub(crate) const OUT: usize = 1048576;
 const HEADERS_TOO_LARGE: u8 = 6;
 
 // Prints some text.
-fn print_text(text: &[u8]) {
-    io::write_all(STDOUT_FILENO, text);
+fn print_text(rt: &impl Print, text: &[u8]) {
+    print(rt, text);
 }
 
 // Prints a number.
-fn print_number(n: usize) {
-    io::print_decimal(STDOUT_FILENO, n as u64);
+fn print_number(rt: &impl Print, n: usize) {
+    let _ = rt.print(n);
 }
 
 // ---- a record
@@ -147,134 +148,141 @@ fn put_marks(out: &mut [u8], n: usize, w: Waiting) -> usize {
 }
 
 // Puts the line on record `number` behind the first `n` bytes, and returns how many there are then.
-pub(crate) fn put_record(out: &mut [u8], n: usize, number: u32, w: Waiting, word: Word) -> usize {
+pub(crate) fn put_record(
+    rt: &impl Print,
+    out: &mut [u8],
+    n: usize,
+    number: u32,
+    w: Waiting,
+    word: Word,
+) -> usize {
     let a = put_lengths(out, n, number, w);
     let b = put_marks(out, a, w);
     let c = put(out, b, b": ");
     let d = put_word(out, c, word);
     let e = put(out, d, b"\n");
-    flush(out, e)
+    flush(rt, out, e)
 }
 
 // Says that a record was not extracted.
-pub(crate) fn not_extracted(number: u32) {
-    io::write_all(STDERR_FILENO, b"record ");
-    io::print_decimal(STDERR_FILENO, number as u64);
-    io::write_all(STDERR_FILENO, b": not extracted\n");
+pub(crate) fn not_extracted(err: &impl Print, number: u32) {
+    print(err, b"record ");
+    let _ = err.print(number);
+    print(err, b": not extracted\n");
 }
 
 // ---- the log
 
 // Prints the number of the end, or `none`.
-fn print_done(done: usize) {
+fn print_done(rt: &impl Print, done: usize) {
     if done == NO_END {
-        print_text(b"none");
+        print_text(rt, b"none");
     } else {
-        print_number(done);
+        print_number(rt, done);
     }
 }
 
 // Prints the end of a whole log.
-fn print_whole(done: usize) {
+fn print_whole(rt: &impl Print, done: usize) {
     if done == NO_END {
-        print_text(b"whole, no end");
+        print_text(rt, b"whole, no end");
     } else {
-        print_text(b"whole, end ");
-        print_number(done);
+        print_text(rt, b"whole, end ");
+        print_number(rt, done);
     }
 }
 
 // Prints what is wrong with the frame at which the reading ended.
-fn print_fault(end: u8) {
+fn print_fault(rt: &impl Print, end: u8) {
     if end == LONG {
-        print_text(b"longer than this program reads");
+        print_text(rt, b"longer than this program reads");
     } else {
-        print_number(end as usize);
+        print_number(rt, end as usize);
     }
 }
 
 // Prints the frame at which the reading ended, and what is wrong with it.
-fn print_frame(place: Place) {
-    print_text(b"frame ");
-    print_number(place.number as usize);
-    print_text(b" at byte ");
-    print_number(wrapping_add_usize(place.passed, place.at));
-    print_text(b": ");
-    print_fault(place.end);
+fn print_frame(rt: &impl Print, place: Place) {
+    print_text(rt, b"frame ");
+    print_number(rt, place.number as usize);
+    print_text(rt, b" at byte ");
+    print_number(rt, wrapping_add_usize(place.passed, place.at));
+    print_text(rt, b": ");
+    print_fault(rt, place.end);
 }
 
 // Prints how the reading ended.
-fn print_end(place: Place, done: usize) {
+fn print_end(rt: &impl Print, place: Place, done: usize) {
     if place.end == WHOLE {
-        print_whole(done);
+        print_whole(rt, done);
         return;
     }
     if place.end == CUT {
-        print_text(b"breaks off at byte ");
-        print_number(wrapping_add_usize(place.passed, place.at));
+        print_text(rt, b"breaks off at byte ");
+        print_number(rt, wrapping_add_usize(place.passed, place.at));
         return;
     }
-    print_frame(place);
+    print_frame(rt, place);
 }
 
 // Prints what is wrong with frame `number`, whose check is right.
-fn print_wrong(fault: u8, number: u32) {
+fn print_wrong(rt: &impl Print, fault: u8, number: u32) {
     if fault == LIMIT {
-        print_text(b"limit over 1048576");
+        print_text(rt, b"limit over 1048576");
         return;
     }
     if fault == KIND {
-        print_text(b"kind at frame ");
-        print_number(number as usize);
+        print_text(rt, b"kind at frame ");
+        print_number(rt, number as usize);
         return;
     }
-    print_text(b"packet at frame ");
-    print_number(number as usize);
-    print_text(b" has another length");
+    print_text(rt, b"packet at frame ");
+    print_number(rt, number as usize);
+    print_text(rt, b" has another length");
 }
 
 // Prints the line on a log of which a frame was read, or that breaks off in the first.
-fn print_frames(place: Place, audit: Audit) {
-    print_text(b"log ");
-    print_number(place.number as usize);
-    print_text(b" frames, ");
+fn print_frames(rt: &impl Print, place: Place, audit: Audit) {
+    print_text(rt, b"log ");
+    print_number(rt, place.number as usize);
+    print_text(rt, b" frames, ");
     if audit.fault == 0 {
-        print_end(place, audit.done);
+        print_end(rt, place, audit.done);
     } else {
-        print_wrong(audit.fault, audit.fault_at);
+        print_wrong(rt, audit.fault, audit.fault_at);
     }
-    print_text(b"\n");
+    print_text(rt, b"\n");
 }
 
 // Prints the line on the log.
-pub(crate) fn print_log(place: Place, audit: Audit) {
+pub(crate) fn print_log(rt: &impl Print, place: Place, audit: Audit) {
     if audit.fault == NO_OPEN {
-        print_text(b"the log does not begin with `open`\n");
+        print_text(rt, b"the log does not begin with `open`\n");
         return;
     }
     if place.end == NO_LOG {
-        print_text(b"no log\n");
+        print_text(rt, b"no log\n");
         return;
     }
     if place.end == NO_FOLDER {
-        print_text(b"no such folder\n");
+        print_text(rt, b"no such folder\n");
         return;
     }
     if place.number != 0 {
-        print_frames(place, audit);
+        print_frames(rt, place, audit);
         return;
     }
     if place.end == WHOLE {
-        print_text(b"log is empty\n");
+        print_text(rt, b"log is empty\n");
         return;
     }
     if place.end == CUT {
-        print_frames(place, audit);
+        print_frames(rt, place, audit);
         return;
     }
-    print_text(b"log ");
-    print_frame(place);
-    print_text(b"\n");
+    print_text(rt, b"log ");
+    print_frame(rt, place);
+    print_text(rt, b"\n");
 }
 
 // Tells whether the end `done` is not the journal's, which is 0 if it knows none. A receiver's own numbers are 128 and more.
@@ -292,53 +300,53 @@ pub(crate) fn is_other_end(done: usize, number: u8) -> bool {
 }
 
 // Prints which end is due.
-pub(crate) fn print_due(done: usize, number: u8) {
-    print_text(b"end ");
-    print_done(done);
-    print_text(b", and ");
-    print_number(number as usize);
-    print_text(b" is due\n");
+pub(crate) fn print_due(rt: &impl Print, done: usize, number: u8) {
+    print_text(rt, b"end ");
+    print_done(rt, done);
+    print_text(rt, b", and ");
+    print_number(rt, number as usize);
+    print_text(rt, b" is due\n");
 }
 
 // ---- a session
 
 // Prints which session it is: the last name of the path of its folder.
-pub(crate) fn print_session(i: usize) {
+pub(crate) fn print_session(rt: &(impl Env + Print), i: usize) {
     let mut folder = [0u8; FOLDER];
-    let n = os::arg(i, &mut folder);
-    print_text(b"session ");
-    print_text(base_of(&folder[..n]));
-    print_text(b"\n");
+    let n = argument(rt, i, &mut folder);
+    print_text(rt, b"session ");
+    print_text(rt, base_of(&folder[..n]));
+    print_text(rt, b"\n");
 }
 
 // Prints that the log has no record of this number.
-pub(crate) fn print_folder(number: u32) {
+pub(crate) fn print_folder(rt: &impl Print, number: u32) {
     let name = record_name(number);
-    print_text(b"folder ");
-    print_text(&name);
-    print_text(b": no such record\n");
+    print_text(rt, b"folder ");
+    print_text(rt, &name);
+    print_text(rt, b": no such record\n");
 }
 
 // Prints the counts of a session.
-pub(crate) fn print_counts(c: Counts) {
-    print_text(b"records ");
-    print_number(c.records);
-    print_text(b", same ");
-    print_number(c.same);
-    print_text(b", grave ");
-    print_number(c.grave);
-    print_text(b"\n");
+pub(crate) fn print_counts(rt: &impl Print, c: Counts) {
+    print_text(rt, b"records ");
+    print_number(rt, c.records);
+    print_text(rt, b", same ");
+    print_number(rt, c.same);
+    print_text(rt, b", grave ");
+    print_number(rt, c.grave);
+    print_text(rt, b"\n");
 }
 
 // Prints the counts of all sessions.
-pub(crate) fn print_totals(sessions: usize, c: Counts) {
-    print_text(b"sessions ");
-    print_number(sessions);
-    print_text(b" records ");
-    print_number(c.records);
-    print_text(b" same ");
-    print_number(c.same);
-    print_text(b" grave ");
-    print_number(c.grave);
-    print_text(b"\n");
+pub(crate) fn print_totals(rt: &impl Print, sessions: usize, c: Counts) {
+    print_text(rt, b"sessions ");
+    print_number(rt, sessions);
+    print_text(rt, b" records ");
+    print_number(rt, c.records);
+    print_text(rt, b" same ");
+    print_number(rt, c.same);
+    print_text(rt, b" grave ");
+    print_number(rt, c.grave);
+    print_text(rt, b"\n");
 }
