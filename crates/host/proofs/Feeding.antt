@@ -134,6 +134,19 @@ reads_on r i l a n h b k e =
       front = take_put a (length i - a) i l w;
     })
 
+-- a part that stays as long as it was leaves the store as long as it was
+pub put-length : (i l : List ℕ) (a : ℕ) → a ≤ length i → length l ≡ length i - a → length (put_mid a (length i - a) i l) ≡ length i
+put-length i l a w e =
+    omega (
+      arith,
+      e,
+      length-append (take a i) (l ++ post_of a (length i - a) i),
+      length-append l (post_of a (length i - a) i),
+      length-take-le a i w,
+      length-drop (length i - a) (drop a i),
+      length-drop a i,
+    )
+
 left-length : (r : Rest) (i : List ℕ) → Within r (length i) → length (left r i) ≡ r.end - r.at
 left-length r i (a, b) = length-take-le (r.end - r.at) (drop r.at i) (omega (arith, a, b, length-drop r.at i))
 

@@ -5,7 +5,7 @@ use lib.ListN.{length}
 use Rattle.host.proofs.feed.read_once.Given as goal
 
 abbrev pub invariant-loop-tries : goal.invariant-loop-tries
-invariant-loop-tries l = length l.s ≡ length l.initial.s
+invariant-loop-tries g l = length l.s ≡ length l.initial.s
 
 abbrev pub decreases-loop-tries : goal.decreases-loop-tries
-decreases-loop-tries l = l.tries
+decreases-loop-tries g l = l.tries

@@ -50,5 +50,5 @@ returns c =
       within = search rules;
       text = (c.put_line_at.ensures.text
           ∙ ap (put_bytes x.out.now x.n)
-          (ap (λ (k : ℕ). piece_of names k line_feed) c.Line-of.ensures ∙ line-is x.request));
+          (ap (λ (k : ℕ). piece_of names k line_feed) c.line_of.ensures ∙ line-is x.request));
     }
