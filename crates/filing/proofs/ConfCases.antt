@@ -1,13 +1,12 @@
 -- Some texts of settings and of passwords, and what they say: computed. Assumes nothing.
 use mathlib.Core.Path.{◌≡◌, refl}
 use mathlib.Core.Bool.{true, false}
-use mathlib.Core.List.{List, []}
-use mathlib.Core.Option.{Option, none, some}
-use Prim.Native.Nat.{ℕ}
+use mathlib.Core.List.{[]}
+use mathlib.Core.Option.{none, some}
 use Rattle.packet.specs.Auth.{same}
 use Rattle.filing.specs.Lines.{bytes, up_to, behind, lines_of, under, value_for}
 use Rattle.filing.specs.Users.{password_for}
-use Rattle.filing.specs.Conf.{said, digit_next, digits_from, number_of, number_said, is_in, is_choice, is_hex, all_hex, right_target, packet_limit, right_value, right_line, wrong_from, flags_said, conf_of}
+use Rattle.filing.specs.Conf.{said, digit_next, digits_from, number_of, number_said, is_in, is_choice, is_hex, all_hex, right_target, right_value, right_line, wrong_from, conf_of}
 
 -- an empty text: the values that hold if nothing is said
 nothing_said : conf_of []

@@ -1,8 +1,7 @@
 -- The settings of a receiver: what a text says behind a word, numbers, right lines, and the whole. Assumes nothing.
 use mathlib.Core.Path.{◌≡◌, refl, sym, ap, subst, ◌∙◌}
 use mathlib.Core.Bool.{Bool, true, false}
-use mathlib.Core.List.{List, [], ◌∷◌, ◌++◌}
-use mathlib.Core.Option.{Option, none, some}
+use mathlib.Core.List.{List, [], ◌++◌}
 use Prim.Native.Nat.{ℕ, suc, ◌+◌, ◌-◌, ◌≤◌, ◌<◌}
 use native.Mathlib.Omega.{arith}
 use native.Mathlib.Numerals.{add-one}
@@ -22,7 +21,7 @@ use Rattle.table.specs.Targets.{is_named}
 use Rattle.table.specs.declared.targets.Target.{Target}
 use Rattle.files.specs.Path.{hex_of, service_word, service_folder}
 use Rattle.filing.specs.Lines.{PlaceFits, bytes, up_to, behind, lines_of, value_for}
-use Rattle.filing.specs.Conf.{or_none, said, digit_next, digits_from, number_of, all_hex, is_hex, is_in, right_value, right_line, wrong_from, RealmIs, realm_said, flags_said, number_said, ConfSays, conf_of, records_taken}
+use Rattle.filing.specs.Conf.{or_none, said, digit_next, digits_from, number_of, all_hex, is_hex, is_in, right_value, right_line, wrong_from, RealmIs, realm_said, flags_said, number_said, conf_of, records_taken}
 use Rattle.filing.specs.declared.payload.OpenFlags.{OpenFlags}
 use Rattle.filing.proofs.Lined.{LineAt, before-take, behind-drop, no_lines}
 

@@ -1,11 +1,11 @@
 -- The payload of an event: its parts laid one behind the other, how long it is, what each test of the writer says, and what is read back. Assumes
 -- nothing.
 use mathlib.Core.Path.{◌≡◌, refl, sym, ap, ap₂, ◌∙◌}
-use mathlib.Core.Bool.{Bool, true, false, not}
+use mathlib.Core.Bool.{Bool, true, false}
 use mathlib.Core.List.{List, [], ◌∷◌, ◌++◌, append_assoc}
-use Prim.Native.Nat.{ℕ, ◌+◌, ◌-◌, ◌%◌, ◌≤◌, ◌<◌}
+use Prim.Native.Nat.{ℕ, ◌+◌, ◌-◌, ◌%◌, ◌≤◌}
 use native.Mathlib.Omega.{arith}
-use lib.Dec.{ltb, leb}
+use lib.Dec.{leb}
 use lib.ListN.{length, take, drop, length-append, length-take}
 use lib.Seq.{paste}
 use borrow.Author.Tests.{le-ltb, lt-ltb, le-leb, lt-leb, leb-true, leb-false}
@@ -13,11 +13,10 @@ use Rattle.archive.specs.Writing.{writing, front}
 use Rattle.archive.specs.declared.block.Wrote.TheVariants.{Written, Short, TooLong}
 use Rattle.archive.proofs.Laid.{front-more}
 use Rattle.filing.specs.Entries.{LogEntry}
-use Rattle.filing.specs.Kinds.{check_pair, open_row, entry_in, entries_in}
+use Rattle.filing.specs.Kinds.{check_pair, open_row, entry_in}
 use Rattle.archive.specs.Block.{same}
-use Rattle.filing.specs.Contents.{front_of, payload_for, right_parts, content_written, filled_row, content_by, entry_by, Noted, contents_by, entries_by}
+use Rattle.filing.specs.Contents.{front_of, payload_for, right_parts, content_written, filled_row, content_by, entry_by}
 use Rattle.filing.specs.Claims.{EventTells, NotedBack}
-use Rattle.filing.specs.declared.payload.CheckMade.{CheckMade}
 use Rattle.filing.specs.declared.content.Event.{Event}
 use Rattle.filing.specs.declared.content.Event.TheVariants.{Opened, Received, Broken, Replied, Answered, Given, Checked, Challenged, Closed, Filing, Failed, Ended}
 

@@ -1,11 +1,11 @@
 -- The payload of the frame `file`: its parts laid one behind the other, and what is read of it. Assumes nothing.
-use mathlib.Core.Path.{◌≡◌, refl, sym, ap, ap₂, ◌∙◌}
+use mathlib.Core.Path.{◌≡◌, refl, sym, ap, ◌∙◌}
 use mathlib.Core.Bool.{Bool, true, false}
 use mathlib.Core.List.{List, [], ◌∷◌, ◌++◌, append_assoc, append-nil}
 use mathlib.Core.Option.{Option, none, some}
 use Prim.Native.Nat.{ℕ, ◌+◌, ◌-◌, ◌%◌, ◌≤◌, ◌<◌}
 use native.Mathlib.Omega.{arith}
-use lib.Dec.{ltb, eqb}
+use lib.Dec.{eqb}
 use lib.ListN.{length, take, drop, get_or, replicate, length-append, take-append-drop}
 use lib.Seq.{paste, take_at, take_all, take-append-add, drop-append-add, get_or-append-add}
 use borrow.Author.Tests.{le-ltb, eq-eqb, ne_eqb}

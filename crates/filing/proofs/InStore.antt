@@ -1,20 +1,20 @@
 -- One frame in a store, written and read in place: the stretch of bytes that its check is of, the rows laid one behind the other, and what each
 -- test of the reader says. Assumes nothing.
 use mathlib.Core.Path.{◌≡◌, refl, sym, ap, ap₂, ◌∙◌}
-use mathlib.Core.Bool.{Bool, true, false, not}
+use mathlib.Core.Bool.{Bool, true, false}
 use mathlib.Core.List.{List, [], ◌∷◌, ◌++◌, append_assoc}
-use Prim.Native.Nat.{ℕ, zero, suc, ◌+◌, ◌-◌, ◌*◌, ◌/◌, ◌%◌, ◌^◌, ◌≤◌, ◌<◌}
+use Prim.Native.Nat.{ℕ, zero, suc, ◌+◌, ◌-◌, ◌≤◌, ◌<◌}
 use native.Mathlib.Omega.{arith}
 use lib.Dec.{ltb, leb, eqb}
 use lib.ListN.{length, take, drop, get_or, replicate, length-append, length-drop, length-replicate}
-use lib.Seq.{paste, take_at, drop_at, take-add, take_all, take-take, drop-drop, get_or-drop, take-paste, length-paste, length-take-le}
-use borrow.Author.Tests.{le-ltb, lt-ltb, le-leb, lt-leb, leb-true, leb-false, eq-eqb, ne_eqb, eqb-true}
+use lib.Seq.{paste, take_at, drop_at, take-add, take_all, take-take, drop-drop, get_or-drop, take-paste, length-take-le}
+use borrow.Author.Tests.{le-ltb, lt-ltb, le-leb, lt-leb, leb-true, leb-false, eq-eqb, ne_eqb}
 use Rattle.base.specs.Pick.{pick}
 use Rattle.base.specs.Bytes.{be32, bytes32}
 use Rattle.digest.specs.Md5.{digest_of}
 use Rattle.digest.proofs.Octets.{length-digest}
 use Rattle.archive.specs.Block.{same, all_zero, longest}
-use Rattle.archive.specs.Writing.{Writing, writing}
+use Rattle.archive.specs.Writing.{writing}
 use Rattle.archive.specs.declared.block.Wrote.TheVariants.{Written, Short, TooLong}
 use Rattle.archive.proofs.Laid.{parts-laid}
 use Rattle.filing.specs.Frame.{Content, filling, check_at, frame_length, rows_of, check_of, chain_at, before_at, frame_of, frame_written}

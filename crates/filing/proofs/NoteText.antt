@@ -18,8 +18,8 @@ use Rattle.calendar.specs.Day.{leap, days_in, month_from, date_from}
 use Rattle.calendar.specs.Time.{decimal, text_of, instant_of, time_of}
 use Rattle.files.specs.Path.{hex_digit, hex_of}
 use Rattle.filing.specs.Note.{stripped, decimal_of, note_of, right_lengths, note_for, note_written, Laid}
-use Rattle.filing.specs.FileFrame.{FileFrame, bytes_in, file_bytes, file_read}
-use Rattle.filing.specs.Claims.{FitsFile, NoteSays, ExampleNote}
+use Rattle.filing.specs.FileFrame.{FileFrame, file_bytes, file_read}
+use Rattle.filing.specs.Claims.{NoteSays, ExampleNote}
 use Rattle.filing.proofs.FileRows.{file_size, file_back}
 use Rattle.filing.specs.declared.note.LogPlace.{LogPlace}
 

@@ -2,12 +2,12 @@
 use mathlib.Core.Path.{◌≡◌, refl, sym, ap, ap₂, subst, ◌∙◌}
 use mathlib.Core.Bool.{Bool, true, false}
 use mathlib.Core.List.{List, [], ◌∷◌, ◌++◌, append_assoc, append-nil}
-use Prim.Native.Nat.{ℕ, zero, suc, ◌+◌, ◌-◌, ◌/◌, ◌%◌, ◌≤◌, ◌<◌}
+use Prim.Native.Nat.{ℕ, zero, suc, ◌+◌, ◌/◌, ◌%◌, ◌≤◌, ◌<◌}
 use native.Mathlib.Omega.{arith}
 use lib.Dec.{eqb, ltb}
 use lib.ListN.{length, get_or, take, drop, replicate, length-append}
 use lib.Seq.{paste, take-append-add, take_at, drop_at}
-use borrow.Author.Tests.{eqb-true, eqb-false, ltb-false, le-ltb, ne_eqb}
+use borrow.Author.Tests.{ltb-false, le-ltb, ne_eqb}
 use Rattle.base.specs.Pick.{pick}
 use Rattle.archive.proofs.Laid.{front-more}
 use Rattle.calendar.specs.Time.{decimal, text_of, time_of, instant_of}
@@ -20,7 +20,7 @@ use Rattle.files.specs.Store.{Filled, filled, fit}
 use Rattle.files.proofs.Joins.{joined-both, joined-name, hex_size, named-short, mark_folder}
 use Rattle.filing.specs.Names.{hex8, session_name, record_name, part_name}
 use Rattle.filing.specs.Lines.{bytes}
-use Rattle.filing.specs.Paths.{session_of, in_session, below, is_log, leaf_of, part_file, length_of, record_path, rule_path, Plain, one, more, RecordPathsPlain, RulePathsPlain, RecordPathsApart}
+use Rattle.filing.specs.Paths.{session_of, in_session, below, leaf_of, part_file, length_of, record_path, rule_path, Plain, one, more, RecordPathsPlain, RulePathsPlain, RecordPathsApart}
 use Rattle.filing.specs.declared.paths.SessionId.{SessionId}
 use Rattle.filing.specs.declared.paths.Place.{Place}
 use Rattle.filing.specs.declared.paths.Place.TheVariants.{Archive, Session, Log, Part, Headers, Body, Note, Record}

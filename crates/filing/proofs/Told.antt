@@ -1,5 +1,5 @@
 -- The frames of a log stand for its entries, and the first one for the settings. Assumes nothing.
-use Prim.Native.Nat.{ℕ, ◌+◌, ◌*◌, ◌/◌, ◌%◌, ◌^◌, ◌≤◌, ◌<◌}
+use Prim.Native.Nat.{ℕ, ◌/◌, ◌%◌, ◌≤◌}
 use mathlib.Core.Path.{◌≡◌, refl, ap, ap₂, ◌∙◌}
 use mathlib.Core.Bool.{Bool, true, false, ◌||◌}
 use mathlib.Core.List.{List, [], ◌∷◌, ◌++◌}
@@ -9,7 +9,6 @@ use lib.ListN.{get_or}
 use Rattle.base.specs.Pick.{pick}
 use Rattle.archive.specs.Block.{same}
 use Rattle.journal.specs.Checks.{bit}
-use Rattle.journal.specs.Journal.{Settings}
 use Rattle.filing.specs.Entries.{LogEntry, received, sent, answered, object, checked, nonce, closed, ended}
 use Rattle.filing.specs.Kinds.{id_bytes, ids_in, AllIds, content_for, end_in, entry_in, entries_in, FitsFrame, nothing, entry, beside, OpenFrame, open_flags, open_row, is_set, settings_in}
 use Rattle.filing.proofs.Framed.{number-back}

@@ -2,13 +2,11 @@
 -- counts as wrong, so the count that is read is never below the count that comes out. Assumes nothing.
 use Prim.Native.Nat.{ℕ, zero, suc, ◌≤◌}
 use mathlib.Core.Path.{◌≡◌, refl}
-use mathlib.Core.Bool.{true, false, not}
 use mathlib.Core.List.{List, [], ◌∷◌}
 use native.Mathlib.Omega.{arith}
 use lib.ListN.{take}
-use lib.Dec.{leb}
 use borrow.Author.Tests.{leb-false, lt-leb, not-true}
-use Rattle.journal.specs.Checks.{Check, right, wrong, stop, is_wrong, bit, wrongs, too_many_of, window_length, most_wrong}
+use Rattle.journal.specs.Checks.{is_wrong, bit, wrongs, too_many_of, window_length, most_wrong}
 use Rattle.filing.specs.Tries.{open_letter, letter_check, history_of, check_allowed, Becomes, stays, settles, Settled}
 use Rattle.filing.proofs.Letters.{bit_most}
 use Rattle.filing.specs.Claims.{NeverMore}

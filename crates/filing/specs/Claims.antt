@@ -4,12 +4,12 @@ use Rattle.std.proofs.Math.Option.{some}
 use Rattle.journal.specs.Record.{Record}
 use Rattle.journal.specs.Calls.{Fed}
 use Rattle.journal.specs.Checks.{too_many_of}
-use Rattle.journal.specs.Journal.{Settings, Journal, begin, more, read_up, taken_up, journal_records, journal_ends}
+use Rattle.journal.specs.Journal.{Journal, begin, more, read_up, taken_up, journal_records, journal_ends}
 use Rattle.journal.specs.Naming.{Naming}
 use Rattle.filing.specs.declared.plan.Step.{Step}
 use Rattle.filing.specs.declared.plan.Step.TheVariants.{MakePart}
 use Rattle.filing.specs.Plan.{plan_for, steps_from, runs, code_for}
-use Rattle.filing.specs.Entries.{LogEntry, received, entry_step, names_step, Handed, log_handed, journal_handed, log_records, first_end, log_ends, log_of, Joins}
+use Rattle.filing.specs.Entries.{LogEntry, received, entry_step, names_step, log_handed, journal_handed, log_records, first_end, log_ends, log_of, Joins}
 use Rattle.filing.specs.Frame.{Content, frame_length, log_bytes}
 use Rattle.filing.specs.Reading.{Log, log, size_in, check_in, read_from, read_log, turn_of, after_turn}
 use Rattle.filing.specs.declared.frame.Kind.{Kind}

@@ -1,5 +1,5 @@
 -- Texts that an operator writes: lines, and in a line a word, a separator and a value. A line ends with a line feed; the last one need not.
-use Rattle.std.specs.Prelude.{ℕ, ◌≤◌, Bool, false, ◌&&◌, ◌||◌, List, [], ◌∷◌, eqb, ltb, length}
+use Rattle.std.specs.Prelude.{ℕ, ◌≤◌, Bool, ◌&&◌, List, [], ◌∷◌, eqb, ltb, length}
 use Prim.Native.Char.{code}
 use Prim.Native.String as string
 use Rattle.std.proofs.Math.Option.{Option, none, some}

@@ -1,6 +1,6 @@
 -- The names below an archive (docs/ARCHIVE.md#as-a-receiver-files-it): that of a session, by its clock and 64 random bits, that of a record, by
 -- its number, and that of a record which is not filed to its end. No byte of a client's is in them.
-use Rattle.std.specs.Prelude.{ℕ, ◌+◌, ◌/◌, ◌%◌, List, [], ◌∷◌, ◌++◌}
+use Rattle.std.specs.Prelude.{ℕ, ◌/◌, ◌%◌, List, [], ◌∷◌, ◌++◌}
 use Rattle.calendar.specs.Time.{decimal, time_of}
 use Rattle.files.specs.Path.{hex_digit}
 

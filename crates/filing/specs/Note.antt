@@ -1,6 +1,6 @@
 -- The note beside a record (docs/ARCHIVE.md, "The note"), line by line: what the frame `file` of the log says, where that frame stands, and the MD5s
 -- of the files. Numbers are decimal without leading zeros, bytes are hexadecimal, a line ends with a line feed.
-use Rattle.std.specs.Prelude.{ℕ, ◌+◌, ◌/◌, ◌%◌, ◌≡◌, Bool, ◌&&◌, not, List, [], ◌∷◌, ◌++◌, ltb, leb, eqb, length}
+use Rattle.std.specs.Prelude.{ℕ, ◌+◌, ◌≡◌, Bool, ◌&&◌, not, List, [], ◌∷◌, ◌++◌, ltb, leb, eqb, length}
 use Rattle.std.proofs.Math.Option.{Option, none, some}
 use Rattle.std.proofs.Math.Seq.{paste}
 use Rattle.base.specs.Pick.{pick}

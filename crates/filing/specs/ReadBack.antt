@@ -1,6 +1,6 @@
 -- What the frames of a log say, in the code's words (docs/ARCHIVE.md, "The log"): the kind by the four letters, the entry by kind and payload, and
 -- the settings by the first frame's payload.
-use Rattle.std.specs.Prelude.{ℕ, Bool, ◌||◌, List, [], ◌∷◌, eqb, get_or, drop}
+use Rattle.std.specs.Prelude.{ℕ, ◌||◌, List, [], ◌∷◌, eqb, get_or, drop}
 use Rattle.base.specs.Pick.{pick}
 use Rattle.journal.specs.Journal.{Settings}
 use Rattle.filing.specs.Entries.{LogEntry, received, sent, answered, object, checked, nonce, closed, ended}

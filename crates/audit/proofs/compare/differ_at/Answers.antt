@@ -20,7 +20,6 @@ returns-then-b-i c =
 
 pub returns-then-a-i : goal.returns-then-a-i
 returns-then-a-i c =
-    let d = c in
     omega (
       arith,
       c.loop-i.invariant.2,

@@ -1,10 +1,10 @@
 -- `audit::compare::is_held` meets its contract: its tests are those of the definition. Assumes nothing.
 use Rattle.std.proofs.Common.{◌≡◌, sym, refl, ap, ◌∙◌, rules, le-ltb, lt-ltb, eq-eqb, ne_eqb, le-leb}
-use borrow.Author.Tests.{lt-leb, not-true, not-false}
+use borrow.Author.Tests.{lt-leb}
 use Rattle.audit.proofs.compare.is_held.Goals as goal
 
 pub returns-then-not-is_there : goal.returns-then-not-is_there
-returns-then-not-is_there c = rw (not-true c.args.is_there_lem c.if-not-is_there.true) refl
+returns-then-not-is_there c = rw c.if-not-is_there.true refl
 
 pub returns : goal.returns
-returns c = rw (not-false c.args.is_there_lem c.if-not-is_there.false) c.is_equal.ensures
+returns c = rw c.if-not-is_there.false c.is_equal.ensures

@@ -4,7 +4,6 @@ use Rattle.audit.proofs.compare.payload_what.Goals as goal
 
 pub returns : goal.returns
 returns c =
-    let d = c in
     rw (
       c.file_row-row.ensures,
       c.front-due.ensures,

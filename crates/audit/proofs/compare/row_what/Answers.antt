@@ -1,34 +1,29 @@
 -- `audit::compare::row_what` meets its contract: its tests are those of the definition. Assumes nothing.
 use Rattle.std.proofs.Common.{◌≡◌, ℕ, ◌+◌, ◌-◌, ◌≤◌, List, length, take, drop, sym, refl, ap, ◌∙◌, arith, rules, le-ltb, lt-ltb, eq-eqb, ne_eqb, le-leb}
-use borrow.Author.Tests.{lt-leb, not-true, not-false}
+use borrow.Author.Tests.{lt-leb}
 use Rattle.archive.specs.Block.{same}
 use Rattle.audit.proofs.compare.row_what.Goals as goal
 
 pub returns-then-not-is_equal : goal.returns-then-not-is_equal
 returns-then-not-is_equal c =
-    let d = c in
     rw (sym (c.is_equal.ensures ∙ ap (λ (x : List ℕ). same x c.args.row.now)
-    c.front.ensures) ∙ not-true c.is_equal.result c.if-not-is_equal.true)
+    c.front.ensures) ∙ c.if-not-is_equal.true)
     refl
 
 pub returns-then-not-is_equal-2 : goal.returns-then-not-is_equal-2
 returns-then-not-is_equal-2 c =
-    let d = c in
-    let k = c in
     rw (
       sym (c.is_equal.ensures ∙ ap (λ (x : List ℕ). same x c.args.row.now)
-          c.front.ensures) ∙ not-false c.is_equal.result c.if-not-is_equal.false,
+          c.front.ensures) ∙ c.if-not-is_equal.false,
       sym (c.is_equal-2.ensures ∙ ap (λ (x : List ℕ). same x c.args.target.now)
-          c.from_place.ensures) ∙ not-true c.is_equal-2.result c.if-not-is_equal-2.true,
+          c.from_place.ensures) ∙ c.if-not-is_equal-2.true,
     ) refl
 
 pub returns : goal.returns
 returns c =
-    let d = c in
-    let k = c in
     rw (
       sym (c.is_equal.ensures ∙ ap (λ (x : List ℕ). same x c.args.row.now)
-          c.front.ensures) ∙ not-false c.is_equal.result c.if-not-is_equal.false,
+          c.front.ensures) ∙ c.if-not-is_equal.false,
       sym (c.is_equal-2.ensures ∙ ap (λ (x : List ℕ). same x c.args.target.now)
-          c.from_place.ensures) ∙ not-false c.is_equal-2.result c.if-not-is_equal-2.false,
+          c.from_place.ensures) ∙ c.if-not-is_equal-2.false,
     ) refl

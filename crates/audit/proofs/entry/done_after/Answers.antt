@@ -23,7 +23,6 @@ returns-then-payload-eq0 c =
 pub returns : goal.returns
 unfolding done_after
 returns c =
-    let d = c in
     rw (
       eq-eqb c.args.letters (kind_number Done) (c.if-letters-kind_number.false ∙ c.kind_number.ensures),
       ne_eqb (length c.args.payload.now) 0 c.if-payload-eq0.false,

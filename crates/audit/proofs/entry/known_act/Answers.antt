@@ -10,7 +10,6 @@ returns-then-letters-kind_number c = rw (eq-eqb c.args.letters (kind_number Open
 
 pub returns-then-letters-kind_number-2 : goal.returns-then-letters-kind_number-2
 returns-then-letters-kind_number-2 c =
-    let d = c in
     rw (
       ne_eqb c.args.letters (kind_number Open) (λ e. c.if-letters-kind_number.false (e ∙ sym c.kind_number.ensures)),
       eq-eqb c.args.letters (kind_number Recv) (c.if-letters-kind_number-2.true ∙ c.kind_number-2.ensures),
@@ -18,7 +17,6 @@ returns-then-letters-kind_number-2 c =
 
 pub returns : goal.returns
 returns c =
-    let d = c in
     rw (
       ne_eqb c.args.letters (kind_number Open) (λ e. c.if-letters-kind_number.false (e ∙ sym c.kind_number.ensures)),
       ne_eqb c.args.letters (kind_number Recv) (λ e. c.if-letters-kind_number-2.false (e

@@ -11,5 +11,4 @@ returns-then-payload c = rw (lt-ltb (length c.args.payload.now) 49 c.if-payload.
 pub returns : goal.returns
 unfolding name_in
 returns c =
-    let d = c in
     rw (le-ltb (length c.args.payload.now) 49 (omega arith)) c.copy_into.ensures

@@ -16,7 +16,6 @@ returns-then-number_at-ne-OPENING c =
 pub returns-then-settings-gt-BODY : goal.returns-then-settings-gt-BODY
 unfolding open_act
 returns-then-settings-gt-BODY c =
-    let d = c in
     rw (
       eq-eqb (four_at c.args.payload.now 0) 0x4F425831 (sym c.number_at.ensures ∙ c.if-number_at-ne-OPENING.false),
       lt-ltb 1048576 (settings_read c.args.payload.now).limit (omega (
@@ -29,7 +28,6 @@ returns-then-settings-gt-BODY c =
 pub returns : goal.returns
 unfolding open_act
 returns c =
-    let d = c in
     rw (
       eq-eqb (four_at c.args.payload.now 0) 0x4F425831 (sym c.number_at.ensures ∙ c.if-number_at-ne-OPENING.false),
       le-ltb 1048576 (settings_read c.args.payload.now).limit (omega (

@@ -18,8 +18,6 @@ returns-in-Wrong c = rw (sym c.act_for.ensures ∙ c.in-Wrong.is, c.wrong.ensure
 pub returns-in-Feed : goal.returns-in-Feed
 unfolding frame_taken
 returns-in-Feed c =
-    let d = c in
-    let k = c in
     rw (
       sym c.act_for.ensures ∙ c.in-Feed.is,
       ← c.feed-state.ensures,

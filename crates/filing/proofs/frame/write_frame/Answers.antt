@@ -1,6 +1,6 @@
 -- `filing::frame::write_frame` meets its contract: it has room or it does not, the payload is short enough or not, and then rows and check
 -- are laid. Assumes nothing.
-use mathlib.Core.Path.{◌≡◌, refl, sym, ◌∙◌}
+use mathlib.Core.Path.{refl, sym, ◌∙◌}
 use Prim.Native.Nat.{◌+◌}
 use native.Mathlib.Omega.{arith}
 use lib.ListN.{length}

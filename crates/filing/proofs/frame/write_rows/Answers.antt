@@ -2,8 +2,6 @@
 use mathlib.Core.Path.{refl, ap, ◌∙◌}
 use Prim.Native.Nat.{ℕ}
 use lib.ListN.{length}
-use lib.Seq.{paste}
-use borrow.Author.Rules.{rules}
 use Rattle.base.specs.Bytes.{bytes32}
 use Rattle.filing.specs.Frame.{rows_laid}
 use Rattle.filing.proofs.InStore.{rows_written}

@@ -1,12 +1,11 @@
 -- `filing::names::session_name` meets its contract: time, hyphen and digits stand one behind the other. Assumes nothing.
-use mathlib.Core.Path.{◌≡◌, refl, ap, ap₂, ◌∙◌}
+use mathlib.Core.Path.{ap, ap₂, ◌∙◌}
 use mathlib.Core.List.{List, ◌∷◌, ◌++◌}
 use Prim.Native.Nat.{ℕ}
 use lib.ListN.{length}
 use Rattle.calendar.specs.Time.{time_of}
-use Rattle.filing.specs.Names.{hex8, session_name}
+use Rattle.filing.specs.Names.{session_name}
 use Rattle.filing.proofs.Named.{name-laid, time-written, length-time}
-use borrow.Author.Rules.{rules}
 use Rattle.filing.proofs.names.session_name.Goals as goal
 
 pub returns : goal.returns

@@ -1,6 +1,6 @@
 -- `filing::note::put_note` meets its contract: its lines stand one behind the other. Assumes nothing.
 use native.Mathlib.Omega.{arith}
-use mathlib.Core.Path.{◌≡◌, ap}
+use mathlib.Core.Path.{ap}
 use mathlib.Core.List.{List}
 use mathlib.Core.Option.{none, some}
 use Prim.Native.Nat.{ℕ, ◌-◌}
@@ -10,7 +10,6 @@ use Rattle.base.specs.Pick.{pick}
 use Rattle.filing.specs.Note.{record_line, filed_line, headers_line, body_line, target_line, log_line, sum_lines, note_of}
 use Rattle.filing.proofs.Contents.{taken_most}
 use Rattle.filing.proofs.NoteText.{cut_on, note_parts, laid_as, laid_more}
-use borrow.Author.Rules.{rules}
 use Rattle.filing.proofs.note.put_note.Goals as goal
 
 pub put_record-a-requires : goal.put_record-a-requires

@@ -5,7 +5,6 @@ use mathlib.Core.List.{append_assoc}
 use lib.ListN.{length}
 use Rattle.filing.proofs.Named.{time-written, length-time}
 use Rattle.filing.proofs.NoteText.{laid_as, laid_more}
-use borrow.Author.Rules.{rules}
 use Rattle.filing.proofs.note.put_record.Goals as goal
 
 pub returns : goal.returns

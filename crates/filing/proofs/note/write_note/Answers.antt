@@ -6,7 +6,6 @@ use borrow.Author.Tests.{lt-ltb, le-ltb}
 use Rattle.filing.specs.FileFrame.{frame_with}
 use Rattle.filing.specs.Note.{note_written}
 use Rattle.filing.proofs.NoteText.{lengths_say, note_done}
-use borrow.Author.Rules.{rules}
 use Rattle.filing.proofs.note.write_note.Goals as goal
 
 pub returns-then-store-lt-ROOM : goal.returns-then-store-lt-ROOM

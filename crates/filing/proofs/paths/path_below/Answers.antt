@@ -2,7 +2,6 @@
 use mathlib.Core.Path.{ap, ◌∙◌}
 use lib.ListN.{length}
 use Rattle.filing.proofs.Placed.{layout, length-session, length_leaf, length_file, below_is}
-use borrow.Author.Rules.{rules}
 use Rattle.filing.proofs.paths.path_below.Goals as goal
 
 pub returns : goal.returns

@@ -5,7 +5,6 @@ use Prim.Native.Nat.{ℕ}
 use Rattle.files.specs.Path.{in_folder}
 use Rattle.files.specs.Store.{fit}
 use Rattle.filing.specs.Paths.{record_path}
-use borrow.Author.Rules.{rules}
 use Rattle.filing.proofs.paths.record_path.Goals as goal
 
 pub returns : goal.returns
