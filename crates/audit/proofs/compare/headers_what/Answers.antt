@@ -3,7 +3,7 @@ use Rattle.std.proofs.Common.{◌≡◌, sym, refl, ap, ◌∙◌, rules}
 use Rattle.audit.proofs.compare.headers_what.Goals as goal
 
 pub returns-then-is_held : goal.returns-then-is_held
-returns-then-is_held c = rw (sym c.is_held_lem.ensures ∙ c.if-is_held.true) refl
+returns-then-is_held c = rw (sym c.is_held.ensures ∙ c.if-is_held.true) refl
 
 pub returns : goal.returns
-returns c = rw (sym c.is_held_lem.ensures ∙ c.if-is_held.false, c.differ_at.ensures) refl
+returns c = rw (sym c.is_held.ensures ∙ c.if-is_held.false, c.differ_at.ensures) refl
