@@ -2,9 +2,9 @@
 -- nothing.
 use mathlib.Core.Path.{◌≡◌, refl, sym, ap, ap₂, ◌∙◌, subst}
 use mathlib.Core.List.{List, [], ◌∷◌, ◌++◌}
-use mathlib.Core.Bool.{Bool, true, false, ◌&&◌, ◌||◌, not, true≢false, false≢true}
+use mathlib.Core.Bool.{Bool, true, false, ◌&&◌, ◌||◌, not, false≢true}
 use mathlib.Core.Option.{Option, none, some}
-use Prim.Native.Nat.{ℕ, zero, suc, ◌+◌, ◌-◌, ◌≤◌, ◌<◌}
+use Prim.Native.Nat.{ℕ, zero, suc, ◌+◌, ◌-◌, ◌≤◌}
 use native.Mathlib.Omega.{arith}
 use lib.ListN.{length, get_or, take, drop}
 use lib.Seq.{get_or-drop}
@@ -26,40 +26,37 @@ use Rattle.packet.proofs.HeaderBytes.{Octets}
 use Rattle.packet.proofs.HeaderLaws.{first-agrees}
 use Rattle.journal.specs.Record.{Record, joined, size_of, bare, carried_by, kept_by_get}
 use Rattle.journal.specs.Ids.{member}
-use Rattle.journal.specs.Checks.{Check, stop, too_many_of, most_wrong}
-use Rattle.journal.specs.Journal.{Settings as JournalSettings, Standing, Opened, nothing, trailing, putting, getting, sending, gathering, draining, Journal, Entry, unchanged, after, stands, ends_with, stopped, unauthorized, admitted, not_open, asks_srm, is_enable, overrun, put_read, gather_read, turned_away, dropped, is_stopped, with_check, connect_read, first_read, trails, request_read, packet_read, busy, headers_of}
+use Rattle.journal.specs.Checks.{stop, too_many_of}
+use Rattle.journal.specs.Journal.{Settings as JournalSettings, Standing, Opened, nothing, trailing, putting, getting, sending, gathering, draining, Journal, Entry, unchanged, after, stands, ends_with, stopped, unauthorized, admitted, not_open, asks_srm, put_read, turned_away, dropped, is_stopped, with_check, connect_read, first_read, trails, request_read, packet_read, busy, headers_of}
 use Rattle.journal.specs.Naming.{Naming, target_of, under_id, packet_names}
 use Rattle.incoming.specs.Survey.{survey_of, id_of}
 use Rattle.incoming.specs.Frame.{frame_end}
 use Rattle.incoming.specs.Gather.{Gathering, gathering as gatheringOf, gather_all}
 use Rattle.incoming.specs.declared.gather.Keep.TheVariants as keep
 use Rattle.incoming.specs.declared.gather.Gathered.{Gathered}
-use Rattle.incoming.proofs.Gathers.{PutAgrees, put-begins, put-agrees, put_full, gather_lengths}
-use Rattle.table.specs.Targets.{unnamed, target_bytes, place_of, target_at}
-use Rattle.table.specs.declared.targets.Target.{Target}
+use Rattle.incoming.proofs.Gathers.{PutAgrees, put-begins, put-agrees, put_full}
+use Rattle.table.specs.Targets.{unnamed, target_bytes}
 use Rattle.table.proofs.Naming.{unnamed-bytes}
 use Rattle.connection.specs.Peer.{peer_with, ids_of, id_in, checked_peer}
 use Rattle.connection.specs.declared.peer.Peer.{Peer}
 use Rattle.connection.proofs.Carrying.{Carried}
 use Rattle.connection.proofs.Openings.{Given}
-use Rattle.connection.proofs.Standings.{standing_of, PeerFits, checked-fits, checked_window, stopped-standing, too_many}
-use Rattle.filing.specs.Entries.{handed_under}
+use Rattle.connection.proofs.Standings.{PeerFits, checked-fits, checked_window, stopped-standing, too_many}
 use Rattle.journal_code.specs.declared.state.State.{State}
 use Rattle.journal_code.specs.declared.state.Open.{Open}
 use Rattle.journal_code.specs.declared.state.Open.TheVariants.{Nothing, Trailing, Putting, Getting, Sending, Gathering as GatheringOpen, Draining}
-use Rattle.journal_code.specs.declared.state.Last.{Last}
 use Rattle.journal_code.specs.declared.state.Last.TheVariants as last
 use Rattle.journal_code.specs.declared.heading.Heading.{Heading}
 use Rattle.journal_code.specs.declared.route.Route.{Route}
 use Rattle.journal_code.specs.declared.route.Route.TheVariants as way
-use Rattle.journal_code.specs.State.{state_with, ended_with, moved_to, is_busy, nothing_gathered}
+use Rattle.journal_code.specs.State.{state_with, ended_with, is_busy, nothing_gathered}
 use Rattle.journal_code.specs.Heading.{link_by, heading_of, last_by}
 use Rattle.journal_code.specs.Route.{admitted_in, turned_open, admitted_route, turned_by, first_route, trails_in, trailing_route, inside_route, heading_route}
-use Rattle.journal_code.specs.Receive.{stopped_in, peer_after, marked_by, target_after, after_packet, put_open, put_state, unreadable_state, begun_of, Step, step, put_step, act_step, request_step}
-use Rattle.journal_code.specs.Run.{Stores, Held, held, record_in, handed_in}
+use Rattle.journal_code.specs.Receive.{stopped_in, peer_after, marked_by, target_after, after_packet, put_open, put_state, unreadable_state, Step, put_step, act_step, request_step}
+use Rattle.journal_code.specs.Run.{Stores, Held, held}
 use Rattle.journal_code.specs.Claims.{put_kept, kept_in}
 use Rattle.journal_code.proofs.Picks.{on_true, on_false}
-use Rattle.journal_code.proofs.Coupling.{plain, Fixed, Begins, last_of, last_in, PutOpen, OpenedAs, Does, busy-same, Live, Coupled, live, over, Next, Came, goes, full}
+use Rattle.journal_code.proofs.Coupling.{Fixed, Begins, last_of, last_in, OpenedAs, Does, busy-same, Live, live, over, Next, Came, goes, full}
 use Rattle.journal_code.proofs.Steps.{next_as}
 
 -- ---- the bytes of a header's value

@@ -2,12 +2,12 @@
 -- have come. Assumes nothing.
 use mathlib.Core.Path.{◌≡◌, refl, sym, ap, ◌∙◌, subst}
 use mathlib.Core.List.{List, [], ◌∷◌}
-use mathlib.Core.Bool.{Bool, true, false, ◌&&◌, true≢false, false≢true}
+use mathlib.Core.Bool.{Bool, true, false, ◌&&◌, false≢true}
 use mathlib.Core.Option.{Option, none, some}
 use Prim.Native.Nat.{ℕ, ◌≤◌, ◌<◌}
 use native.Mathlib.Omega.{arith}
 use lib.ListN.{length, get_or, take}
-use lib.Dec.{leb, ltb}
+use lib.Dec.{ltb}
 use borrow.Author.Tests.{leb-true, ltb-true}
 use Rattle.base.specs.Pick.{pick}
 use Rattle.packet.specs.FirstByte.{first_byte}
@@ -26,13 +26,12 @@ use Rattle.connection.specs.Pieces.{headers_from}
 use Rattle.filing.specs.Kinds.{ids_in}
 use Rattle.journal_code.specs.declared.state.State.{State}
 use Rattle.journal_code.specs.declared.heading.Heading.{Heading}
-use Rattle.journal_code.specs.declared.heading.Reading.{Reading}
 use Rattle.journal_code.specs.declared.heading.Reading.TheVariants.{Unreadable, Read}
 use Rattle.journal_code.specs.State.{quiet, ended_with, coming_to, standing_by, fits_in}
 use Rattle.journal_code.specs.Heading.{heading_of, reading_of}
 use Rattle.journal_code.specs.Route.{heading_route}
-use Rattle.journal_code.specs.Receive.{unreadable_state, Step, step, act_step, request_step, packet_step, Came, came, came_by, frame_step}
-use Rattle.journal_code.specs.Answer.{Tabled, tabled, linked_in, Remaining, remaining, closed_all, closes_to}
+use Rattle.journal_code.specs.Receive.{unreadable_state, Step, step, act_step, request_step, packet_step, came, came_by, frame_step}
+use Rattle.journal_code.specs.Answer.{tabled, linked_in, Remaining, remaining, closed_all, closes_to}
 use Rattle.journal_code.proofs.Closes.{no_id, some-ids}
 
 -- ---- bounds

@@ -11,7 +11,7 @@ use Rattle.connection.specs.Peer.{closed_tables}
 use Rattle.connection.proofs.Closing.{without_shorter, closed-length}
 use Rattle.filing.specs.Kinds.{ids_in}
 use Rattle.filing.proofs.InStore.{number_at}
-use Rattle.journal_code.specs.Answer.{Remaining, remaining, closed_all}
+use Rattle.journal_code.specs.Answer.{remaining, closed_all}
 
 -- four bytes are an id
 first_id : (l : List ℕ) → 4 ≤ length l → ids_in l ≡ be32 l 0 ∷ ids_in (drop 4 l)

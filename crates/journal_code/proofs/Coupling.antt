@@ -1,15 +1,12 @@
 -- How the state, the stores and the journal stand to one another between two entries: the settings, the standing and the Targets of the open ids
 -- (`Fixed`), the bytes of a packet that has begun (`Begins`), and what is open with the packet read last (`Does`). Assumes nothing.
-use mathlib.Core.Path.{◌≡◌, refl, sym, ap, ◌∙◌, subst}
-use mathlib.Core.List.{List, []}
+use mathlib.Core.Path.{◌≡◌, refl, ap}
+use mathlib.Core.List.{List}
 use mathlib.Core.Bool.{Bool, true, false}
 use mathlib.Core.Option.{Option, none, some}
 use Prim.Native.Nat.{ℕ, ◌≤◌, ◌<◌}
-use native.Mathlib.Omega.{arith}
 use lib.ListN.{length, take}
-use lib.Dec.{leb}
 use borrow.Author.Tests.{le-leb, lt-ltb}
-use Rattle.base.specs.Pick.{pick}
 use Rattle.packet.specs.Header.{Header, first, present}
 use Rattle.packet.specs.Packet.{Request}
 use Rattle.packet.specs.declared.opcode.Opcode.{Opcode}
@@ -25,7 +22,6 @@ use Rattle.incoming.specs.declared.frame.Frame.TheVariants.{More}
 use Rattle.incoming.specs.declared.gather.Gathered.{Gathered}
 use Rattle.incoming.proofs.Gathers.{PutAgrees}
 use Rattle.table.specs.Targets.{target_bytes}
-use Rattle.table.specs.declared.targets.Target.{Target}
 use Rattle.connection.specs.Peer.{id_in, target_given}
 use Rattle.connection.specs.declared.peer.Peer.{Peer}
 use Rattle.connection.proofs.Carrying.{Carried}

@@ -1,7 +1,7 @@
 -- The host's reply and ids that are closed together, with the state and the journal before them. Assumes nothing.
 use mathlib.Core.Path.{◌≡◌, refl, sym, ap, ap₂, ◌∙◌, subst}
 use mathlib.Core.List.{List, [], ◌∷◌, ◌++◌}
-use mathlib.Core.Bool.{Bool, true, false, ◌&&◌, ◌||◌, not, true≢false, false≢true}
+use mathlib.Core.Bool.{Bool, true, false, ◌&&◌, ◌||◌, not}
 use mathlib.Core.Option.{Option, none, some}
 use Prim.Native.Nat.{ℕ, ◌+◌, ◌%◌, ◌^◌, ◌≤◌}
 use native.Mathlib.Omega.{arith}
@@ -12,34 +12,34 @@ use Rattle.base.specs.Pick.{pick}
 use Rattle.base.specs.Bytes.{be32}
 use Rattle.packet.specs.FirstByte.{same_opcode}
 use Rattle.packet.specs.Codes.{is_success}
-use Rattle.packet.specs.Header.{Header, read_headers, first, present}
+use Rattle.packet.specs.Header.{read_headers, first}
 use Rattle.packet.specs.Packet.{Request}
 use Rattle.packet.specs.declared.opcode.Opcode.{Opcode}
 use Rattle.packet.specs.declared.opcode.Opcode.TheVariants as op
 use Rattle.journal.specs.Ids.{member, without, without_all, new_id}
 use Rattle.journal.specs.Checks.{Check}
-use Rattle.journal.specs.Journal.{Settings as JournalSettings, Standing, Opened, nothing, trailing, putting, getting, sending, gathering, draining, Journal, Entry, unchanged, opens, stands, busy, list_of, asks_srm, is_enable, with_ids, open_id, opens_for, connected, leaves, disconnected, closes, reply_to, reply_last, replied, headers_of}
+use Rattle.journal.specs.Journal.{Settings as JournalSettings, Standing, Opened, nothing, trailing, putting, getting, sending, gathering, draining, Journal, unchanged, stands, busy, list_of, asks_srm, is_enable, with_ids, open_id, opens_for, connected, leaves, disconnected, closes, reply_to, reply_last, replied, headers_of}
 use Rattle.journal.specs.Naming.{Opening, Naming, id_opened, opens_as, answer_names}
-use Rattle.connection.specs.Peer.{peer_with, ids_of, id_in, isGiven, target_given, Linked, linked, Opens, opening_of, opened_for, opened_by, answer_by, left_peer, closed_tables, disconnected_peer, disconnected_by}
+use Rattle.connection.specs.Peer.{ids_of, id_in, isGiven, target_given, Linked, opening_of, opened_for, answer_by, left_peer, closed_tables, disconnected_peer, disconnected_by}
 use Rattle.connection.specs.Pieces.{headers_from}
 use Rattle.connection.specs.declared.peer.Peer.{Peer}
 use Rattle.connection.proofs.ByNumbers.{opened_by_lem, disconnected_by_lem}
-use Rattle.connection.proofs.Carrying.{Carried, carried_none, carried-closed}
+use Rattle.connection.proofs.Carrying.{Carried, carried-closed}
 use Rattle.connection.proofs.Closing.{without_shorter, closed-front, closed-length}
 use Rattle.connection.proofs.Openings.{Given, opened-carried, full-carried, disconnected-carried}
-use Rattle.connection.proofs.Standings.{standing_of, standing_in, PeerFits, own_fits, Windowed, left-standing, left_window, left-fits, disconnected-standing, disconnected_window, disconnected-fits, disconnected-length, opened-standing, opened-fits, opened-length, opened_window, full-standing}
+use Rattle.connection.proofs.Standings.{standing_of, own_fits, left-standing, left_window, left-fits, disconnected-standing, disconnected_window, disconnected-fits, disconnected-length, opened-standing, opened-fits, opened-length, opened_window, full-standing}
 use Rattle.filing.specs.Entries.{answered, closed, entry_step, names_step}
 use Rattle.journal_code.specs.declared.state.State.{State}
 use Rattle.journal_code.specs.declared.state.Open.{Open}
 use Rattle.journal_code.specs.declared.state.Open.TheVariants.{Nothing, Trailing, Putting, Getting, Sending, Gathering, Draining}
 use Rattle.journal_code.specs.declared.state.Last.{Last}
 use Rattle.journal_code.specs.declared.state.Last.TheVariants as last
-use Rattle.journal_code.specs.State.{state_with, quiet, standing_by, opens_now}
+use Rattle.journal_code.specs.State.{quiet, standing_by, opens_now}
 use Rattle.journal_code.specs.Route.{asks_in}
-use Rattle.journal_code.specs.Answer.{Tabled, tabled, linked_in, is_nothing, stands_answered, stands_linked, connected_step, reply_step, answered_inside, answered_step, Remaining, remaining, closed_all, closes_to, closed_step}
-use Rattle.journal_code.specs.Run.{Stores, Held, held, held_tabled}
+use Rattle.journal_code.specs.Answer.{Tabled, tabled, linked_in, is_nothing, stands_answered, stands_linked, connected_step, reply_step, answered_inside, answered_step, Remaining, closed_all, closes_to, closed_step}
+use Rattle.journal_code.specs.Run.{Stores, Held, held_tabled}
 use Rattle.journal_code.proofs.Picks.{on_true, on_false}
-use Rattle.journal_code.proofs.Coupling.{plain, Fixed, last_of, last_in, OpenedAs, busy-same, Live, Coupled, live, over, Next}
+use Rattle.journal_code.proofs.Coupling.{plain, last_of, last_in, OpenedAs, Live, Next}
 use Rattle.journal_code.proofs.Steps.{next_as, quiet_next, open_next, peer-next}
 
 -- ---- no record depends on the nonce

@@ -1,22 +1,19 @@
 -- Each entry that is no packet and no answer, with the state and the journal before it: what it leaves is what the journal enters. Assumes
 -- nothing.
 use mathlib.Core.Path.{◌≡◌, refl, sym, ap, ◌∙◌, subst}
-use mathlib.Core.List.{List, [], ◌∷◌}
+use mathlib.Core.List.{List, ◌∷◌}
 use mathlib.Core.Bool.{Bool, true, false}
-use mathlib.Core.Option.{Option, none, some}
 use Prim.Native.Nat.{ℕ}
 use native.Mathlib.Omega.{arith}
 use lib.Dec.{eqb}
-use Rattle.base.specs.Pick.{pick}
 use Rattle.packet.specs.Codes.{sent_code}
 use Rattle.packet.specs.ResponseCodes as response
 use Rattle.journal.specs.Checks.{right, wrong}
-use Rattle.journal.specs.Journal.{Standing, Opened, nothing, trailing, putting, getting, sending, gathering, draining, Journal, Entry, unchanged, opens, stands, ends_with, taken_at, object_sent, with_check, password_checked, challenged}
+use Rattle.journal.specs.Journal.{Standing, Opened, nothing, trailing, putting, getting, sending, gathering, draining, Journal, Entry, unchanged, opens, stands, ends_with, taken_at, object_sent, password_checked, challenged}
 use Rattle.journal.specs.Naming.{Naming}
-use Rattle.connection.specs.Peer.{peer_with, checked_peer, verified_peer, authenticated_peer}
+use Rattle.connection.specs.Peer.{peer_with, checked_peer, authenticated_peer}
 use Rattle.connection.specs.declared.peer.Peer.{Peer}
-use Rattle.connection.proofs.Standings.{standing_of, PeerFits, own_fits, checked-fits, verified-fits, checked_window, verified_window, wrong-standing, verified-standing}
-use Rattle.table.specs.Targets.{target_bytes}
+use Rattle.connection.proofs.Standings.{checked-fits, verified-fits, checked_window, verified_window, wrong-standing, verified-standing}
 use Rattle.filing.specs.Entries.{sent, object, checked, nonce, ended, entry_step, names_step}
 use Rattle.journal_code.specs.declared.state.State.{State}
 use Rattle.journal_code.specs.declared.state.Open.{Open}
@@ -25,7 +22,7 @@ use Rattle.journal_code.specs.State.{state_with, quiet, ended_with, standing_by,
 use Rattle.journal_code.specs.Answer.{sent_object, sent_in, sent_state, object_in, object_state, checked_peers, checked_state, nonce_state, ended_state}
 use Rattle.journal_code.specs.Run.{Stores, Held, held}
 use Rattle.journal_code.proofs.Picks.{on_true, on_false}
-use Rattle.journal_code.proofs.Coupling.{plain, Fixed, OpenedAs, Live, Coupled, live, over, Next}
+use Rattle.journal_code.proofs.Coupling.{Fixed, OpenedAs, Live, live, over, Next}
 
 -- the same under other names
 pub next_as : {h k : Held} {e f : Entry} {n m : Naming} → h ≡ k → e ≡ f → n ≡ m → Next h e n → Next k f m

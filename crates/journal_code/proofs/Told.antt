@@ -1,25 +1,23 @@
 -- The claims on a log: by induction over its entries, along the coupling of state, stores and journal. Assumes nothing.
 use mathlib.Core.Path.{◌≡◌, refl, sym, ap, ap₂, ◌∙◌, subst}
 use mathlib.Core.List.{List, [], ◌∷◌, ◌++◌}
-use mathlib.Core.Bool.{Bool, true, false, ◌&&◌, true≢false, false≢true}
-use mathlib.Core.Option.{Option, none, some}
-use Prim.Native.Nat.{ℕ, ◌≤◌, ◌<◌}
+use mathlib.Core.Bool.{Bool, true, false, ◌&&◌}
+use mathlib.Core.Option.{some}
+use Prim.Native.Nat.{ℕ, ◌≤◌}
 use native.Mathlib.Omega.{arith}
-use lib.ListN.{length, get_or, take}
+use lib.ListN.{length, get_or}
 use lib.Dec.{eqb}
 use borrow.Author.Tests.{eqb-true}
-use Rattle.base.specs.Pick.{pick}
-use Rattle.packet.specs.Packet.{Request, request_of}
+use Rattle.packet.specs.Packet.{request_of}
 use Rattle.packet.proofs.HeaderBytes.{Octets}
 use Rattle.journal.specs.Record.{Record}
-use Rattle.journal.specs.Journal.{Journal, Entry, fresh, unchanged, begin, Read, more, whole, short, read_up, journal_packet, packet_read, bytes_read, ends_with}
+use Rattle.journal.specs.Journal.{Journal, Entry, fresh, unchanged, Read, more, whole, short, read_up, journal_packet, packet_read, bytes_read}
 use Rattle.journal.specs.Checks.{window_of}
 use Rattle.packet.specs.Header.{first}
 use Rattle.journal.specs.Naming.{Naming, unnamed, packet_names, bytes_name}
-use Rattle.incoming.specs.Frame.{Frames, frame_end, framed}
+use Rattle.incoming.specs.Frame.{Frames, framed}
 use Rattle.incoming.specs.declared.frame.Frame.{Frame}
-use Rattle.incoming.specs.declared.frame.Frame.TheVariants.{More, Whole, Short}
-use Rattle.incoming.proofs.Frames.{Agrees, Goes, frames_agree}
+use Rattle.incoming.proofs.Frames.{Agrees, frames_agree}
 use Rattle.table.proofs.Naming.{unnamed-bytes}
 use Rattle.connection.specs.Peer.{peer_with}
 use Rattle.connection.proofs.Carrying.{carried_none}
@@ -28,14 +26,14 @@ use Rattle.filing.specs.Kinds.{entries_in, is_set, settings_in}
 use Rattle.filing.specs.Entries.{LogEntry, received, sent, answered, object, checked, nonce, closed, ended, entry_step, names_step, Handed, handed_under, log_handed}
 use Rattle.journal_code.specs.declared.state.Settings.{Settings}
 use Rattle.journal_code.specs.declared.state.State.{State}
-use Rattle.journal_code.specs.State.{state_with, quiet, ended_with, coming_to, fresh_state, fits_in}
-use Rattle.journal_code.specs.Receive.{Came as Arrived, request_step, packet_step, came, came_by, frame_step, received_step}
+use Rattle.journal_code.specs.State.{state_with, quiet, ended_with, fresh_state, fits_in}
+use Rattle.journal_code.specs.Receive.{Came as Arrived, packet_step, came, came_by, frame_step, received_step}
 use Rattle.journal_code.specs.Answer.{Tabled, tabled, sent_state, object_state, checked_state, nonce_state, answered_step, closed_step, ended_state}
 use Rattle.journal_code.specs.Run.{settings_of, Stores, Held, held, held_came, held_tabled, entry_done, handed_in, handed_from, state_after}
 use Rattle.journal_code.specs.Claims.{Lent, AllOctets, kept_in, kept_by, KeptFits, AllKept, HandsAll, SixTold, settings_read, FramesAudited}
 use Rattle.journal_code.proofs.Picks.{on_true, on_false}
-use Rattle.journal_code.proofs.Coupling.{Begins, Live, Coupled, live, over, Next, Came, goes, full, has_room}
-use Rattle.journal_code.proofs.Steps.{next_as, sent-next, object-next, checked-next, nonce-next, ended-next}
+use Rattle.journal_code.proofs.Coupling.{Live, Coupled, live, over, Next, Came, goes, full, has_room}
+use Rattle.journal_code.proofs.Steps.{sent-next, object-next, checked-next, nonce-next, ended-next}
 use Rattle.journal_code.proofs.Arrivals.{none-begun, packet-came}
 use Rattle.journal_code.proofs.Replies.{answered-next, closed-next}
 

@@ -4,7 +4,6 @@ use Rattle.journal_code.specs.declared.state.State.{State}
 use Rattle.journal_code.proofs.Picks.{on_true, on_false}
 use Rattle.journal_code.specs.Answer.{tabled, answered_step}
 use Rattle.journal_code.proofs.Calls.{linked}
-use borrow.Author.Rules.{rules}
 use Rattle.journal_code.proofs.answer.answered.Goals as goal
 
 pub returns-then-s : goal.returns-then-s

@@ -2,7 +2,6 @@
 use mathlib.Core.Path.{sym, ap, ◌∙◌}
 use Rattle.journal_code.specs.declared.state.Open.{Open}
 use Rattle.journal_code.specs.Answer.{answered_inside}
-use borrow.Author.Rules.{rules}
 use Rattle.journal_code.proofs.answer.answered_inside.Goals as goal
 
 pub returns-in-Getting : goal.returns-in-Getting

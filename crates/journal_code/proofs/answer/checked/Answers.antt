@@ -4,7 +4,6 @@ use Rattle.connection.specs.declared.peer.Peer.{Peer}
 use Rattle.journal_code.specs.State.{standing_by}
 use Rattle.journal_code.proofs.Picks.{on_true, on_false}
 use Rattle.journal_code.specs.Answer.{checked_state}
-use borrow.Author.Rules.{rules}
 use Rattle.journal_code.proofs.answer.checked.Goals as goal
 
 pub returns-then-s : goal.returns-then-s

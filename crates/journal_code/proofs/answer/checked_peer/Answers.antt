@@ -1,5 +1,4 @@
 -- `journal_code::answer::checked_peer` meets its contract: a right password uses the challenge up, and a wrong one joins the checks.
-use borrow.Author.Rules.{rules}
 use Rattle.journal_code.proofs.answer.checked_peer.Goals as goal
 
 pub returns-then-right : goal.returns-then-right

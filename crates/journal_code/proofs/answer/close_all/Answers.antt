@@ -1,9 +1,7 @@
 -- `journal_code::answer::close_all` meets its contract: each turn closes one id more, and what is still to be closed decides what is
 -- left (proofs/Closes).
-use Prim.Native.Nat.{◌≤◌, ◌-◌}
-use lib.ListN.{length}
 use native.Mathlib.Omega.{arith}
-use Rattle.journal_code.proofs.Closes.{Closing, closing-begins, closing_on, closing-done}
+use Rattle.journal_code.proofs.Closes.{closing-begins, closing_on, closing-done}
 use Rattle.journal_code.proofs.answer.close_all.Goals as goal
 
 pub loop-at-init : goal.loop-at-init

@@ -2,8 +2,7 @@
 -- left (proofs/Closes).
 use Prim.Native.Nat.{◌≤◌, ◌-◌}
 use lib.ListN.{length}
-use native.Mathlib.Omega.{arith}
-use Rattle.journal_code.proofs.Closes.{Closing, closing-begins, closing_on, closing-done}
+use Rattle.journal_code.proofs.Closes.{Closing}
 use Rattle.journal_code.proofs.answer.close_all.Given as goal
 
 abbrev pub invariant-loop-at : goal.invariant-loop-at

@@ -4,7 +4,6 @@ use Rattle.journal_code.specs.declared.state.State.{State}
 use Rattle.journal_code.proofs.Picks.{on_true, on_false}
 use Rattle.journal_code.specs.Answer.{tabled, closed_step}
 use Rattle.journal_code.proofs.Calls.{linked, closes-none, closes-some}
-use borrow.Author.Rules.{rules}
 use Rattle.journal_code.proofs.answer.closed.Goals as goal
 
 pub returns-then-s : goal.returns-then-s

@@ -2,7 +2,6 @@
 use mathlib.Core.Path.{sym, ap, ◌∙◌}
 use Rattle.connection.specs.Peer.{Answers}
 use Rattle.journal_code.specs.Answer.{stands_answered, connected_step}
-use borrow.Author.Rules.{rules}
 use Rattle.journal_code.proofs.answer.connect.Goals as goal
 
 pub returns-then-not-is_success : goal.returns-then-not-is_success

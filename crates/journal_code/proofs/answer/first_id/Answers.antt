@@ -1,6 +1,5 @@
 -- `journal_code::answer::first_id` meets its contract: the survey gives the first of that id.
 use Rattle.journal_code.proofs.Packets.{id_given_lem, id_missing}
-use borrow.Author.Rules.{rules}
 use Rattle.journal_code.proofs.answer.first_id.Goals as goal
 
 pub returns-then-v : goal.returns-then-v

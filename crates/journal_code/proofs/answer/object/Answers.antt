@@ -2,7 +2,6 @@
 use mathlib.Core.Path.{◌∙◌}
 use Rattle.journal_code.proofs.Picks.{on_true, on_false}
 use Rattle.journal_code.specs.Answer.{object_state}
-use borrow.Author.Rules.{rules}
 use Rattle.journal_code.proofs.answer.object.Goals as goal
 
 pub returns-then-s : goal.returns-then-s

@@ -4,7 +4,6 @@ use Rattle.journal_code.specs.declared.state.State.{State}
 use Rattle.journal_code.specs.declared.state.Last.{Last}
 use Rattle.connection.specs.Peer.{Linked}
 use Rattle.journal_code.specs.Answer.{tabled, stands_linked, reply_step}
-use borrow.Author.Rules.{rules}
 use Rattle.journal_code.proofs.answer.reply_to.Goals as goal
 
 pub returns-in-Other : goal.returns-in-Other

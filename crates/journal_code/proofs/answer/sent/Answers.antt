@@ -3,7 +3,6 @@ use mathlib.Core.Path.{◌∙◌}
 use borrow.Author.Tests.{eq-eqb, ne_eqb, not-true, not-false}
 use Rattle.journal_code.proofs.Picks.{on_true, on_false}
 use Rattle.journal_code.specs.Answer.{sent_state}
-use borrow.Author.Rules.{rules}
 use Rattle.journal_code.proofs.answer.sent.Goals as goal
 
 pub returns-then-not-s : goal.returns-then-not-s

@@ -3,7 +3,6 @@ use mathlib.Core.Path.{◌∙◌}
 use borrow.Author.Tests.{eq-eqb, ne_eqb}
 use Rattle.journal_code.proofs.Picks.{on_true, on_false}
 use Rattle.journal_code.specs.Answer.{sent_object}
-use borrow.Author.Rules.{rules}
 use Rattle.journal_code.proofs.answer.sent_object.Goals as goal
 
 pub returns-then-byte-eq-CONTINUE_BYTE : goal.returns-then-byte-eq-CONTINUE_BYTE

@@ -2,7 +2,6 @@
 use mathlib.Core.Path.{sym, ap, ◌∙◌}
 use Rattle.journal_code.specs.declared.state.Open.{Open}
 use Rattle.journal_code.specs.Answer.{sent_in}
-use borrow.Author.Rules.{rules}
 use Rattle.journal_code.proofs.answer.sent_open.Goals as goal
 
 pub returns-in-Sending : goal.returns-in-Sending

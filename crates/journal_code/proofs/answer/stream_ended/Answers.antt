@@ -3,7 +3,6 @@ use mathlib.Core.Path.{◌∙◌}
 use borrow.Author.Tests.{eq-eqb, ne_eqb}
 use Rattle.journal_code.proofs.Picks.{on_true, on_false}
 use Rattle.journal_code.specs.Answer.{ended_state}
-use borrow.Author.Rules.{rules}
 use Rattle.journal_code.proofs.answer.stream_ended.Goals as goal
 
 pub returns-then-s : goal.returns-then-s

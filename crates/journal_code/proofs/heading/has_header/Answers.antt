@@ -1,7 +1,6 @@
 -- `journal_code::heading::has_header` meets its contract: the place of the first header says whether there is one.
 use mathlib.Core.Path.{sym, ◌∙◌}
 use Rattle.journal_code.proofs.Found.{missing, there}
-use borrow.Author.Rules.{rules}
 use Rattle.journal_code.proofs.heading.has_header.Goals as goal
 
 pub returns-in_default : goal.returns-in_default

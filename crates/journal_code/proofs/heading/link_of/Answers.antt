@@ -7,7 +7,6 @@ use borrow.Author.Tests.{not-true, not-false}
 use Rattle.journal.specs.Ids.{member}
 use Rattle.connection.proofs.Carrying.{placed}
 use Rattle.journal_code.specs.Heading.{link_by}
-use borrow.Author.Rules.{rules}
 use Rattle.journal_code.proofs.heading.link_of.Goals as goal
 
 pub returns-then-not-v : goal.returns-then-not-v

@@ -1,9 +1,8 @@
 -- `journal_code::heading::read_heading` meets its contract: what stands before the headers decides, then the survey, and then the
 -- first of some headers.
-use mathlib.Core.Path.{sym, ap, ◌∙◌}
+use mathlib.Core.Path.{sym, ◌∙◌}
 use borrow.Author.Tests.{not-true, not-false}
 use Rattle.journal_code.proofs.Packets.{headless, unreadable, heading_is}
-use borrow.Author.Rules.{rules}
 use Rattle.journal_code.proofs.heading.read_heading.Goals as goal
 
 pub returns-in_default : goal.returns-in_default

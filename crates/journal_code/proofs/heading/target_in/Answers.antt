@@ -1,7 +1,6 @@
 -- `journal_code::heading::target_in` meets its contract: the header is found and its bytes are the Target's, or it is not there.
 use mathlib.Core.Path.{sym, ◌∙◌}
 use Rattle.journal_code.proofs.Found.{bounds, no_target, the_target}
-use borrow.Author.Rules.{rules}
 use Rattle.journal_code.proofs.heading.target_in.Goals as goal
 
 pub returns-in_default : goal.returns-in_default

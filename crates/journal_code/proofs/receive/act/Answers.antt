@@ -6,7 +6,6 @@ use Rattle.incoming.specs.declared.gather.Gathered.{Gathered}
 use Rattle.incoming.specs.declared.gather.Keep.TheVariants as keep
 use Rattle.journal_code.specs.declared.route.Route.{Route}
 use Rattle.journal_code.specs.Receive.{put_step, act_step}
-use borrow.Author.Rules.{rules}
 use Rattle.journal_code.proofs.receive.act.Goals as goal
 
 pub gather-g-requires : goal.gather-g-requires

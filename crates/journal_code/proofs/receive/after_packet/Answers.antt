@@ -1,5 +1,4 @@
 -- `journal_code::receive::after_packet` meets its contract: its parts are those of the definition.
-use borrow.Author.Rules.{rules}
 use Rattle.journal_code.proofs.receive.after_packet.Goals as goal
 
 pub returns : goal.returns

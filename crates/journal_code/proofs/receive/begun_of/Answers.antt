@@ -1,6 +1,5 @@
 -- `journal_code::receive::begun_of` meets its contract: the first packet begins with nothing.
 use native.Mathlib.Omega.{arith}
-use borrow.Author.Rules.{rules}
 use Rattle.journal_code.proofs.receive.begun_of.Goals as goal
 
 pub returns-then-first : goal.returns-then-first

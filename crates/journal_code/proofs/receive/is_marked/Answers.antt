@@ -1,6 +1,5 @@
 -- `journal_code::receive::is_marked` meets its contract: the tests of the code are those of the definition.
 use mathlib.Core.Path.{sym, ◌∙◌}
-use borrow.Author.Rules.{rules}
 use Rattle.journal_code.proofs.receive.is_marked.Goals as goal
 
 pub returns-then-same : goal.returns-then-same

@@ -1,6 +1,5 @@
 -- `journal_code::receive::is_stopped` meets its contract: the tests of the code are those of the definition.
 use mathlib.Core.Path.{sym, ◌∙◌}
-use borrow.Author.Rules.{rules}
 use Rattle.journal_code.proofs.receive.is_stopped.Goals as goal
 
 pub returns-then-too_many : goal.returns-then-too_many

@@ -1,5 +1,4 @@
 -- `journal_code::receive::last_of` meets its contract: its arms are those of the definition.
-use borrow.Author.Rules.{rules}
 use Rattle.journal_code.proofs.receive.last_of.Goals as goal
 
 pub returns-in-Connect : goal.returns-in-Connect

@@ -1,7 +1,6 @@
 -- `journal_code::receive::peer_after` meets its contract: only a Connect that is stopped, with nothing open, changes the peer.
 use mathlib.Core.Path.{sym, ◌∙◌}
 use Rattle.journal_code.specs.Receive.{peer_after}
-use borrow.Author.Rules.{rules}
 use Rattle.journal_code.proofs.receive.peer_after.Goals as goal
 
 pub returns-then-not-same : goal.returns-then-not-same

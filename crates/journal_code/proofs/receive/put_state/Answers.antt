@@ -4,7 +4,6 @@ use mathlib.Core.Bool.{false}
 use Rattle.journal_code.specs.declared.state.Open.{Open}
 use Rattle.journal_code.proofs.Picks.{on_true, on_false}
 use Rattle.journal_code.specs.Receive.{after_packet, put_state}
-use borrow.Author.Rules.{rules}
 use Rattle.journal_code.proofs.receive.put_state.Goals as goal
 
 pub returns-then-g : goal.returns-then-g

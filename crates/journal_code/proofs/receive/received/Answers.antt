@@ -7,7 +7,6 @@ use Rattle.journal_code.specs.declared.state.State.{State}
 use Rattle.journal_code.proofs.Picks.{on_true, on_false}
 use Rattle.journal_code.specs.Receive.{came, received_step}
 use Rattle.journal_code.proofs.Calls.{fits, goes_on, too_short, is_whole}
-use borrow.Author.Rules.{rules}
 use Rattle.journal_code.proofs.receive.received.Goals as goal
 
 pub returns-then-s : goal.returns-then-s

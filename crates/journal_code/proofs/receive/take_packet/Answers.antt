@@ -1,7 +1,6 @@
 -- `journal_code::receive::take_packet` meets its contract: a packet that cannot be read, or one that is acted on (proofs/Calls).
 use mathlib.Core.Path.{sym, ◌∙◌}
 use Rattle.journal_code.proofs.Calls.{unread, readable, acted}
-use borrow.Author.Rules.{rules}
 use Rattle.journal_code.proofs.receive.take_packet.Goals as goal
 
 pub returns-in_default : goal.returns-in_default

@@ -1,7 +1,6 @@
 -- `journal_code::receive::target_after` meets its contract: its tests are those of the definition, in its order.
 use mathlib.Core.Path.{sym, ◌∙◌}
 use Rattle.journal_code.specs.Receive.{target_after}
-use borrow.Author.Rules.{rules}
 use Rattle.journal_code.proofs.receive.target_after.Goals as goal
 
 pub returns-then-is_marked : goal.returns-then-is_marked

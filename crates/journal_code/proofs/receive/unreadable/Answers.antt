@@ -1,7 +1,6 @@
 -- `journal_code::receive::unreadable` meets its contract: it ends the session if an operation is open.
-use mathlib.Core.Path.{sym, ap, ◌∙◌}
+use mathlib.Core.Path.{sym, ◌∙◌}
 use Rattle.journal_code.proofs.Picks.{on_true, on_false}
-use borrow.Author.Rules.{rules}
 use Rattle.journal_code.proofs.receive.unreadable.Goals as goal
 
 pub returns-then-is_busy : goal.returns-then-is_busy

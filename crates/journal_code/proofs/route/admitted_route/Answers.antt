@@ -1,5 +1,4 @@
 -- `journal_code::route::admitted_route` meets its contract: its arms are those of the definition.
-use borrow.Author.Rules.{rules}
 use Rattle.journal_code.proofs.route.admitted_route.Goals as goal
 
 pub returns-in-Connect : goal.returns-in-Connect

@@ -1,7 +1,6 @@
 -- `journal_code::route::first_route` meets its contract: a packet that passes is dispatched, and any other turned away.
 use mathlib.Core.Path.{sym, ◌∙◌}
 use Rattle.journal_code.specs.Route.{first_route}
-use borrow.Author.Rules.{rules}
 use Rattle.journal_code.proofs.route.first_route.Goals as goal
 
 pub returns-then-is_admitted : goal.returns-then-is_admitted

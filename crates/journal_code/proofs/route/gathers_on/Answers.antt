@@ -1,5 +1,4 @@
 -- `journal_code::route::gathers_on` meets its contract: a final packet closes the operation.
-use borrow.Author.Rules.{rules}
 use Rattle.journal_code.proofs.route.gathers_on.Goals as goal
 
 pub returns : goal.returns

@@ -1,7 +1,6 @@
 -- `journal_code::route::heading_route` meets its contract: an Abort closes what is open, and any other packet goes by what is open.
-use mathlib.Core.Path.{sym, ap, ◌∙◌}
+use mathlib.Core.Path.{sym, ◌∙◌}
 use Rattle.journal_code.specs.Route.{heading_route}
-use borrow.Author.Rules.{rules}
 use Rattle.journal_code.proofs.route.heading_route.Goals as goal
 
 pub returns-then-same : goal.returns-then-same

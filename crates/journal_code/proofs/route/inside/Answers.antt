@@ -1,5 +1,4 @@
 -- `journal_code::route::inside` meets its contract: the arms of the code are those of the definition.
-use borrow.Author.Rules.{rules}
 use Rattle.journal_code.proofs.route.inside.Goals as goal
 
 pub returns-in-Nothing : goal.returns-in-Nothing

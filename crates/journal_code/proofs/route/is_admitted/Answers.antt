@@ -1,7 +1,6 @@
 -- `journal_code::route::is_admitted` meets its contract: the tests of the code are those of the definition.
 use mathlib.Core.Path.{sym, ◌∙◌}
 use Rattle.journal_code.specs.Route.{admitted_in}
-use borrow.Author.Rules.{rules}
 use Rattle.journal_code.proofs.route.is_admitted.Goals as goal
 
 pub returns-then-is_unauthorized : goal.returns-then-is_unauthorized

@@ -1,5 +1,4 @@
 -- `journal_code::route::is_srm_on` meets its contract: the tests of the code are those of the definition.
-use borrow.Author.Rules.{rules}
 use Rattle.journal_code.proofs.route.is_srm_on.Goals as goal
 
 pub returns-then-s-2 : goal.returns-then-s-2

@@ -1,6 +1,5 @@
 -- `journal_code::route::next_packet` meets its contract: the same opcode goes on, and another one interrupts.
 use mathlib.Core.Path.{sym, ◌∙◌}
-use borrow.Author.Rules.{rules}
 use Rattle.journal_code.proofs.route.next_packet.Goals as goal
 
 pub returns-then-same : goal.returns-then-same

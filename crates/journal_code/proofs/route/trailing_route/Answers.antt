@@ -1,7 +1,6 @@
 -- `journal_code::route::trailing_route` meets its contract: what trails is refused, and any other packet is read as with nothing open.
 use mathlib.Core.Path.{sym, ◌∙◌}
 use Rattle.journal_code.specs.Route.{trailing_route}
-use borrow.Author.Rules.{rules}
 use Rattle.journal_code.proofs.route.trailing_route.Goals as goal
 
 pub returns-then-not-is_trailing : goal.returns-then-not-is_trailing

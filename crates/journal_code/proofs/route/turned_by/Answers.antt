@@ -1,5 +1,4 @@
 -- `journal_code::route::turned_by` meets its contract: its arms are those of the definition.
-use borrow.Author.Rules.{rules}
 use Rattle.journal_code.proofs.route.turned_by.Goals as goal
 
 pub returns-in-Put : goal.returns-in-Put

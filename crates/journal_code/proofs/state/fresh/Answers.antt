@@ -1,7 +1,6 @@
 -- `journal_code::state::fresh` meets its contract: the fields are those of a fresh engine.
 use Rattle.journal_code.specs.State.{state_with}
 use Rattle.connection.specs.Peer.{peer_with}
-use borrow.Author.Rules.{rules}
 use Rattle.journal_code.proofs.state.fresh.Goals as goal
 
 pub returns : goal.returns

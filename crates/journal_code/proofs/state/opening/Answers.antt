@@ -1,7 +1,6 @@
 -- `journal_code::state::opening` meets its contract: the fields are those of the definition. Assumes nothing.
 use mathlib.Core.Path.{refl}
 use Rattle.journal_code.specs.State.{state_with}
-use borrow.Author.Rules.{rules}
 use Rattle.journal_code.proofs.state.opening.Goals as goal
 
 pub returns : goal.returns
