@@ -1,5 +1,4 @@
 -- `codec::line_long` meets its contract: the stores have the lengths that they are made with. Assumes nothing.
-use borrow.Author.Rules.{rules}
 use Rattle.lines.proofs.Filled.{filled}
 use Rattle.codec.proofs.line_long.Goals as goal
 

@@ -1,5 +1,4 @@
 -- `codec::lines_of` meets its contract: the steps are counted down, and no step changes the store's length. Assumes nothing.
-use borrow.Author.Rules.{rules}
 use mathlib.Core.Path.{◌≡◌}
 use lib.ListN.{length}
 use Rattle.codec.proofs.lines_of.Given as goal

@@ -1,5 +1,4 @@
 -- `codec::headers::each_header` meets its contract. Each turn passes a header.
-use borrow.Author.Rules.{rules}
 use Prim.Native.Nat.{◌-◌, ◌≤◌}
 use lib.ListN.{length}
 use Rattle.codec.proofs.headers.each_header.Given as goal

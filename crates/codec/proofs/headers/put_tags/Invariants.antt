@@ -1,5 +1,4 @@
 -- `codec::headers::put_tags` meets its contract. Each turn passes a tag.
-use borrow.Author.Rules.{rules}
 use Prim.Native.Nat.{◌-◌, ◌≤◌}
 use lib.ListN.{length}
 use Rattle.codec.proofs.headers.put_tags.Given as goal

@@ -1,5 +1,4 @@
 -- `codec::unsent::steps` meets its contract: each turn passes a step, and no store changes its length. Assumes nothing.
-use borrow.Author.Rules.{rules}
 use Prim.Native.Nat.{◌-◌}
 use mathlib.Core.Path.{◌≡◌}
 use lib.ListN.{length}
