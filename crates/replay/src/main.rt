@@ -21,6 +21,7 @@ use state::{
     Replay, after_call, begun, settled, with_due, with_input, with_lines, with_output, with_realm,
     with_shown, with_taken,
 };
+use std::io::Read;
 
 // ---- a line
 
@@ -37,11 +38,11 @@ fn next_line(s: Replay, input: &[u8]) -> Place
 }
 
 // Moves what is left of the input to the front of its store, and reads on behind it.
-fn refill(s: Replay, input: &mut [u8]) -> Replay {
+fn refill(s: Replay, reader: &mut impl Read, input: &mut [u8]) -> Replay {
     let end = least(s.lines.end, input.len());
     let from = least(s.lines.at, end);
     let left = keep(input, from, end);
-    let n = read(&mut input[left..]);
+    let n = read(reader, &mut input[left..]);
     with_input(s, left + n, n == 0)
 }
 
@@ -83,6 +84,7 @@ fn line(
 // Carries out the next line, or reads on if there is no whole one.
 fn take_line(
     s: Replay,
+    reader: &mut impl Read,
     input: &mut [u8],
     stream: &mut [u8; 131072],
     words: &mut [u8; 262144],
@@ -93,7 +95,7 @@ fn take_line(
     let start = place.start;
     let end = place.end;
     if s.lines.end <= end {
-        return refill(s, input);
+        return refill(s, reader, input);
     }
     line(
         with_lines(s, end + 1, s.lines.end),
@@ -167,6 +169,7 @@ fn after_result(s: Replay, took: CallResult) -> Replay {
 
 // Prints the lines after a call: what it returned, the Target that a request names, and the state if one stands after it.
 fn print_result<'a>(
+    rt: &impl Print,
     s: Replay,
     took: CallResult,
     tables: &[u64; 320],
@@ -188,7 +191,7 @@ fn print_result<'a>(
     let b = put_line(out, a, named, tables, packet, headers, body, reply);
     let state = state_line(peer, shows_state(call, took));
     let c = put_line(out, b, state, tables, packet, headers, body, reply);
-    with_output(after_result(s, took), flush(out, c))
+    with_output(after_result(s, took), flush(rt, out, c))
 }
 
 // ---- the sessions
@@ -238,6 +241,7 @@ fn output_of(t: Played) -> usize {
 
 // Makes the call that is due, and prints what it led to.
 fn make_call(
+    rt: &impl Print,
     last: CallResult,
     s: Replay,
     stream: &[u8; 131072],
@@ -255,7 +259,7 @@ fn make_call(
     let took = call_engine(
         e, s, stream, words, realm, tables, packet, headers, body, reply,
     );
-    let state = print_result(s, took, tables, packet, headers, body, reply, out);
+    let state = print_result(rt, s, took, tables, packet, headers, body, reply, out);
     Played { took, state }
 }
 
@@ -263,6 +267,7 @@ fn make_call(
 fn follow_line<'a>(
     took: CallResult,
     s: Replay,
+    reader: &mut impl Read,
     input: &mut [u8; 1048576],
     stream: &mut [u8; 131072],
     words: &mut [u8; 262144],
@@ -274,7 +279,7 @@ fn follow_line<'a>(
     reply: &'a [u8; 65536],
     out: &mut [u8; 1048576],
 ) -> Played {
-    let after = take_line(s, input, stream, words, realm, out);
+    let after = take_line(s, reader, input, stream, words, realm, out);
     let e = took.engine;
     let peer = e.peer;
     let state = print_shown(after, peer, tables, packet, headers, body, reply, out);
@@ -283,7 +288,9 @@ fn follow_line<'a>(
 
 // Makes the call that is due, or carries out the next line if none is.
 fn turn(
+    rt: &impl Print,
     before: Played,
+    reader: &mut impl Read,
     input: &mut [u8; 1048576],
     stream: &mut [u8; 131072],
     words: &mut [u8; 262144],
@@ -299,17 +306,19 @@ fn turn(
     let took = before.took;
     if is_due(s) {
         return make_call(
-            took, s, stream, words, realm, tables, packet, headers, body, reply, out,
+            rt, took, s, stream, words, realm, tables, packet, headers, body, reply, out,
         );
     }
     follow_line(
-        took, s, input, stream, words, realm, tables, packet, headers, body, reply, out,
+        took, s, reader, input, stream, words, realm, tables, packet, headers, body, reply, out,
     )
 }
 
 // Plays the sessions, from an engine as the original starts it. A proved loop has to end, and nothing says that the input does, so the
 // turns are counted down from a number that no run uses up.
 fn play(
+    rt: &impl Print,
+    reader: &mut impl Read,
     input: &mut [u8; 1048576],
     stream: &mut [u8; 131072],
     words: &mut [u8; 262144],
@@ -325,17 +334,18 @@ fn play(
     let mut left = u64::MAX;
     while left > 0 {
         last = turn(
-            last, input, stream, words, realm, tables, packet, headers, body, reply, out,
+            rt, last, reader, input, stream, words, realm, tables, packet, headers, body, reply,
+            out,
         );
         if is_over(last) {
-            write(out, output_of(last));
+            write(rt, out, output_of(last));
             return;
         }
         left -= 1;
     }
 }
 
-fn main() {
+fn main(rt: HostRuntime) {
     let mut input = [0u8; 1048576];
     let mut stream = [0u8; 131072];
     let mut words = [0u8; 262144];
@@ -347,6 +357,8 @@ fn main() {
     let mut reply = [0u8; 65536];
     let mut out = [0u8; 1048576];
     play(
+        &rt,
+        &mut rt.stdin(),
         &mut input,
         &mut stream,
         &mut words,
