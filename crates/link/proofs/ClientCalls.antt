@@ -24,7 +24,7 @@ use Rattle.connection.specs.Reply.{front}
 use Rattle.connection.specs.declared.peer.ConnectionId.{ConnectionId}
 use Rattle.connection.proofs.Front.{front_length}
 use Rattle.client_model.specs.Leading.{leading_headers, leading}
-use Rattle.client_model.specs.Step.{Stores, with_request, client_with, goes, Done, wants, Stepped, after}
+use Rattle.client_model.specs.Step.{Stores, with_request, client_with, Done, wants, Stepped, after}
 use Rattle.client_model.specs.Numbers.{same_await}
 use Rattle.client_model.specs.Request.{requests, requests_next, sends_abort}
 use Rattle.client_model.specs.Guard.{short, sound, sound_operation, awaiting, refuse, guarded, may_abort, abort_fits}

@@ -17,7 +17,7 @@ use Rattle.packet.specs.ResponsePacket.{ResponsePacket, response_packet}
 use Rattle.journal.specs.Record.{Record}
 use Rattle.incoming.specs.Frame.{Frames, framed}
 use Rattle.incoming.proofs.Queued.{Half, Came, goes as stillGoes, comes, queued}
-use Rattle.client_model.specs.Step.{Stores, with_packet, client_with, goes, begun_with, arrived, Done, done, over, ends, Stepped, after}
+use Rattle.client_model.specs.Step.{Stores, with_packet, client_with, goes, begun_with, arrived, Done, over, ends, Stepped, after}
 use Rattle.client_model.specs.Numbers.{same_await}
 use Rattle.client_model.specs.Request.{requests_next, sends_abort}
 use Rattle.client_model.specs.Answer.{continued, request_answered, responded, read_as, is_connecting, response_done}

@@ -54,7 +54,7 @@ use Rattle.client_model.specs.Leading.{leading, leading_headers}
 use Rattle.client_model.specs.Numbers.{same_await}
 use Rattle.client_model.specs.Step.{Stores, with_packet, with_request, client_with, goes as goesWith, begun_with, arrived, Done, sends, ends, Stepped, after}
 use Rattle.client_model.specs.Request.{id_bytes}
-use Rattle.client_model.specs.Answer.{connected, responded, read_as, is_connecting, response_done}
+use Rattle.client_model.specs.Answer.{responded, read_as, is_connecting, response_done}
 use Rattle.client_model.specs.Guard.{short, sound, awaiting, any_of, is_reserved, bad_headers, checked}
 use Rattle.client_model.specs.Calls.{connect_step, disconnect_step, offers, bytes_offered_step, stream_ended_step}
 use Rattle.client_model.specs.declared.Settings.{Settings}

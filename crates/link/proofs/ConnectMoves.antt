@@ -35,8 +35,7 @@ use Rattle.model.specs.Calls.{with_packet as withServerPacket, offers as serverO
 use Rattle.model.specs.Runs.{State, step_of, keeps}
 use Rattle.model.proofs.Fit.{not_short, tables-long}
 use Rattle.client_model.specs.Numbers.{same_await}
-use Rattle.client_model.specs.Step.{Stores, client_with, goes as goesWith, Done, wants, Stepped, after}
-use Rattle.client_model.specs.Answer.{connected}
+use Rattle.client_model.specs.Step.{Stores, client_with, goes as goesWith, wants, Stepped, after}
 use Rattle.client_model.specs.Guard.{short, sound, sound_operation, awaiting, guarded}
 use Rattle.client_model.specs.Calls.{sent_for, request_sent_step}
 use Rattle.client_model.specs.declared.Settings.{Settings}

@@ -4,7 +4,7 @@ use mathlib.Core.Path.{◌≡◌, refl, sym, ap, subst, subst₂, ◌∙◌}
 use mathlib.Core.List.{List, [], ◌∷◌, ◌++◌, append-nil}
 use mathlib.Core.Bool.{Bool, true, false, ◌&&◌, ◌||◌, not, true≢false, false≢true}
 use mathlib.Core.Option.{some}
-use Prim.Native.Nat.{ℕ, ◌+◌, ◌-◌, ◌≤◌}
+use Prim.Native.Nat.{ℕ, ◌≤◌}
 use native.Mathlib.Omega.{arith}
 use lib.ListN.{length, take}
 use lib.Dec.{eqb}
@@ -17,10 +17,10 @@ use Rattle.incoming.proofs.Queued.{Half, none_come}
 use Rattle.connection.specs.Reply.{front}
 use Rattle.connection.proofs.Front.{front_length}
 use Rattle.connection.specs.declared.peer.ConnectionId.{ConnectionId}
-use Rattle.client_model.specs.Step.{Stores, stores, with_request, client_with, goes, Done, done, wants, sends, Stepped, after}
+use Rattle.client_model.specs.Step.{Stores, with_request, client_with, goes, Done, wants, sends, Stepped, after}
 use Rattle.client_model.specs.Numbers.{same_await}
 use Rattle.client_model.specs.Request.{sends_abort}
-use Rattle.client_model.specs.Answer.{parts, is_connecting}
+use Rattle.client_model.specs.Answer.{is_connecting}
 use Rattle.client_model.specs.Guard.{sound_operation, awaiting, may_abort, abort_fits}
 use Rattle.client_model.specs.Calls.{sent_for, request_sent_step, taken_for, part_taken_step, abort_for, abort_step, awaits_first}
 use Rattle.client_model.specs.declared.Kind.TheVariants as kind
@@ -45,7 +45,7 @@ use Rattle.link.proofs.ClientCalls.{passes}
 use Rattle.link.proofs.ServerMoves.{reply-front}
 use Rattle.link.proofs.GetHeard.{GetHeard, get_heard, heard_calls, get_heard_after, silent, or_none_lem, or_joined-none}
 use Rattle.link.proofs.GetObject.{Thing, Sends}
-use Rattle.link.proofs.GetJoint.{Origin, box_of, is_admitted, Rest, UnderWay, Gathers, Early, Story, Once, Stage, requesting, receiving, aborting, held, Answered, Due, is_waiting, is_requesting, request, asks, stops, whole, Finished, GetJoint, asking, stopping, under_way, Rested, is_idle, GetNext, over as is_over}
+use Rattle.link.proofs.GetJoint.{Origin, box_of, is_admitted, Rest, UnderWay, Gathers, Early, Story, Once, Stage, requesting, receiving, aborting, held, Answered, Due, is_waiting, is_requesting, request, asks, stops, Finished, GetJoint, asking, stopping, under_way, Rested, is_idle, GetNext, over as is_over}
 
 -- ---- a packet goes onto the stream
 

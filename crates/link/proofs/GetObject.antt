@@ -25,7 +25,7 @@ use Rattle.incoming.proofs.Queued.{IsWhole}
 use Rattle.outgoing.specs.Claims.{has_body_of, body_bytes_of}
 use Rattle.outgoing.specs.Object.{Made, lead_store, next_packet, next_after, fill_packet, body_given_of}
 use Rattle.outgoing.specs.Queue.{must_lead, insert_early}
-use Rattle.outgoing.specs.Packets.{first_byte, packet, Packets, all_sent, before, packets_from}
+use Rattle.outgoing.specs.Packets.{first_byte, Packets, all_sent, before, packets_from}
 use Rattle.outgoing.specs.declared.object.Outgoing.{Outgoing}
 use Rattle.outgoing.specs.declared.object.Chunk.{Chunk}
 use Rattle.outgoing.specs.declared.object.Next.{Next}

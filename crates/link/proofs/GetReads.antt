@@ -4,7 +4,7 @@ use mathlib.Core.Path.{◌≡◌, refl, sym, ap, subst, subst₂, ◌∙◌}
 use mathlib.Core.List.{List, [], ◌∷◌, ◌++◌}
 use mathlib.Core.Bool.{Bool, true, false, ◌||◌, true≢false}
 use mathlib.Core.Option.{Option, none, some}
-use Prim.Native.Nat.{ℕ, ◌+◌, ◌-◌}
+use Prim.Native.Nat.{ℕ, ◌+◌}
 use native.Mathlib.Omega.{arith}
 use lib.ListN.{length, take, drop}
 use Rattle.packet.specs.Header.{Header}
@@ -36,7 +36,7 @@ use Rattle.link.specs.Told.{asked_by}
 use Rattle.link.proofs.Moves.{or_else}
 use Rattle.link.proofs.ServerMoves.{passes-tables, did_link}
 use Rattle.link.proofs.GetHeard.{GetHeard, get_heard, or_joined, get_heard_after, silent}
-use Rattle.link.proofs.GetJoint.{Origin, box_of, Gathers, none_yet, gathered, more, whole, GetJoint}
+use Rattle.link.proofs.GetJoint.{Origin, box_of, Gathers, none_yet, gathered, GetJoint}
 use lib.Seq.{drop-append_seam, drop-append-le}
 use Rattle.link.proofs.Joint.{Begun}
 use Rattle.link.proofs.GetJoint.{Reader}

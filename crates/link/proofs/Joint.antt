@@ -25,7 +25,7 @@ use Rattle.incoming.specs.Survey.{survey_of}
 use Rattle.incoming.specs.declared.gather.Gathered.{Gathered}
 use Rattle.incoming.proofs.Gathers.{PutAgrees}
 use Rattle.incoming.proofs.Queued.{IsWhole, Half}
-use Rattle.server.specs.declared.Operation.TheVariants.{Nothing, Putting}
+use Rattle.server.specs.declared.Operation.TheVariants.{Putting}
 use Rattle.server.specs.declared.Await.TheVariants as waits
 use Rattle.server.specs.declared.End.{End as ServerEnd}
 use Rattle.server.specs.declared.End.TheVariants as server_end

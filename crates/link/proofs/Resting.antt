@@ -3,7 +3,6 @@ use mathlib.Core.Path.{◌≡◌, refl, sym, subst}
 use mathlib.Core.Bool.{true, false}
 use Prim.Native.Nat.{◌≤◌, ◌<◌}
 use native.Mathlib.Omega.{arith}
-use lib.ListN.{length}
 use Rattle.connection.specs.Peer.{peer_with}
 use Rattle.connection.proofs.Standings.{PeerFits}
 use Rattle.server.specs.declared.Settings.{Settings as ServerSettings}

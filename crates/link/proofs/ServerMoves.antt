@@ -21,7 +21,7 @@ use Rattle.packet.specs.Modes as modes
 use Rattle.packet.specs.declared.opcode.Opcode.TheVariants as op
 use Rattle.packet.proofs.HeaderBytes.{header-bytes}
 use Rattle.packet.proofs.HeaderWrites.{read_shaped, read-written}
-use Rattle.journal.specs.Record.{Record, body_length, size_of, joined, bare, carried_by}
+use Rattle.journal.specs.Record.{Record, body_length, size_of, joined, carried_by}
 use Rattle.journal.specs.Calls.{bytes_offered_of, reply_given_of, abort_acknowledged_of}
 use Rattle.journal.proofs.Laws.{joined-bare, joined_assoc}
 use Rattle.incoming.specs.Frame.{Frames, framed}
@@ -47,11 +47,11 @@ use Rattle.server.specs.declared.HostRequest.TheVariants as request
 use Rattle.server.specs.declared.Outcome.{Outcome}
 use Rattle.server.specs.declared.Outcome.TheVariants as told
 use Rattle.server.specs.declared.Refusal.TheVariants as refusal
-use Rattle.model.specs.Step.{Stores, stores, with_reply, with_gathered, engine_with, Done, done, wants, asks, ends, replies, replies_code, continues, continue_bytes, sends, sent, limit_of, Stepped, Called, called, after}
+use Rattle.model.specs.Step.{Stores, with_reply, with_gathered, engine_with, Done, wants, asks, ends, replies, replies_code, continues, continue_bytes, sends, sent, limit_of, Stepped, Called, called, after}
 use Rattle.model.specs.Operation.{nothing_gathered, overrun, put_packet, gathers}
 use Rattle.model.specs.Object.{goes_on_of}
 use Rattle.model.specs.Dispatch.{known_in, confirms, inside, busy, read_as, packet_target, arrived, packet_done}
-use Rattle.model.specs.Guard.{short, sound_operation, sound, fits, same_await, refuse, guarded, guarded_tables, guarded_called, bad_headers, bad_reply}
+use Rattle.model.specs.Guard.{sound_operation, sound, fits, same_await, refuse, guarded, guarded_tables, guarded_called, bad_headers, bad_reply}
 use Rattle.model.specs.Connect.{connect_answer}
 use Rattle.model.specs.Request.{last_headers}
 use Rattle.packet.specs.HeaderIds as header_id

@@ -21,7 +21,6 @@ use Rattle.server.specs.declared.Outcome.{Outcome as ServerOutcome}
 use Rattle.server.specs.declared.Outcome.TheVariants as told
 use Rattle.server.specs.declared.Settings.{Settings as ServerSettings}
 use Rattle.model.specs.Step.{engine_with}
-use Rattle.model.specs.Dispatch.{busy}
 use Rattle.model.specs.Calls.{started as serverStarted}
 use Rattle.client_model.specs.Numbers.{same_await}
 use Rattle.client_model.specs.Step.{client_with, ends, after}
@@ -43,7 +42,7 @@ use Rattle.link.specs.Told.{succeeded}
 use Rattle.link.specs.Told as shown
 use Rattle.link.specs.Claims.{PlainUser, PlainMove, Plain, Fresh, connected_by, connected_in, named_in, named_by, named_after}
 use Rattle.link.proofs.Moves.{Quiet, user-refused, quiet-user, quiet-refused, quiet-offer-down, quiet-none_up, is_send, quiet_send_up, is_reply, quiet_send_down, is_end, quiet_close_up, has_ended, quiet_close_down}
-use Rattle.link.proofs.Joint.{Ready, AtRest}
+use Rattle.link.proofs.Joint.{AtRest}
 use Rattle.link.proofs.ConnectJoint.{connecting, disconnecting, Past, named_past, limit_for, open_at, Ids, Phase, Standing, Next, goes, over, gone}
 use Rattle.link.proofs.ConnectEnds.{connect_begins, disconnect_begins}
 use Rattle.link.proofs.ConnectRuns.{silent-named, user-named, host-quiet, connect_move, phase_goes, phase_octets}

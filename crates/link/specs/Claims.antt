@@ -33,7 +33,6 @@ use Rattle.client_model.specs.declared.Await.TheVariants as await
 use Rattle.client_model.specs.declared.Client.{Client}
 use Rattle.client_model.specs.declared.End.{End}
 use Rattle.client_model.specs.declared.End.TheVariants as end
-use Rattle.client_model.specs.declared.Outcome.{Outcome}
 use Rattle.client_model.specs.declared.Outcome.TheVariants as said
 use Rattle.link.specs.Link.{Link, UserCall, connect, get, disconnect, put, body, abort, partTaken, Move, user, host, sendUp, sendDown, offerUp, offerDown, closeUp, closeDown, reply_bytes, move, moves, performed_in}
 use Rattle.link.specs.Told.{is_over, code_said, succeeded, goes, given_in, aborted_in, final_in, records_in, asked_in, answer_in, is_accepted, reply_part, object_in, last_reply_in, is_whole, parts_in}

@@ -1,5 +1,4 @@
 -- `client::answer::act` meets its contract. The code goes the way that it has found. Assumes nothing.
-use borrow.Author.Rules.{rules}
 use native.Mathlib.Omega.{arith}
 use mathlib.Core.Path.{refl, ap, ◌∙◌}
 use Rattle.packet.specs.Header.{read_headers}

@@ -1,5 +1,4 @@
 -- `client::answer::connected` meets its contract. Each `return` rewrites with the tests that led there. Assumes nothing.
-use borrow.Author.Rules.{rules}
 use mathlib.Core.Path.{sym, ◌∙◌}
 use Rattle.client.specs.Answer.{connected_by}
 use Rattle.client.proofs.answer.connected.Goals as goal

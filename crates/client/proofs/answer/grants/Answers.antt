@@ -1,5 +1,4 @@
 -- `client::answer::grants` meets its contract. Each `return` rewrites with the tests that led there. Assumes nothing.
-use borrow.Author.Rules.{rules}
 use borrow.Author.Tests.{not-true, not-false}
 use Rattle.client.proofs.answer.grants.Goals as goal
 

@@ -1,5 +1,4 @@
 -- `client::answer::id_of` meets its contract. Each `return` rewrites with the tests that led there. Assumes nothing.
-use borrow.Author.Rules.{rules}
 use Rattle.client.proofs.answer.id_of.Goals as goal
 
 pub returns-then-v : goal.returns-then-v

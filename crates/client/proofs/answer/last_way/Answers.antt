@@ -1,5 +1,4 @@
 -- `client::answer::last_way` meets its contract. Each `return` rewrites with the tests that led there. Assumes nothing.
-use borrow.Author.Rules.{rules}
 use mathlib.Core.Path.{sym, ◌∙◌}
 use Rattle.client.specs.Answer.{last_way}
 use Rattle.client.proofs.answer.last_way.Goals as goal

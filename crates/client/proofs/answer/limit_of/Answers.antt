@@ -1,5 +1,4 @@
 -- `client::answer::limit_of` meets its contract. Each `return` rewrites with the tests that led there. Assumes nothing.
-use borrow.Author.Rules.{rules}
 use native.Mathlib.Omega.{arith}
 use borrow.Author.Tests.{lt-ltb, le-ltb}
 use Rattle.packet.specs.Packet.{connect_limit}

@@ -1,5 +1,4 @@
 -- `client::answer::part_body` meets its contract. Each `return` rewrites with the tests that led there. Assumes nothing.
-use borrow.Author.Rules.{rules}
 use Rattle.client.proofs.answer.part_body.Goals as goal
 
 pub returns-then-g : goal.returns-then-g

@@ -1,5 +1,4 @@
 -- `client::answer::read_heading` meets its contract. The survey finds the headers that count. Assumes nothing.
-use borrow.Author.Rules.{rules}
 use Rattle.client.proofs.Answers.{heading-read}
 use Rattle.client.proofs.answer.read_heading.Goals as goal
 

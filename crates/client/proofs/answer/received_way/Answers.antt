@@ -1,5 +1,4 @@
 -- `client::answer::received_way` meets its contract. Each `return` rewrites with the tests that led there. Assumes nothing.
-use borrow.Author.Rules.{rules}
 use borrow.Author.Tests.{eq-eqb, ne_eqb}
 use Rattle.client.specs.Answer.{received_way}
 use Rattle.client.proofs.answer.received_way.Goals as goal

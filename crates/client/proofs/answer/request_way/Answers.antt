@@ -1,5 +1,4 @@
 -- `client::answer::request_way` meets its contract. The arms of the code are those of the definition. Assumes nothing.
-use borrow.Author.Rules.{rules}
 use Rattle.client.proofs.answer.request_way.Goals as goal
 
 pub returns-in-Put : goal.returns-in-Put

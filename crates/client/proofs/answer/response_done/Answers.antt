@@ -1,6 +1,5 @@
 -- `client::answer::response_done` meets its contract. The reader tells whether the response is readable, and then its way is the model's. Assumes
 -- nothing.
-use borrow.Author.Rules.{rules}
 use native.Mathlib.Omega.{arith}
 use mathlib.Core.Path.{sym, ap, ◌∙◌}
 use lib.Seq.{length-take-le}

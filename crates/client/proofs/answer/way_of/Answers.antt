@@ -1,5 +1,4 @@
 -- `client::answer::way_of` meets its contract. The arms of the code are those of the definition. Assumes nothing.
-use borrow.Author.Rules.{rules}
 use Rattle.client.proofs.answer.way_of.Goals as goal
 
 pub returns-in-Connecting : goal.returns-in-Connecting

@@ -1,5 +1,4 @@
 -- `client::calls::abort` meets its contract. The guard refuses as the model does; then the ways of the code are those of `abort_for`. Assumes nothing.
-use borrow.Author.Rules.{rules}
 use mathlib.Core.Path.{sym, ap, ◌∙◌}
 use Rattle.client_model.specs.Calls.{abort_step}
 use Rattle.client_model.specs.declared.CallResult.{CallResult}

@@ -1,5 +1,4 @@
 -- `client::calls::after_part_aborted` meets its contract. The tests of the code are those of the definition. Assumes nothing.
-use borrow.Author.Rules.{rules}
 use borrow.Enum.Refused.{opened}
 use Rattle.client.proofs.Called.{abort_other}
 use Rattle.client.proofs.calls.after_part_aborted.Goals as goal

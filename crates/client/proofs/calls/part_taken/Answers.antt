@@ -1,6 +1,5 @@
 -- `client::calls::part_taken` meets its contract. The guard refuses as the model does; then the ways of the code are those of `taken_for`. Assumes
 -- nothing.
-use borrow.Author.Rules.{rules}
 use mathlib.Core.Path.{sym, ap, ◌∙◌}
 use Rattle.client_model.specs.Calls.{part_taken_step}
 use Rattle.client_model.specs.declared.Await.TheVariants as await

@@ -1,5 +1,4 @@
 -- `client::calls::request_sent` meets its contract. The guard refuses as the model does. Assumes nothing.
-use borrow.Author.Rules.{rules}
 use mathlib.Core.Path.{sym, ◌∙◌}
 use Rattle.client_model.specs.Calls.{request_sent_step}
 use Rattle.client_model.specs.declared.Await.TheVariants as await

@@ -1,5 +1,4 @@
 -- `client::calls::start` meets its contract. The stores decide. Assumes nothing.
-use borrow.Author.Rules.{rules}
 use Rattle.client_model.specs.Step.{stores}
 use Rattle.client.proofs.Called.{start-refused, start-goes}
 use Rattle.client.proofs.calls.start.Goals as goal

@@ -1,5 +1,4 @@
 -- `client::calls::stream_ended` meets its contract. The guard refuses as the model does. Assumes nothing.
-use borrow.Author.Rules.{rules}
 use mathlib.Core.Path.{sym, ap, ◌∙◌}
 use mathlib.Core.Bool.{◌||◌}
 use Rattle.client_model.specs.declared.End.{End}

@@ -1,5 +1,4 @@
 -- `client::guard::awaits_stream` meets its contract. The tests of the code are those of the definition. Assumes nothing.
-use borrow.Author.Rules.{rules}
 use mathlib.Core.Path.{◌∙◌, sym}
 use Rattle.client.proofs.guard.awaits_stream.Goals as goal
 

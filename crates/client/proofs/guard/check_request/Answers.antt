@@ -1,5 +1,4 @@
 -- `client::guard::check_request` meets its contract. Each `return` rewrites with the tests that led there. Assumes nothing.
-use borrow.Author.Rules.{rules}
 use mathlib.Core.Path.{sym, ◌∙◌}
 use Rattle.client.proofs.Walks.{good}
 use Rattle.client.proofs.guard.check_request.Goals as goal

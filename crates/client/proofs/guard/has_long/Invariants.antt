@@ -1,16 +1,10 @@
 -- `client::guard::has_long` meets its contract. The invariant: the answer is that of the headers that are left. Assumes nothing.
-use borrow.Author.Rules.{rules}
-use native.Mathlib.Omega.{arith}
 use Prim.Native.Nat.{◌-◌}
-use mathlib.Core.Path.{refl, sym, ap, ◌∙◌}
 use lib.ListN.{length}
 use lib.Dec.{ltb}
-use borrow.Author.Tests.{lt-ltb, le-ltb}
-use Rattle.packet.specs.declared.header.HeaderAt.TheVariants.{At}
 use Rattle.packet.specs.Header.{Header, bytes_of}
-use Rattle.packet.proofs.HeaderLaws.{by_cursor_lem}
 use Rattle.client_model.specs.Guard.{too_long_of}
-use Rattle.client.proofs.Walks.{Left, found, on, ends, header-length}
+use Rattle.client.proofs.Walks.{Left}
 use Rattle.client.proofs.guard.has_long.Given as goal
 
 abbrev pub invariant-loop-end : goal.invariant-loop-end

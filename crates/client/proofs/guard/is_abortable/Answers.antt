@@ -1,5 +1,4 @@
 -- `client::guard::is_abortable` meets its contract. The test and the call are those of the definition. Assumes nothing.
-use borrow.Author.Rules.{rules}
 use Rattle.client.proofs.guard.is_abortable.Goals as goal
 
 pub returns : goal.returns

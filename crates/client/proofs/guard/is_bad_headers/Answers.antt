@@ -1,5 +1,4 @@
 -- `client::guard::is_bad_headers` meets its contract. The tests of the code are those of the definition. Assumes nothing.
-use borrow.Author.Rules.{rules}
 use borrow.Author.Tests.{lt-ltb, le-ltb}
 use mathlib.Core.Path.{sym, ◌∙◌}
 use Rattle.client_model.specs.Guard.{bad_headers}

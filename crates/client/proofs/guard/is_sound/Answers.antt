@@ -1,5 +1,4 @@
 -- `client::guard::is_sound` meets its contract. Each `return` rewrites with the tests that led there. Assumes nothing.
-use borrow.Author.Rules.{rules}
 use borrow.Author.Tests.{lt-ltb, le-ltb, lt-leb, le-leb}
 use Rattle.client_model.specs.Guard.{sound}
 use Rattle.client.proofs.guard.is_sound.Goals as goal

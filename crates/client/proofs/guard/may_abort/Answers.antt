@@ -1,5 +1,4 @@
 -- `client::guard::may_abort` meets its contract. The arms of the code are those of the definition. Assumes nothing.
-use borrow.Author.Rules.{rules}
 use mathlib.Core.Path.{ap, sym, ◌∙◌}
 use Rattle.client_model.specs.declared.Operation.{Operation}
 use Rattle.client_model.specs.Guard.{may_abort}

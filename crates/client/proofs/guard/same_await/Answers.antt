@@ -1,5 +1,4 @@
 -- `client::guard::same_await` meets its contract. The code compares the numbers that the definition compares. Assumes nothing.
-use borrow.Author.Rules.{rules}
 use Rattle.client.proofs.guard.same_await.Goals as goal
 
 pub returns : goal.returns

@@ -1,5 +1,4 @@
 -- `client::guard::sound_operation` meets its contract. The arms of the code are those of the definition. Assumes nothing.
-use borrow.Author.Rules.{rules}
 use Rattle.client.proofs.guard.sound_operation.Goals as goal
 
 pub returns-in-Requesting : goal.returns-in-Requesting

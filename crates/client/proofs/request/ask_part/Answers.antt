@@ -1,5 +1,4 @@
 -- `client::request::ask_part` meets its contract. The packet has no headers. Assumes nothing.
-use borrow.Author.Rules.{rules}
 use mathlib.Core.Bool.{true}
 use mathlib.Core.List.{[]}
 use Rattle.packet.specs.FirstByte.{byte_of}

@@ -1,5 +1,4 @@
 -- `client::request::begin_packet` meets its contract. The prefix stands in front, and the ConnectionID behind it. Assumes nothing.
-use borrow.Author.Rules.{rules}
 use native.Mathlib.Omega.{arith}
 use mathlib.Core.Path.{sym}
 use lib.ListN.{length, length-take}

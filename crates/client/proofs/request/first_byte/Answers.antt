@@ -1,5 +1,4 @@
 -- `client::request::first_byte` meets its contract. The arms of the code are those of the definition. Assumes nothing.
-use borrow.Author.Rules.{rules}
 use Rattle.client.proofs.request.first_byte.Goals as goal
 
 pub returns-in-Put : goal.returns-in-Put

@@ -1,5 +1,4 @@
 -- `client::request::goes_on` meets its contract. The arms of the code are those of the definition. Assumes nothing.
-use borrow.Author.Rules.{rules}
 use native.Mathlib.Omega.{arith}
 use mathlib.Core.Path.{ap}
 use Rattle.client_model.specs.Step.{stores}

@@ -1,5 +1,4 @@
 -- `client::request::leading_bytes` meets its contract. Each arm writes the headers that lead. Assumes nothing.
-use borrow.Author.Rules.{rules}
 use Rattle.client.proofs.Packets.{leads-both, leads_id, leads-mode, leads-none}
 use Rattle.client.proofs.request.leading_bytes.Goals as goal
 

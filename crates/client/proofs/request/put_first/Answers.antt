@@ -1,5 +1,4 @@
 -- `client::request::put_first` meets its contract. The byte is the one that `first_byte` gives. Assumes nothing.
-use borrow.Author.Rules.{rules}
 use borrow.Enum.Refused.{opened}
 use Rattle.client.proofs.Packets.{no_first}
 use Rattle.client.proofs.request.put_first.Goals as goal

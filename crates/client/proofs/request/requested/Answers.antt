@@ -1,5 +1,4 @@
 -- `client::request::requested` meets its contract. The arms of the code are those of the definition. Assumes nothing.
-use borrow.Author.Rules.{rules}
 use Rattle.client.proofs.request.requested.Goals as goal
 
 pub returns-in-Send : goal.returns-in-Send

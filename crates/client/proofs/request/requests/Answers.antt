@@ -1,5 +1,4 @@
 -- `client::request::requests` meets its contract. The packet gets its first byte, and what follows is decided without the store. Assumes nothing.
-use borrow.Author.Rules.{rules}
 use Rattle.client.proofs.Packets.{made-call}
 use Rattle.client.proofs.request.requests.Goals as goal
 

@@ -1,10 +1,8 @@
 -- `client::request::requests_first` meets its contract. The packet is that of `next_after`, behind the headers that lead. Assumes nothing.
-use borrow.Author.Rules.{rules}
 use native.Mathlib.Omega.{arith}
-use mathlib.Core.Path.{sym, ap}
+use mathlib.Core.Path.{sym}
 use lib.ListN.{length-take}
 use lib.Seq.{length-take-le}
-use Rattle.outgoing.specs.declared.object.Outgoing.{Outgoing}
 use Rattle.client.proofs.Packets.{first-call}
 use Rattle.client.proofs.request.requests_first.Goals as goal
 

@@ -1,5 +1,4 @@
 -- `client::request::requests_next` meets its contract. The packet is that of `next_after`. Assumes nothing.
-use borrow.Author.Rules.{rules}
 use Rattle.client_model.specs.Step.{stores}
 use Rattle.client.proofs.Packets.{next-call}
 use Rattle.client.proofs.request.requests_next.Goals as goal

@@ -1,5 +1,4 @@
 -- `client::request::send_abort` meets its contract. The packet holds the ConnectionID alone. Assumes nothing.
-use borrow.Author.Rules.{rules}
 use mathlib.Core.Bool.{true}
 use mathlib.Core.List.{[]}
 use Rattle.packet.specs.FirstByte.{byte_of}

@@ -1,5 +1,4 @@
 -- `client::request::send_disconnect` meets its contract. The ConnectionID stands in front of the headers. Assumes nothing.
-use borrow.Author.Rules.{rules}
 use native.Mathlib.Omega.{arith}
 use mathlib.Core.Path.{refl}
 use mathlib.Core.Bool.{true}

@@ -1,5 +1,4 @@
 -- `client::request::sent_turn` meets its contract. The tests of the code are those of the definition. Assumes nothing.
-use borrow.Author.Rules.{rules}
 use borrow.Enum.Refused.{opened}
 use Rattle.client.proofs.Packets.{sent-other}
 use Rattle.client.proofs.request.sent_turn.Goals as goal

@@ -1,5 +1,4 @@
 -- `client::step::awaits_first` meets its contract. The state is the one that `client_with` gives. Assumes nothing.
-use borrow.Author.Rules.{rules}
 use Rattle.client.proofs.step.awaits_first.Goals as goal
 
 pub returns : goal.returns

@@ -1,5 +1,4 @@
 -- `client::step::ends` meets its contract. The state is the one that `goes` gives. Assumes nothing.
-use borrow.Author.Rules.{rules}
 use Rattle.client.proofs.step.ends.Goals as goal
 
 pub returns : goal.returns

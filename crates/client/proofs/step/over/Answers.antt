@@ -1,5 +1,4 @@
 -- `client::step::over` meets its contract. The state is the one that `goes` gives. Assumes nothing.
-use borrow.Author.Rules.{rules}
 use Rattle.client.proofs.step.over.Goals as goal
 
 pub returns : goal.returns
