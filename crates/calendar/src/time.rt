@@ -218,6 +218,7 @@ fn seconds_to(at: Instant) -> u64
 
 // Returns the LegacyTime of a time that lies `seconds` behind the first second of year 0. That the time does not exist (17) comes before
 // that it lies outside the 32 bits (18).
+#[tactic(auto, unfolding(crate::specs::Time::legacy_for))]
 fn judge(exists: bool, seconds: u64) -> Legacy
     ensures { result ≡ legacy_for exists seconds }
 {
