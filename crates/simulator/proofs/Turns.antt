@@ -1,7 +1,7 @@
 -- The turns of a game, one by one: what each call leads to, for an object without headers. Assumes nothing.
 use mathlib.Core.Path.{◌≡◌, refl, sym, ap, ◌∙◌}
 use mathlib.Core.List.{List, [], ◌∷◌}
-use mathlib.Core.Bool.{Bool, true, false, ◌&&◌, not}
+use mathlib.Core.Bool.{Bool, true, false, ◌&&◌}
 use Prim.Native.Nat.{ℕ, zero, suc, ◌+◌, ◌-◌, ◌*◌, ◌≤◌, ◌<◌}
 use native.Mathlib.Nat.{add-zero}
 use native.Mathlib.Omega.{arith}
@@ -18,7 +18,6 @@ use Rattle.incoming.specs.Survey.{survey_of}
 use Rattle.table.specs.declared.targets.Target.{Target}
 use Rattle.outgoing.specs.declared.object.Outgoing.{Outgoing}
 use Rattle.outgoing.specs.declared.object.Chunk.{Chunk}
-use Rattle.outgoing.specs.declared.object.Next.TheVariants as next
 use Rattle.outgoing.specs.Object.{Made, made, reading, sending, body_header, no_chunk, begin_chunk, fill, fill_packet, next_packet, full_chunk, body_given_of}
 use Rattle.connection.specs.declared.peer.Peer.{Peer}
 use Rattle.connection.proofs.Standings.{PeerFits}

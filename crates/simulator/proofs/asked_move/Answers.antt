@@ -1,5 +1,4 @@
 -- `simulator::asked_move` meets its contract: of a body read the smaller of three numbers is given. Assumes nothing.
-use borrow.Author.Rules.{rules}
 use Rattle.simulator.proofs.asked_move.Goals as goal
 
 pub returns-in-Read : goal.returns-in-Read

@@ -5,7 +5,6 @@ use Rattle.server.specs.declared.Settings.{Settings}
 use Rattle.model.specs.Step.{stores}
 use Rattle.model.specs.Calls.{start_step}
 use Rattle.simulator.proofs.Moves.{connected_by_lem}
-use borrow.Author.Rules.{rules}
 use Rattle.simulator.proofs.connect.Goals as goal
 
 pub returns : goal.returns

@@ -1,5 +1,4 @@
 -- `simulator::game_after` meets its contract: each part is what its function says. Assumes nothing.
-use borrow.Author.Rules.{rules}
 use Rattle.simulator.specs.Play.{game_after}
 use Rattle.simulator.proofs.game_after.Goals as goal
 

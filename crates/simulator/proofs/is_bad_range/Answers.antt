@@ -2,7 +2,6 @@
 use native.Mathlib.Omega.{arith}
 use mathlib.Core.Path.{sym, ◌∙◌}
 use borrow.Author.Tests.{lt-ltb, le-ltb}
-use borrow.Author.Rules.{rules}
 use Rattle.simulator.proofs.is_bad_range.Goals as goal
 
 pub returns-then-n1-n0 : goal.returns-then-n1-n0

@@ -1,5 +1,4 @@
 -- `simulator::move_for` meets its contract: a request is decided by `asked_move`. Assumes nothing.
-use borrow.Author.Rules.{rules}
 use Rattle.simulator.proofs.move_for.Goals as goal
 
 pub returns-in-Request : goal.returns-in-Request

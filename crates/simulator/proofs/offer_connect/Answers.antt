@@ -1,5 +1,4 @@
 -- `simulator::offer_connect` meets its contract: the bytes are those of the Connect, with the header that asks for SRM or without. Assumes nothing.
-use borrow.Author.Rules.{rules}
 use mathlib.Core.Path.{ap, ◌∙◌}
 use mathlib.Core.List.{List}
 use Prim.Native.Nat.{ℕ}

@@ -2,7 +2,6 @@
 use mathlib.Core.Path.{ap}
 use Rattle.simulator.specs.Play.{Moment, moment, blank_store}
 use Rattle.simulator.proofs.Moves.{played_by}
-use borrow.Author.Rules.{rules}
 use Rattle.simulator.proofs.play_get.Goals as goal
 
 pub returns : goal.returns

@@ -3,7 +3,6 @@ use native.Mathlib.Omega.{arith}
 use mathlib.Core.Path.{sym, ◌∙◌}
 use Rattle.simulator.specs.Play.{simulate}
 use Rattle.simulator.proofs.Moves.{limit-fits}
-use borrow.Author.Rules.{rules}
 use Rattle.simulator.proofs.simulate.Goals as goal
 
 pub returns-then-is_bad_limit : goal.returns-then-is_bad_limit

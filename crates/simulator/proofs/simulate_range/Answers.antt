@@ -3,7 +3,6 @@ use native.Mathlib.Omega.{arith}
 use Rattle.simulator.proofs.Moves.{range_fits}
 use mathlib.Core.Path.{sym, ◌∙◌}
 use Rattle.simulator.specs.Play.{simulate_range}
-use borrow.Author.Rules.{rules}
 use Rattle.simulator.proofs.simulate_range.Goals as goal
 
 pub returns-then-is_bad_range : goal.returns-then-is_bad_range

@@ -1,5 +1,4 @@
 -- `simulator::take_turn` meets its contract: the move that is due, its call and what it counts are a turn. Assumes nothing.
-use borrow.Author.Rules.{rules}
 use Rattle.model.specs.Step.{stores}
 use Rattle.simulator.specs.Play.{moment}
 use Rattle.simulator.proofs.Moves.{turned}
