@@ -1,18 +1,18 @@
 -- `audit::compare::file_what` meets its contract: its tests are those of the definition. Assumes nothing.
 use Rattle.std.proofs.Common.{◌≡◌, ℕ, ◌+◌, ◌-◌, ◌≤◌, length, take, drop, sym, refl, ap, ◌∙◌, arith, rules, le-ltb, lt-ltb, eq-eqb, ne_eqb, le-leb}
-use borrow.Author.Tests.{lt-leb}
+use borrow.Author.Tests.{lt-leb, not-true, not-false}
 use Rattle.audit.proofs.compare.file_what.Goals as goal
 
 pub returns-then-not-file : goal.returns-then-not-file
-returns-then-not-file c = rw c.if-not-file.true refl
+returns-then-not-file c = rw (not-true c.args.file.is_there c.if-not-file.true) refl
 
 pub returns-then-file-gt-KEPT : goal.returns-then-file-gt-KEPT
 returns-then-file-gt-KEPT c =
-    rw (c.if-not-file.false, lt-ltb 80 c.args.file.size c.if-file-gt-KEPT.true) refl
+    rw (not-false c.args.file.is_there c.if-not-file.false, lt-ltb 80 c.args.file.size c.if-file-gt-KEPT.true) refl
 
 pub returns : goal.returns
 returns c =
     rw (
-      c.if-not-file.false,
+      not-false c.args.file.is_there c.if-not-file.false,
       le-ltb 80 c.args.file.size (omega arith),
     ) (rw c.front.ensures at c.payload_what.ensures)
