@@ -7,8 +7,8 @@ use crate::log::WORK;
 use crate::path::{PATH, in_folder, part};
 use crate::record::{Tried, filing_of, no_record};
 use crate::rules::Opened;
-use crate::session::{Session, with_file};
-use crate::system::{Held, read_some, read_whole};
+use crate::session::Session;
+use crate::system::{Held, Text, read_some, read_whole};
 use crate::{checks, record, rules, tell};
 use digest::md5::octets16_of;
 use files::path::front;
@@ -20,6 +20,11 @@ use reception::answer::{Answer, Decision, Secret};
 use reception::call::BODY;
 use reception::decide::{after_draw, after_filing, plain_answer};
 use server::{Body, HostRequest};
+use std::env::Env;
+use std::fs::Files;
+use std::io::Read;
+use std::random::RandomSource;
+use std::time::Clock;
 use table::targets::Target;
 
 // What was decided. The bytes of the work store from `from` to `to` go with the call, and with its note. The session is that after it, `check` the
@@ -49,51 +54,70 @@ fn make(answer: Answer, from: usize, to: usize, session: Session) -> Decided {
 // ---- a Get
 
 // Decides on a Get: its rule file is opened.
-fn get(s: Session, target: Target, headers: &[u8], work: &mut [u8; WORK]) -> Decided {
-    rules::closed(s.file);
-    let found = rules::find_rule(target, headers, work);
+fn get<R: Env + Files + Clock>(
+    rt: &R,
+    err: &impl Print,
+    held: &mut Held<R::File>,
+    s: Session,
+    target: Target,
+    headers: &[u8],
+    work: &mut [u8; WORK],
+) -> Decided {
+    held.rule = None;
+    let found = rules::find_rule(rt, target, headers, work);
     let from = found.below;
     let to = found.length;
-    let opened = rules::open_rule(front(work, to));
+    let opened = rules::open_rule(rt, front(work, to));
     let id = s.id;
     match opened {
-        Opened::File { fd, size } => {
-            tell::given(id, part(work, from, to), size);
-            make(Answer::Object(size), from, to, with_file(s, fd))
+        Opened::File { file, size } => {
+            tell::given(rt, err, id, part(work, from, to), size);
+            held.rule = Some(file);
+            make(Answer::Object(size), from, to, s)
         }
         Opened::Code(code) => {
-            tell::not_given(id, part(work, from, to), code);
-            make(Answer::Reply(code), 0, 0, with_file(s, -1))
+            tell::not_given(rt, err, id, part(work, from, to), code);
+            make(Answer::Reply(code), 0, 0, s)
         }
     }
 }
 
 // Decides on a Read: the next bytes of the rule file.
-fn read(s: Session, room: usize, work: &mut [u8; WORK]) -> Decided {
-    let got = read_some(s.file, room, work);
-    if got < 0 {
-        let id = s.id;
-        tell::unread(id);
-        return make(
-            Answer::BodyFailed,
-            0,
-            0,
-            with_file(s, rules::closed(s.file)),
-        );
+fn read<F: Read + Drop>(
+    rt: &(impl Env + Clock),
+    err: &impl Print,
+    held: &mut Held<F>,
+    s: Session,
+    room: usize,
+    work: &mut [u8; WORK],
+) -> Decided {
+    match read_some(&mut held.rule, room, work) {
+        Ok(n) => make(Answer::Body, 0, n, s),
+        Err(_) => {
+            let id = s.id;
+            tell::unread(rt, err, id);
+            held.rule = None;
+            make(Answer::BodyFailed, 0, 0, s)
+        }
     }
-    make(Answer::Body, 0, io::count(got, work), s)
 }
 
 // ---- passwords
 
 // Reads a file of the receiver's folder into the store, and returns how many bytes it has. One that cannot be read is told, and has none.
-fn read_file(id: SessionId, name: &[u8], work: &mut [u8; WORK]) -> usize {
+fn read_file<R: Env + Files + Clock>(
+    rt: &R,
+    err: &impl Print,
+    id: SessionId,
+    name: &[u8],
+    work: &mut [u8; WORK],
+) -> usize {
     let mut path = [0u8; PATH];
-    let n = in_folder(name, &mut path);
-    match read_whole(&path[0..n], work) {
-        Held::Bytes(k) => k,
-        Held::Failed(error) => {
-            tell::unreadable(id, name, error);
+    let n = in_folder(rt, name, &mut path);
+    match read_whole(rt, &path[0..n], work) {
+        Text::Bytes(k) => k,
+        Text::Failed(error) => {
+            tell::unreadable(rt, err, id, name, error);
             0
         }
     }
@@ -122,8 +146,15 @@ fn end_of(found: Found) -> usize {
 }
 
 // Decides on a request for a password: whether it may be checked, by the letters of all connections, and then what the user's password is.
-fn password(s: Session, user: &[u8], work: &mut [u8; WORK]) -> Decided {
-    let check = checks::begin();
+fn password<R: Env + Files + Clock>(
+    rt: &R,
+    err: &impl Print,
+    held: &mut Held<R::File>,
+    s: Session,
+    user: &[u8],
+    work: &mut [u8; WORK],
+) -> Decided {
+    let check = checks::begin(rt, held);
     let id = s.id;
     if !check.allowed {
         return Decided {
@@ -135,7 +166,7 @@ fn password(s: Session, user: &[u8], work: &mut [u8; WORK]) -> Decided {
             tried: no_record(),
         };
     }
-    let n = read_file(id, b"users", work);
+    let n = read_file(rt, err, id, b"users", work);
     let found = password_for(front(work, n), user);
     Decided {
         decision: Decision::Make(Answer::Password(secret_of(found))),
@@ -148,9 +179,9 @@ fn password(s: Session, user: &[u8], work: &mut [u8; WORK]) -> Decided {
 }
 
 // Decides on a request for a nonce: sixteen bytes of the kernel's. The realm stands at the front of the work store.
-fn nonce(s: Session, said: Said, work: &mut [u8; WORK]) -> Decided {
+fn nonce(rt: &impl RandomSource, s: Session, said: Said, work: &mut [u8; WORK]) -> Decided {
     let mut bytes = [0u8; 16];
-    let is_drawn = libc::getentropy(&mut bytes) == 0;
+    let is_drawn = rt.fill_bytes(&mut bytes).is_ok();
     let n = put_realm(said, work);
     Decided {
         decision: after_draw(is_drawn, octets16_of(bytes)),
@@ -179,9 +210,14 @@ fn own_line(text: &[u8]) -> OwnLine {
 }
 
 // Decides on a request for credentials: the line of `own`, user id, tab and password, of which the tab is passed over. Without it there are none.
-fn credentials(s: Session, work: &mut [u8; WORK]) -> Decided {
+fn credentials<R: Env + Files + Clock>(
+    rt: &R,
+    err: &impl Print,
+    s: Session,
+    work: &mut [u8; WORK],
+) -> Decided {
     let id = s.id;
-    let n = read_file(id, b"own", work);
+    let n = read_file(rt, err, id, b"own", work);
     let own = own_line(front(work, n));
     let found = own.password;
     match found {
@@ -202,7 +238,10 @@ fn join_own(s: Session, k: usize, start: usize, end: usize, work: &mut [u8; WORK
 // ---- requests
 
 // Decides on a Put: its record is filed if records are taken under its Target.
-fn put_record(
+fn put_record<R: Env + Files + Clock>(
+    rt: &R,
+    err: &impl Print,
+    held: &mut Held<R::File>,
     s: Session,
     said: Said,
     kept: usize,
@@ -215,7 +254,9 @@ fn put_record(
     ensures { DecidesPut content result.tried result.decision }
 {
     let is_taken = is_taken(said, target);
-    let done = record::file(s, is_taken, kept, content, target, headers, body, work);
+    let done = record::file(
+        rt, err, held, s, is_taken, kept, content, target, headers, body, work,
+    );
     let session = done.session;
     let outcome = done.outcome;
     let answer = after_filing(is_taken, filing_of(outcome));
@@ -234,7 +275,10 @@ fn put_record(
 
 // Decides on a request of the engine's. Any request but a Put and a Read ends the rule file that is being sent. SetPath is granted and does
 // nothing: clients send it first, and there is one folder for a Target.
-pub(crate) fn decide(
+pub(crate) fn decide<R: Env + Files + Clock + RandomSource>(
+    rt: &R,
+    err: &impl Print,
+    held: &mut Held<R::File>,
     s: Session,
     request: HostRequest,
     target: Target,
@@ -250,23 +294,30 @@ pub(crate) fn decide(
         HostRequest::Put {
             kept,
             body: content,
-        } => put_record(s, said, kept, content, target, headers, body, work),
-        HostRequest::Get { kept } => get(s, target, front(headers, kept), work),
-        HostRequest::Read { room } => read(s, room, work),
-        HostRequest::Password { user_id: _ } => password(s, user_of(request, packet), work),
-        HostRequest::Nonce => nonce(s, said, work),
+        } => put_record(
+            rt, err, held, s, said, kept, content, target, headers, body, work,
+        ),
+        HostRequest::Get { kept } => get(rt, err, held, s, target, front(headers, kept), work),
+        HostRequest::Read { room } => read(rt, err, held, s, room, work),
+        HostRequest::Password { user_id: _ } => password(
+            rt,
+            err,
+            held,
+            s,
+            user_of(request, packet),
+            work,
+        ),
+        HostRequest::Nonce => nonce(rt, s, said, work),
         HostRequest::Credentials {
             nonce: _,
             user_id_required: _,
             read_only: _,
             realm: _,
-        } => credentials(s, work),
-        _ => make(
-            plain_answer(request),
-            0,
-            0,
-            with_file(s, rules::closed(s.file)),
-        ),
+        } => credentials(rt, err, s, work),
+        _ => {
+            held.rule = None;
+            make(plain_answer(request), 0, 0, s)
+        }
     }
 }
 

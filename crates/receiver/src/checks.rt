@@ -1,16 +1,21 @@
 // The checks of passwords over all connections (docs/PROTOCOL.md#eight-wrong): every process appends a letter for each check to the file `checks`,
 // and judges by the 64 letters in front of its own.
-ghost use Rattle.std.specs.Prelude.{◌≡◌};
+ghost use Rattle.std.specs.Prelude.{◌≡◌, ◌≤◌};
 ghost use Rattle.receiver.specs.Checks.{has_open, letter_verdict, letter_for, is_lasting};
 
-use crate::clock::not_negative;
 use crate::path::{PATH, in_folder};
-use crate::system::{error, read_some, sync_folder};
+use crate::system::{EBADF, EIO, ENOENT, Held, answer_of, error, sync_folder};
+use files::fault::number_of;
 use files::path::front;
+use files::system as disk;
 use filing::payload::CheckMade;
 use filing::tries::is_check_allowed;
-use libc::{SEEK_CUR, SEEK_SET};
-use lines::output::least;
+use lines::input::read;
+use std::env::Env;
+use std::fs::{Files, OpenFile};
+use std::io;
+use std::io::{Read, Seek, SeekFrom, Write};
+use std::thread::yield_now;
 
 // How many letters count.
 const WINDOW: usize = 64;
@@ -18,11 +23,10 @@ const WINDOW: usize = 64;
 // How often the letters are read again while checks before this one are being made.
 const TRIES: usize = 1000;
 
-// A check that is being made: the file, the place of its letter, whether it is allowed, and the number of the error by which there is none, or 0.
+// A check that is being made: the place of its letter, whether it is allowed, and the number of the error by which there is none, or 0.
 #[derive(Clone, Copy)]
 pub(crate) struct Try {
-    pub place: i64,
-    pub fd: i32,
+    pub place: u64,
     pub error: i32,
     pub allowed: bool,
 }
@@ -63,33 +67,42 @@ fn judge(letters: &[u8]) -> Verdict
     Verdict::Stopped
 }
 
+// Returns how many of the letters in front of `place` count.
+fn count_before(place: u64) -> usize
+    ensures { result ≤ 64 }
+{
+    if place < 64 {
+        return place as usize;
+    }
+    WINDOW
+}
+
 // Sets the file's place to the first of the letters that count in front of `place`.
-fn seek_window(fd: i32, place: i64, count: usize) {
+fn seek_window<F: Seek>(file: &mut F, place: u64, count: usize) {
     if count < WINDOW {
-        libc::lseek(fd, 0, SEEK_SET);
+        let _ = file.seek(SeekFrom::Start(0));
         return;
     }
-    libc::lseek(fd, place, SEEK_SET);
-    libc::lseek(fd, -64, SEEK_CUR);
+    let _ = file.seek(SeekFrom::Start(place));
+    let _ = file.seek(SeekFrom::Current(-64));
 }
 
 // Reads the letters in front of `place` and judges by them. If they cannot be read, the check is stopped.
-fn look(fd: i32, place: i64) -> Verdict {
+fn look<F: Read + Seek>(file: &mut F, place: u64) -> Verdict {
     let mut letters = [0u8; WINDOW];
-    let count = least(not_negative(place), WINDOW);
-    seek_window(fd, place, count);
-    let got = read_some(fd, count, &mut letters);
-    if io::count(got, &letters) != count {
+    let count = count_before(place);
+    seek_window(file, place, count);
+    if read(file, &mut letters[0..count]) != count {
         return Verdict::Stopped;
     }
     judge(front(&letters, count))
 }
 
 // Judges by the letters in front of `place`. While checks are being made that decide, other processes go first.
-fn is_allowed(fd: i32, place: i64) -> bool {
+fn is_allowed<F: Read + Seek>(file: &mut F, place: u64) -> bool {
     let mut left = TRIES;
     while left > 0 {
-        match look(fd, place) {
+        match look(file, place) {
             Verdict::Allowed => {
                 return true;
             }
@@ -97,7 +110,7 @@ fn is_allowed(fd: i32, place: i64) -> bool {
                 return false;
             }
             Verdict::Open => {
-                libc::sched_yield();
+                yield_now();
             }
         }
         left -= 1;
@@ -106,51 +119,53 @@ fn is_allowed(fd: i32, place: i64) -> bool {
 }
 
 // Makes the file, if there is none, and synchronises its name. Another process may make it at the same time.
-fn make_file(path: &[u8]) {
-    let fd = os::create(path);
-    if fd < 0 {
-        return;
+fn make_file<R: Env + Files>(rt: &R, path: &[u8]) {
+    match disk::create_new(rt, path) {
+        Ok(_) => {}
+        Err(_) => {
+            return;
+        }
     }
-    libc::close(fd);
     let mut folder = [0u8; PATH];
-    let n = in_folder(b".", &mut folder);
-    sync_folder(&folder[0..n]);
+    let n = in_folder(rt, b".", &mut folder);
+    sync_folder(rt, &folder[0..n]);
 }
 
 // Opens the file to append to it, and makes it first if there is none.
-fn open_append(path: &[u8]) -> i32 {
-    let fd = os::open_append(path);
-    if fd >= 0 {
-        return fd;
+fn open_append<R: Env + Files>(rt: &R, path: &[u8]) -> io::Result<R::File> {
+    match disk::open_append(rt, path) {
+        Ok(file) => Ok(file),
+        Err(e) => {
+            if number_of(&e) != ENOENT {
+                return Err(e);
+            }
+            make_file(rt, path);
+            disk::open_append(rt, path)
+        }
     }
-    if os::errno() != libc::ENOENT {
-        return fd;
-    }
-    make_file(path);
-    os::open_append(path)
 }
 
-// Appends a letter, and returns its place, or a negative number.
-fn append_letter(path: &[u8], letter: u8) -> i64 {
-    let fd = open_append(path);
-    if fd < 0 {
-        return -1;
-    }
+// Writes one letter.
+fn write_letter<F: Write>(file: &mut F, letter: u8) -> io::Result<()> {
     let one = [letter];
-    if libc::write(fd, &one) != 1 {
-        libc::close(fd);
-        return -1;
+    let n = file.write(&one)?;
+    if n != 1 {
+        return Err(io::Error::from_raw_os_error(EIO));
     }
-    let place = libc::lseek(fd, -1, SEEK_CUR);
-    libc::close(fd);
-    place
+    Ok(())
+}
+
+// Appends a letter, and returns its place.
+fn append_letter<R: Env + Files>(rt: &R, path: &[u8], letter: u8) -> io::Result<u64> {
+    let mut file = open_append(rt, path)?;
+    write_letter(&mut file, letter)?;
+    file.seek(SeekFrom::Current(-1))
 }
 
 // Returns a check that cannot be made.
 fn refused(number: i32) -> Try {
     Try {
         place: 0,
-        fd: -1,
         error: number,
         allowed: false,
     }
@@ -170,22 +185,29 @@ pub(crate) fn letter_of(made: CheckMade) -> u8
 }
 
 // Begins a check: puts an open letter behind the others, and judges by those in front of it.
-pub(crate) fn begin() -> Try {
+pub(crate) fn begin<R: Env + Files>(rt: &R, held: &mut Held<R::File>) -> Try {
     let mut path = [0u8; PATH];
-    let n = in_folder(b"checks", &mut path);
-    let place = append_letter(&path[0..n], b'?');
-    if place < 0 {
-        return refused(error());
+    let n = in_folder(rt, b"checks", &mut path);
+    match append_letter(rt, &path[0..n], b'?') {
+        Ok(place) => watch(rt, held, place, &path[0..n]),
+        Err(e) => refused(error(&e)),
     }
-    let fd = os::open_update(&path[0..n]);
-    if fd < 0 {
-        return refused(error());
-    }
-    Try {
-        place,
-        fd,
-        error: 0,
-        allowed: is_allowed(fd, place),
+}
+
+// Goes on with a check whose letter stands at `place`: judges by those in front of it.
+fn watch<R: Files>(rt: &R, held: &mut Held<R::File>, place: u64, path: &[u8]) -> Try {
+    match disk::open_update(rt, path) {
+        Ok(file) => {
+            let mut file = file;
+            let allowed = is_allowed(&mut file, place);
+            held.check = Some(file);
+            Try {
+                place,
+                error: 0,
+                allowed,
+            }
+        }
+        Err(e) => refused(error(&e)),
     }
 }
 
@@ -196,38 +218,45 @@ fn is_lasting(letter: u8) -> bool
     letter == b'w'
 }
 
-// Puts the letter of a check at its place. A wrong one is synchronised. Returns 0, or the number of the error.
-fn put_letter(t: Try, letter: u8) -> i32 {
-    let one = [letter];
-    if libc::pwrite(t.fd, &one, t.place) != 1 {
-        return error();
-    }
+// Puts the letter of a check at its place. A wrong one is synchronised.
+fn put_letter<F: Write + Seek + OpenFile>(
+    file: &mut Option<F>,
+    place: u64,
+    letter: u8,
+) -> io::Result<()> {
+    let Some(file) = file else {
+        return Err(io::Error::from_raw_os_error(EBADF));
+    };
+    file.seek(SeekFrom::Start(place))?;
+    write_letter(file, letter)?;
     if is_lasting(letter) {
-        if libc::fsync(t.fd) != 0 {
-            return error();
-        }
+        return file.sync_all();
     }
-    0
+    Ok(())
 }
 
 // Ends a check with its letter. Returns 0, or the number of the error.
-pub(crate) fn end(t: Try, letter: u8) -> i32 {
+pub(crate) fn end<F: Write + Seek + OpenFile + Drop>(
+    held: &mut Held<F>,
+    t: Try,
+    letter: u8,
+) -> i32 {
     if t.error != 0 {
         return t.error;
     }
-    let number = put_letter(t, letter);
-    libc::close(t.fd);
+    let number = answer_of(put_letter(&mut held.check, t.place, letter));
+    held.check = None;
     number
 }
 
 // Appends the letter of a check that the engine has stopped by itself.
-pub(crate) fn add_stop() {
+pub(crate) fn add_stop<R: Env + Files>(rt: &R) {
     let mut path = [0u8; PATH];
-    let n = in_folder(b"checks", &mut path);
-    append_letter(&path[0..n], b's');
+    let n = in_folder(rt, b"checks", &mut path);
+    let _ = append_letter(rt, &path[0..n], b's');
 }
 
 // Returns the check that stands for none.
 pub(crate) fn no_check() -> Try {
-    refused(libc::EIO)
+    refused(EIO)
 }

@@ -1,28 +1,19 @@
 // The clock, and random bytes.
-ghost use Rattle.std.specs.Prelude.{pos, ◌≤ℤ◌};
-
 use packet::header::be32_at;
+use std::random::RandomSource;
+use std::time::Clock;
 
-// Returns `x`, which is not negative.
-fn unsigned(x: i64) -> usize
-    requires { pos 0 ≤ℤ x }
-{
-    x as usize
-}
-
-// Returns `x`, or 0 if it is negative.
-pub(crate) fn not_negative(x: i64) -> usize {
-    if x >= 0 {
-        return unsigned(x);
+// Returns the whole seconds since 1970, or 0 if they are not known.
+fn seconds(rt: &impl Clock) -> u64 {
+    match rt.since_1970() {
+        Ok(time) => time.as_secs(),
+        Err(_) => 0,
     }
-    0
 }
 
 // Returns the seconds since 1970, or 0 if they are not known or have over 32 bits.
-pub(crate) fn now() -> u32 {
-    let mut seconds: i64 = 0;
-    libc::time(&mut seconds);
-    let number = not_negative(seconds);
+pub(crate) fn now(rt: &impl Clock) -> u32 {
+    let number = seconds(rt);
     if number <= 4294967295 {
         return number as u32;
     }
@@ -37,9 +28,9 @@ pub(crate) enum Bits {
 }
 
 // Draws 64 bits of the kernel's.
-pub(crate) fn draw_bits() -> Bits {
+pub(crate) fn draw_bits(rt: &impl RandomSource) -> Bits {
     let mut bytes = [0u8; 8];
-    if libc::getentropy(&mut bytes) == 0 {
+    if rt.fill_bytes(&mut bytes).is_ok() {
         return Bits::Fresh {
             high: be32_at(&bytes, 0),
             low: be32_at(&bytes, 4),

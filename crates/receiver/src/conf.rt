@@ -3,11 +3,13 @@ ghost use Rattle.std.specs.Prelude.{◌≡◌};
 ghost use Rattle.receiver.specs.Opening.{settings_by};
 
 use crate::path::{PATH, in_folder, part};
-use crate::system::{Held, read_whole};
+use crate::system::{Text, read_whole};
 use files::path::front;
 use filing::conf::{Conf, is_record_taken, read_conf};
 use filing::payload::{OpenFlags, OpenNumbers};
 use server::Settings;
+use std::env::Env;
+use std::fs::Files;
 use std::num::wrapping_add_usize;
 use table::targets::Target;
 
@@ -35,10 +37,10 @@ pub(crate) fn kept(text: [u8; TEXT], length: usize, conf: Conf) -> Said {
 }
 
 // Reads the file `conf` into the store.
-pub(crate) fn read_text(text: &mut [u8; TEXT]) -> Held {
+pub(crate) fn read_text<R: Env + Files>(rt: &R, text: &mut [u8; TEXT]) -> Text {
     let mut path = [0u8; PATH];
-    let n = in_folder(b"conf", &mut path);
-    read_whole(&path[0..n], text)
+    let n = in_folder(rt, b"conf", &mut path);
+    read_whole(rt, &path[0..n], text)
 }
 
 // Returns the engine's settings, by the numbers and flags that the first frame of the log has.

@@ -4,12 +4,15 @@ ghost use Rattle.std.specs.Prelude.{◌≡◌, ◌≤◌, length};
 ghost use Rattle.archive.specs.Writing.{writing};
 ghost use Rattle.receiver.specs.Log.{frame_laid, framed_by};
 
-use crate::system::error;
+use crate::system::{EBADF, EFBIG, Held, answer_of};
 use archive::block::Wrote;
 use digest::md5::{Octets16, octets16_at, put_octets16};
 use files::path::front;
 use filing::content::{Event, content_for, kind_of};
 use filing::frame::{Head, Kind, write_frame};
+use std::fs::OpenFile;
+use std::io;
+use std::io::Write;
 use std::num::wrapping_add_usize;
 
 // How long the store is in which frames and blocks are made and files are read.
@@ -21,20 +24,18 @@ const ROW: usize = 16;
 // How long the payload of an event may be that is no packet.
 const SHORT: usize = 1024;
 
-// A log: its file, the number of the error that ended it, or 0, the number of the next frame, the bytes so far, and the last check.
+// A log: the number of the error that ended it, or 0, the number of the next frame, the bytes so far, and the last check.
 #[derive(Clone, Copy)]
 pub(crate) struct Log {
-    pub fd: i32,
     pub error: i32,
     pub number: u32,
     pub length: usize,
     pub check: Octets16,
 }
 
-// Returns an empty log, whose file is open.
-pub(crate) fn empty(fd: i32) -> Log {
+// Returns an empty log.
+pub(crate) fn empty() -> Log {
     Log {
-        fd,
         error: 0,
         number: 0,
         length: 0,
@@ -49,7 +50,6 @@ pub(crate) fn empty(fd: i32) -> Log {
 pub(crate) fn failed(log: Log, number: i32) -> Log {
     let check = log.check;
     Log {
-        fd: log.fd,
         error: number,
         number: log.number,
         length: log.length,
@@ -90,23 +90,39 @@ pub(crate) fn lay(log: Log, kind: Kind, clock: u32, payload: &[u8], work: &mut [
     }
 }
 
+// Writes on in the log's file.
+fn write_bytes<F: Write>(file: &mut Option<F>, bytes: &[u8]) -> io::Result<()> {
+    match file {
+        Some(file) => file.write_all(bytes),
+        None => Err(io::Error::from_raw_os_error(EBADF)),
+    }
+}
+
+// Synchronises the log's file.
+fn sync_file<F: OpenFile>(file: &Option<F>) -> io::Result<()> {
+    match file {
+        Some(file) => file.sync_all(),
+        None => Err(io::Error::from_raw_os_error(EBADF)),
+    }
+}
+
 // Writes the frame of `n` bytes that stands behind its check in the store.
-fn write_frame_out(log: Log, n: usize, work: &[u8]) -> Log {
+fn write_frame_out<F: Write>(held: &mut Held<F>, log: Log, n: usize, work: &[u8]) -> Log {
     if work.len() < ROW {
-        return failed(log, libc::EFBIG);
+        return failed(log, EFBIG);
     }
     if work.len() - ROW < n {
-        return failed(log, libc::EFBIG);
+        return failed(log, EFBIG);
     }
     if log.number == u32::MAX {
-        return failed(log, libc::EFBIG);
+        return failed(log, EFBIG);
     }
-    if !io::write_all(log.fd, &work[ROW..ROW + n]) {
-        return failed(log, error());
+    let number = answer_of(write_bytes(&mut held.log, &work[ROW..ROW + n]));
+    if number != 0 {
+        return failed(log, number);
     }
     let check = octets16_at(work, n);
     Log {
-        fd: log.fd,
         error: 0,
         number: log.number + 1,
         length: wrapping_add_usize(log.length, n),
@@ -115,18 +131,24 @@ fn write_frame_out(log: Log, n: usize, work: &[u8]) -> Log {
 }
 
 // Writes the frame that was laid, unless the log has failed before.
-pub(crate) fn write_out(log: Log, framed: Framed, work: &[u8; WORK]) -> Log {
+pub(crate) fn write_out<F: Write>(
+    held: &mut Held<F>,
+    log: Log,
+    framed: Framed,
+    work: &[u8; WORK],
+) -> Log {
     if log.error != 0 {
         return log;
     }
     match framed {
-        Framed::Bytes(n) => write_frame_out(log, n, work),
-        Framed::TooLong => failed(log, libc::EFBIG),
+        Framed::Bytes(n) => write_frame_out(held, log, n, work),
+        Framed::TooLong => failed(log, EFBIG),
     }
 }
 
 // Appends a frame, unless the log has failed before.
-pub(crate) fn append(
+pub(crate) fn append<F: Write>(
+    held: &mut Held<F>,
     log: Log,
     kind: Kind,
     clock: u32,
@@ -134,11 +156,12 @@ pub(crate) fn append(
     work: &mut [u8; WORK],
 ) -> Log {
     let framed = lay(log, kind, clock, payload, work);
-    write_out(log, framed, work)
+    write_out(held, log, framed, work)
 }
 
 // Appends the frame of an event with its parts, which are short, unless the log has failed before.
-pub(crate) fn append_event(
+pub(crate) fn append_event<F: Write>(
+    held: &mut Held<F>,
     log: Log,
     event: Event,
     clock: u32,
@@ -149,18 +172,15 @@ pub(crate) fn append_event(
 ) -> Log {
     let mut payload = [0u8; SHORT];
     let Wrote::Written(n) = content_for(&mut payload, event, first, second, third) else {
-        return failed(log, libc::EFBIG);
+        return failed(log, EFBIG);
     };
-    append(log, kind_of(event), clock, front(&payload, n), work)
+    append(held, log, kind_of(event), clock, front(&payload, n), work)
 }
 
 // Synchronises the log. Returns 0, or the number of the error, which may be one that ended the log before.
-pub(crate) fn sync(log: Log) -> i32 {
+pub(crate) fn sync<F: OpenFile>(held: &mut Held<F>, log: Log) -> i32 {
     if log.error != 0 {
         return log.error;
     }
-    if libc::fsync(log.fd) != 0 {
-        return error();
-    }
-    0
+    answer_of(sync_file(&held.log))
 }

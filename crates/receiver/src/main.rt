@@ -19,27 +19,35 @@ mod turn;
 use crate::input::INPUT;
 use crate::log::WORK;
 use crate::path::FOLDER;
+use crate::system::Held;
 use crate::turn::run;
-use libc::STDERR_FILENO;
+use lines::arguments::{argument, has_argument};
+use lines::output::print;
 use reception::call::BODY;
+use std::env::Env;
 
 // Returns whether the program was started with a folder whose paths have room, and with no more than the client's address.
-fn is_started_right() -> bool {
-    if os::arg_count() < 2 {
+fn is_started_right(rt: &impl Env) -> bool {
+    if !has_argument(rt, 1) {
         return false;
     }
-    if 3 < os::arg_count() {
+    if has_argument(rt, 3) {
         return false;
     }
     let mut folder = [0u8; FOLDER];
-    os::arg(1, &mut folder) != 0
+    argument(rt, 1, &mut folder) != 0
 }
 
-fn main() {
-    if !is_started_right() {
-        io::write_all(STDERR_FILENO, b"usage: receiver FOLDER [PEER]\n");
+fn main(rt: HostRuntime) {
+    if !is_started_right(&rt) {
+        print(&rt.stderr(), b"usage: receiver FOLDER [PEER]\n");
         return;
     }
+    let mut held = Held {
+        log: None,
+        rule: None,
+        check: None,
+    };
     let mut input = [0u8; INPUT];
     let mut work = [0u8; WORK];
     let mut tables = [0u64; 320];
@@ -48,6 +56,10 @@ fn main() {
     let mut body = [0u8; BODY];
     let mut reply = [0u8; 65535];
     run(
+        &mut rt.stdin(),
+        &rt,
+        &rt.stderr(),
+        &mut held,
         &mut input,
         &mut work,
         &mut tables,

@@ -3,6 +3,8 @@ ghost use Rattle.std.specs.Prelude.{◌≤◌, length};
 
 use files::path::join;
 use filing::paths::{Place, SessionId, record_path};
+use lines::arguments::argument;
+use std::env::Env;
 
 // How long a path may be.
 pub(crate) const PATH: usize = 4096;
@@ -21,19 +23,25 @@ pub(crate) fn part(s: &[u8], from: usize, to: usize) -> &[u8] {
 }
 
 // Puts the path of `name` in the receiver's folder at the front of `path`, and returns how long it is.
-pub(crate) fn in_folder(name: &[u8], path: &mut [u8]) -> usize
+pub(crate) fn in_folder(rt: &impl Env, name: &[u8], path: &mut [u8]) -> usize
     ensures { result ≤ length path.new }
 {
     let mut folder = [0u8; FOLDER];
-    let n = os::arg(1, &mut folder);
+    let n = argument(rt, 1, &mut folder);
     join(&folder[..n], name, path)
 }
 
 // Puts the path of a place of the archive at the front of `path`, and returns how long it is.
-pub(crate) fn in_archive(session: SessionId, number: u32, place: Place, path: &mut [u8]) -> usize
+pub(crate) fn in_archive(
+    rt: &impl Env,
+    session: SessionId,
+    number: u32,
+    place: Place,
+    path: &mut [u8],
+) -> usize
     ensures { result ≤ length path.new }
 {
     let mut folder = [0u8; FOLDER];
-    let n = os::arg(1, &mut folder);
+    let n = argument(rt, 1, &mut folder);
     record_path(&folder[..n], session, number, place, path)
 }

@@ -6,6 +6,7 @@ ghost use Rattle.receiver.specs.Filing.{is_filed, body_there, Carried, not_begun
 use crate::log::{Log, WORK, append_event};
 use crate::path::{PATH, in_archive, part};
 use crate::session::{Session, note, sync_place, with_log, with_record};
+use crate::system::{EFBIG, Held};
 use crate::{clock, log, system, tell};
 use archive::block;
 use archive::block::Wrote;
@@ -20,7 +21,11 @@ use filing::paths::{Place, SessionId};
 use filing::plan::{Filing, Step, next_step};
 use lines::output::put;
 use server::Body;
+use std::env::Env;
+use std::fs::Files;
+use std::io::Write;
 use std::num::wrapping_sub_u32;
+use std::time::Clock;
 use table::targets::{Target, is_named};
 
 // How long the payload of a frame `file` is without the Target.
@@ -53,30 +58,38 @@ pub(crate) struct Tried {
 // ---- the steps
 
 // Makes the part folder.
-fn make_part(session: SessionId, number: u32) -> i32 {
+fn make_part<R: Env + Files>(rt: &R, session: SessionId, number: u32) -> i32 {
     let mut path = [0u8; PATH];
-    let n = in_archive(session, number, Place::Part, &mut path);
-    system::make_folder(&path[0..n])
+    let n = in_archive(rt, session, number, Place::Part, &mut path);
+    system::make_folder(rt, &path[0..n])
 }
 
 // Makes a file of the part folder, writes it, synchronises it and closes it.
-fn write_part(session: SessionId, number: u32, place: Place, bytes: &[u8]) -> i32 {
+fn write_part<R: Env + Files>(
+    rt: &R,
+    session: SessionId,
+    number: u32,
+    place: Place,
+    bytes: &[u8],
+) -> i32 {
     let mut path = [0u8; PATH];
-    let n = in_archive(session, number, place, &mut path);
-    system::write_new(&path[0..n], bytes)
+    let n = in_archive(rt, session, number, place, &mut path);
+    system::write_new(rt, &path[0..n], bytes)
 }
 
 // Gives the part folder the record's name.
-fn rename_part(session: SessionId, number: u32) -> i32 {
+fn rename_part<R: Env + Files>(rt: &R, session: SessionId, number: u32) -> i32 {
     let mut from = [0u8; PATH];
     let mut to = [0u8; PATH];
-    let n = in_archive(session, number, Place::Part, &mut from);
-    let k = in_archive(session, number, Place::Record, &mut to);
-    system::rename(&from[0..n], &to[0..k])
+    let n = in_archive(rt, session, number, Place::Part, &mut from);
+    let k = in_archive(rt, session, number, Place::Record, &mut to);
+    system::rename(rt, &from[0..n], &to[0..k])
 }
 
 // Carries out a step of the filing of record `number`. Returns 0 if it went well, and otherwise the number of the error.
-fn carry_out(
+fn carry_out<R: Env + Files>(
+    rt: &R,
+    held: &mut Held<R::File>,
     step: Step,
     session: SessionId,
     number: u32,
@@ -86,14 +99,14 @@ fn carry_out(
     text: &[u8],
 ) -> i32 {
     match step {
-        Step::MakePart => make_part(session, number),
-        Step::WriteHeaders => write_part(session, number, Place::Headers, headers),
-        Step::WriteBody => write_part(session, number, Place::Body, blocks),
-        Step::WriteNote => write_part(session, number, Place::Note, text),
-        Step::SyncPart => sync_place(session, number, Place::Part),
-        Step::SyncLog => log::sync(log),
-        Step::Rename => rename_part(session, number),
-        Step::SyncSession => sync_place(session, number, Place::Session),
+        Step::MakePart => make_part(rt, session, number),
+        Step::WriteHeaders => write_part(rt, session, number, Place::Headers, headers),
+        Step::WriteBody => write_part(rt, session, number, Place::Body, blocks),
+        Step::WriteNote => write_part(rt, session, number, Place::Note, text),
+        Step::SyncPart => sync_place(rt, session, number, Place::Part),
+        Step::SyncLog => log::sync(held, log),
+        Step::Rename => rename_part(rt, session, number),
+        Step::SyncSession => sync_place(rt, session, number, Place::Session),
         Step::Filed => 0,
     }
 }
@@ -128,7 +141,9 @@ fn is_well(error: i32) -> bool
 }
 
 // Carries out the steps of the plan, each only if the one before went well.
-fn carry_all(
+fn carry_all<R: Env + Files>(
+    rt: &R,
+    held: &mut Held<R::File>,
     has_body: bool,
     session: SessionId,
     number: u32,
@@ -152,7 +167,7 @@ fn carry_all(
                 answers,
             };
         }
-        let error = carry_out(step, session, number, log, headers, blocks, text);
+        let error = carry_out(rt, held, step, session, number, log, headers, blocks, text);
         answers[count] = error;
         count += 1;
         if !is_well(error) {
@@ -250,12 +265,20 @@ fn put_row(payload: &mut [u8], r: Handed, headers: &[u8], body: &[u8]) -> usize 
 }
 
 // Notes in the log that a record is to be filed.
-fn note_filing(s: Session, clock: u32, payload: &[u8], work: &mut [u8; WORK]) -> Session {
+fn note_filing<F: Write>(
+    rt: &(impl Env + Clock),
+    err: &impl Print,
+    held: &mut Held<F>,
+    s: Session,
+    clock: u32,
+    payload: &[u8],
+    work: &mut [u8; WORK],
+) -> Session {
     let log = s.log;
     let row = front(payload, ROW);
     let target = part(payload, ROW, payload.len());
-    let noted = append_event(log, Event::Filing, clock, row, target, b"", work);
-    with_log(s, noted)
+    let noted = append_event(held, log, Event::Filing, clock, row, target, b"", work);
+    with_log(rt, err, s, noted)
 }
 
 // Writes the note of a record whose frame is the log's last to the front of `text`.
@@ -279,7 +302,9 @@ fn put_note(
 }
 
 // Files a record whose frame stands in the log. If the log has failed, or blocks or note have no room in their store, no step is carried out.
-fn file_steps(
+fn file_steps<R: Env + Files>(
+    rt: &R,
+    held: &mut Held<R::File>,
     s: Session,
     r: Handed,
     payload: &[u8],
@@ -296,13 +321,15 @@ fn file_steps(
         return not_begun(Step::SyncLog, log.error);
     }
     let Wrote::Written(n) = block::write(body, work) else {
-        return not_begun(Step::WriteBody, libc::EFBIG);
+        return not_begun(Step::WriteBody, EFBIG);
     };
     let mut text = [0u8; 1024];
     let Wrote::Written(k) = put_note(&mut text, id, log, r.clock, payload, front(work, n)) else {
-        return not_begun(Step::WriteNote, libc::EFBIG);
+        return not_begun(Step::WriteNote, EFBIG);
     };
     carry_all(
+        rt,
+        held,
         has_body(content),
         id,
         r.number,
@@ -350,18 +377,25 @@ pub(crate) fn filing_of(o: Outcome) -> Filing
 }
 
 // Returns the session after a filing. A step that failed stands in the log, unless it is the log that failed.
-fn after(s: Session, o: Outcome, work: &mut [u8; WORK]) -> Session {
+fn after<F: Write>(
+    rt: &(impl Env + Clock),
+    err: &impl Print,
+    held: &mut Held<F>,
+    s: Session,
+    o: Outcome,
+    work: &mut [u8; WORK],
+) -> Session {
     let step = o.step;
     match step {
         Step::Filed => s,
         Step::SyncLog => {
             let log = s.log;
-            with_log(s, log::failed(log, o.error))
+            with_log(rt, err, s, log::failed(log, o.error))
         }
         _ => {
             let mut text = [0u8; 128];
             let n = put_failure(&mut text, 0, o);
-            note(s, Event::Failed, front(&text, n), b"", work)
+            note(rt, err, held, s, Event::Failed, front(&text, n), b"", work)
         }
     }
 }
@@ -382,7 +416,10 @@ fn is_named_record(is_taken: bool, number: u32) -> bool {
 }
 
 // Files a record that was handed over: notes it in the log, carries out the plan, and tells how it came out.
-pub(crate) fn file(
+pub(crate) fn file<R: Env + Files + Clock>(
+    rt: &R,
+    err: &impl Print,
+    held: &mut Held<R::File>,
     s: Session,
     is_taken: bool,
     kept: usize,
@@ -406,17 +443,26 @@ pub(crate) fn file(
         body: content,
         target,
         number: counted.records,
-        clock: clock::now(),
+        clock: clock::now(rt),
     };
     let kept_bytes = front(headers, kept);
     let body_bytes = front(body, body_length(content));
     let mut payload = [0u8; 80];
     let n = put_row(&mut payload, r, kept_bytes, body_bytes);
-    let noted = note_filing(counted, r.clock, front(&payload, n), work);
-    let o = file_steps(noted, r, front(&payload, n), kept_bytes, body_bytes, work);
+    let noted = note_filing(rt, err, held, counted, r.clock, front(&payload, n), work);
+    let o = file_steps(
+        rt,
+        held,
+        noted,
+        r,
+        front(&payload, n),
+        kept_bytes,
+        body_bytes,
+        work,
+    );
     let id = noted.id;
-    tell::filing(id, r, o);
-    let session = after(noted, o, work);
+    tell::filing(rt, err, id, r, o);
+    let session = after(rt, err, held, noted, o, work);
     Answered {
         session,
         outcome: o,

@@ -1,67 +1,82 @@
 // Calls of the system that come out well or with the number of an error. No contract says what they do to a disk: what is read and written is
 // handed to them, and what they answer is handed on.
-// Returns the number of the error of the call that has just failed. It is never 0, which stands for a call that went well.
-pub(crate) fn error() -> i32 {
-    let number = os::errno();
-    if number == 0 { libc::EIO } else { number }
+ghost use Rattle.std.specs.Prelude.{◌≤◌, length, IfOk};
+
+use files::fault::number_of;
+use files::system as disk;
+use lines::input::read_full;
+use std::fs::{Files, OpenFile};
+use std::io;
+use std::io::{Read, Write};
+
+// The system's numbers of errors: there is no such file, a call failed for a reason that is not known, a file is not open, a name is taken, and a file
+// is too large.
+pub(crate) const ENOENT: i32 = 2;
+
+pub(crate) const EIO: i32 = 5;
+
+pub(crate) const EBADF: i32 = 9;
+
+pub(crate) const EEXIST: i32 = 17;
+
+pub(crate) const EFBIG: i32 = 27;
+
+// The files that are open: the session's log, the rule file that is being sent, and the letters while a check of a password is being made.
+#[derive(Drop)]
+pub(crate) struct Held<F> {
+    pub log: Option<F>,
+    pub rule: Option<F>,
+    pub check: Option<F>,
 }
 
-// Closes a file after a call on it failed with `number`, and returns that.
-fn close_after(fd: i32, number: i32) -> i32 {
-    libc::close(fd);
-    number
+// Returns the number of an error. It is never 0, which stands for a call that went well.
+pub(crate) fn error(e: &io::Error) -> i32 {
+    let number = number_of(e);
+    if number == 0 { EIO } else { number }
+}
+
+// Returns 0 for a call that went well, and otherwise the number of its error.
+pub(crate) fn answer_of(res: io::Result<()>) -> i32 {
+    match res {
+        Ok(()) => 0,
+        Err(e) => error(&e),
+    }
+}
+
+fn try_write_new<R: Files>(rt: &R, path: &[u8], bytes: &[u8]) -> io::Result<()> {
+    let mut file = disk::create_new(rt, path)?;
+    file.write_all(bytes)?;
+    file.sync_all()
 }
 
 // Makes a new file of these bytes, synchronises it and closes it. Returns 0, or the number of the error.
-pub(crate) fn write_new(path: &[u8], bytes: &[u8]) -> i32 {
-    let fd = os::create(path);
-    if fd < 0 {
-        return error();
-    }
-    if !io::write_all(fd, bytes) {
-        return close_after(fd, error());
-    }
-    if libc::fsync(fd) != 0 {
-        return close_after(fd, error());
-    }
-    if libc::close(fd) != 0 {
-        return error();
-    }
-    0
+pub(crate) fn write_new<R: Files>(rt: &R, path: &[u8], bytes: &[u8]) -> i32 {
+    answer_of(try_write_new(rt, path, bytes))
+}
+
+fn try_sync_folder<R: Files>(rt: &R, path: &[u8]) -> io::Result<()> {
+    let folder = disk::open(rt, path)?;
+    folder.sync_all()
 }
 
 // Synchronises the names of a folder. Returns 0, or the number of the error.
-pub(crate) fn sync_folder(path: &[u8]) -> i32 {
-    let fd = os::open_read(path);
-    if fd < 0 {
-        return error();
-    }
-    if libc::fsync(fd) != 0 {
-        return close_after(fd, error());
-    }
-    libc::close(fd);
-    0
+pub(crate) fn sync_folder<R: Files>(rt: &R, path: &[u8]) -> i32 {
+    answer_of(try_sync_folder(rt, path))
 }
 
 // Makes a folder. Returns 0, or the number of the error.
-pub(crate) fn make_folder(path: &[u8]) -> i32 {
-    if os::mkdir(path) != 0 {
-        return error();
-    }
-    0
+pub(crate) fn make_folder<R: Files>(rt: &R, path: &[u8]) -> i32 {
+    answer_of(disk::create_folder(rt, path))
 }
 
 // Gives a folder another name. Returns 0, or the number of the error.
-pub(crate) fn rename(from: &[u8], to: &[u8]) -> i32 {
-    if os::rename(from, to) != 0 {
-        return error();
-    }
-    0
+pub(crate) fn rename<R: Files>(rt: &R, from: &[u8], to: &[u8]) -> i32 {
+    answer_of(disk::rename(rt, from, to))
 }
 
 // What a file of the receiver's folder holds.
 #[derive(Clone, Copy)]
-pub(crate) enum Held {
+pub(crate) enum Text {
     // So many bytes, which stand at the front of the store.
     Bytes(usize),
     // The file cannot be read; the number of the error.
@@ -69,23 +84,33 @@ pub(crate) enum Held {
 }
 
 // Reads a whole file of less than `store` has room for. A longer one is refused as one that is too large.
-pub(crate) fn read_whole(path: &[u8], store: &mut [u8]) -> Held {
-    let fd = os::open_read(path);
-    if fd < 0 {
-        return Held::Failed(error());
+pub(crate) fn read_whole<R: Files>(rt: &R, path: &[u8], store: &mut [u8]) -> Text {
+    match disk::open(rt, path) {
+        Ok(file) => {
+            let mut file = file;
+            let n = read_full(&mut file, store);
+            if n == store.len() {
+                return Text::Failed(EFBIG);
+            }
+            Text::Bytes(n)
+        }
+        Err(e) => Text::Failed(error(&e)),
     }
-    let n = io::read_full(fd, store);
-    libc::close(fd);
-    if n == store.len() {
-        return Held::Failed(libc::EFBIG);
-    }
-    Held::Bytes(n)
 }
 
 // Reads once, at most `room` bytes.
-pub(crate) fn read_some(fd: i32, room: usize, store: &mut [u8]) -> isize {
+pub(crate) fn read_some<F: Read>(
+    file: &mut Option<F>,
+    room: usize,
+    store: &mut [u8],
+) -> io::Result<usize>
+    ensures { IfOk result (λ n. n ≤ length store.new) }
+{
+    let Some(file) = file else {
+        return Err(io::Error::from_raw_os_error(EBADF));
+    };
     if room < store.len() {
-        return libc::read(fd, &mut store[0..room]);
+        return file.read(&mut store[0..room]);
     }
-    libc::read(fd, store)
+    file.read(store)
 }

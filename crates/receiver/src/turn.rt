@@ -14,7 +14,7 @@ use crate::log::{Framed, WORK, lay, write_out};
 use crate::path::part;
 use crate::record::{Tried, no_record};
 use crate::session::{NO_BITS, Session, note, note_packet, with_log};
-use crate::system::{Held, error};
+use crate::system::{Held, Text, answer_of};
 use crate::{checks, clock, session, tell};
 use digest::md5::octets;
 use engine::calls;
@@ -22,14 +22,18 @@ use files::path::front;
 use filing::conf::Conf;
 use filing::content::{Event, kind_of};
 use filing::payload::CheckMade;
-use libc::STDOUT_FILENO;
 use lines::output::put;
 use reception::answer::{Answer, Decision};
 use reception::call::{BODY, call, length_header};
 use reception::decide::after_write;
 use reception::note::{Note, Part, broken, note_for};
 use server::{CallResult, Engine, HostRequest, Outcome, end_number, refusal_number};
+use std::env::Env;
+use std::fs::{Files, OpenFile};
+use std::io::{Read, Seek, Write};
 use std::num::wrapping_add_usize;
+use std::random::RandomSource;
+use std::time::Clock;
 
 // Where a session stands: what the last call returned, the input that is left, what the session keeps, the text of its settings, what became of
 // the record that waited before the last call, and the receiver's own number of the end, or 0.
@@ -80,7 +84,10 @@ fn leave(s: Receiving, session: Session, number: u8) -> Receiving
 // ---- what is noted
 
 // Notes an event whose parts are at hand. The reply of a call that says that it was sent is not: its frame is laid before the call.
-fn note_event(
+fn note_event<F: Write>(
+    rt: &(impl Env + Clock),
+    err: &impl Print,
+    held: &mut Held<F>,
     s: Session,
     event: Event,
     parts: Part,
@@ -89,30 +96,41 @@ fn note_event(
     work: &mut [u8; WORK],
 ) -> Session {
     match parts {
-        Part::Nothing => note(s, event, b"", b"", work),
-        Part::Packet(n) => note_packet(s, event, front(packet, n), work),
+        Part::Nothing => note(rt, err, held, s, event, b"", b"", work),
+        Part::Packet(n) => note_packet(rt, err, held, s, event, front(packet, n), work),
         Part::Reply => s,
         Part::Length(size) => {
             let header = length_header(size);
-            note(s, event, &header, path, work)
+            note(rt, err, held, s, event, &header, path, work)
         }
         Part::Nonce(nonce) => {
             let bytes = octets(nonce);
-            note(s, event, &bytes, b"", work)
+            note(rt, err, held, s, event, &bytes, b"", work)
         }
     }
 }
 
 // Notes the bytes of a packet that will never become whole, if there are some.
-fn note_broken(s: Session, n: usize, packet: &[u8; 65535], work: &mut [u8; WORK]) -> Session {
+fn note_broken<F: Write>(
+    rt: &(impl Env + Clock),
+    err: &impl Print,
+    held: &mut Held<F>,
+    s: Session,
+    n: usize,
+    packet: &[u8; 65535],
+    work: &mut [u8; WORK],
+) -> Session {
     if n == 0 {
         return s;
     }
-    note_packet(s, Event::Broken, front(packet, n), work)
+    note_packet(rt, err, held, s, Event::Broken, front(packet, n), work)
 }
 
 // Notes a call, from the answer from which it was made and from what it returned.
-fn note_call(
+fn note_call<F: Write>(
+    rt: &(impl Env + Clock),
+    err: &impl Print,
+    held: &mut Held<F>,
     s: Session,
     answer: Answer,
     before: Engine,
@@ -121,10 +139,12 @@ fn note_call(
     packet: &[u8; 65535],
     work: &mut [u8; WORK],
 ) -> Session {
-    let begun = note_broken(s, broken(answer, before, took), packet, work);
+    let begun = note_broken(rt, err, held, s, broken(answer, before, took), packet, work);
     match note_for(answer, before, took) {
         Note::Nothing => begun,
-        Note::Event(event, parts) => note_event(begun, event, parts, path, packet, work),
+        Note::Event(event, parts) => note_event(
+            rt, err, held, begun, event, parts, path, packet, work,
+        ),
     }
 }
 
@@ -145,8 +165,12 @@ fn heard(at: usize, end: usize) -> Answer {
 }
 
 // Offers the client's bytes, and notes them once a packet is whole. A check that the engine stops shows in its window, which no other offer changes.
-fn hear(
+fn hear<R: Env + Files + Clock>(
+    rt: &R,
+    err: &impl Print,
+    held: &mut Held<R::File>,
     s: Receiving,
+    from: &mut impl Read,
     input: &mut [u8; INPUT],
     work: &mut [u8; WORK],
     tables: &mut [u64; 320],
@@ -165,7 +189,7 @@ fn hear(
     let rest = s.rest;
     let e = last.engine;
     let id = keeps.id;
-    let r = refilled(rest, id, input);
+    let r = refilled(from, rt, err, rest, id, input);
     let at = r.at;
     let end = r.end;
     let answer = heard(at, end);
@@ -179,10 +203,10 @@ fn hear(
         body,
         reply,
     );
-    let noted = note_call(keeps, answer, e, took, b"", packet, work);
+    let noted = note_call(rt, err, held, keeps, answer, e, took, b"", packet, work);
     let later = took.engine;
     if window_of(e) != window_of(later) {
-        checks::add_stop();
+        checks::add_stop(rt);
     }
     let left = Rest {
         at: wrapping_add_usize(at, took.taken),
@@ -194,7 +218,10 @@ fn hear(
 // ---- replies
 
 // Writes the frame of a reply that was laid before the call, if the call is noted.
-fn note_sent(
+fn note_sent<F: Write>(
+    rt: &(impl Env + Clock),
+    err: &impl Print,
+    held: &mut Held<F>,
     s: Session,
     framed: Framed,
     before: Engine,
@@ -205,14 +232,17 @@ fn note_sent(
         Note::Nothing => s,
         Note::Event(_, _) => {
             let log = s.log;
-            with_log(s, write_out(log, framed, work))
+            with_log(rt, err, s, write_out(held, log, framed, work))
         }
     }
 }
 
 // Sends the reply, and says that it was taken only if it was. A reply that cannot be sent ends the session. The frame of the reply is laid before the
 // call, since the next reply may stand in the store after it.
-fn send(
+fn send<F: Write>(
+    rt: &(impl Env + Clock + Print),
+    err: &impl Print,
+    held: &mut Held<F>,
     s: Receiving,
     length: usize,
     work: &mut [u8; WORK],
@@ -233,13 +263,13 @@ fn send(
     let e = last.engine;
     let id = keeps.id;
     let log = keeps.log;
-    let is_written = io::write_all(STDOUT_FILENO, front(reply, length));
-    match after_write(is_written) {
+    let written = rt.write_all(front(reply, length));
+    match after_write(written.is_ok()) {
         Decision::Make(answer) => {
             let framed = lay(
                 log,
                 kind_of(Event::Replied),
-                clock::now(),
+                clock::now(rt),
                 front(reply, length),
                 work,
             );
@@ -248,12 +278,12 @@ fn send(
                 s,
                 took,
                 rest,
-                note_sent(keeps, framed, e, took, work),
+                note_sent(rt, err, held, keeps, framed, e, took, work),
                 no_record(),
             )
         }
         Decision::Leave(number) => {
-            tell::no_output(id, error());
+            tell::no_output(rt, err, id, answer_of(written));
             leave(s, keeps, number)
         }
     }
@@ -262,7 +292,10 @@ fn send(
 // ---- requests
 
 // Puts the letter of a check of a password, if there was one, and tells of it.
-fn end_check(
+fn end_check<F: Write + Seek + OpenFile + Drop>(
+    rt: &(impl Env + Clock),
+    err: &impl Print,
+    held: &mut Held<F>,
     s: Session,
     answer: Answer,
     before: Engine,
@@ -273,25 +306,36 @@ fn end_check(
     match note_for(answer, before, took) {
         Note::Nothing => {}
         Note::Event(event, _) => match event {
-            Event::Checked(made) => put_check(s, made, check, user),
+            Event::Checked(made) => put_check(rt, err, held, s, made, check, user),
             _ => {}
         },
     }
 }
 
 // Puts the letter of a check of a password, and tells of it.
-fn put_check(s: Session, made: CheckMade, check: Try, user: &[u8]) {
+fn put_check<F: Write + Seek + OpenFile + Drop>(
+    rt: &(impl Env + Clock),
+    err: &impl Print,
+    held: &mut Held<F>,
+    s: Session,
+    made: CheckMade,
+    check: Try,
+    user: &[u8],
+) {
     let letter = checks::letter_of(made);
-    let error = checks::end(check, letter);
+    let error = checks::end(held, check, letter);
     let id = s.id;
     if error != 0 {
-        tell::no_checks(id, error);
+        tell::no_checks(rt, err, id, error);
     }
-    tell::checked(id, user, letter);
+    tell::checked(rt, err, id, user, letter);
 }
 
 // Answers a request: decides, makes the call, and notes it.
-fn answer(
+fn answer<R: Env + Files + Clock + RandomSource>(
+    rt: &R,
+    err: &impl Print,
+    held: &mut Held<R::File>,
     s: Receiving,
     request: HostRequest,
     work: &mut [u8; WORK],
@@ -312,7 +356,9 @@ fn answer(
     let keeps = s.session;
     let target = e.target;
     let said = s.said;
-    let d = decide(keeps, request, target, said, packet, headers, body, work);
+    let d = decide(
+        rt, err, held, keeps, request, target, said, packet, headers, body, work,
+    );
     let decision = d.decision;
     let session = d.session;
     let check = d.check;
@@ -331,10 +377,31 @@ fn answer(
                 body,
                 reply,
             );
-            end_check(session, a, e, took, check, user_of(request, packet));
+            end_check(
+                rt,
+                err,
+                held,
+                session,
+                a,
+                e,
+                took,
+                check,
+                user_of(request, packet),
+            );
             let mut path = [0u8; 400];
             let n = put(&mut path, 0, part(work, from, to));
-            let noted = note_call(session, a, e, took, front(&path, n), packet, work);
+            let noted = note_call(
+                rt,
+                err,
+                held,
+                session,
+                a,
+                e,
+                took,
+                front(&path, n),
+                packet,
+                work,
+            );
             after(s, took, rest, noted, tried)
         }
         Decision::Leave(number) => leave(s, session, number),
@@ -342,7 +409,11 @@ fn answer(
 }
 
 // Makes the call that the last call's outcome asks for. After the end it makes none.
-fn turn(
+fn turn<R: Env + Files + Clock + Print + RandomSource>(
+    from: &mut impl Read,
+    rt: &R,
+    err: &impl Print,
+    held: &mut Held<R::File>,
     s: Receiving,
     input: &mut [u8; INPUT],
     work: &mut [u8; WORK],
@@ -359,9 +430,15 @@ fn turn(
     let last = s.took;
     let outcome = last.outcome;
     match outcome {
-        Outcome::WantsBytes => hear(s, input, work, tables, packet, headers, body, reply),
-        Outcome::Reply { length } => send(s, length, work, tables, packet, headers, body, reply),
-        Outcome::Request(request) => answer(s, request, work, tables, packet, headers, body, reply),
+        Outcome::WantsBytes => hear(
+            rt, err, held, s, from, input, work, tables, packet, headers, body, reply,
+        ),
+        Outcome::Reply { length } => send(
+            rt, err, held, s, length, work, tables, packet, headers, body, reply,
+        ),
+        Outcome::Request(request) => answer(
+            rt, err, held, s, request, work, tables, packet, headers, body, reply,
+        ),
         _ => s,
     }
 }
@@ -383,18 +460,29 @@ fn end_of(s: Receiving) -> u8 {
 }
 
 // Ends the log, unless the end of the stream has done so, and tells how the session ended.
-fn end(s: Receiving, number: u8, work: &mut [u8; WORK]) {
+fn end<F: Write>(
+    rt: &(impl Env + Clock),
+    err: &impl Print,
+    held: &mut Held<F>,
+    s: Receiving,
+    number: u8,
+    work: &mut [u8; WORK],
+) {
     let keeps = s.session;
     if number > 2 {
-        note(keeps, Event::Ended(number), b"", b"", work);
+        note(rt, err, held, keeps, Event::Ended(number), b"", b"", work);
     }
     let id = keeps.id;
-    tell::end(id, number);
+    tell::end(rt, err, id, number);
 }
 
 // Receives in one session, and returns where it stands at its end. A proved loop has to end, and nothing says that the input does, so the turns are
 // counted down from a number that no run uses up.
-fn receive(
+fn receive<R: Env + Files + Clock + Print + RandomSource>(
+    from: &mut impl Read,
+    rt: &R,
+    err: &impl Print,
+    held: &mut Held<R::File>,
     first: Receiving,
     input: &mut [u8; INPUT],
     work: &mut [u8; WORK],
@@ -414,17 +502,23 @@ fn receive(
     while left > 0 {
         let number = end_of(s);
         if number != 0 {
-            end(s, number, work);
+            end(rt, err, held, s, number, work);
             return s;
         }
-        s = turn(s, input, work, tables, packet, headers, body, reply);
+        s = turn(
+            from, rt, err, held, s, input, work, tables, packet, headers, body, reply,
+        );
         left -= 1;
     }
     s
 }
 
 // Begins a session with these settings, and receives in it. Without random bits for its name nothing is taken.
-fn begin(
+fn begin<R: Env + Files + Clock + Print + RandomSource>(
+    from: &mut impl Read,
+    rt: &R,
+    err: &impl Print,
+    held: &mut Held<R::File>,
     conf: Conf,
     said: Said,
     input: &mut [u8; INPUT],
@@ -439,14 +533,17 @@ fn begin(
     let flags = conf.flags;
     let mut realm = [0u8; REALM];
     let n = put_realm(said, &mut realm);
-    let made = session::made_folder(clock::now());
+    let made = session::made_folder(rt, clock::now(rt));
     let id = made.id;
     if made.error == NO_BITS {
-        tell::no_randomness(id);
+        tell::no_randomness(rt, err, id);
         return;
     }
-    tell::opened(id);
+    tell::opened(rt, err, id);
     let keeps = session::begin(
+        rt,
+        err,
+        held,
         made,
         Event::Opened(numbers, flags),
         realm_in(&realm, n),
@@ -470,11 +567,17 @@ fn begin(
         tried: no_record(),
         left: 0,
     };
-    receive(first, input, work, tables, packet, headers, body, reply);
+    receive(
+        from, rt, err, held, first, input, work, tables, packet, headers, body, reply,
+    );
 }
 
 // Reads the settings, and receives in one session with them. With a bad line, or without the file, nothing is taken.
-pub(crate) fn run(
+pub(crate) fn run<R: Env + Files + Clock + Print + RandomSource>(
+    from: &mut impl Read,
+    rt: &R,
+    err: &impl Print,
+    held: &mut Held<R::File>,
     input: &mut [u8; INPUT],
     work: &mut [u8; WORK],
     tables: &mut [u64; 320],
@@ -484,18 +587,18 @@ pub(crate) fn run(
     reply: &mut [u8; 65535],
 ) {
     let mut text = [0u8; TEXT];
-    match read_text(&mut text) {
-        Held::Bytes(k) => {
+    match read_text(rt, &mut text) {
+        Text::Bytes(k) => {
             let conf = conf_in(&text, k);
             if conf.wrong != 0 {
-                tell::bad_conf(conf.wrong);
+                tell::bad_conf(rt, err, conf.wrong);
                 return;
             }
             let said = kept(text, k, conf);
             begin(
-                conf, said, input, work, tables, packet, headers, body, reply,
+                from, rt, err, held, conf, said, input, work, tables, packet, headers, body, reply,
             );
         }
-        Held::Failed(error) => tell::no_conf(error),
+        Text::Failed(error) => tell::no_conf(rt, err, error),
     }
 }
