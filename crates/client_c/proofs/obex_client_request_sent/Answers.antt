@@ -3,7 +3,6 @@
 -- nothing else. Assumes nothing.
 use mathlib.Core.Path.{sym, ap, ◌∙◌}
 use Rattle.client_c.specs.Words.{words_of}
-use borrow.Author.Rules.{rules}
 use Rattle.client_c.proofs.obex_client_request_sent.Goals as goal
 
 pub returns : goal.returns

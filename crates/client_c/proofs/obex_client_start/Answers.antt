@@ -3,7 +3,6 @@
 use mathlib.Core.Path.{sym, ap, ◌∙◌}
 use Rattle.client_c.specs.Words.{words_of}
 use Rattle.client_c.proofs.Starting.{judged-start}
-use borrow.Author.Rules.{rules}
 use Rattle.client_c.proofs.obex_client_start.Goals as goal
 
 pub returns : goal.returns

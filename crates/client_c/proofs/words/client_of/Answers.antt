@@ -1,6 +1,5 @@
 -- `client_c::words::client_of` meets its contract. Each part of the state is what its own function returns. Assumes nothing.
 use Rattle.client_c.specs.Words.{client_of}
-use borrow.Author.Rules.{rules}
 use Rattle.client_c.proofs.words.client_of.Goals as goal
 
 pub returns : goal.returns

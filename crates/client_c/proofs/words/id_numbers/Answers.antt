@@ -1,5 +1,4 @@
 -- `client_c::words::id_numbers` meets its contract. The first number says whether there is an id, which comes back by its low bits. Assumes nothing.
-use borrow.Author.Rules.{rules}
 use Rattle.client_c.proofs.words.id_numbers.Goals as goal
 
 pub returns-in-Id : goal.returns-in-Id

@@ -1,5 +1,4 @@
 -- `client_c::words::is_ready` meets its contract: the number of the outcome decides. Assumes nothing.
-use borrow.Author.Rules.{rules}
 use Rattle.client_c.proofs.words.is_ready.Goals as goal
 
 pub returns : goal.returns

@@ -1,7 +1,6 @@
 -- `client_c::words::is_settings` meets its contract. Each branch is a test of the definition. Assumes nothing.
 use borrow.Author.Tests.{lt-ltb, le-ltb}
 use Rattle.client_c.specs.Words.{settings_fit}
-use borrow.Author.Rules.{rules}
 use Rattle.client_c.proofs.words.is_settings.Goals as goal
 
 pub returns-then-w-ge65536 : goal.returns-then-w-ge65536

@@ -2,7 +2,6 @@
 -- (`Back`). Assumes nothing.
 use Rattle.client_c.specs.Words.{operation_of}
 use Rattle.client_c.proofs.Back.{requesting_back, receiving_back}
-use borrow.Author.Rules.{rules}
 use Rattle.client_c.proofs.words.operation_numbers.Goals as goal
 
 pub returns-in-Nothing : goal.returns-in-Nothing

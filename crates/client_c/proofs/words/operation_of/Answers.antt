@@ -1,7 +1,6 @@
 -- `client_c::words::operation_of` meets its contract. Each arm is a test of the definition; the last arm is what all tests leave. Assumes nothing.
 use borrow.Author.Tests.{ne_eqb}
 use Rattle.client_c.specs.Words.{operation_of}
-use borrow.Author.Rules.{rules}
 use Rattle.client_c.proofs.words.operation_of.Goals as goal
 
 pub returns-in-1 : goal.returns-in-1

@@ -1,5 +1,4 @@
 -- `client_c::words::outcome_numbers` meets its contract. Each kind gets the numbers that the definition says. Assumes nothing.
-use borrow.Author.Rules.{rules}
 use Rattle.client_c.proofs.words.outcome_numbers.Goals as goal
 
 pub returns-in-Ready : goal.returns-in-Ready

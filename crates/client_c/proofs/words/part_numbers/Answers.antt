@@ -1,5 +1,4 @@
 -- `client_c::words::part_numbers` meets its contract. The second number says whether a body header came. Assumes nothing.
-use borrow.Author.Rules.{rules}
 use Rattle.client_c.proofs.words.part_numbers.Goals as goal
 
 pub returns-in-Bytes : goal.returns-in-Bytes

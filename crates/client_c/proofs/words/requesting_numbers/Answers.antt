@@ -1,6 +1,5 @@
 -- `client_c::words::requesting_numbers` meets its contract. Each field is left as the number that the definition says, and a byte is its
 -- own low bits. Assumes nothing.
-use borrow.Author.Rules.{rules}
 use Rattle.client_c.proofs.words.requesting_numbers.Goals as goal
 
 pub returns : goal.returns

@@ -1,5 +1,4 @@
 -- `client_c::words::requesting_of` meets its contract. Each field is a number of the operation. Assumes nothing.
-use borrow.Author.Rules.{rules}
 use Rattle.client_c.proofs.words.requesting_of.Goals as goal
 
 pub returns : goal.returns
