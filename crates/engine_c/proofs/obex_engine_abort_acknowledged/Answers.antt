@@ -2,7 +2,6 @@
 -- result in them, and nothing else. Assumes nothing.
 use mathlib.Core.Path.{sym, ap, ◌∙◌}
 use Rattle.engine_c.specs.Words.{words_of}
-use borrow.Author.Rules.{rules}
 use Rattle.engine_c.proofs.obex_engine_abort_acknowledged.Goals as goal
 
 pub returns : goal.returns

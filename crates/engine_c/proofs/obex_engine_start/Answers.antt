@@ -3,7 +3,6 @@
 use mathlib.Core.Path.{sym, ap, ◌∙◌}
 use Rattle.engine_c.specs.Words.{words_of}
 use Rattle.engine_c.proofs.Starting.{judged-start}
-use borrow.Author.Rules.{rules}
 use Rattle.engine_c.proofs.obex_engine_start.Goals as goal
 
 pub returns : goal.returns

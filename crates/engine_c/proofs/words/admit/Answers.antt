@@ -1,6 +1,4 @@
 -- `engine_c::words::admit` meets its contract: its two tests are those of `judged_start`. Assumes nothing.
-use borrow.Author.Rules.{rules}
-use borrow.Author.Tests.{not-true, not-false}
 use mathlib.Core.Path.{sym, ◌∙◌}
 use Rattle.model.specs.Step.{engine_with}
 use Rattle.engine_c.proofs.words.admit.Goals as goal

@@ -1,4 +1,5 @@
 -- `engine_c::words::await_of` meets its contract. Each arm is a test of the definition; the last arm is what all tests leave. Assumes nothing.
+use borrow.Author.Rules.{rules}
 use borrow.Author.Tests.{ne_eqb}
 use Rattle.server.specs.Numbers.{await_of}
 use Rattle.engine_c.proofs.words.await_of.Goals as goal
@@ -55,16 +56,16 @@ pub returns-in_default : goal.returns-in_default
 unfolding await_of
 returns-in_default c =
     simp (
-      ne_eqb c.args.n 0 c.in_default.in_default-own.rest.0.0.0.0.0.0.0.0.0.0.0.1,
-      ne_eqb c.args.n 1 c.in_default.in_default-own.rest.0.0.0.0.0.0.0.0.0.0.1,
-      ne_eqb c.args.n 2 c.in_default.in_default-own.rest.0.0.0.0.0.0.0.0.0.1,
-      ne_eqb c.args.n 3 c.in_default.in_default-own.rest.0.0.0.0.0.0.0.0.1,
-      ne_eqb c.args.n 4 c.in_default.in_default-own.rest.0.0.0.0.0.0.0.1,
-      ne_eqb c.args.n 5 c.in_default.in_default-own.rest.0.0.0.0.0.0.1,
-      ne_eqb c.args.n 6 c.in_default.in_default-own.rest.0.0.0.0.0.1,
-      ne_eqb c.args.n 7 c.in_default.in_default-own.rest.0.0.0.0.1,
-      ne_eqb c.args.n 8 c.in_default.in_default-own.rest.0.0.0.1,
-      ne_eqb c.args.n 9 c.in_default.in_default-own.rest.0.0.1,
-      ne_eqb c.args.n 10 c.in_default.in_default-own.rest.0.1,
-      ne_eqb c.args.n 11 c.in_default.in_default-own.rest.1,
+      ne_eqb c.args.n 0 (search rules),
+      ne_eqb c.args.n 1 (search rules),
+      ne_eqb c.args.n 2 (search rules),
+      ne_eqb c.args.n 3 (search rules),
+      ne_eqb c.args.n 4 (search rules),
+      ne_eqb c.args.n 5 (search rules),
+      ne_eqb c.args.n 6 (search rules),
+      ne_eqb c.args.n 7 (search rules),
+      ne_eqb c.args.n 8 (search rules),
+      ne_eqb c.args.n 9 (search rules),
+      ne_eqb c.args.n 10 (search rules),
+      ne_eqb c.args.n 11 (search rules),
     )

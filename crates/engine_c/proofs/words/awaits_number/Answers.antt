@@ -1,5 +1,4 @@
 -- `engine_c::words::awaits_number` meets its contract. It is the number that `await_number` gives. Assumes nothing.
-use borrow.Author.Rules.{rules}
 use Rattle.engine_c.proofs.words.awaits_number.Goals as goal
 
 pub returns : goal.returns

@@ -1,5 +1,4 @@
 -- `engine_c::words::challenge_numbers` meets its contract. The first number says whether a challenge is stored. Assumes nothing.
-use borrow.Author.Rules.{rules}
 use Rattle.engine_c.proofs.words.challenge_numbers.Goals as goal
 
 pub returns-in-Stored : goal.returns-in-Stored

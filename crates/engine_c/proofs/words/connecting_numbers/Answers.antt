@@ -1,7 +1,6 @@
 -- `engine_c::words::connecting_numbers` meets its contract. The numbers are those that the definition says, and narrow ones come back by their
 -- bits. Assumes nothing.
 use Rattle.engine_c.specs.Words.{operation_of}
-use borrow.Author.Rules.{rules}
 use Rattle.engine_c.proofs.words.connecting_numbers.Goals as goal
 
 pub returns-in-Id : goal.returns-in-Id

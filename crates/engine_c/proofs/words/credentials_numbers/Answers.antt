@@ -1,5 +1,4 @@
 -- `engine_c::words::credentials_numbers` meets its contract. The numbers are those that the definition says. Assumes nothing.
-use borrow.Author.Rules.{rules}
 use Rattle.engine_c.proofs.words.credentials_numbers.Goals as goal
 
 pub returns : goal.returns

@@ -1,6 +1,5 @@
 -- `engine_c::words::engine_of` meets its contract. Each part of the state is what its own function returns. Assumes nothing.
 use Rattle.engine_c.specs.Words.{engine_of}
-use borrow.Author.Rules.{rules}
 use Rattle.engine_c.proofs.words.engine_of.Goals as goal
 
 pub returns : goal.returns

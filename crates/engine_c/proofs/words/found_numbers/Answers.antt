@@ -1,5 +1,4 @@
 -- `engine_c::words::found_numbers` meets its contract. The first number says whether there is a place. Assumes nothing.
-use borrow.Author.Rules.{rules}
 use Rattle.engine_c.proofs.words.found_numbers.Goals as goal
 
 pub returns-in-At : goal.returns-in-At

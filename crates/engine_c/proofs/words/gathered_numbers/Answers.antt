@@ -1,5 +1,4 @@
 -- `engine_c::words::gathered_numbers` meets its contract. Each field is left as the number that the definition says. Assumes nothing.
-use borrow.Author.Rules.{rules}
 use Rattle.engine_c.proofs.words.gathered_numbers.Goals as goal
 
 pub returns : goal.returns

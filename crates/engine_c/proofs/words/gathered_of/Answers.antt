@@ -1,5 +1,4 @@
 -- `engine_c::words::gathered_of` meets its contract. Each field is a number of the operation. Assumes nothing.
-use borrow.Author.Rules.{rules}
 use Rattle.engine_c.proofs.words.gathered_of.Goals as goal
 
 pub returns : goal.returns

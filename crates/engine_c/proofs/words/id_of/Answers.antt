@@ -1,6 +1,5 @@
 -- `engine_c::words::id_of` meets its contract. Its branch is the definition's test. Assumes nothing.
 use borrow.Author.Tests.{eq-eqb, ne_eqb}
-use borrow.Author.Rules.{rules}
 use Rattle.engine_c.proofs.words.id_of.Goals as goal
 
 pub returns-then-n-eq1 : goal.returns-then-n-eq1

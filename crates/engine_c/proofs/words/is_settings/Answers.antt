@@ -1,8 +1,7 @@
 -- `engine_c::words::is_settings` meets its contract. Each branch is a test of the definition. Assumes nothing.
-use borrow.Author.Tests.{lt-ltb, le-ltb, not-true, not-false}
+use borrow.Author.Tests.{lt-ltb, le-ltb}
 use mathlib.Core.Path.{sym, ◌∙◌}
 use Rattle.engine_c.specs.Words.{settings_fit}
-use borrow.Author.Rules.{rules}
 use Rattle.engine_c.proofs.words.is_settings.Goals as goal
 
 pub returns-then-w-ge4294967296 : goal.returns-then-w-ge4294967296

@@ -1,7 +1,6 @@
 -- `engine_c::words::opcode_numbers` meets its contract. Each kind gets the numbers that the definition says, and a byte is its own low bits.
 -- Assumes nothing.
 use Rattle.engine_c.specs.Words.{opcode_of}
-use borrow.Author.Rules.{rules}
 use Rattle.engine_c.proofs.words.opcode_numbers.Goals as goal
 
 pub returns-in-Connect : goal.returns-in-Connect

@@ -40,12 +40,12 @@ pub returns-in_default : goal.returns-in_default
 unfolding opcode_of
 returns-in_default c =
     simp (
-      ne_eqb c.args.n 0 c.in_default.in_default-own.rest.0.0.0.0.0.0.0.1,
-      ne_eqb c.args.n 1 c.in_default.in_default-own.rest.0.0.0.0.0.0.1,
-      ne_eqb c.args.n 2 c.in_default.in_default-own.rest.0.0.0.0.0.1,
-      ne_eqb c.args.n 3 c.in_default.in_default-own.rest.0.0.0.0.1,
-      ne_eqb c.args.n 4 c.in_default.in_default-own.rest.0.0.0.1,
-      ne_eqb c.args.n 5 c.in_default.in_default-own.rest.0.0.1,
-      ne_eqb c.args.n 6 c.in_default.in_default-own.rest.0.1,
-      ne_eqb c.args.n 7 c.in_default.in_default-own.rest.1,
+      ne_eqb c.args.n 0 (search rules),
+      ne_eqb c.args.n 1 (search rules),
+      ne_eqb c.args.n 2 (search rules),
+      ne_eqb c.args.n 3 (search rules),
+      ne_eqb c.args.n 4 (search rules),
+      ne_eqb c.args.n 5 (search rules),
+      ne_eqb c.args.n 6 (search rules),
+      ne_eqb c.args.n 7 (search rules),
     )

@@ -2,7 +2,6 @@
 -- (`Back`). Assumes nothing.
 use Rattle.engine_c.specs.Words.{operation_of}
 use Rattle.engine_c.proofs.Back.{putting-back, getting-back, sending-back, gathering-back}
-use borrow.Author.Rules.{rules}
 use Rattle.engine_c.proofs.words.operation_numbers.Goals as goal
 
 pub returns-in-Nothing : goal.returns-in-Nothing

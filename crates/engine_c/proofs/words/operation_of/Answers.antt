@@ -50,11 +50,11 @@ pub returns-in_default : goal.returns-in_default
 unfolding operation_of
 returns-in_default c =
     simp (
-      ne_eqb c.args.n.kind 1 c.in_default.in_default-own.rest.0.0.0.0.0.0.1,
-      ne_eqb c.args.n.kind 2 c.in_default.in_default-own.rest.0.0.0.0.0.1,
-      ne_eqb c.args.n.kind 3 c.in_default.in_default-own.rest.0.0.0.0.1,
-      ne_eqb c.args.n.kind 4 c.in_default.in_default-own.rest.0.0.0.1,
-      ne_eqb c.args.n.kind 5 c.in_default.in_default-own.rest.0.0.1,
-      ne_eqb c.args.n.kind 6 c.in_default.in_default-own.rest.0.1,
-      ne_eqb c.args.n.kind 7 c.in_default.in_default-own.rest.1,
+      ne_eqb c.args.n.kind 1 (search rules),
+      ne_eqb c.args.n.kind 2 (search rules),
+      ne_eqb c.args.n.kind 3 (search rules),
+      ne_eqb c.args.n.kind 4 (search rules),
+      ne_eqb c.args.n.kind 5 (search rules),
+      ne_eqb c.args.n.kind 6 (search rules),
+      ne_eqb c.args.n.kind 7 (search rules),
     )

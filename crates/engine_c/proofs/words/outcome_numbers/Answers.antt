@@ -1,5 +1,4 @@
 -- `engine_c::words::outcome_numbers` meets its contract. Each kind gets the numbers that the definition says. Assumes nothing.
-use borrow.Author.Rules.{rules}
 use Rattle.engine_c.proofs.words.outcome_numbers.Goals as goal
 
 pub returns-in-WantsBytes : goal.returns-in-WantsBytes

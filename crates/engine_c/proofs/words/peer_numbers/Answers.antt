@@ -1,7 +1,6 @@
 -- `engine_c::words::peer_numbers` meets its contract. Each field is left as the number that the definition says, and is read back (`Back`).
 -- Assumes nothing.
 use Rattle.engine_c.proofs.Back.{peer-back}
-use borrow.Author.Rules.{rules}
 use Rattle.engine_c.proofs.words.peer_numbers.Goals as goal
 
 pub returns : goal.returns

@@ -1,5 +1,4 @@
 -- `engine_c::words::put_numbers` meets its contract. The second number says whether there is a body. Assumes nothing.
-use borrow.Author.Rules.{rules}
 use Rattle.engine_c.proofs.words.put_numbers.Goals as goal
 
 pub returns-in-Bytes : goal.returns-in-Bytes

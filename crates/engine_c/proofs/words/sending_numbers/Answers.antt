@@ -1,6 +1,5 @@
 -- `engine_c::words::sending_numbers` meets its contract. Each field is left as the number that the definition says, and a byte is its own low
 -- bits. Assumes nothing.
-use borrow.Author.Rules.{rules}
 use Rattle.engine_c.proofs.words.sending_numbers.Goals as goal
 
 pub returns : goal.returns

@@ -1,5 +1,4 @@
 -- `engine_c::words::settings_of` meets its contract. Each field is the number at its place. Assumes nothing.
-use borrow.Author.Rules.{rules}
 use Rattle.engine_c.proofs.words.settings_of.Goals as goal
 
 pub returns : goal.returns

@@ -2,7 +2,6 @@
 -- (`Back`). Assumes nothing.
 use Rattle.engine_c.specs.Words.{words_of}
 use Rattle.engine_c.proofs.Back.{written_back}
-use borrow.Author.Rules.{rules}
 use Rattle.engine_c.proofs.words.store.Goals as goal
 
 pub returns : goal.returns

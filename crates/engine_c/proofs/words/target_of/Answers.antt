@@ -1,5 +1,4 @@
 -- `engine_c::words::target_of` meets its contract. Each field is one of the three numbers. Assumes nothing.
-use borrow.Author.Rules.{rules}
 use Rattle.engine_c.proofs.words.target_of.Goals as goal
 
 pub returns : goal.returns
