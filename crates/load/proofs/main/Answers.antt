@@ -7,4 +7,4 @@ zeros : (n : ℕ) → n ≡ length {A = ℕ} (replicate n 0)
 zeros n = sym (length-replicate n 0)
 
 pub slice_bounds-run-end : goal.slice_bounds-run-end
-slice_bounds-run-end g c = zeros 1048576
+slice_bounds-run-end c = zeros 1048576
