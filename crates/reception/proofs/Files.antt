@@ -22,7 +22,7 @@ use Rattle.server.specs.declared.CallResult.{CallResult}
 use Rattle.model.specs.Step.{Stores}
 use Rattle.model.specs.Refusals.{Known, at_start, learns, fed_by, feed_from}
 use Rattle.model.specs.Runs.{State, Performed, next, lent_to, Ran, handed, seen}
-use Rattle.model.specs.Theorem.{journal_of, fed, Kept}
+use Rattle.model.specs.Theorem.{journal_of, Kept}
 use Rattle.model.specs.Targets.{NamesDue, AllNamed}
 use Rattle.model.proofs.Records.{Between, between_on, fed_to, performed-agrees, between_next, start_between}
 use Rattle.model.proofs.Targets.{targets}

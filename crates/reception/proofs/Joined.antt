@@ -1,13 +1,13 @@
 -- The log of some turns has the entries of their run, with the pieces of each packet joined: by induction over the turns, along the coupling of
 -- engine and journal. Between two turns the packet store has in front what the journal has begun. Assumes nothing.
 use mathlib.Core.Path.{◌≡◌, refl, sym, ap, ap₂, ◌∙◌, subst}
-use mathlib.Core.Bool.{Bool, true, false, ◌||◌, false≢true}
+use mathlib.Core.Bool.{Bool, true, false, false≢true}
 use mathlib.Core.List.{List, [], ◌∷◌, ◌++◌, append_assoc}
 use mathlib.Core.Option.{Option, none, some}
 use Prim.Native.Nat.{ℕ, zero, suc, ◌+◌, ◌≤◌, ◌<◌}
 use native.Mathlib.Omega.{arith}
 use borrow.Author.Tests.{ltb-true, ltb-false, le-leb}
-use lib.Dec.{ltb, leb, eqb}
+use lib.Dec.{ltb, eqb}
 use lib.ListN.{length, get_or, take}
 use Rattle.base.specs.Pick.{pick}
 use Rattle.packet.specs.Packet.{Request}
@@ -16,34 +16,31 @@ use Rattle.digest.specs.Md5.{octets16}
 use Rattle.incoming.specs.Frame.{framed}
 use Rattle.packet.specs.declared.opcode.Opcode.{Opcode}
 use Rattle.packet.specs.declared.opcode.Opcode.TheVariants as op
-use Rattle.journal.specs.Calls.{Call, bytes_offered_of, stream_ended_of, reply_taken_of, reply_given_of, object_given_of, body_given_of, body_failed_of, abort_acknowledged_of, password_given_of, nonce_given_of, credentials_given_of, connections_closed_of, Verdict, goes, refused, Fed, step_by_of, reply_sent}
-use Rattle.journal.specs.Journal.{Journal, Entry as Step, unchanged, begin, end, Opened, nothing, trailing, putting, getting, sending, gathering, draining, Read, more, whole, short, read_up, taken_up, bytes_read, reply_to, reply_last, replied, object_sent, taken_at, passes, last_taken, journal_call, journal_fed, journal_step, fed_takes}
+use Rattle.journal.specs.Calls.{Call, bytes_offered_of, stream_ended_of, reply_given_of, object_given_of, password_given_of, nonce_given_of, Verdict, goes, refused}
+use Rattle.journal.specs.Journal.{Journal, Entry as Step, unchanged, begin, end, Opened, nothing, trailing, putting, getting, sending, gathering, draining, Read, more, whole, short, read_up, taken_up, bytes_read, reply_to, reply_last, replied, object_sent, taken_at, last_taken, journal_call, journal_fed, journal_step, fed_takes}
 use Rattle.journal.proofs.Laws.{read-append, read_on}
 use Rattle.server.specs.declared.Settings.{Settings}
 use Rattle.server.specs.declared.Await.{Await}
 use Rattle.server.specs.declared.Await.TheVariants as await
 use Rattle.server.specs.declared.CallKind.{CallKind}
-use Rattle.server.specs.declared.CallResult.{CallResult}
 use Rattle.server.specs.declared.Operation.{Operation}
 use Rattle.server.specs.declared.Outcome.{Outcome}
 use Rattle.server.specs.declared.Outcome.TheVariants as outcome
-use Rattle.model.specs.Step.{Stores}
 use Rattle.model.specs.Guard.{same_await, fits}
 use Rattle.model.specs.Refusals.{bytes, told, wait_number, Known, at_start, learns, verdict_of, fed_by}
-use Rattle.model.specs.Runs.{State, Performed, called_in, next, OffersOctets, Says, step_of, Started}
+use Rattle.model.specs.Runs.{State, Performed, called_in, next, OffersOctets, Says, step_of}
 use Rattle.model.specs.Theorem.{journal_of}
-use Rattle.model.proofs.Fit.{waits_of, Seated}
+use Rattle.model.proofs.Fit.{waits_of}
 use Rattle.model.proofs.Coupling.{CoupledAt, Coupled}
 use Rattle.model.proofs.Moments.{kind_of, same_await_lem, Agree}
 use Rattle.model.proofs.Records.{Between, due_at, fed_to, performed-agrees, between_next, start_between}
 use Rattle.filing.specs.Entries.{LogEntry, received, sent, answered, object, checked, nonce, ended, entry_step, Handed, Joins, nothing as joins-nothing, keep, join}
 use Rattle.filing.specs.Contents.{entry_by}
-use Rattle.filing.specs.declared.content.Event.{Event}
 use Rattle.filing.specs.declared.content.Event.TheVariants.{Broken, Received, Ended}
 use Rattle.filing.proofs.Pieces.{pieces, taken-reads}
 use Rattle.reception.specs.Received.{last_right, noted_by, noted_at, notes, handed_at}
 use Rattle.reception.specs.Notes.{is_refused, is_unfinished, is_too_small, is_end, end_number_at, total, packet_event, packet_note, note_by, note_entries, pending, logged_at}
-use Rattle.reception.specs.Turns.{ReceiverTurn, call_in, turned, Turns, calls_made, state_after, entries_made, held_in, TurnsReceive}
+use Rattle.reception.specs.Turns.{ReceiverTurn, turned, Turns, calls_made, state_after, entries_made, held_in, TurnsReceive}
 use Rattle.reception.specs.Answers.{isPasswordKnown, call_of}
 use Rattle.reception.specs.declared.answer.Answer.{Answer}
 use Rattle.reception.specs.declared.answer.Answer.TheVariants as answer

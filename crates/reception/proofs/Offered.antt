@@ -3,35 +3,31 @@
 use mathlib.Core.Path.{◌≡◌, refl, sym, ap, ◌∙◌, subst}
 use mathlib.Core.Bool.{Bool, true, false, ◌&&◌}
 use mathlib.Core.List.{List, []}
-use mathlib.Core.Option.{Option}
-use Prim.Native.Nat.{ℕ, ◌+◌, ◌≤◌}
+use Prim.Native.Nat.{ℕ, ◌≤◌}
 use native.Mathlib.Omega.{arith}
-use lib.ListN.{length, take}
+use lib.ListN.{take}
 use lib.Seq.{length-take-le}
 use Rattle.base.specs.Pick.{pick}
-use Rattle.packet.specs.Packet.{Request as Packet, request_of}
-use Rattle.journal.specs.Calls.{Call, bytes_offered_of, Verdict, goes, refused}
-use Rattle.journal.specs.Journal.{Read, more, whole, short, read_up, taken_up}
+use Rattle.packet.specs.Packet.{request_of}
+use Rattle.journal.specs.Calls.{Call, goes, refused}
+use Rattle.journal.specs.Journal.{Read, more, whole, short, read_up}
 use Rattle.incoming.specs.Frame.{Frames, framed}
 use Rattle.incoming.specs.declared.frame.Frame.{Frame}
 use Rattle.incoming.specs.declared.frame.Frame.TheVariants.{More, Whole, Short}
 use Rattle.incoming.proofs.Frames.{Octets, Agrees as Frames-agree, frames_agree, frames-count}
 use Rattle.server.specs.Numbers.{refusal_number}
-use Rattle.server.specs.declared.Await.{Await}
 use Rattle.server.specs.declared.Await.TheVariants as await
-use Rattle.server.specs.declared.CallKind.{CallKind}
-use Rattle.server.specs.declared.Engine.{Engine}
 use Rattle.server.specs.declared.Outcome.TheVariants as outcome
 use Rattle.server.specs.declared.Refusal.{Refusal}
 use Rattle.server.specs.declared.Refusal.TheVariants as refusal
-use Rattle.model.specs.Step.{Stores, Stepped, Called, engine_with}
-use Rattle.model.specs.Guard.{sound, same_await, fits}
+use Rattle.model.specs.Step.{Stores, Called}
+use Rattle.model.specs.Guard.{sound, fits}
 use Rattle.model.specs.Calls.{framed_as, with_packet, offers}
 use Rattle.model.specs.Dispatch.{packet_target, arrived, packet_done}
 use Rattle.model.specs.Refusals.{verdict_of}
 use Rattle.model.specs.Runs.{State, keeps, step_of}
 use Rattle.model.proofs.Fit.{Seated}
-use Rattle.model.proofs.Moments.{kind_of, go_for, refuses, lacks_in, step_is, same_await_lem}
+use Rattle.model.proofs.Moments.{kind_of, go_for, refuses, lacks_in, step_is}
 use Rattle.model.proofs.Carries.{read-carries}
 use Rattle.reception.proofs.Begun.{short-third}
 use Rattle.reception.proofs.Framing.{begun_is}

@@ -1,5 +1,5 @@
 -- After a reply the engine waits for the word that it was sent, so the call that says so goes. Assumes nothing.
-use mathlib.Core.Path.{◌≡◌, refl, sym, ap, ap₂, ◌∙◌, subst}
+use mathlib.Core.Path.{◌≡◌, refl, sym, ap, ap₂, ◌∙◌}
 use mathlib.Core.Bool.{Bool, true, false, ◌&&◌}
 use mathlib.Core.List.{List, [], ◌∷◌, ◌++◌}
 use Prim.Native.Nat.{ℕ}
@@ -17,9 +17,9 @@ use Rattle.server.specs.declared.Outcome.{Outcome}
 use Rattle.server.specs.declared.Outcome.TheVariants as outcome
 use Rattle.server.specs.declared.Refusal.TheVariants as refusal
 use Rattle.model.specs.Step.{Done, Called, ends, limit_of}
-use Rattle.model.specs.Guard.{short, sound, same_await, fits}
+use Rattle.model.specs.Guard.{same_await, fits}
 use Rattle.model.specs.Object.{goes_on_of}
-use Rattle.model.specs.Refusals.{taking, told, wait_number, Known, at_start, learns, verdict_of}
+use Rattle.model.specs.Refusals.{taking, told, wait_number, Known, at_start, verdict_of}
 use Rattle.model.specs.Runs.{State, next, step_of}
 use Rattle.model.specs.Theorem.{journal_of}
 use Rattle.model.proofs.Fit.{not_short, waits_of, Seated, is_sound}

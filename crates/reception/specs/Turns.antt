@@ -1,6 +1,6 @@
 -- The turns of a receiver. In a turn the record that waits, if one does, is filed, a decision is made and with it one call, and what is to be
 -- noted of the call is noted. The claim: however many turns there are, they are a run of a receiver, and the log is that of the run.
-use Rattle.std.specs.Prelude.{ℕ, Bool, List, [], ◌∷◌, ◌++◌, ◌≡◌, take}
+use Rattle.std.specs.Prelude.{ℕ, List, [], ◌∷◌, ◌++◌, ◌≡◌, take}
 use Rattle.base.specs.Pick.{pick}
 use Rattle.journal.specs.Calls.{Call, reply_given_of, reply_taken_of, goes}
 use Rattle.server.specs.declared.Await.TheVariants as await

@@ -1,9 +1,7 @@
 -- `reception::decide::after_filing` meets its contract: the code is that of the filing. Assumes nothing.
-use borrow.Author.Rules.{rules}
 use mathlib.Core.Bool.{Bool}
 use mathlib.Core.Path.{sym, ap, ◌∙◌}
 use Prim.Native.Nat.{ℕ}
-use Rattle.reception.specs.declared.answer.Answer.{Answer}
 use Rattle.reception.specs.declared.answer.Answer.TheVariants as answer
 use Rattle.reception.specs.Answers.{afterFiling}
 use Rattle.reception.proofs.decide.after_filing.Goals as goal

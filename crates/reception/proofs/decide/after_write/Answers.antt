@@ -1,7 +1,6 @@
 -- `reception::decide::after_write` meets its contract: the test is the definition's. Assumes nothing.
-use borrow.Author.Rules.{rules}
 use mathlib.Core.Bool.{Bool}
-use mathlib.Core.Path.{sym, ap, ◌∙◌}
+use mathlib.Core.Path.{sym, ap}
 use Rattle.reception.specs.Answers.{afterWrite}
 use Rattle.reception.proofs.decide.after_write.Goals as goal
 

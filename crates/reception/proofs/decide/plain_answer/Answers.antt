@@ -1,5 +1,4 @@
 -- `reception::decide::plain_answer` meets its contract: each arm is that of the definition. Assumes nothing.
-use borrow.Author.Rules.{rules}
 use mathlib.Core.Path.{sym, ap}
 use Rattle.reception.specs.Answers.{plainAnswer}
 use Rattle.reception.proofs.decide.plain_answer.Goals as goal

@@ -1,6 +1,5 @@
 -- `reception::note::broken` meets its contract: the tests are the definition's. Assumes nothing.
-use borrow.Author.Rules.{rules}
-use mathlib.Core.Bool.{Bool, true, false}
+use mathlib.Core.Bool.{true, false}
 use mathlib.Core.Path.{◌≡◌, sym, ◌∙◌}
 use Prim.Native.Nat.{ℕ}
 use Rattle.server.specs.declared.CallResult.{CallResult}
@@ -21,16 +20,16 @@ module _ (a : Answer) (begun : ℕ) (r : CallResult) where
 pub returns-then-is_refused : goal.returns-then-is_refused
 returns-then-is_refused c =
     let x = c.args in
-    no_step x.answer x.begun x.result (sym c.is_refused.ensures ∙ c.if-is_refused.true)
+    no_step x.answer x.before.begun x.res (sym c.is_refused.ensures ∙ c.if-is_refused.true)
 
 pub returns-then-is_end : goal.returns-then-is_end
 returns-then-is_end c =
     let x = c.args in
-    breaks_off x.answer x.begun x.result (sym c.is_refused.ensures ∙ c.if-is_refused.false)
+    breaks_off x.answer x.before.begun x.res (sym c.is_refused.ensures ∙ c.if-is_refused.false)
     (sym c.is_end.ensures ∙ c.if-is_end.true)
 
 pub returns : goal.returns
 returns c =
     let x = c.args in
-    stays x.answer x.begun x.result (sym c.is_refused.ensures ∙ c.if-is_refused.false)
+    stays x.answer x.before.begun x.res (sym c.is_refused.ensures ∙ c.if-is_refused.false)
     (sym c.is_end.ensures ∙ c.if-is_end.false)

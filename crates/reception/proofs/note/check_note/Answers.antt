@@ -1,8 +1,6 @@
 -- `reception::note::check_note` meets its contract: both flags are those that are told. Assumes nothing.
-use borrow.Author.Rules.{rules}
 use mathlib.Core.Bool.{Bool}
 use mathlib.Core.Path.{ap₂}
-use Rattle.filing.specs.declared.payload.CheckMade.{CheckMade}
 use Rattle.reception.proofs.note.check_note.Goals as goal
 
 pub returns : goal.returns

@@ -1,5 +1,4 @@
 -- `reception::note::is_unfinished` meets its contract: each arm is that of the definition. Assumes nothing.
-use borrow.Author.Rules.{rules}
 use mathlib.Core.Path.{sym, ap}
 use Rattle.server.specs.declared.Outcome.{Outcome}
 use Rattle.reception.specs.Notes.{is_unfinished}

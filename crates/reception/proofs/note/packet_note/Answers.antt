@@ -1,6 +1,5 @@
 -- `reception::note::packet_note` meets its contract: the test is the definition's. Assumes nothing.
-use borrow.Author.Rules.{rules}
-use mathlib.Core.Bool.{Bool, true, false}
+use mathlib.Core.Bool.{true, false}
 use mathlib.Core.Path.{◌≡◌, sym, ap₂, ◌∙◌}
 use Prim.Native.Nat.{ℕ}
 use Rattle.server.specs.declared.CallResult.{CallResult}
@@ -22,10 +21,10 @@ has_come b r e = simp e
 pub returns-then-is_unfinished : goal.returns-then-is_unfinished
 returns-then-is_unfinished c =
     let x = c.args in
-    goes_on x.begun x.result (sym c.is_unfinished.ensures ∙ c.if-is_unfinished.true)
+    goes_on x.begun x.res (sym c.is_unfinished.ensures ∙ c.if-is_unfinished.true)
 
 pub returns : goal.returns
 returns c =
     let x = c.args in
     ap₂ (λ (v : Event) (n : ℕ). note.Event v (part.Packet n)) c.packet_event.ensures c.total.ensures
-    ∙ has_come x.begun x.result (sym c.is_unfinished.ensures ∙ c.if-is_unfinished.false)
+    ∙ has_come x.begun x.res (sym c.is_unfinished.ensures ∙ c.if-is_unfinished.false)
