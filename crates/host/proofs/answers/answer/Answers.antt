@@ -1,6 +1,5 @@
 -- `host::answers::answer` meets its contract. Each arm makes the call of its kind, and the kind is the one that is due. A call that is not lent the
 -- tables leaves them. Of a nonce it is said that it is some sixteen bytes. Assumes nothing.
-use borrow.Author.Rules.{rules}
 use mathlib.Core.Bool.{true, false}
 use mathlib.Core.List.{List}
 use mathlib.Core.Path.{◌≡◌, sym, ap, subst, ◌∙◌}

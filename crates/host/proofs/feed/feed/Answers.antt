@@ -1,6 +1,5 @@
 -- `host::feed::feed` meets its contract: if nothing is left after the refill, the call is the end of the stream; otherwise the part that is
 -- left is offered, and since a call takes no more than that, the part moves on within the store. Assumes nothing.
-use borrow.Author.Rules.{rules}
 use native.Mathlib.Omega.{arith}
 use Rattle.model.specs.Step.{stores}
 use Rattle.host.proofs.Feeding.{refilled-within, takes-left, feeds_end, feeds_offer}

@@ -1,5 +1,4 @@
 -- `host::feed::read_once` meets its contract: the tries are counted down, and the store stays as long as it is. Assumes nothing.
-use borrow.Author.Rules.{rules}
 use mathlib.Core.Path.{◌≡◌}
 use lib.ListN.{length}
 use Rattle.host.proofs.feed.read_once.Given as goal

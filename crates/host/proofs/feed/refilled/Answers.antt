@@ -1,6 +1,5 @@
 -- `host::feed::refilled` meets its contract. Bytes that are left and lie in the store are kept, and nothing is read; otherwise nothing is
 -- left or it reaches beyond the store, and the read begins where `front_of` says, so that what lies before stays. Assumes nothing.
-use borrow.Author.Rules.{rules}
 use borrow.Author.Tests.{lt-ltb, le-leb}
 use mathlib.Core.Bool.{false}
 use native.Mathlib.Omega.{arith}
