@@ -1,9 +1,8 @@
 -- `audit::session::read_log` meets its contract: the steps are counted down. Assumes nothing.
-use Rattle.std.proofs.Common.{rules}
 use Rattle.audit.proofs.session.read_log.Given as goal
 
 abbrev pub invariant-loop-left : goal.invariant-loop-left
-invariant-loop-left l = Unit {0}
+invariant-loop-left g l = Unit {0}
 
 abbrev pub decreases-loop-left : goal.decreases-loop-left
-decreases-loop-left l = l.left
+decreases-loop-left g l = l.left
