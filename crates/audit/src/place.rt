@@ -1,5 +1,5 @@
 // Where the program stands in the log, of which a store holds some bytes, and the frame that stands there.
-ghost use Rattle.std.specs.Prelude.{◌≡◌, ◌≤◌, length, drop};
+ghost use Rattle.std.specs.Prelude.{◌≡◌, ◌≤◌, drop};
 ghost use Rattle.audit.specs.Place.{four_at, payload_at};
 
 use digest::md5::{Octets16, octets16_at};

@@ -1,4 +1,5 @@
 // Calls of the system on files whose paths are bytes. The library takes a path as text, so bytes that are no text are the path of no file.
+use base::copy_into;
 use std::fs::{Files, OpenOptions};
 use std::io::ErrorKind;
 use std::os::unix::fs::OpenOptionsExt;
@@ -68,6 +69,11 @@ fn create_private<R: Files>(rt: &R, path: &[u8]) -> io::Result<R::File> {
         .open(rt, path)
 }
 
+// Returns a letter for a random byte.
+fn letter(b: u8) -> u8 {
+    b'a' + b % 26
+}
+
 // Puts random letters at the end of a name.
 fn put_letters(random: &impl RandomSource, name: &mut [u8]) -> io::Result<()> {
     let mut bytes = [0u8; LETTERS];
@@ -75,10 +81,16 @@ fn put_letters(random: &impl RandomSource, name: &mut [u8]) -> io::Result<()> {
     if name.len() < LETTERS {
         return Err(io::Error::from_raw_os_error(EINVAL));
     }
+    let letters = [
+        letter(bytes[0]),
+        letter(bytes[1]),
+        letter(bytes[2]),
+        letter(bytes[3]),
+        letter(bytes[4]),
+        letter(bytes[5]),
+    ];
     let at = name.len() - LETTERS;
-    for i in 0..LETTERS {
-        name[at + i] = b'a' + bytes[i] % 26;
-    }
+    copy_into(name, at, &letters);
     Ok(())
 }
 

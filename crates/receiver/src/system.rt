@@ -1,7 +1,5 @@
 // Calls of the system that come out well or with the number of an error. No contract says what they do to a disk: what is read and written is
 // handed to them, and what they answer is handed on.
-ghost use Rattle.std.specs.Prelude.{◌≤◌, length, IfOk};
-
 use files::fault::number_of;
 use files::system as disk;
 use lines::input::read_full;
@@ -103,9 +101,7 @@ pub(crate) fn read_some<F: Read>(
     file: &mut Option<F>,
     room: usize,
     store: &mut [u8],
-) -> io::Result<usize>
-    ensures { IfOk result (λ n. n ≤ length store.new) }
-{
+) -> io::Result<usize> {
     let Some(file) = file else {
         return Err(io::Error::from_raw_os_error(EBADF));
     };

@@ -86,9 +86,7 @@ fn get<R: Files>(
 }
 
 // Reads once, at most `room` bytes.
-fn read_some<F: Read>(sent: &mut Option<F>, room: usize, store: &mut [u8]) -> io::Result<usize>
-    ensures { IfOk result (λ n. n ≤ length store.new) }
-{
+fn read_some<F: Read>(sent: &mut Option<F>, room: usize, store: &mut [u8]) -> io::Result<usize> {
     let Some(file) = sent else {
         return Err(io::Error::from_raw_os_error(EBADF));
     };
@@ -104,9 +102,7 @@ fn read_on<F: Read + Drop>(
     sent: &mut Option<F>,
     room: usize,
     store: &mut [u8],
-) -> io::Result<usize>
-    ensures { IfOk result (λ n. n ≤ length store.new) }
-{
+) -> io::Result<usize> {
     let got = read_some(sent, room, store);
     match &got {
         Ok(n) => {

@@ -1,6 +1,6 @@
 // The file that is put, or that is written with what was got. What is got goes under another name first, so that no half of a file is ever
 // seen under its own.
-ghost use Rattle.std.specs.Prelude.{◌≤◌, length, IfOk};
+ghost use Rattle.std.specs.Prelude.{◌≤◌, length};
 
 use crate::order;
 use files::fault::fail;
@@ -58,9 +58,7 @@ pub(crate) fn create<R: Env + Files + RandomSource>(
 }
 
 // Reads on in the file, once.
-pub(crate) fn read<F: Read>(held: &mut Option<F>, store: &mut [u8]) -> io::Result<usize>
-    ensures { IfOk result (λ n. n ≤ length store.new) }
-{
+pub(crate) fn read<F: Read>(held: &mut Option<F>, store: &mut [u8]) -> io::Result<usize> {
     match held {
         Some(file) => file.read(store),
         None => Err(io::Error::from_raw_os_error(EBADF)),

@@ -8,8 +8,6 @@ mod order;
 mod say;
 mod words;
 
-ghost use Rattle.std.specs.Prelude.{◌≤◌, length, IfOk};
-
 use crate::words::{Demand, HEADERS};
 use client::calls;
 use client_model::{Body, CallResult, Client, Outcome, Settings};
@@ -449,9 +447,7 @@ fn with_abort(s: State) -> State {
 }
 
 // Reads once, at most `room` bytes.
-fn read_some<F: Read>(held: &mut Option<F>, room: usize, store: &mut [u8]) -> io::Result<usize>
-    ensures { IfOk result (λ n. n ≤ length store.new) }
-{
+fn read_some<F: Read>(held: &mut Option<F>, room: usize, store: &mut [u8]) -> io::Result<usize> {
     if room < store.len() {
         return file::read(held, &mut store[0..room]);
     }
