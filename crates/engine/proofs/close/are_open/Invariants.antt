@@ -1,12 +1,8 @@
 -- `engine::close::are_open` meets its contract. What is left of the ids decides, as all that were passed are open. Assumes nothing.
-use mathlib.Core.Path.{◌≡◌, refl, sym, ◌∙◌}
+use mathlib.Core.Path.{◌≡◌}
 use Prim.Native.Nat.{◌≤◌, ◌-◌}
 use lib.ListN.{length, take, drop}
-use native.Mathlib.Omega.{arith}
-use borrow.Author.Rules.{rules}
-use borrow.Author.Tests.{not-true, not-false}
 use Rattle.journal.specs.Ids.{all_open}
-use Rattle.engine.proofs.Closes.{open-from, none-behind}
 use Rattle.engine.proofs.close.are_open.Given as goal
 
 abbrev pub invariant-loop-i : goal.invariant-loop-i

@@ -2,9 +2,7 @@
 -- (`Closing`). Assumes nothing.
 use Prim.Native.Nat.{◌≤◌, ◌-◌}
 use lib.ListN.{length}
-use native.Mathlib.Omega.{arith}
-use borrow.Author.Rules.{rules}
-use Rattle.engine.proofs.Closes.{Closing, closing-begins, closing_on, closing-done}
+use Rattle.engine.proofs.Closes.{Closing}
 use Rattle.engine.proofs.close.close_all.Given as goal
 
 abbrev pub invariant-loop-i : goal.invariant-loop-i

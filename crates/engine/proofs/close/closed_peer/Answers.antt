@@ -1,5 +1,4 @@
 -- `engine::close::closed_peer` meets its contract: the definition asks the same of the number. Assumes nothing.
-use borrow.Author.Rules.{rules}
 use borrow.Author.Tests.{eq-eqb, ne_eqb}
 use Rattle.engine.proofs.close.closed_peer.Goals as goal
 

@@ -1,5 +1,4 @@
 -- `engine::close::go_on_with` meets its contract: the state is the one that `engine_with` gives. Assumes nothing.
-use borrow.Author.Rules.{rules}
 use Rattle.engine.proofs.close.go_on_with.Goals as goal
 
 pub returns : goal.returns

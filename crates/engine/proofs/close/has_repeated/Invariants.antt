@@ -1,11 +1,8 @@
 -- `engine::close::has_repeated` meets its contract. What is left of the ids decides, as none that was passed occurs behind it. Assumes nothing.
-use mathlib.Core.Path.{◌≡◌, refl, sym, ◌∙◌}
+use mathlib.Core.Path.{◌≡◌}
 use Prim.Native.Nat.{◌≤◌, ◌-◌}
 use lib.ListN.{length, drop}
-use native.Mathlib.Omega.{arith}
-use borrow.Author.Rules.{rules}
 use Rattle.journal.specs.Ids.{repeats}
-use Rattle.engine.proofs.Closes.{repeats-from, none-behind}
 use Rattle.engine.proofs.close.has_repeated.Given as goal
 
 abbrev pub invariant-loop-i : goal.invariant-loop-i

@@ -1,12 +1,8 @@
 -- `engine::close::is_among` meets its contract. What is left to search decides the membership, as no number passed was the id. Assumes nothing.
-use mathlib.Core.Path.{◌≡◌, refl, sym, ◌∙◌}
+use mathlib.Core.Path.{◌≡◌}
 use Prim.Native.Nat.{◌≤◌, ◌-◌}
-use lib.ListN.{length, get_or, drop}
-use native.Mathlib.Omega.{arith}
-use borrow.Author.Rules.{rules}
-use borrow.Author.Tests.{eq-eqb, ne_eqb}
+use lib.ListN.{length, drop}
 use Rattle.journal.specs.Ids.{member}
-use Rattle.engine.proofs.Closes.{member-from, none-behind}
 use Rattle.engine.proofs.close.is_among.Given as goal
 
 abbrev pub invariant-loop-i : goal.invariant-loop-i

@@ -1,7 +1,6 @@
 -- `engine::close::judge` meets its contract. Each `return` rewrites with the tests that led there.
 use mathlib.Core.Path.{sym, ◌∙◌}
-use borrow.Author.Rules.{rules}
-use borrow.Author.Tests.{lt-ltb, le-ltb, not-true, not-false}
+use borrow.Author.Tests.{lt-ltb, le-ltb}
 use Rattle.engine.specs.Close.{judged_close}
 use Rattle.engine.proofs.close.judge.Goals as goal
 
@@ -12,14 +11,11 @@ returns-then-ids-gt-MAX_CONNECTIONS c = simp (lt-ltb _ _ c.if-ids-gt-MAX_CONNECT
 pub returns-then-not-are_open : goal.returns-then-not-are_open
 unfolding judged_close
 returns-then-not-are_open c =
-    let o = c in
     simp (le-ltb _ _ c.if-ids-gt-MAX_CONNECTIONS.false, sym c.are_open.ensures ∙ c.if-not-are_open.true)
 
 pub returns-then-has_repeated : goal.returns-then-has_repeated
 unfolding judged_close
 returns-then-has_repeated c =
-    let h = c in
-    let o = c in
     simp (
       le-ltb _ _ c.if-ids-gt-MAX_CONNECTIONS.false,
       sym c.are_open.ensures ∙ c.if-not-are_open.false,
@@ -29,8 +25,6 @@ returns-then-has_repeated c =
 pub returns : goal.returns
 unfolding judged_close
 returns c =
-    let h = c in
-    let o = c in
     simp (
       le-ltb _ _ c.if-ids-gt-MAX_CONNECTIONS.false,
       sym c.are_open.ensures ∙ c.if-not-are_open.false,

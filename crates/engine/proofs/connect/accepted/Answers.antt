@@ -4,14 +4,10 @@ use mathlib.Core.Path.{sym, ◌∙◌}
 use native.Mathlib.Omega.{arith}
 use Rattle.engine.proofs.Objects.{store-front}
 use Rattle.engine.proofs.Accepts.{not-challenged, challenged}
-use borrow.Author.Rules.{rules}
 use Rattle.engine.proofs.connect.accepted.Goals as goal
 
 pub returns-in_default : goal.returns-in_default
 returns-in_default c =
-    let s = c in
-    let t = c in
-    let a = c in
     let k = c.args in
     not-challenged k.e k.peer k.code k.front k.packet.now k.header_bytes.now k.reply.now k.headers.now _
     (sym c.in_default.is ∙ c.challenge_in.ensures)
@@ -19,10 +15,6 @@ returns-in_default c =
 
 pub returns : goal.returns
 returns c =
-    let r = c in
-    let p = c in
-    let n = c in
-    let a = c in
     let k = c.args in
     let w = c.requires in
     challenged k.e k.peer k.code k.front k.packet.now k.header_bytes.now k.reply.now k.headers.now _ _ _ _ _ _ _ _

@@ -1,5 +1,4 @@
 -- `engine::connect::both` meets its contract: the tests of the code are those of the definition. Assumes nothing.
-use borrow.Author.Tests.{not-true, not-false}
 use Rattle.engine.proofs.connect.both.Goals as goal
 
 pub returns-then-not-a : goal.returns-then-not-a

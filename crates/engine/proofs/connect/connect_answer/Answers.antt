@@ -1,15 +1,10 @@
 -- `engine::connect::connect_answer` meets its contract: the three ways are those of the definition. Assumes nothing.
-use borrow.Author.Tests.{not-true, not-false}
 use Rattle.connection.specs.Peer.{answers}
 use Rattle.engine.proofs.Accepts.{answer_declined, answer-full, answer-accepted}
-use borrow.Author.Rules.{rules}
 use Rattle.engine.proofs.connect.connect_answer.Goals as goal
 
 pub returns-then-not-is_success : goal.returns-then-not-is_success
 returns-then-not-is_success c =
-    let s = c in
-    let i = c in
-    let b = c in
     let k = c.args in
     answer_declined k.e k.tables.now k.code k.header_bytes.now k.packet.now k.headers.now k.reply.now _
     c.is_success.ensures
@@ -17,11 +12,6 @@ returns-then-not-is_success c =
 
 pub returns-then-opening : goal.returns-then-opening
 returns-then-opening c =
-    let s = c in
-    let f = c in
-    let o = c in
-    let i = c in
-    let b = c in
     let k = c.args in
     answer-full k.e k.tables.now k.code k.header_bytes.now k.packet.now k.headers.now k.reply.now _ c.is_success.ensures
     c.if-not-is_success.false (answers c.opens-answer.result _) c.opens-answer.ensures c.if-opening.true _
@@ -29,11 +19,6 @@ returns-then-opening c =
 
 pub returns : goal.returns
 returns c =
-    let s = c in
-    let f = c in
-    let o = c in
-    let i = c in
-    let b = c in
     let k = c.args in
     answer-accepted k.e k.tables.now k.code k.header_bytes.now k.packet.now k.headers.now k.reply.now _
     c.is_success.ensures

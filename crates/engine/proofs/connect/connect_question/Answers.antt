@@ -1,5 +1,4 @@
 -- `engine::connect::connect_question` meets its contract: its test is that of the definition. Assumes nothing.
-use borrow.Author.Rules.{rules}
 use Rattle.engine.proofs.connect.connect_question.Goals as goal
 
 pub returns-then-authentication : goal.returns-then-authentication

@@ -4,7 +4,7 @@ use borrow.Enum.Refused.{opened}
 use mathlib.Core.Path.{ap, ◌∙◌}
 use Rattle.server.specs.declared.CallResult.{CallResult}
 use Rattle.engine.specs.Step.{written}
-use Rattle.engine.proofs.Guards.{Prefix, prefix_in}
+use Rattle.engine.proofs.Guards.{prefix_in}
 use Rattle.engine.proofs.Accepts.{credentials-other, credentials-long, credentials_go, user-fits, waiting-length}
 use Rattle.engine.proofs.connect.connect_with_credentials.Goals as goal
 

@@ -2,7 +2,6 @@
 use native.Mathlib.Omega.{arith}
 use Rattle.packet.specs.Packet.{connect_limit}
 use Rattle.engine.specs.Connect.{connect_plan}
-use borrow.Author.Rules.{rules}
 use Rattle.engine.proofs.connect.handle_connect.Goals as goal
 
 pub overflow_cast-limit : goal.overflow_cast-limit

@@ -1,7 +1,5 @@
 -- `engine::connect::handle_disconnect` meets its contract: a Disconnect closes the id that its packet names. Assumes nothing.
-use borrow.Author.Tests.{not-true, not-false}
 use Rattle.engine.proofs.Accepts.{replied-closing, replied-other}
-use borrow.Author.Rules.{rules}
 use Rattle.engine.proofs.connect.handle_disconnect.Goals as goal
 
 pub returns-then-not-same_await : goal.returns-then-not-same_await
@@ -11,9 +9,6 @@ returns-then-not-same_await c =
 
 pub returns : goal.returns
 returns c =
-    let d = c in
-    let f = c in
-    let u = c in
     let k = c.args in
     replied-closing k.e k.packet.now k.tables.now _ c.same_await.ensures c.if-not-same_await.false _ _ _
     c.last_from.ensures

@@ -7,7 +7,6 @@ use lib.Dec.{leb}
 use Rattle.journal.specs.Checks.{most_wrong}
 use Rattle.engine.specs.Connect.{stops_by}
 use Rattle.engine.proofs.Connects.{is_carried}
-use borrow.Author.Rules.{rules}
 use Rattle.engine.proofs.connect.is_stopped.Goals as goal
 
 pub returns-in-Missing : goal.returns-in-Missing

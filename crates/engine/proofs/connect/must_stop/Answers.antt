@@ -1,6 +1,4 @@
 -- `engine::connect::must_stop` meets its contract: its two tests are those that the definition joins. Assumes nothing.
-use borrow.Author.Rules.{rules}
-use borrow.Author.Tests.{not-true, not-false}
 use Rattle.engine.proofs.connect.must_stop.Goals as goal
 
 pub returns-then-not-authentication : goal.returns-then-not-authentication

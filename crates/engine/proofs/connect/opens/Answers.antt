@@ -2,15 +2,11 @@
 use mathlib.Core.Path.{◌∙◌}
 use Rattle.engine.specs.Connect.{answer_for}
 use Rattle.engine.proofs.LastPacket.{last_finds, found_given}
-use borrow.Author.Rules.{rules}
 use Rattle.engine.proofs.connect.opens.Goals as goal
 
 pub returns : goal.returns
 unfolding answer_for
 returns c =
-    let o = c in
-    let t = c in
-    let k = c in
     let f = last_finds c.args.packet.now _ c.requires.2 in
     c.opened_for.ensures
     ∙ simp (

@@ -1,5 +1,4 @@
 -- `engine::connect::password_plan` meets its contract. The two arms are those of the definition.
-use borrow.Author.Rules.{rules}
 use Rattle.engine.specs.Connect.{password_plan}
 use Rattle.engine.proofs.connect.password_plan.Goals as goal
 

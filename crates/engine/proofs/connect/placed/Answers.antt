@@ -1,6 +1,5 @@
 -- `engine::connect::placed` meets its contract: the sums are those of the definition, and stay in range. Assumes nothing.
 use native.Mathlib.Omega.{arith}
-use borrow.Author.Rules.{rules}
 use Rattle.engine.proofs.connect.placed.Goals as goal
 
 pub overflow_add-result : goal.overflow_add-result

@@ -1,5 +1,4 @@
 -- `engine::connect::srm_after` meets its contract: the tests of the code are those of the definition. Assumes nothing.
-use borrow.Author.Rules.{rules}
 use Rattle.engine.proofs.connect.srm_after.Goals as goal
 
 pub returns-then-e : goal.returns-then-e

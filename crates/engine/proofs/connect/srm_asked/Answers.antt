@@ -1,6 +1,5 @@
 -- `engine::connect::srm_asked` meets its contract: the tests of the code are those of the definition. Assumes nothing.
 use borrow.Author.Tests.{not-true, not-false}
-use borrow.Author.Rules.{rules}
 use Rattle.engine.proofs.connect.srm_asked.Goals as goal
 
 pub returns-then-not-e : goal.returns-then-not-e

@@ -2,7 +2,6 @@
 use borrow.Enum.Refused.{opened}
 use mathlib.Core.Path.{sym, ◌∙◌}
 use Rattle.engine.proofs.Connects.{not-read}
-use borrow.Author.Rules.{rules}
 use Rattle.engine.proofs.connect.verifies.Goals as goal
 
 pub returns-in_default-a : goal.returns-in_default-a

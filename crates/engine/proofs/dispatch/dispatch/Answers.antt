@@ -1,5 +1,4 @@
 -- `engine::dispatch::dispatch` meets its contract: the arms of the code are those of the definition. Assumes nothing.
-use borrow.Author.Rules.{rules}
 use Rattle.engine.proofs.dispatch.dispatch.Goals as goal
 
 pub returns-in-Connect : goal.returns-in-Connect

@@ -1,5 +1,4 @@
 -- `engine::dispatch::draining` meets its contract: the tests of the code are those of the definition. Assumes nothing.
-use borrow.Author.Rules.{rules}
 use Rattle.engine.proofs.dispatch.draining.Goals as goal
 
 pub returns-then-h : goal.returns-then-h

@@ -1,6 +1,5 @@
 -- `engine::dispatch::has_drain` meets its contract: the tests of the code are those of the definition. Assumes nothing.
 use mathlib.Core.Path.{◌∙◌, sym}
-use borrow.Author.Rules.{rules}
 use Rattle.engine.proofs.dispatch.has_drain.Goals as goal
 
 pub returns-then-same : goal.returns-then-same

@@ -1,7 +1,6 @@
 -- `engine::dispatch::heading_route` meets its contract: the tests of the code are those of the definition. Assumes nothing.
 use mathlib.Core.Path.{◌∙◌, sym}
 use Rattle.engine.specs.Dispatch.{heading_route}
-use borrow.Author.Rules.{rules}
 use Rattle.engine.proofs.dispatch.heading_route.Goals as goal
 
 pub returns-then-same : goal.returns-then-same

@@ -1,7 +1,6 @@
 -- `engine::dispatch::inside` meets its contract: the arms of the code are those of the definition, and the last one holds the two with no
 -- operation open. Assumes nothing.
 use mathlib.Core.Path.{sym, ◌∙◌}
-use borrow.Author.Rules.{rules}
 use Rattle.engine.proofs.Arrivals.{open_way}
 use Rattle.engine.proofs.dispatch.inside.Goals as goal
 

@@ -1,6 +1,5 @@
 -- `engine::dispatch::is_drained` meets its contract: the tests of the code are those of the definition. Assumes nothing.
 use mathlib.Core.Path.{◌∙◌, sym}
-use borrow.Author.Rules.{rules}
 use Rattle.engine.proofs.dispatch.is_drained.Goals as goal
 
 pub returns-then-has_drain : goal.returns-then-has_drain

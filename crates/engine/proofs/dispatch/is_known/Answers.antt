@@ -1,5 +1,4 @@
 -- `engine::dispatch::is_known` meets its contract: without an id nothing is looked up. Assumes nothing.
-use borrow.Author.Rules.{rules}
 use Rattle.engine.proofs.dispatch.is_known.Goals as goal
 
 pub returns-then-v : goal.returns-then-v

@@ -2,7 +2,6 @@
 use borrow.Enum.Refused.{opened}
 use mathlib.Core.Path.{◌∙◌, sym}
 use Rattle.engine.proofs.Arrivals.{not-trailing}
-use borrow.Author.Rules.{rules}
 use Rattle.engine.proofs.dispatch.is_trailed.Goals as goal
 
 pub returns-in_default : goal.returns-in_default

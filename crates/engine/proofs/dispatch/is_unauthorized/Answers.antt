@@ -1,5 +1,4 @@
 -- `engine::dispatch::is_unauthorized` meets its contract: the tests of the code are those of the definition. Assumes nothing.
-use borrow.Author.Rules.{rules}
 use Rattle.engine.proofs.dispatch.is_unauthorized.Goals as goal
 
 pub returns-then-e-2 : goal.returns-then-e-2

@@ -1,6 +1,5 @@
 -- `engine::dispatch::is_unknown` meets its contract: the arms of the code are those of the definition. Assumes nothing.
 use mathlib.Core.Path.{◌∙◌, sym}
-use borrow.Author.Rules.{rules}
 use Rattle.engine.proofs.dispatch.is_unknown.Goals as goal
 
 pub returns-in-Known : goal.returns-in-Known

@@ -1,5 +1,4 @@
 -- `engine::dispatch::more` meets its contract: the state is the one that `engine_with` gives. Assumes nothing.
-use borrow.Author.Rules.{rules}
 use Rattle.engine.proofs.dispatch.more.Goals as goal
 
 pub returns : goal.returns

@@ -1,6 +1,5 @@
 -- `engine::dispatch::next_request` meets its contract: the tests of the code are those of the definition. Assumes nothing.
 use mathlib.Core.Path.{◌∙◌, sym}
-use borrow.Author.Rules.{rules}
 use Rattle.engine.proofs.dispatch.next_request.Goals as goal
 
 pub returns-then-same : goal.returns-then-same

@@ -5,7 +5,6 @@ use lib.ListN.{length, take}
 use lib.Seq.{length-take-le}
 use Rattle.model.specs.Step.{stores, engine_with}
 use Rattle.engine.proofs.Arrivals.{done-call}
-use borrow.Author.Rules.{rules}
 use Rattle.engine.proofs.dispatch.packet_done.Goals as goal
 
 pub slice_bounds-act-end : goal.slice_bounds-act-end

@@ -6,7 +6,6 @@ use lib.ListN.{take, length-take}
 use Rattle.journal.specs.Ids.{member}
 use Rattle.connection.proofs.Carrying.{placed}
 use Rattle.model.proofs.Fit.{and_right}
-use borrow.Author.Rules.{rules}
 use Rattle.engine.proofs.dispatch.packet_target.Goals as goal
 
 pub returns-then-is_marked : goal.returns-then-is_marked
@@ -14,13 +13,10 @@ returns-then-is_marked c = rw (sym c.is_marked.ensures ∙ c.if-is_marked.true) 
 
 pub returns-then-is_busy : goal.returns-then-is_busy
 returns-then-is_busy c =
-    let b = c in
-    let m = c in
     rw (sym c.is_marked.ensures ∙ c.if-is_marked.false, sym c.is_busy.ensures ∙ c.if-is_busy.true)
 
 pub target_at-requires : goal.target_at-requires
 target_at-requires c =
-    let k = c in
     let x = c.args in
     let m : member x.v.id (take x.e.peer.count x.tables.now) ≡ true =
     and_right x.v.has_id _ (sym c.requires.2 ∙ c.if-known.true) in (
@@ -36,10 +32,6 @@ target_at-requires c =
 
 pub returns-then-known : goal.returns-then-known
 returns-then-known c =
-    let n = c in
-    let b = c in
-    let m = c in
-    let k = c in
     rw (
       sym c.is_marked.ensures ∙ c.if-is_marked.false,
       sym c.is_busy.ensures ∙ c.if-is_busy.false,
@@ -50,9 +42,5 @@ returns-then-known c =
 
 pub returns : goal.returns
 returns c =
-    let n = c in
-    let b = c in
-    let m = c in
-    let k = c in
     rw (sym c.is_marked.ensures ∙ c.if-is_marked.false, sym c.is_busy.ensures ∙ c.if-is_busy.false, sym c.requires.2 ∙ c.if-known.false)
     c.unnamed-2.ensures

@@ -1,7 +1,6 @@
 -- `engine::dispatch::rejection` meets its contract: the tests of the code are those of the definition. Assumes nothing.
 use mathlib.Core.Path.{◌∙◌, sym}
 use Rattle.model.specs.Dispatch.{rejection}
-use borrow.Author.Rules.{rules}
 use Rattle.engine.proofs.dispatch.rejection.Goals as goal
 
 pub returns-then-is_unauthorized : goal.returns-then-is_unauthorized
@@ -11,13 +10,11 @@ returns-then-is_unauthorized c = simp (sym c.is_unauthorized.ensures ∙ c.if-is
 pub returns-then-h-2 : goal.returns-then-h-2
 unfolding rejection
 returns-then-h-2 c =
-    let u = c in
     simp (sym c.is_unauthorized.ensures ∙ c.if-is_unauthorized.false, c.if-h.true, c.if-h-2.true)
 
 pub returns-then-h : goal.returns-then-h
 unfolding rejection
 returns-then-h c =
-    let u = c in
     simp (sym c.is_unauthorized.ensures ∙ c.if-is_unauthorized.false, c.if-h.true, c.if-h-2.false)
 
 pub returns : goal.returns

@@ -4,7 +4,6 @@ use mathlib.Core.Path.{◌∙◌, sym, ap}
 use borrow.Author.Tests.{not-true, not-false}
 use Rattle.incoming.specs.declared.survey.Survey.{Survey}
 use Rattle.engine.proofs.Arrivals.{headless_way, unreadable_way, heading_way}
-use borrow.Author.Rules.{rules}
 use Rattle.engine.proofs.dispatch.route_packet.Goals as goal
 
 pub returns-in_default : goal.returns-in_default

@@ -1,6 +1,5 @@
 -- `engine::dispatch::simple_plan` meets its contract: the arms of the code are those of the definition. Assumes nothing.
 use Rattle.engine.specs.Dispatch.{simple_plan}
-use borrow.Author.Rules.{rules}
 use Rattle.engine.proofs.dispatch.simple_plan.Goals as goal
 
 pub returns-in-Ask : goal.returns-in-Ask

@@ -1,5 +1,4 @@
 -- `engine::dispatch::trailed` meets its contract: the tests of the code are those of the definition. Assumes nothing.
-use borrow.Author.Rules.{rules}
 use Rattle.engine.proofs.dispatch.trailed.Goals as goal
 
 pub returns-then-is_final : goal.returns-then-is_final

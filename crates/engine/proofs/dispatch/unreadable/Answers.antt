@@ -1,6 +1,5 @@
 -- `engine::dispatch::unreadable` meets its contract: the tests of the code are those of the definition. Assumes nothing.
 use mathlib.Core.Path.{◌∙◌, sym}
-use borrow.Author.Rules.{rules}
 use Rattle.engine.proofs.dispatch.unreadable.Goals as goal
 
 pub returns-then-is_busy : goal.returns-then-is_busy

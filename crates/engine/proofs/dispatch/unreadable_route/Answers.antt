@@ -1,5 +1,4 @@
 -- `engine::dispatch::unreadable_route` meets its contract: each part is what the definition asks for. Assumes nothing.
-use borrow.Author.Rules.{rules}
 use Rattle.engine.proofs.dispatch.unreadable_route.Goals as goal
 
 pub returns : goal.returns

@@ -1,6 +1,5 @@
 -- `engine::guard::awaits_taken` meets its contract: the tests of the code are those of the definition.
 use mathlib.Core.Path.{◌∙◌, sym}
-use borrow.Author.Rules.{rules}
 use Rattle.engine.proofs.guard.awaits_taken.Goals as goal
 
 pub returns-then-same_await : goal.returns-then-same_await

@@ -1,7 +1,6 @@
 -- `engine::guard::guard_lent` meets its contract: the table store is one store more that may be too short.
 use borrow.Author.Tests.{lt-ltb, le-ltb}
 use Rattle.engine.specs.Guard.{guarded_by, guarded_lent}
-use borrow.Author.Rules.{rules}
 use Rattle.engine.proofs.guard.guard_lent.Goals as goal
 
 pub returns-then-tables-lt-TABLE_LENGTH : goal.returns-then-tables-lt-TABLE_LENGTH

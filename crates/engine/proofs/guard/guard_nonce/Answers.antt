@@ -1,7 +1,6 @@
 -- `engine::guard::guard_nonce` meets its contract. Each way rewrites with the tests that led there.
 use mathlib.Core.Path.{sym, ◌∙◌}
 use Rattle.engine.specs.Guard.{guarded_nonce}
-use borrow.Author.Rules.{rules}
 use Rattle.engine.proofs.guard.guard_nonce.Goals as goal
 
 pub returns-then-is_long_realm : goal.returns-then-is_long_realm

@@ -2,7 +2,6 @@
 use mathlib.Core.Path.{sym, ◌∙◌}
 use borrow.Author.Tests.{lt-ltb, le-ltb}
 use Rattle.engine.specs.Guard.{guarded_start}
-use borrow.Author.Rules.{rules}
 use Rattle.engine.proofs.guard.guard_start.Goals as goal
 
 pub returns-then-tables-lt-TABLE_LENGTH : goal.returns-then-tables-lt-TABLE_LENGTH
@@ -16,11 +15,9 @@ returns-then-is_short c = simp (le-ltb _ _ c.if-tables-lt-TABLE_LENGTH.false, sy
 pub returns-then-long : goal.returns-then-long
 unfolding guarded_start
 returns-then-long c =
-    let s = c in
     simp (le-ltb _ _ c.if-tables-lt-TABLE_LENGTH.false, sym c.is_short.ensures ∙ c.if-is_short.false, c.if-long.true)
 
 pub returns : goal.returns
 unfolding guarded_start
 returns c =
-    let s = c in
     simp (le-ltb _ _ c.if-tables-lt-TABLE_LENGTH.false, sym c.is_short.ensures ∙ c.if-is_short.false, c.if-long.false)

@@ -1,5 +1,4 @@
 -- `engine::guard::is_awaited` meets its contract: the arms of the code are those of the definition.
-use borrow.Author.Rules.{rules}
 use Rattle.engine.proofs.guard.is_awaited.Goals as goal
 
 pub returns-in-FromPeer : goal.returns-in-FromPeer

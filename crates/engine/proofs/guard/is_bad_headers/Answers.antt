@@ -1,5 +1,4 @@
 -- `engine::guard::is_bad_headers` meets its contract. The two tests are those of the definition.
-use borrow.Author.Rules.{rules}
 use borrow.Author.Tests.{lt-ltb, le-ltb}
 use Rattle.model.specs.Guard.{bad_headers}
 use Rattle.engine.proofs.guard.is_bad_headers.Goals as goal

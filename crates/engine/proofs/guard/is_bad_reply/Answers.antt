@@ -1,8 +1,6 @@
 -- `engine::guard::is_bad_reply` meets its contract: the tests of the code are those of the definition. Assumes nothing.
-use borrow.Author.Tests.{not-true, not-false}
 use mathlib.Core.Path.{sym, ◌∙◌}
 use Rattle.model.specs.Guard.{bad_reply}
-use borrow.Author.Rules.{rules}
 use Rattle.engine.proofs.guard.is_bad_reply.Goals as goal
 
 pub returns-then-not-is_code : goal.returns-then-not-is_code

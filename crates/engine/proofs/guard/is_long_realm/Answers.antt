@@ -1,5 +1,4 @@
 -- `engine::guard::is_long_realm` meets its contract. Each `return` rewrites with the test that led there.
-use borrow.Author.Rules.{rules}
 use Rattle.engine.proofs.guard.is_long_realm.Goals as goal
 
 pub returns-then-has_realm : goal.returns-then-has_realm

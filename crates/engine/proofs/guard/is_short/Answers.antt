@@ -1,5 +1,4 @@
 -- `engine::guard::is_short` meets its contract. Each `return` rewrites with the tests that led there.
-use borrow.Author.Rules.{rules}
 use borrow.Author.Tests.{lt-ltb, le-ltb}
 use Rattle.engine.specs.Guard.{short_by}
 use Rattle.engine.proofs.guard.is_short.Goals as goal

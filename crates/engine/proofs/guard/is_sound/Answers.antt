@@ -1,5 +1,4 @@
 -- `engine::guard::is_sound` meets its contract. Each `return` rewrites with the tests that led there.
-use borrow.Author.Rules.{rules}
 use borrow.Author.Tests.{lt-ltb, le-ltb, lt-leb, le-leb}
 use Rattle.model.specs.Guard.{sound}
 use Rattle.engine.proofs.guard.is_sound.Goals as goal
@@ -15,35 +14,21 @@ returns-then-e-gt-MAX_PACKET c = simp (lt-ltb _ _ c.if-e-ge-MAX_PACKET.false, lt
 pub returns-then-e-gt-MAX_CONNECTIONS : goal.returns-then-e-gt-MAX_CONNECTIONS
 unfolding sound
 returns-then-e-gt-MAX_CONNECTIONS c =
-    let s = c in
-    let r = c in
     simp (lt-ltb _ _ c.if-e-ge-MAX_PACKET.false, le-leb _ _ c.if-e-gt-MAX_PACKET.false, lt-leb _ _ c.if-e-gt-MAX_CONNECTIONS.true)
 
 pub returns-then-e-lt-MIN_PACKET : goal.returns-then-e-lt-MIN_PACKET
 unfolding sound
 returns-then-e-lt-MIN_PACKET c =
-    let t = c in
-    let s = c in
-    let r = c in
     simp (lt-ltb _ _ c.if-e-ge-MAX_PACKET.false, le-leb _ _ c.if-e-gt-MAX_PACKET.false, le-leb _ _ c.if-e-gt-MAX_CONNECTIONS.false, lt-leb _ _ c.if-e-lt-MIN_PACKET.true)
 
 pub returns-then-e-gt-MAX_NONCES : goal.returns-then-e-gt-MAX_NONCES
 unfolding sound
 returns-then-e-gt-MAX_NONCES c =
-    let u = c in
-    let t = c in
-    let s = c in
-    let r = c in
     simp (lt-ltb _ _ c.if-e-ge-MAX_PACKET.false, le-leb _ _ c.if-e-gt-MAX_PACKET.false, le-leb _ _ c.if-e-gt-MAX_CONNECTIONS.false, le-leb _ _ c.if-e-lt-MIN_PACKET.false, lt-leb _ _ c.if-e-gt-MAX_NONCES.true)
 
 pub returns : goal.returns
 unfolding sound
 returns c =
-    let v = c in
-    let u = c in
-    let t = c in
-    let s = c in
-    let r = c in
     simp (
       lt-ltb _ _ c.if-e-ge-MAX_PACKET.false,
       le-leb _ _ c.if-e-gt-MAX_PACKET.false,

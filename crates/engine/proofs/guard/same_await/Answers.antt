@@ -1,5 +1,4 @@
 -- `engine::guard::same_await` meets its contract: the code compares the numbers that the definition compares.
-use borrow.Author.Rules.{rules}
 use Rattle.engine.proofs.guard.same_await.Goals as goal
 
 pub returns : goal.returns

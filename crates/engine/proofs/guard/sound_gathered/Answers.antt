@@ -1,5 +1,4 @@
 -- `engine::guard::sound_gathered` meets its contract. Each `return` rewrites with the tests that led there.
-use borrow.Author.Rules.{rules}
 use borrow.Author.Tests.{lt-leb, le-leb}
 use Rattle.engine.proofs.guard.sound_gathered.Goals as goal
 

@@ -1,5 +1,4 @@
 -- `engine::guard::sound_operation` meets its contract. The arms of the code are those of the definition.
-use borrow.Author.Rules.{rules}
 use Rattle.engine.proofs.guard.sound_operation.Goals as goal
 
 pub returns-in-Putting : goal.returns-in-Putting

@@ -1,5 +1,4 @@
 -- `engine::guard::sound_outgoing` meets its contract. Each `return` rewrites with the tests that led there.
-use borrow.Author.Rules.{rules}
 use native.Mathlib.Omega.{arith}
 use Prim.Native.Nat.{ℕ, ◌+◌, ◌-◌, ◌≤◌, ◌<◌}
 use mathlib.Core.Path.{◌≡◌, refl, sym}
@@ -24,24 +23,18 @@ returns-then-o c = simp (le-leb _ _ c.if-o-gt-MAX_PACKET.false, lt-leb _ _ c.if-
 
 pub returns-then-c-gt-MAX_CAPACITY : goal.returns-then-c-gt-MAX_CAPACITY
 returns-then-c-gt-MAX_CAPACITY c =
-    let s = c in
-    let r = c in
     let k = c.args.c in
     let f : 65532 < k.at + k.got = omega arith in
     simp (le-leb _ _ c.if-o-gt-MAX_PACKET.false, le-leb _ _ c.if-o.false, lt-leb _ _ f)
 
 pub returns-then-c : goal.returns-then-c
 returns-then-c c =
-    let s = c in
-    let r = c in
     let k = c.args.c in
     let f : 65532 < k.at + k.got = omega arith in
     simp (le-leb _ _ c.if-o-gt-MAX_PACKET.false, le-leb _ _ c.if-o.false, lt-leb _ _ f)
 
 pub returns : goal.returns
 returns c =
-    let s = c in
-    let r = c in
     let k = c.args.c in
     let f : k.at + k.got ≤ 65532 = omega arith in
     simp (le-leb _ _ c.if-o-gt-MAX_PACKET.false, le-leb _ _ c.if-o.false, le-leb _ _ f) (within k.at k.got k.room f)

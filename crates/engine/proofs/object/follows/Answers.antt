@@ -1,5 +1,4 @@
 -- `engine::object::follows` meets its contract: the tests of the code are those of the definition. Assumes nothing.
-use borrow.Author.Rules.{rules}
 use Rattle.engine.proofs.object.follows.Goals as goal
 
 pub returns-then-srm : goal.returns-then-srm

@@ -1,6 +1,5 @@
 -- `engine::object::next_turn` meets its contract: the test of the code is that of the definition. Assumes nothing.
 use mathlib.Core.Path.{sym, ◌∙◌}
-use borrow.Author.Rules.{rules}
 use Rattle.engine.proofs.object.next_turn.Goals as goal
 
 pub returns-then-same_await : goal.returns-then-same_await

@@ -1,6 +1,5 @@
 -- `engine::object::object_plan` meets its contract: the plan is the one for what `next_packet` gives. Assumes nothing.
 use Rattle.engine.proofs.Carried.{object-made}
-use borrow.Author.Rules.{rules}
 use Rattle.engine.proofs.object.object_plan.Goals as goal
 
 pub returns : goal.returns

@@ -1,5 +1,4 @@
 -- `engine::object::packet_plan` meets its contract. The arms of the code are those of the definition.
-use borrow.Author.Rules.{rules}
 use Rattle.engine.specs.Object.{packet_plan}
 use Rattle.engine.proofs.object.packet_plan.Goals as goal
 

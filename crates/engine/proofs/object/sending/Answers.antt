@@ -1,5 +1,4 @@
 -- `engine::object::sending` meets its contract. The arms of the code are those of the definition.
-use borrow.Author.Rules.{rules}
 use Rattle.engine.proofs.object.sending.Goals as goal
 
 pub returns : goal.returns

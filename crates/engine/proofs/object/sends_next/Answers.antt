@@ -1,5 +1,4 @@
 -- `engine::object::sends_next` meets its contract. The packet that the lower layer makes is sent by its plan.
-use borrow.Author.Rules.{rules}
 use mathlib.Core.Path.{ap, ◌∙◌}
 use Prim.Native.Nat.{ℕ, ◌-◌}
 use Rattle.outgoing.specs.Object.{next_packet}

@@ -7,13 +7,10 @@ use Rattle.engine.specs.declared.step.Plan.{Plan}
 use Rattle.engine.specs.declared.object.Turn.{Turn}
 use Rattle.engine.proofs.Plans.{wants-planned, ends-planned}
 use Rattle.engine.proofs.Turns.{TurnReady, turn-ready, by_turn, sent-turn}
-use borrow.Author.Rules.{rules}
 use Rattle.engine.proofs.object.turn_plan.Goals as goal
 
 pub object_plan-requires : goal.object_plan-requires
 object_plan-requires c =
-    let k = c in
-    let a = c in
     let t =
     subst (λ (x : Turn). TurnReady x) (sym c.next_turn.ensures ∙ c.in-Send.is) (turn-ready c.args.e c.requires.1) in
     (c.requires.0, omega (arith, t, c.requires.2), c.requires.3)
@@ -21,8 +18,6 @@ object_plan-requires c =
 pub returns-in-Send : goal.returns-in-Send
 returns-in-Send c =
     λ q b.
-    let k = c in
-    let a = c in
     let s = stores q c.args.headers.now b c.args.reply.now in
     by_turn c.args.e s _ _ (sym c.next_turn.ensures ∙ c.in-Send.is)
     (sent-turn c.args.e s _ _ _ _ _ c.object_plan.ensures)
@@ -30,7 +25,6 @@ returns-in-Send c =
 pub returns-in-Wait : goal.returns-in-Wait
 returns-in-Wait c =
     λ q b.
-    let a = c in
     let s = stores q c.args.headers.now b c.args.reply.now in
     by_turn c.args.e s _ _ (sym c.next_turn.ensures ∙ c.in-Wait.is)
     (ap (λ (x : Plan). planned x s) c.wants.ensures ∙ (wants-planned _ _ _ s).is)
@@ -38,7 +32,6 @@ returns-in-Wait c =
 pub returns-in-End : goal.returns-in-End
 returns-in-End c =
     λ q b.
-    let a = c in
     let s = stores q c.args.headers.now b c.args.reply.now in
     by_turn c.args.e s _ _ (sym c.next_turn.ensures ∙ c.in-End.is)
     (ap (λ (x : Plan). planned x s) c.ends.ensures ∙ (ends-planned _ _ _ s).is)

@@ -1,6 +1,5 @@
 -- `engine::operation::handle_gathered` meets its contract: the arms of the code are those of the definition. Assumes nothing.
 use Rattle.engine.specs.Operation.{kind_plan}
-use borrow.Author.Rules.{rules}
 use Rattle.engine.proofs.operation.handle_gathered.Goals as goal
 
 pub returns-in-Put : goal.returns-in-Put

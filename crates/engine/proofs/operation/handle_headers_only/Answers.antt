@@ -1,6 +1,5 @@
 -- `engine::operation::handle_headers_only` meets its contract: the tests of the code are those of the definition. Assumes nothing.
 use Rattle.engine.specs.Operation.{headers_plan}
-use borrow.Author.Rules.{rules}
 use Rattle.engine.proofs.operation.handle_headers_only.Goals as goal
 
 pub returns-then-g : goal.returns-then-g

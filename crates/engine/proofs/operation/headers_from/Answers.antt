@@ -1,5 +1,4 @@
 -- `engine::operation::headers_from` meets its contract: the arms of the code are those of the definition. Assumes nothing.
-use borrow.Author.Rules.{rules}
 use Rattle.engine.proofs.operation.headers_from.Goals as goal
 
 pub returns-in-Headers : goal.returns-in-Headers

@@ -1,5 +1,4 @@
 -- `engine::operation::put_continues` meets its contract: the tests of the code are those of the definition. Assumes nothing.
-use borrow.Author.Rules.{rules}
 use Rattle.engine.proofs.operation.put_continues.Goals as goal
 
 pub returns-then-flags-2 : goal.returns-then-flags-2

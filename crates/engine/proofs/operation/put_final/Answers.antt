@@ -1,5 +1,4 @@
 -- `engine::operation::put_final` meets its contract: the test of the code is that of the definition. Assumes nothing.
-use borrow.Author.Rules.{rules}
 use Rattle.engine.proofs.operation.put_final.Goals as goal
 
 pub returns-then-g : goal.returns-then-g

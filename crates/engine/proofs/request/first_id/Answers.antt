@@ -1,6 +1,5 @@
 -- `engine::request::first_id` meets its contract: the survey gives the first of that id. Assumes nothing.
 use Rattle.engine.proofs.LastPacket.{id_given_lem, id_missing}
-use borrow.Author.Rules.{rules}
 use Rattle.engine.proofs.request.first_id.Goals as goal
 
 pub returns-then-v : goal.returns-then-v

@@ -3,7 +3,6 @@ use mathlib.Core.Path.{ap, ◌∙◌}
 use Prim.Native.Nat.{ℕ}
 use Rattle.connection.specs.Request.{connect_request}
 use Rattle.engine.specs.Request.{last_connect}
-use borrow.Author.Rules.{rules}
 use Rattle.engine.proofs.request.last_connect.Goals as goal
 
 pub returns : goal.returns

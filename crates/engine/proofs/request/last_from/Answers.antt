@@ -1,5 +1,4 @@
 -- `engine::request::last_from` meets its contract. The reader of what stands before the headers gives the place.
-use borrow.Author.Rules.{rules}
 use lib.ListN.{get_or}
 use mathlib.Core.Path.{sym, ◌∙◌}
 use Rattle.packet.specs.FirstByte.{first_byte}
@@ -11,13 +10,11 @@ use Rattle.engine.proofs.request.last_from.Goals as goal
 pub returns-in_default : goal.returns-in_default
 unfolding last_from packet_head
 returns-in_default c =
-    let k = c in
     let q = c.args.q.now in
     from_headless (first_byte (get_or q 0 0)) q (sym c.packet_head.ensures ∙ c.in_default.is)
 
 pub returns : goal.returns
 unfolding last_from packet_head
 returns c =
-    let k = c in
     let q = c.args.q.now in
     from-head (first_byte (get_or q 0 0)) q _ _ _ (sym c.packet_head.ensures ∙ c.in-Known.is)

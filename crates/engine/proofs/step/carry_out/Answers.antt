@@ -1,5 +1,4 @@
 -- `engine::step::carry_out` meets its contract. The small reply is written, and the rest handed back.
-use borrow.Author.Rules.{rules}
 use Rattle.engine.proofs.step.carry_out.Goals as goal
 
 pub returns : goal.returns

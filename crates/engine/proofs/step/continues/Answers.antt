@@ -1,6 +1,5 @@
 -- `engine::step::continues` meets its contract: two returns, for a grant and for none. Assumes nothing.
 use Rattle.engine.specs.Step.{continue_plan}
-use borrow.Author.Rules.{rules}
 use Rattle.engine.proofs.step.continues.Goals as goal
 
 pub returns-then-grant : goal.returns-then-grant

@@ -1,5 +1,4 @@
 -- `engine::step::fresh` meets its contract. The state is the one that `engine_with` gives, with the fresh peer.
-use borrow.Author.Rules.{rules}
 use Rattle.engine.proofs.step.fresh.Goals as goal
 
 pub returns : goal.returns

@@ -1,13 +1,10 @@
 -- `engine::step::sends` meets its contract: what was sent is handed back by its plan. Assumes nothing.
 use mathlib.Core.List.{[]}
 use Rattle.engine.proofs.Carried.{sent-written}
-use borrow.Author.Rules.{rules}
 use Rattle.engine.proofs.step.sends.Goals as goal
 
 pub returns : goal.returns
 returns c =
-    let z = c in
-    let w = c in
     let k = c.args in
     sent-written k.e k.peer k.code [] k.header_bytes.now k.reply.now _ _ _ _
     c.send-sent.ensures c.wide16-remote.ensures.0 c.sent_plan.ensures c.took.ensures

@@ -1,5 +1,4 @@
 -- `engine::step::sent_plan` meets its contract. The arms of the code are those of the definition.
-use borrow.Author.Rules.{rules}
 use Rattle.engine.specs.Step.{sent_plan}
 use Rattle.engine.proofs.step.sent_plan.Goals as goal
 

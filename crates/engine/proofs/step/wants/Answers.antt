@@ -1,6 +1,5 @@
 -- `engine::step::wants` meets its contract: the state is the one that `engine_with` gives. Assumes nothing.
 use Rattle.engine.specs.Step.{wants_plan}
-use borrow.Author.Rules.{rules}
 use Rattle.engine.proofs.step.wants.Goals as goal
 
 pub returns : goal.returns

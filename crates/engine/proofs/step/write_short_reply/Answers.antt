@@ -1,6 +1,5 @@
 -- `engine::step::write_short_reply` meets its contract. The arms of the code are those of the definition.
 use Rattle.packet.specs.Packet.{packet_bytes}
-use borrow.Author.Rules.{rules}
 use Rattle.engine.proofs.step.write_short_reply.Goals as goal
 
 pub returns-in-Byte : goal.returns-in-Byte
