@@ -1,9 +1,8 @@
 -- The claim on a log's bytes: a frame stands for one entry at most, so that going from frame to frame is going from entry to entry, of which
 -- `frames-audited` of `journal_code` speaks. Assumes nothing.
-use Rattle.std.proofs.Common.{◌≡◌, ℕ, Bool, true, false, ◌||◌, eqb, List, [], ◌∷◌, ◌++◌, get_or, drop, sym, refl, ap, ◌∙◌, subst}
+use Rattle.std.proofs.Common.{◌≡◌, Bool, true, false, ◌||◌, eqb, List, [], ◌∷◌, ◌++◌, get_or, drop, sym, refl, ap, ◌∙◌}
 use Rattle.base.specs.Pick.{pick}
 use Rattle.filing.specs.Frame.{Content}
-use Rattle.filing.specs.Reading.{read_log}
 use Rattle.archive.specs.Block.{same}
 use Rattle.filing.specs.Kinds.{letters_of, ids_in, entry_in, entries_in, audited}
 use Rattle.filing.specs.declared.frame.Kind.{Kind}
@@ -12,7 +11,7 @@ use Rattle.filing.specs.Entries.{LogEntry, received, sent, answered, object, che
 use Rattle.journal_code.specs.declared.state.State.{State}
 use Rattle.journal_code.specs.State.{fresh_state}
 use Rattle.journal_code.specs.Run.{Stores, entry_done, handed_in, handed_from, state_after}
-use Rattle.journal_code.specs.Claims.{Lent, AllOctets, settings_read}
+use Rattle.journal_code.specs.Claims.{settings_read}
 use Rattle.journal_code.proofs.Told.{frames-audited}
 use Rattle.audit.specs.Feed.{frame_done}
 use Rattle.audit.specs.Right.{frame_hands, frames_done, frames_hand, AuditRight}

@@ -44,7 +44,7 @@ use Rattle.audit.specs.Waiting.{is_handed}
 use Rattle.audit.specs.Place.{four_at}
 use Rattle.audit.specs.Taken.{is_packet, open_act, first_act, known_act, later_act, act_for, audit_with, records_after, Taken, taken_as, act_done, frame_taken}
 use Rattle.audit.specs.Right.{frame_hands, frames_done, frames_hand}
-use Rattle.audit.specs.Whole.{Beside, letters_in, here_of, known_with, taken_next, act_gives, given_next, frames_taken, frames_give, AllLettered, DoneBy, TakenRight, TakenAudited}
+use Rattle.audit.specs.Whole.{Beside, letters_in, here_of, known_with, taken_next, act_gives, given_next, frames_taken, frames_give, AllLettered, TakenRight, TakenAudited}
 use Rattle.audit.proofs.Right.{audit-right}
 
 -- ---- letters

@@ -8,7 +8,7 @@ use Rattle.archive.specs.Block.{same}
 use Rattle.archive.specs.Reading.{fault_in, sound_in}
 use Rattle.filing.specs.FileFrame.{file_row}
 use Rattle.audit.specs.declared.compare.What.{What}
-use Rattle.audit.specs.declared.compare.What.TheVariants.{Same, Headers, BodyMissing, BodyThere, Block, End, Body, Long, NoFile, OtherFile, Files, Note}
+use Rattle.audit.specs.declared.compare.What.TheVariants.{Same, Headers, BodyMissing, Block, End, Body, Long, NoFile, OtherFile, Files, Note}
 use Rattle.audit.specs.declared.waiting.FileFrame.{FileFrame}
 
 -- Where two lists differ first: the end of the shorter one if it begins the other.

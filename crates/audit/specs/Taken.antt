@@ -1,7 +1,7 @@
 -- What a frame of the log does (docs/ARCHIVE.md, "The log"): the first tells the settings and the session's name, each later one is fed to the
 -- journal, and what it says of the last record is kept. A frame that no receiver writes is told by a number, and those behind it are passed over: 1
 -- no `open`, 2 a Put limit over 1,048,576, 3 letters that do not belong there, 4 a packet of another length than it says.
-use Rattle.std.specs.Prelude.{ℕ, ◌+◌, ◌%◌, ◌^◌, Bool, false, not, ◌&&◌, List, length, take, drop, replicate, ◌==◌, nat_le, nat_lt, slice_index}
+use Rattle.std.specs.Prelude.{ℕ, ◌+◌, ◌%◌, ◌^◌, Bool, ◌&&◌, List, length, take, drop, replicate, ◌==◌, nat_le, nat_lt, slice_index}
 use Rattle.std.proofs.Math.Seq.{paste}
 use Rattle.base.specs.Pick.{pick}
 use Rattle.base.specs.Bytes.{be16}

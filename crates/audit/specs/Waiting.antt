@@ -1,7 +1,6 @@
 -- The record that was handed over last, and what the frames behind it say of it (docs/AUDIT.md): what the client was answered, whether the reply
 -- was sent, and the frame `file`. An answer, a reply or a frame `file` behind the next packet does not belong to it.
 use Rattle.std.specs.Prelude.{ℕ, ◌+◌, Bool, true, false, ◌&&◌, ◌||◌, List, length, replicate, ◌==◌, nat_lt}
-use Rattle.std.proofs.Math.Seq.{paste}
 use Rattle.base.specs.Pick.{pick}
 use Rattle.table.specs.Targets.{unnamed}
 use Rattle.table.specs.declared.targets.Target.{Target}

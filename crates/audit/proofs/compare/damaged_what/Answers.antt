@@ -1,6 +1,5 @@
 -- `audit::compare::damaged_what` meets its contract: its tests are those of the definition. Assumes nothing.
-use Rattle.std.proofs.Common.{◌≡◌, ℕ, ◌+◌, ◌-◌, ◌≤◌, length, take, drop, sym, refl, ap, ◌∙◌, arith, rules, le-ltb, lt-ltb, eq-eqb, ne_eqb, le-leb}
-use borrow.Author.Tests.{lt-leb, not-true, not-false}
+use Rattle.std.proofs.Common.{sym, refl, ◌∙◌, eq-eqb, ne_eqb}
 use Rattle.audit.specs.Compare.{damaged_what}
 use Rattle.archive.specs.Reading.{fault_in}
 use Rattle.audit.proofs.compare.damaged_what.Goals as goal

@@ -1,9 +1,7 @@
 -- `audit::compare::differ_at` meets its contract. The invariant: the two are alike up to the place, so they differ first where what is left of them
 -- does. Assumes nothing.
-use Rattle.std.proofs.Common.{◌≡◌, ℕ, ◌+◌, ◌-◌, ◌≤◌, length, take, drop, sym, refl, ap, ◌∙◌, arith, rules, le-ltb, lt-ltb, eq-eqb, ne_eqb, le-leb}
-use borrow.Author.Tests.{lt-leb, not-true, not-false}
+use Rattle.std.proofs.Common.{◌≡◌, ◌+◌, ◌-◌, ◌≤◌, length, drop}
 use Rattle.audit.specs.Compare.{differ_at}
-use Rattle.audit.proofs.Differ.{differ_start, differ_end, differ_end_2, differ_next, differ_here}
 use Rattle.audit.proofs.compare.differ_at.Given as goal
 
 abbrev pub invariant-loop-i : goal.invariant-loop-i

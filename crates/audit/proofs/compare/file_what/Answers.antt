@@ -1,6 +1,6 @@
 -- `audit::compare::file_what` meets its contract: its tests are those of the definition. Assumes nothing.
-use Rattle.std.proofs.Common.{◌≡◌, ℕ, ◌+◌, ◌-◌, ◌≤◌, length, take, drop, sym, refl, ap, ◌∙◌, arith, rules, le-ltb, lt-ltb, eq-eqb, ne_eqb, le-leb}
-use borrow.Author.Tests.{lt-leb, not-true, not-false}
+use Rattle.std.proofs.Common.{refl, arith, le-ltb, lt-ltb}
+use borrow.Author.Tests.{not-true, not-false}
 use Rattle.audit.proofs.compare.file_what.Goals as goal
 
 pub returns-then-not-file : goal.returns-then-not-file

@@ -1,5 +1,5 @@
 -- `audit::compare::headers_what` meets its contract: its tests are those of the definition. Assumes nothing.
-use Rattle.std.proofs.Common.{◌≡◌, sym, refl, ap, ◌∙◌, rules}
+use Rattle.std.proofs.Common.{sym, refl, ◌∙◌}
 use Rattle.audit.proofs.compare.headers_what.Goals as goal
 
 pub returns-then-is_held : goal.returns-then-is_held

@@ -1,5 +1,5 @@
 -- `audit::compare::is_equal` meets its contract: pieces of two lengths differ. Assumes nothing.
-use Rattle.std.proofs.Common.{◌≡◌, sym, refl, ap, ◌∙◌, rules}
+use Rattle.std.proofs.Common.{sym}
 use Rattle.audit.proofs.Differ.{unlike}
 use Rattle.audit.proofs.compare.is_equal.Goals as goal
 

@@ -1,6 +1,5 @@
 -- `audit::compare::is_held` meets its contract: its tests are those of the definition. Assumes nothing.
-use Rattle.std.proofs.Common.{◌≡◌, sym, refl, ap, ◌∙◌, rules, le-ltb, lt-ltb, eq-eqb, ne_eqb, le-leb}
-use borrow.Author.Tests.{lt-leb}
+use Rattle.std.proofs.Common.{refl}
 use Rattle.audit.proofs.compare.is_held.Goals as goal
 
 pub returns-then-not-is_there : goal.returns-then-not-is_there

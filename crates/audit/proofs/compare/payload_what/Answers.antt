@@ -1,5 +1,4 @@
 -- `audit::compare::payload_what` meets its contract: row and Target are those that are due. Assumes nothing.
-use Rattle.std.proofs.Common.{◌≡◌, sym, refl, ap, ◌∙◌, rules}
 use Rattle.audit.proofs.compare.payload_what.Goals as goal
 
 pub returns : goal.returns

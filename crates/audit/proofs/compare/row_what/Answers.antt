@@ -1,6 +1,5 @@
 -- `audit::compare::row_what` meets its contract: its tests are those of the definition. Assumes nothing.
-use Rattle.std.proofs.Common.{◌≡◌, ℕ, ◌+◌, ◌-◌, ◌≤◌, List, length, take, drop, sym, refl, ap, ◌∙◌, arith, rules, le-ltb, lt-ltb, eq-eqb, ne_eqb, le-leb}
-use borrow.Author.Tests.{lt-leb}
+use Rattle.std.proofs.Common.{ℕ, List, sym, refl, ap, ◌∙◌}
 use Rattle.archive.specs.Block.{same}
 use Rattle.audit.proofs.compare.row_what.Goals as goal
 

@@ -1,5 +1,5 @@
 -- `audit::compare::target_length` meets its contract: its tests are those of the definition. Assumes nothing.
-use Rattle.std.proofs.Common.{◌≡◌, sym, refl, ap, ◌∙◌, rules}
+use Rattle.std.proofs.Common.{sym, refl, ◌∙◌}
 use Rattle.audit.proofs.compare.target_length.Goals as goal
 
 pub returns-then-is_named : goal.returns-then-is_named

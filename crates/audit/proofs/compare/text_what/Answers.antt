@@ -1,5 +1,5 @@
 -- `audit::compare::text_what` meets its contract: its tests are those of the definition. Assumes nothing.
-use Rattle.std.proofs.Common.{◌≡◌, sym, refl, ap, ◌∙◌, rules}
+use Rattle.std.proofs.Common.{sym, refl, ◌∙◌}
 use Rattle.audit.proofs.compare.text_what.Goals as goal
 
 pub returns-then-is_equal : goal.returns-then-is_equal

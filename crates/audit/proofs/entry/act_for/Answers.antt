@@ -1,6 +1,5 @@
 -- `audit::entry::act_for` meets its contract: its tests are those of the definition. Assumes nothing.
-use Rattle.std.proofs.Common.{◌≡◌, ℕ, ◌+◌, ◌-◌, ◌≤◌, length, take, drop, sym, refl, ap, ◌∙◌, arith, rules, le-ltb, lt-ltb, eq-eqb, ne_eqb, le-leb}
-use borrow.Author.Tests.{lt-leb, not-true, not-false}
+use Rattle.std.proofs.Common.{refl, eq-eqb, ne_eqb}
 use Rattle.audit.specs.Taken.{act_for}
 use Rattle.audit.proofs.entry.act_for.Goals as goal
 

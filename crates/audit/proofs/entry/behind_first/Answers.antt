@@ -1,6 +1,6 @@
 -- `audit::entry::behind_first` meets its contract: the part from 1 on is the definition's, and nothing is behind the first of no bytes. Assumes
 -- nothing.
-use Rattle.std.proofs.Common.{◌≡◌, ℕ, ◌-◌, List, [], ◌∷◌, length, drop, refl, arith, length-drop, take_all, rules}
+use Rattle.std.proofs.Common.{◌≡◌, ℕ, ◌-◌, List, [], ◌∷◌, length, drop, refl, arith, length-drop, take_all}
 use Rattle.audit.proofs.entry.behind_first.Goals as goal
 
 none-behind : (l : List ℕ) → length l ≡ 0 → l ≡ drop 1 l

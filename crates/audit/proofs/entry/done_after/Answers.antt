@@ -1,8 +1,7 @@
 -- `audit::entry::done_after` meets its contract: its tests are those of the definition. Assumes nothing.
-use Rattle.std.proofs.Common.{◌≡◌, ℕ, ◌+◌, ◌-◌, ◌≤◌, length, take, drop, sym, refl, ap, ◌∙◌, arith, rules, le-ltb, lt-ltb, eq-eqb, ne_eqb, le-leb}
-use borrow.Author.Tests.{lt-leb, not-true, not-false}
+use Rattle.std.proofs.Common.{length, sym, refl, ◌∙◌, eq-eqb, ne_eqb}
 use Rattle.filing.specs.Kinds.{kind_number}
-use Rattle.filing.specs.declared.frame.Kind.TheVariants.{Open, Recv, Part, File, Done}
+use Rattle.filing.specs.declared.frame.Kind.TheVariants.{Done}
 use Rattle.audit.specs.Taken.{done_after}
 use Rattle.audit.proofs.entry.done_after.Goals as goal
 

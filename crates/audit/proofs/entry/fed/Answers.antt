@@ -1,5 +1,5 @@
 -- `audit::entry::fed` meets its contract: the fields are those of the definition. Assumes nothing.
-use Rattle.std.proofs.Common.{refl, rules}
+use Rattle.std.proofs.Common.{refl}
 use Rattle.audit.specs.Taken.{audit_with}
 use Rattle.audit.proofs.entry.fed.Goals as goal
 

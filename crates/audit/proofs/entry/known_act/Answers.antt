@@ -1,8 +1,7 @@
 -- `audit::entry::known_act` meets its contract: its tests are those of the definition. Assumes nothing.
-use Rattle.std.proofs.Common.{◌≡◌, ℕ, ◌+◌, ◌-◌, ◌≤◌, length, take, drop, sym, refl, ap, ◌∙◌, arith, rules, le-ltb, lt-ltb, eq-eqb, ne_eqb, le-leb}
-use borrow.Author.Tests.{lt-leb, not-true, not-false}
+use Rattle.std.proofs.Common.{sym, refl, ◌∙◌, eq-eqb, ne_eqb}
 use Rattle.filing.specs.Kinds.{kind_number}
-use Rattle.filing.specs.declared.frame.Kind.TheVariants.{Open, Recv, Part, File, Done}
+use Rattle.filing.specs.declared.frame.Kind.TheVariants.{Open, Recv}
 use Rattle.audit.proofs.entry.known_act.Goals as goal
 
 pub returns-then-letters-kind_number : goal.returns-then-letters-kind_number

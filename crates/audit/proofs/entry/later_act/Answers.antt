@@ -1,6 +1,5 @@
 -- `audit::entry::later_act` meets its contract: each arm has its act. Assumes nothing.
-use Rattle.std.proofs.Common.{◌≡◌, ℕ, ◌+◌, ◌-◌, ◌≤◌, length, take, drop, sym, refl, ap, ◌∙◌, arith, rules, le-ltb, lt-ltb, eq-eqb, ne_eqb, le-leb}
-use borrow.Author.Tests.{lt-leb, not-true, not-false}
+use Rattle.std.proofs.Common.{sym, refl, ◌∙◌}
 use Rattle.audit.proofs.entry.later_act.Goals as goal
 
 pub returns-in-Known : goal.returns-in-Known

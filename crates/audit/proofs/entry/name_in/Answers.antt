@@ -1,6 +1,5 @@
 -- `audit::entry::name_in` meets its contract: a short payload has no name. Assumes nothing.
-use Rattle.std.proofs.Common.{◌≡◌, ℕ, ◌+◌, ◌-◌, ◌≤◌, length, take, drop, sym, refl, ap, ◌∙◌, arith, rules, le-ltb, lt-ltb, eq-eqb, ne_eqb, le-leb}
-use borrow.Author.Tests.{lt-leb, not-true, not-false}
+use Rattle.std.proofs.Common.{length, refl, arith, le-ltb, lt-ltb}
 use Rattle.audit.specs.Taken.{name_in}
 use Rattle.audit.proofs.entry.name_in.Goals as goal
 

@@ -1,6 +1,5 @@
 -- `audit::entry::open_act` meets its contract: its tests are those of the definition. Assumes nothing.
-use Rattle.std.proofs.Common.{◌≡◌, ℕ, ◌+◌, ◌-◌, ◌≤◌, length, take, drop, sym, refl, ap, ◌∙◌, arith, rules, le-ltb, lt-ltb, eq-eqb, ne_eqb, le-leb}
-use borrow.Author.Tests.{lt-leb, not-true, not-false}
+use Rattle.std.proofs.Common.{sym, refl, ap, ◌∙◌, arith, le-ltb, lt-ltb, eq-eqb, ne_eqb}
 use Rattle.audit.specs.Taken.{open_act}
 use Rattle.audit.specs.Place.{four_at}
 use Rattle.journal_code.specs.Claims.{settings_read}

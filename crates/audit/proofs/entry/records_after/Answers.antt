@@ -1,5 +1,5 @@
 -- `audit::entry::records_after` meets its contract: its tests are those of the definition. Assumes nothing.
-use Rattle.std.proofs.Common.{refl, rules}
+use Rattle.std.proofs.Common.{refl}
 use Rattle.audit.specs.Taken.{records_after}
 use Rattle.audit.proofs.entry.records_after.Goals as goal
 

@@ -1,5 +1,5 @@
 -- `audit::entry::settings_of` meets its contract: its fields are those of the journal's settings. Assumes nothing.
-use Rattle.std.proofs.Common.{◌≡◌, ap, rules}
+use Rattle.std.proofs.Common.{ap}
 use Rattle.journal.specs.Journal.{Settings as JournalSettings}
 use Rattle.filing.specs.Kinds.{settings_in}
 use Rattle.journal_code.specs.declared.state.Settings.{Settings}

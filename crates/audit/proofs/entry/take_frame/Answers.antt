@@ -1,5 +1,5 @@
 -- `audit::entry::take_frame` meets its contract: each act does what the definition says. Assumes nothing.
-use Rattle.std.proofs.Common.{◌≡◌, sym, refl, ap, ◌∙◌, rules}
+use Rattle.std.proofs.Common.{sym, refl, ◌∙◌}
 use Rattle.audit.specs.Taken.{frame_taken}
 use Rattle.audit.proofs.entry.take_frame.Goals as goal
 

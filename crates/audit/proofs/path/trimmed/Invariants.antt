@@ -1,5 +1,5 @@
 -- `audit::path::trimmed` meets its contract: the place goes down to 0. Assumes nothing.
-use Rattle.std.proofs.Common.{◌≤◌, length, arith, rules}
+use Rattle.std.proofs.Common.{◌≤◌, length}
 use Rattle.audit.proofs.path.trimmed.Given as goal
 
 abbrev pub invariant-loop-n : goal.invariant-loop-n

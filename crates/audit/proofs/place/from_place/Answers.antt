@@ -1,5 +1,5 @@
 -- `audit::place::from_place` meets its contract: the part from a place on is the definition's, and nothing is behind the end. Assumes nothing.
-use Rattle.std.proofs.Common.{◌≡◌, ◌-◌, length, drop, sym, refl, ap, ◌∙◌, arith, length-drop, drop_of_length-le, take_all, rules}
+use Rattle.std.proofs.Common.{◌-◌, length, drop, sym, arith, length-drop, drop_of_length-le, take_all}
 use Rattle.audit.proofs.place.from_place.Goals as goal
 
 pub returns-then-from-s : goal.returns-then-from-s

@@ -1,6 +1,6 @@
 -- `audit::place::number_at` meets its contract: its tests are those of the definition. Assumes nothing.
-use Rattle.std.proofs.Common.{◌≡◌, ℕ, ◌+◌, ◌-◌, ◌≤◌, length, take, drop, sym, refl, ap, ◌∙◌, arith, rules, le-ltb, lt-ltb, eq-eqb, ne_eqb, le-leb}
-use borrow.Author.Tests.{lt-leb, not-true, not-false}
+use Rattle.std.proofs.Common.{◌+◌, length, refl, arith, le-leb}
+use borrow.Author.Tests.{lt-leb}
 use Rattle.audit.specs.Place.{four_at}
 use Rattle.audit.proofs.place.number_at.Goals as goal
 

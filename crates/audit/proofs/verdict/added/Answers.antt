@@ -1,5 +1,5 @@
 -- `audit::verdict::added` meets its contract: the fields are those of the definition. Assumes nothing.
-use Rattle.std.proofs.Common.{refl, rules}
+use Rattle.std.proofs.Common.{refl}
 use Rattle.audit.proofs.verdict.added.Goals as goal
 
 pub returns : goal.returns

@@ -1,5 +1,5 @@
 -- `audit::verdict::plus` meets its contract: its tests are those of the definition. Assumes nothing.
-use Rattle.std.proofs.Common.{refl, rules}
+use Rattle.std.proofs.Common.{refl}
 use Rattle.audit.specs.Verdict.{one_more}
 use Rattle.audit.proofs.verdict.plus.Goals as goal
 

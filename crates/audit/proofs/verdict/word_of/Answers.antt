@@ -1,5 +1,4 @@
 -- `audit::verdict::word_of` meets its contract: each arm has its word. Assumes nothing.
-use Rattle.std.proofs.Common.{◌≡◌, sym, refl, ap, ◌∙◌, rules}
 use Rattle.audit.proofs.verdict.word_of.Goals as goal
 
 pub returns-in-Absent : goal.returns-in-Absent

@@ -1,5 +1,5 @@
 -- `audit::waiting::after` meets its contract: its tests are those of the definition. Assumes nothing.
-use Rattle.std.proofs.Common.{◌≡◌, sym, refl, ap, ◌∙◌, rules}
+use Rattle.std.proofs.Common.{sym, refl, ◌∙◌}
 use Rattle.audit.proofs.waiting.after.Goals as goal
 
 pub returns-then-is_handed : goal.returns-then-is_handed

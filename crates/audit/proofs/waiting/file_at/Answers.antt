@@ -1,5 +1,5 @@
 -- `audit::waiting::file_at` meets its contract: the fields are those of the definition. Assumes nothing.
-use Rattle.std.proofs.Common.{◌≡◌, sym, refl, ap, ◌∙◌, rules}
+use Rattle.std.proofs.Common.{refl, ap}
 use Rattle.audit.specs.Waiting.{file_at}
 use Rattle.lines.specs.Word.{Filled}
 use Rattle.audit.proofs.waiting.file_at.Goals as goal

@@ -1,5 +1,4 @@
 -- `audit::waiting::noted` meets its contract: each arm has its word. Assumes nothing.
-use Rattle.std.proofs.Common.{◌≡◌, sym, refl, ap, ◌∙◌, rules}
 use Rattle.audit.proofs.waiting.noted.Goals as goal
 
 pub returns-in-Packet : goal.returns-in-Packet
