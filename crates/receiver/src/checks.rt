@@ -55,6 +55,7 @@ fn has_open(letters: &[u8]) -> bool
 }
 
 // Judges by the letters in front of a check.
+#[tactic(auto, unfolding(crate::specs::Checks::letter_verdict))]
 fn judge(letters: &[u8]) -> Verdict
     ensures { result ≡ letter_verdict letters.now }
 {
@@ -172,6 +173,7 @@ fn refused(number: i32) -> Try {
 }
 
 // Returns the letter of a check.
+#[tactic(auto, unfolding(crate::specs::Checks::letter_for))]
 pub(crate) fn letter_of(made: CheckMade) -> u8
     ensures { result ≡ letter_for made }
 {

@@ -1,0 +1,8 @@
+-- `receiver::checks::is_allowed` meets its contract: the tries are counted down. Assumes nothing.
+use Rattle.receiver.proofs.checks.is_allowed.Given as goal
+
+abbrev pub invariant-loop-left : goal.invariant-loop-left
+invariant-loop-left g l = Unit {0}
+
+abbrev pub decreases-loop-left : goal.decreases-loop-left
+decreases-loop-left g l = l.left
