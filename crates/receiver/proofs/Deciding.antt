@@ -11,7 +11,6 @@ use Rattle.server.specs.declared.HostRequest.TheVariants as request
 use Rattle.server.specs.contracts.HostRequest.{the_type}
 use Rattle.reception.specs.Answers.{afterFiling}
 use Rattle.reception.specs.Received.{told_by}
-use Rattle.reception.specs.declared.answer.Answer.{Answer}
 use Rattle.reception.specs.declared.answer.Answer.TheVariants as answer
 use Rattle.reception.specs.declared.answer.Decision.{Decision}
 use Rattle.receiver.specs.Filing.{is_filed, Carried, not_begun, filing_of, course_of, DecidesOn}

@@ -30,7 +30,7 @@ use Rattle.reception.specs.Received.{handed_at, handed_with}
 use Rattle.reception.specs.Turns.{ReceiverTurn, call_in, turned, Decided, free, filed}
 use Rattle.reception.proofs.Turned.{turn-adds}
 use Rattle.reception.proofs.Joined.{turns_receive}
-use Rattle.receiver.specs.Filing.{course_of, DecidesOn}
+use Rattle.receiver.specs.Filing.{DecidesOn}
 use Rattle.receiver.specs.Turning.{attempts_by, Turned, made, quiet, Run, RunReceives}
 use Rattle.receiver.specs.declared.record.Tried.{Tried}
 use Rattle.receiver.specs.declared.turn.Receiving.{Receiving}

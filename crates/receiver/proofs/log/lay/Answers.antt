@@ -11,6 +11,7 @@ use Rattle.receiver.specs.Log.{framed_by}
 use Rattle.receiver.specs.declared.log.Framed.{Framed}
 use Rattle.receiver.specs.declared.log.Framed.TheVariants as framed
 use Rattle.receiver.proofs.log.lay.Goals as goal
+
 -- what a call gives, by its two parts
 value : (w : Writing) (r : Wrote) (s : List ℕ) (f : Framed) → f ≡ framed_by r → writing r s ≡ w → f ≡ framed_by w.answer
 value w r s f p e = p ∙ ap (λ (x : Writing). framed_by x.answer) e
@@ -23,7 +24,6 @@ no_room : (r : Wrote) → OneOf (1 ∷ 2 ∷ []) (tag_of the_type r) → framed.
 no_room Short k = refl
 no_room TooLong k = refl
 no_room (Written n) k = absurd (miss (1 ∷ 2 ∷ []) 0 tt k)
-
 
 pub returns-in-Written : goal.returns-in-Written
 returns-in-Written c =

@@ -1,6 +1,6 @@
 -- `receiver::record::carry_all` meets its contract: each step that went well is one step less of the plan, and the first that did not is the last. Assumes
 -- nothing.
-use Rattle.std.proofs.Common.{◌≡◌, ◌+◌, ◌<◌, List, length, take, set, ℤ, pos, sym, refl, ◌∙◌, subst, arith, length-set, w32, to_z, of_z}
+use Rattle.std.proofs.Common.{◌+◌, ◌<◌, length, take, set, sym, refl, ◌∙◌, subst, arith, length-set, w32, to_z, of_z}
 use Rattle.filing.specs.declared.plan.Step.{Step}
 use Rattle.receiver.proofs.Carrying.{rank, Left, all, fewer, some_left, filed_all, stop, go, last-well}
 use Rattle.receiver.proofs.record.carry_all.Goals as goal
