@@ -78,17 +78,18 @@ pub(crate) fn write<F: Write>(held: &mut Option<F>, bytes: &[u8]) -> io::Result<
     }
 }
 
-// Makes the file readable as other files are, and closes it. Returns whether there was one.
+// Makes the file readable as other files are, and closes it. Returns whether there was one and all of it is on the disk: the library's close
+// tells of no error, so the file is synced before it.
 fn close<F: OpenFile + Drop>(held: &mut Option<F>) -> bool {
-    let is_open = match held {
+    let is_whole = match held {
         Some(file) => {
             let _ = file.set_permissions(Permissions::from_mode(0o644));
-            true
+            file.sync_all().is_ok()
         }
         None => false,
     };
     *held = None;
-    is_open
+    is_whole
 }
 
 // Gives what was got its own name, and returns whether that went well.
@@ -112,11 +113,14 @@ pub(crate) fn end<R: Env + Files>(
     part: &[u8],
     is_whole: bool,
 ) -> bool {
-    if !close(held) {
+    if held.is_none() {
         return false;
     }
+    let is_closed = close(held);
     if is_whole {
-        return rename(rt, err, part);
+        if is_closed {
+            return rename(rt, err, part);
+        }
     }
     let _ = system::remove(rt, part);
     false

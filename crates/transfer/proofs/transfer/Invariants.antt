@@ -1,9 +1,5 @@
 -- `transfer::transfer` meets its contract: the turns are counted down. Assumes nothing.
-use Rattle.std.proofs.Common.{rules}
 use Rattle.transfer.proofs.transfer.Given as goal
 
-abbrev pub invariant-loop-left : goal.invariant-loop-left
-invariant-loop-left l = Unit {0}
-
 abbrev pub decreases-loop-left : goal.decreases-loop-left
-decreases-loop-left l = l.left
+decreases-loop-left g l = l.left
