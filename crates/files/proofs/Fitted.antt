@@ -1,4 +1,4 @@
--- Bytes at the front of a store: those that fit are laid there, and others leave it was. Assumes nothing.
+-- Bytes at the front of a store: those that fit are laid there, and others leave it as it was. Assumes nothing.
 use mathlib.Core.Path.{◌≡◌, refl, ap, ◌∙◌}
 use mathlib.Core.List.{List, ◌++◌}
 use Prim.Native.Nat.{ℕ, ◌+◌, ◌≤◌, ◌<◌}

@@ -15,20 +15,20 @@ use Rattle.host.specs.declared.answers.Kind.{Kind}
 use Rattle.host.specs.declared.answers.Kind.TheVariants as kind
 
 -- The kind of answer to a request.
-abbrev pub kindFor : HostRequest → Kind
-kindFor (request.Connect n) = kind.Reply 0x20
-kindFor (request.Disconnect n) = kind.Reply 0x20
-kindFor (request.SetPath n u c) = kind.Reply 0x51
-kindFor (request.Abort n) = kind.Acknowledge
-kindFor (request.Put k b) = kind.Reply 0x20
-kindFor (request.Get k) = kind.Reply 0x51
-kindFor (request.Action k) = kind.Reply 0x51
-kindFor (request.Session k) = kind.Reply 0x51
-kindFor (request.UserDefined o k) = kind.Reply 0x51
-kindFor (request.Password u) = kind.NoPassword
-kindFor request.Nonce = kind.Nonce
-kindFor (request.Credentials n u r p) = kind.NoCredentials
-kindFor (request.Read n) = kind.NoBody
+abbrev pub kind_for : HostRequest → Kind
+kind_for (request.Connect n) = kind.Reply 0x20
+kind_for (request.Disconnect n) = kind.Reply 0x20
+kind_for (request.SetPath n u c) = kind.Reply 0x51
+kind_for (request.Abort n) = kind.Acknowledge
+kind_for (request.Put k b) = kind.Reply 0x20
+kind_for (request.Get k) = kind.Reply 0x51
+kind_for (request.Action k) = kind.Reply 0x51
+kind_for (request.Session k) = kind.Reply 0x51
+kind_for (request.UserDefined o k) = kind.Reply 0x51
+kind_for (request.Password u) = kind.NoPassword
+kind_for request.Nonce = kind.Nonce
+kind_for (request.Credentials n u r p) = kind.NoCredentials
+kind_for (request.Read n) = kind.NoBody
 
 -- What the engine does with the answer: the model's step, with the table store.
 abbrev pub answered : Call → Engine → Stores → List ℕ → Called

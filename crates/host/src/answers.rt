@@ -1,7 +1,7 @@
 // A host that keeps nothing: it answers with codes without headers, and has no password and no credentials. A nonce is the kernel's.
 ghost use Rattle.std.specs.Prelude.{◌≡◌};
 ghost use Rattle.model.specs.Step.{stepped, called, stores};
-ghost use Rattle.host.specs.Answers.{kindFor, Answers};
+ghost use Rattle.host.specs.Answers.{kind_for, Answers};
 
 use digest::md5::{Octets16, octets16_of};
 use engine::calls;
@@ -39,7 +39,7 @@ fn draw(random: &impl RandomSource) -> Drawn {
 
 // Returns which call answers `request`.
 fn kind_of(request: HostRequest) -> Kind
-    ensures { result ≡ kindFor request }
+    ensures { result ≡ kind_for request }
 {
     match request {
         HostRequest::Connect { length: _ } => Kind::Reply(SUCCESS),
@@ -79,7 +79,7 @@ pub fn answer(
     body: &mut [u8; 1048576],
     reply: &mut [u8; 65535],
 ) -> CallResult
-    ensures { Answers (kindFor request) e (stores packet.old headers.old body.old reply.old)
+    ensures { Answers (kind_for request) e (stores packet.old headers.old body.old reply.old)
         tables.old (called (stepped result (stores packet.new headers.new body.new reply.new))
         tables.new) }
 {

@@ -1,4 +1,4 @@
--- The pass over the headers finds the first of each: a header that is noted decides its part of the survey, and the others leave it is.
+-- The pass over the headers finds the first of each: a header that is noted decides its part of the survey, and the others leave it as it is.
 -- Assumes nothing.
 use mathlib.Core.Path.{◌≡◌, refl, ap, ◌∙◌}
 use mathlib.Core.List.{List, [], ◌∷◌}

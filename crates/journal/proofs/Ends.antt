@@ -94,7 +94,7 @@ module _ (j : Journal) where
   read-fair (whole p) = packet-fair (request_of p)
   read-fair short = inl (some-none 3, refl)
 
-  -- the host's answers leave it was
+  -- the host's answers leave it as it was
   reply-ended : (o : Opcode) (r : Request) (code : ℕ) (hs : List ℕ) → (reply_to o j r code hs).ended ≡ j.ended
   reply-ended Connect r code hs = refl
   reply-ended Disconnect r code hs = refl

@@ -1,4 +1,4 @@
--- Bytes laid into a store one after the other are laid at once; what is refused leaves it was. Assumes nothing.
+-- Bytes laid into a store one after the other are laid at once; what is refused leaves it as it was. Assumes nothing.
 use mathlib.Core.Path.{◌≡◌, refl, sym, ap, ap₂, subst, ◌∙◌}
 use mathlib.Core.Logic.{inl, inr}
 use mathlib.Core.Bool.{Bool, true, false}

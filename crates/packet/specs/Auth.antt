@@ -45,7 +45,7 @@ response_of v = response_in (tags v)
 
 -- ---- the challenge: tag 0 the nonce, 1 the options, 2 the realm, a charset byte and the text
 
--- What a digest_challenge says. The realm is a charset byte and the text.
+-- What a digest-challenge says. The realm is a charset byte and the text.
 pub record Challenge : Type 0 where
   pub nonce : List ℕ
   pub options : ℕ

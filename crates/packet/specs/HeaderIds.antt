@@ -58,7 +58,7 @@ connection_id = 0xCB
 abbrev pub application_parameters : ℕ
 application_parameters = 0x4C
 
--- A digest_challenge, a tag list.
+-- A digest-challenge, a tag list.
 abbrev pub authenticate_challenge : ℕ
 authenticate_challenge = 0x4D
 

@@ -9,7 +9,7 @@ use Rattle.filing.specs.declared.plan.Step.{Step}
 use Rattle.server.specs.declared.HostRequest.{HostRequest}
 use Rattle.server.specs.declared.HostRequest.TheVariants as request
 use Rattle.server.specs.contracts.HostRequest.{the_type}
-use Rattle.reception.specs.Answers.{afterFiling}
+use Rattle.reception.specs.Answers.{after_filing}
 use Rattle.reception.specs.Received.{told_by}
 use Rattle.reception.specs.declared.answer.Answer.TheVariants as answer
 use Rattle.reception.specs.declared.answer.Decision.{Decision}
@@ -28,7 +28,7 @@ none-carried b s e o p h = subst (Carried b) (sym p) (record { filed = h ∙ not
 
 -- the answer to a Put
 pub told_so : (b taken : Bool) (o : Outcome) (f : Filing) → f ≡ filing_of o → Carried b o
-    → afterFiling taken f.filed f.full ≡ answer.Reply (told_by b (course_of (record { taken = taken; outcome = o })))
+    → after_filing taken f.filed f.full ≡ answer.Reply (told_by b (course_of (record { taken = taken; outcome = o })))
 told_so b true o f e h =
     ap (λ (g : Filing). answer.Reply (code_for g.filed g.full)) e ∙ ap (λ (x : Bool). answer.Reply (code_for x o.full)) h.filed
 told_so b false o f e h = refl

@@ -41,7 +41,7 @@ use Rattle.filing.proofs.Pieces.{pieces, taken-reads}
 use Rattle.reception.specs.Received.{last_right, noted_by, noted_at, notes, handed_at}
 use Rattle.reception.specs.Notes.{is_refused, is_unfinished, is_too_small, is_end, end_number_at, total, packet_event, packet_note, note_by, note_entries, pending, logged_at}
 use Rattle.reception.specs.Turns.{ReceiverTurn, turned, Turns, calls_made, state_after, entries_made, held_in, TurnsReceive}
-use Rattle.reception.specs.Answers.{isPasswordKnown, call_of}
+use Rattle.reception.specs.Answers.{is_password_known, call_of}
 use Rattle.reception.specs.declared.answer.Answer.{Answer}
 use Rattle.reception.specs.declared.answer.Answer.TheVariants as answer
 use Rattle.reception.specs.declared.note.Note.TheVariants as note
@@ -594,7 +594,7 @@ module _ (st : Settings) (w : Known) (s : State) (j : Journal) (b : Between st w
   moves answer.Acknowledge o g =
       makes st w s j b answer.Acknowledge lent o h fresh g (silent st w s j b answer.Acknowledge lent o h fresh g refl (same_next j.ended j))
   moves (answer.Password y) o g =
-      let p = given (isPasswordKnown y) lent in
+      let p = given (is_password_known y) lent in
       let z = x st w s j b (answer.Password y) lent o h fresh in
       let word = password-word st w s j b z (says st w s j b (answer.Password y) lent o h fresh) p refl g in
       makes st w s j b (answer.Password y) lent o h fresh g

@@ -22,14 +22,14 @@ use Rattle.reception.specs.declared.answer.Answer.{Answer}
 use Rattle.reception.specs.declared.answer.Answer.TheVariants as answer
 
 -- A Length header.
-abbrev pub lengthHeader : ℕ → List ℕ
-lengthHeader n = header_id.length ∷ bytes32 n
+abbrev pub length_header : ℕ → List ℕ
+length_header n = header_id.length ∷ bytes32 n
 
 -- Whether there is a password.
-abbrev pub isPasswordKnown : Secret → Bool
-isPasswordKnown secret.Known = true
-isPasswordKnown secret.Unknown = false
-isPasswordKnown secret.Stopped = false
+abbrev pub is_password_known : Secret → Bool
+is_password_known secret.Known = true
+is_password_known secret.Unknown = false
+is_password_known secret.Stopped = false
 
 -- The user id, if it has bytes, and the password behind it.
 abbrev pub own_of : ℕ → List ℕ → Credentials
@@ -41,11 +41,11 @@ call_of answer.Offer l = bytes_offered_of l
 call_of answer.End l = stream_ended_of
 call_of answer.Sent l = reply_taken_of
 call_of (answer.Reply code) l = reply_given_of code []
-call_of (answer.Object size) l = object_given_of (lengthHeader size) true
+call_of (answer.Object size) l = object_given_of (length_header size) true
 call_of answer.Body l = body_given_of l
 call_of answer.BodyFailed l = body_failed_of
 call_of answer.Acknowledge l = abort_acknowledged_of
-call_of (answer.Password s) l = password_given_of (given (isPasswordKnown s) l)
+call_of (answer.Password s) l = password_given_of (given (is_password_known s) l)
 call_of (answer.Nonce n) l = nonce_given_of n l
 call_of (answer.Credentials user) l = credentials_given_of (some (own_of user l))
 call_of answer.NoCredentials l = credentials_given_of none
@@ -57,29 +57,29 @@ lending e s t = record { engine = e; stores = s; tables = t }
 -- ---- decisions
 
 -- The answer to a request of which nothing is asked of the system, or nothing can be had.
-abbrev pub plainAnswer : HostRequest → Answer
-plainAnswer (request.Connect n) = answer.Reply response.success
-plainAnswer (request.Disconnect n) = answer.Reply response.success
-plainAnswer (request.SetPath n u c) = answer.Reply response.success
-plainAnswer (request.Abort n) = answer.Acknowledge
-plainAnswer (request.Put k b) = answer.Reply response.database_locked
-plainAnswer (request.Get k) = answer.Reply response.not_found
-plainAnswer (request.Action k) = answer.Reply response.not_implemented
-plainAnswer (request.Session k) = answer.Reply response.not_implemented
-plainAnswer (request.UserDefined o k) = answer.Reply response.not_implemented
-plainAnswer (request.Password u) = answer.Password secret.Unknown
-plainAnswer request.Nonce = answer.BodyFailed
-plainAnswer (request.Credentials n u r p) = answer.NoCredentials
-plainAnswer (request.Read n) = answer.BodyFailed
+abbrev pub plain_answer : HostRequest → Answer
+plain_answer (request.Connect n) = answer.Reply response.success
+plain_answer (request.Disconnect n) = answer.Reply response.success
+plain_answer (request.SetPath n u c) = answer.Reply response.success
+plain_answer (request.Abort n) = answer.Acknowledge
+plain_answer (request.Put k b) = answer.Reply response.database_locked
+plain_answer (request.Get k) = answer.Reply response.not_found
+plain_answer (request.Action k) = answer.Reply response.not_implemented
+plain_answer (request.Session k) = answer.Reply response.not_implemented
+plain_answer (request.UserDefined o k) = answer.Reply response.not_implemented
+plain_answer (request.Password u) = answer.Password secret.Unknown
+plain_answer request.Nonce = answer.BodyFailed
+plain_answer (request.Credentials n u r p) = answer.NoCredentials
+plain_answer (request.Read n) = answer.BodyFailed
 
 -- What is done once the reply was written, all of it or not.
-abbrev pub afterWrite : Bool → Decision
-afterWrite written = pick written (Make answer.Sent) (Leave 81)
+abbrev pub after_write : Bool → Decision
+after_write written = pick written (Make answer.Sent) (Leave 81)
 
 -- What is done once sixteen random bytes were asked for.
-abbrev pub afterDraw : Bool → Octets16 → Decision
-afterDraw drawn n = pick drawn (Make (answer.Nonce n)) (Leave 82)
+abbrev pub after_draw : Bool → Octets16 → Decision
+after_draw drawn n = pick drawn (Make (answer.Nonce n)) (Leave 82)
 
 -- The answer to a Put, if records are taken under its Target or not.
-abbrev pub afterFiling : Bool → Bool → Bool → Answer
-afterFiling taken filed full = answer.Reply (pick taken (code_for filed full) response.forbidden)
+abbrev pub after_filing : Bool → Bool → Bool → Answer
+after_filing taken filed full = answer.Reply (pick taken (code_for filed full) response.forbidden)

@@ -14,7 +14,7 @@ use Rattle.filing.specs.Contents.{entry_by}
 use Rattle.packet.specs.Limits.{max_packet}
 use Rattle.filing.specs.declared.content.Event.{Event}
 use Rattle.filing.specs.declared.content.Event.TheVariants.{Received, Broken, Replied, Answered, Given, Checked, Challenged, Ended}
-use Rattle.reception.specs.Answers.{lengthHeader}
+use Rattle.reception.specs.Answers.{length_header}
 use Rattle.reception.specs.Received.{last_right}
 use Rattle.reception.specs.declared.answer.Secret.{Secret}
 use Rattle.reception.specs.declared.answer.Secret.TheVariants as secret
@@ -129,7 +129,7 @@ abbrev pub part_bytes : Part → Stores → Stores → List ℕ
 part_bytes part.Nothing before after = []
 part_bytes (part.Packet n) before after = take n after.packet
 part_bytes part.Reply before after = before.reply
-part_bytes (part.Length n) before after = lengthHeader n
+part_bytes (part.Length n) before after = length_header n
 part_bytes (part.Nonce n) before after = octets16 n
 
 -- The entry that a note stands for.

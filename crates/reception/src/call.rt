@@ -5,7 +5,7 @@ ghost use Rattle.base.specs.Pick.{pick};
 ghost use Rattle.model.specs.Step.{stepped, called, stores};
 ghost use Rattle.model.specs.Calls.{credentials_given_step};
 ghost use Rattle.model.specs.Runs.{Says};
-ghost use Rattle.reception.specs.Answers.{lengthHeader, isPasswordKnown, own_of, call_of, lending};
+ghost use Rattle.reception.specs.Answers.{length_header, is_password_known, own_of, call_of, lending};
 
 use crate::answer::{Answer, Secret};
 use engine::calls;
@@ -17,7 +17,7 @@ pub const BODY: usize = 65536;
 
 // Makes a Length header.
 pub fn length_header(size: u32) -> [u8; 5]
-    ensures { result ≡ lengthHeader size }
+    ensures { result ≡ length_header size }
 {
     [
         LENGTH,
@@ -30,7 +30,7 @@ pub fn length_header(size: u32) -> [u8; 5]
 
 // Returns whether there is a password.
 fn is_password_known(secret: Secret) -> bool
-    ensures { result ≡ isPasswordKnown secret }
+    ensures { result ≡ is_password_known secret }
 {
     match secret {
         Secret::Known => true,

@@ -1,6 +1,6 @@
 // What is decided, by the results of the system's calls.
 ghost use Rattle.std.specs.Prelude.{◌≡◌};
-ghost use Rattle.reception.specs.Answers.{plainAnswer, afterWrite, afterDraw, afterFiling};
+ghost use Rattle.reception.specs.Answers.{plain_answer, after_write, after_draw, after_filing};
 
 use crate::answer::{Answer, Decision, Secret};
 use digest::md5::Octets16;
@@ -16,7 +16,7 @@ pub const NO_RANDOMNESS: u8 = 82;
 // Returns the answer to `request` if nothing is asked of the system, or nothing can be had of it: no record is filed, no file is there, no password
 // is known. Without sixteen random bytes no call answers a request for a nonce, and the engine refuses the one that is returned.
 pub fn plain_answer(request: HostRequest) -> Answer
-    ensures { result ≡ plainAnswer request }
+    ensures { result ≡ plain_answer request }
 {
     match request {
         HostRequest::Connect { length: _ } => Answer::Reply(SUCCESS),
@@ -46,7 +46,7 @@ pub fn plain_answer(request: HostRequest) -> Answer
 
 // Returns what is done once the reply was written: the engine hears that it was taken only if the system took all of it.
 pub fn after_write(is_written: bool) -> Decision
-    ensures { result ≡ afterWrite is_written }
+    ensures { result ≡ after_write is_written }
 {
     if is_written {
         return Decision::Make(Answer::Sent);
@@ -56,7 +56,7 @@ pub fn after_write(is_written: bool) -> Decision
 
 // Returns what is done once sixteen random bytes were asked for.
 pub fn after_draw(is_drawn: bool, nonce: Octets16) -> Decision
-    ensures { result ≡ afterDraw is_drawn nonce }
+    ensures { result ≡ after_draw is_drawn nonce }
 {
     if is_drawn {
         return Decision::Make(Answer::Nonce(nonce));
@@ -66,7 +66,7 @@ pub fn after_draw(is_drawn: bool, nonce: Octets16) -> Decision
 
 // Returns the answer to a Put: the code of its filing, if records are taken under its Target.
 pub fn after_filing(is_taken: bool, filing: Filing) -> Answer
-    ensures { result ≡ afterFiling is_taken filing.filed filing.full }
+    ensures { result ≡ after_filing is_taken filing.filed filing.full }
 {
     if is_taken {
         return Answer::Reply(code_for(filing));

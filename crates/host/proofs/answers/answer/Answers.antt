@@ -7,14 +7,14 @@ use Prim.Native.Nat.{ℕ}
 use Rattle.model.specs.Step.{Stores, Stepped, Called, called, stores}
 use Rattle.server.specs.declared.Engine.{Engine}
 use Rattle.server.specs.declared.HostRequest.{HostRequest}
-use Rattle.host.specs.Answers.{kindFor, Answers}
+use Rattle.host.specs.Answers.{kind_for, Answers}
 use Rattle.host.specs.declared.answers.Kind.{Kind}
 use Rattle.host.specs.declared.answers.Kind.TheVariants as kind
 use Rattle.host.proofs.answers.answer.Goals as goal
 
 -- The kind `k` is that of the request, and an arm `x` answers as its own kind does.
-due : (q : HostRequest) (e : Engine) (s : Stores) (t : List ℕ) (k x : Kind) (m : Called) → k ≡ kindFor q → k ≡ x → Answers x e s t m
-    → Answers (kindFor q) e s t m
+due : (q : HostRequest) (e : Engine) (s : Stores) (t : List ℕ) (k x : Kind) (m : Called) → k ≡ kind_for q → k ≡ x → Answers x e s t m
+    → Answers (kind_for q) e s t m
 due q e s t k x m h i w = subst (λ (y : Kind). Answers y e s t m) (sym i ∙ h) w
 
 pub returns-in-Reply : goal.returns-in-Reply
