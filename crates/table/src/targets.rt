@@ -103,7 +103,7 @@ fn close_column(tables: &mut [u64], at: usize, count: usize, id: u32)
     ensures { tables.new ≡ column_closed id count at tables.old }
 {
     let closed = id as u64;
-    let mut kept = 0;
+    let mut kept: usize = 0;
     let mut i = 0;
     while i < count {
         let x = tables[i];
