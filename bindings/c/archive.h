@@ -1,6 +1,6 @@
 /* The proved blocks of the archive for C and C++: libarchive_c.a, for x86-64 Linux and nothing else. docs/ARCHIVE.md says what a block is.
  *
- *     rt staticlib archive_c                                 writes target/staticlib/libarchive_c.a
+ *     tools/make/staticlib archive_c                                 writes target/staticlib/libarchive_c.a
  *
  * No call keeps a pointer, allocates or waits. The two slices must not overlap, and no pointer may be null, also with length 0. */
 #ifndef ARCHIVE_H

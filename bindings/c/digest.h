@@ -1,4 +1,4 @@
-/* The proved digests for C and C++: libdigest_c.a, for x86-64 Linux and nothing else. `rt staticlib digest_c` writes it. No pointer may be null. */
+/* The proved digests for C and C++: libdigest_c.a, for x86-64 Linux and nothing else. `tools/make/staticlib digest_c` writes it. No pointer may be null. */
 #ifndef DIGEST_H
 #define DIGEST_H
 

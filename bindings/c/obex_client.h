@@ -1,6 +1,6 @@
 /* The proved OBEX client for C and C++: libclient_c.a, for x86-64 Linux and nothing else.
  *
- *     rt staticlib client_c                                  writes target/staticlib/libclient_c.a
+ *     tools/make/staticlib client_c                                  writes target/staticlib/libclient_c.a
  *     cc -Ibindings/c user.c target/staticlib/libclient_c.a      compiles a user
  *
  * The user keeps the state as 32 numbers (`words`) and four stores, and lends them to each call. docs/CLIENT.md says of each call what it does,

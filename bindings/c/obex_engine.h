@@ -1,6 +1,6 @@
 /* The proved OBEX server engine for C and C++: libengine_c.a, for x86-64 Linux and nothing else.
  *
- *     rt staticlib engine_c                                  writes target/staticlib/libengine_c.a
+ *     tools/make/staticlib engine_c                                  writes target/staticlib/libengine_c.a
  *     cc -Ibindings/c host.c target/staticlib/libengine_c.a      compiles a host
  *
  * The host keeps the state as 64 numbers (`words`), the table store (`tables`) and four stores, and lends them to each call. docs/EMBEDDING.md

@@ -1,6 +1,6 @@
 /* Header ids, response codes, and the proved readers and writers of headers for C and C++: libheaders_c.a, for x86-64 Linux and nothing else.
  *
- *     rt staticlib headers_c                                 writes target/staticlib/libheaders_c.a
+ *     tools/make/staticlib headers_c                                 writes target/staticlib/libheaders_c.a
  *
  * docs/PROTOCOL.md#headers says what a header is, docs/RUST.md what is proved. A value is passed without its id and its length. No call keeps a
  * pointer, allocates or waits. What is lent in one call must not overlap, and no pointer may be null, also with length 0. */

@@ -1,6 +1,6 @@
 //! For build scripts: finds a static library of the proved crates and links it.
 //!
-//! `rt staticlib NAME` writes `libNAME.a`. It is looked for in the folder that `OBEX_LIB` names;
+//! `tools/make/staticlib NAME` writes `libNAME.a`. It is looked for in the folder that `OBEX_LIB` names;
 //! else in `lib` beside these crates, where a distribution has it; else in `target/staticlib` of
 //! the repository. If it is in none of them, or the target is not x86-64 Linux, the build script
 //! warns and goes on: checking and documenting a crate need no library, and building it stops
@@ -49,7 +49,7 @@ fn folders(crate_folder: &Path, named: Option<PathBuf>) -> Vec<PathBuf> {
 fn missing(name: &str, folders: &[PathBuf]) -> String {
     let places: Vec<String> = folders.iter().map(|folder| folder.display().to_string()).collect();
     format!(
-        "no lib{name}.a in {}. Run `rt staticlib {name}` in the repository, which writes it to target/staticlib, or set OBEX_LIB to the \
+        "no lib{name}.a in {}. Run `tools/make/staticlib {name}` in the repository, which writes it to target/staticlib, or set OBEX_LIB to the \
          folder that has it. Until then this crate can be checked and documented, and not linked",
         places.join(" or "),
     )
@@ -75,7 +75,7 @@ mod tests {
     #[test]
     fn the_message_names_what_to_do() {
         let text = missing("engine_c", &["/a".into(), "/b".into()]);
-        for part in ["/a or /b", "`rt staticlib engine_c`", "target/staticlib", "OBEX_LIB"] {
+        for part in ["/a or /b", "`tools/make/staticlib engine_c`", "target/staticlib", "OBEX_LIB"] {
             assert!(text.contains(part), "{part} is not in: {text}");
         }
     }
