@@ -6,7 +6,7 @@ help:
 	@echo 'command        what it does                                                            needs                  about'
 	@echo 'make try       plays a session through the engine, line by line, without a proof       Rattle (rt), python3   10 seconds'
 	@echo 'make run       proves the bench, and plays the same session                            Rattle, python3        10 minutes, then at once'
-	@echo 'make test      the gate: proves all from nothing, refuses wrong programs, runs all     Rattle, python3        32 minutes'
+	@echo 'make test      the gate: proves all from nothing, refuses wrong programs, runs all     Rattle                 15 minutes'
 	@echo 'make check     what needs no prover: documents, trace, edits, contracts, sessions      python3                5 seconds'
 	@echo 'make backends  every program compiled in three ways and interpreted, compared          Rattle, python3        3 minutes'
 	@echo 'make serve     a server of the files in a folder: DIR=./served PORT=6500               Rattle, python3        10 minutes, then at once'
