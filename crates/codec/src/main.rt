@@ -10,11 +10,10 @@ mod unsent;
 use check::same;
 use digests::{challenge, digest, respond, response_list, verify, write_challenge};
 use headers::{put_headers, tags};
-use lines::input::{before_first, bytes_of, next_line};
+use lines::input::lines_of;
 use lines::word::{byte_at, find, line_number, number, unhex, word_of};
 use packets::{answered, code, fields_of, first, packet_length, parsed, reply, request};
 use show::put;
-use std::io::Read;
 use unsent::queue;
 
 // What a line asks about.
@@ -177,24 +176,12 @@ fn line(rt: &impl Print, s: &[u8], is_cut: bool) {
     line_long(rt, s);
 }
 
-// Answers the lines of standard input, which is read into `s`. A line that is longer than the store is no question.
-fn lines_of(rt: &impl Print, input: &mut impl Read, s: &mut [u8]) {
-    let mut steps = u64::MAX;
-    let mut at = before_first();
-    while steps > 0 {
-        at = next_line(input, s, at);
-        if at.is_over {
-            return;
-        }
-        if at.is_there {
-            line(rt, bytes_of(s, at), at.is_cut);
-        }
-        steps -= 1;
-    }
-}
-
-// Answers standard input on standard output.
+// Answers the lines of standard input. A line that is longer than the store is no question.
 fn main(rt: HostRuntime) {
     let mut input = [0u8; 300000];
-    lines_of(&rt, &mut rt.stdin(), &mut input);
+    lines_of(
+        &mut rt.stdin(),
+        &mut input,
+        |s, is_cut| line(&rt, s, is_cut),
+    );
 }

@@ -137,8 +137,7 @@ fn has_cut(before: Line) -> bool
 }
 
 // Returns what follows `before` in the input that is read into `s`: the next line, if all of it is in the store, or else what was
-// read of it. A program takes such steps until the input is over. It counts them down from a number that no run uses up, since a proved loop
-// has to end and nothing says that the input does.
+// read of it. `lines_of` takes such steps until the input is over.
 pub fn next_line(input: &mut impl Read, s: &mut [u8], before: Line) -> Line
     ensures bounds { (result.start ≤ result.end) × ((result.end ≤ result.next) × ((result.next ≤ result.have) × (result.have ≤ length s.new))) }
     ensures whole { has_line s.old before ≡ true
@@ -170,4 +169,22 @@ pub fn bytes_of(s: &[u8], line: Line) -> &[u8]
     let end = least(line.end, s.len());
     let start = least(line.start, end);
     &s[start..end]
+}
+
+// Reads the lines of `input` into the store `s`, one after the other, and has `answer` answer each. It is told, too, whether the line is longer
+// than the store, so that its start was dropped. The steps are counted up to a number that no run uses up, since a proved loop has to end and
+// nothing says that the input does.
+pub fn lines_of<F: FnMut(&[u8], bool)>(input: &mut impl Read, s: &mut [u8], mut answer: F)
+    requires { F.IsAlwaysCallable answer }
+{
+    let mut at = before_first();
+    for _ in 0..u64::MAX {
+        at = next_line(input, s, at);
+        if at.is_over {
+            return;
+        }
+        if at.is_there {
+            answer(bytes_of(s, at), at.is_cut);
+        }
+    }
 }

@@ -10,9 +10,8 @@ mod readings;
 
 use crate::answer::bad_question;
 use crate::question::{Question, question_of};
-use lines::input::{before_first, bytes_of, next_line};
+use lines::input::lines_of;
 use lines::word::{after, find};
-use std::io::Read;
 
 // Answers one line.
 fn line(rt: &impl Print, s: &[u8], is_cut: bool) {
@@ -34,24 +33,12 @@ fn line(rt: &impl Print, s: &[u8], is_cut: bool) {
     }
 }
 
-// Answers the lines of standard input, which is read into `s`.
-fn lines_of(rt: &impl Print, input: &mut impl Read, s: &mut [u8]) {
-    let mut steps = u64::MAX;
-    let mut at = before_first();
-    while steps > 0 {
-        at = next_line(input, s, at);
-        if at.is_over {
-            return;
-        }
-        if at.is_there {
-            line(rt, bytes_of(s, at), at.is_cut);
-        }
-        steps -= 1;
-    }
-}
-
 // Answers the lines of standard input. A line of 262,144 bytes and its end fit in the store.
 fn main(rt: HostRuntime) {
     let mut input = [0u8; 262145];
-    lines_of(&rt, &mut rt.stdin(), &mut input);
+    lines_of(
+        &mut rt.stdin(),
+        &mut input,
+        |s, is_cut| line(&rt, s, is_cut),
+    );
 }

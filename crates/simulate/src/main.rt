@@ -10,10 +10,9 @@ mod question;
 
 use crate::answer::{bad_question, ranged, row, simulated};
 use crate::question::{Mode, Number, Question, is_last, mode_of, number_of, question_of};
-use lines::input::{before_first, bytes_of, next_line};
+use lines::input::lines_of;
 use lines::word::word_of;
 use simulator::{simulate, simulate_range};
-use std::io::Read;
 
 // Answers `get N M on|off`.
 fn get(rt: &impl Print, s: &[u8]) {
@@ -110,24 +109,12 @@ fn line(rt: &impl Print, s: &[u8], is_cut: bool) {
     }
 }
 
-// Answers the lines of standard input, which is read into `s`.
-fn lines_of(rt: &impl Print, input: &mut impl Read, s: &mut [u8]) {
-    let mut steps = u64::MAX;
-    let mut at = before_first();
-    while steps > 0 {
-        at = next_line(input, s, at);
-        if at.is_over {
-            return;
-        }
-        if at.is_there {
-            line(rt, bytes_of(s, at), at.is_cut);
-        }
-        steps -= 1;
-    }
-}
-
 // Answers the lines of standard input. Every question fits in the store.
 fn main(rt: HostRuntime) {
     let mut input = [0u8; 4096];
-    lines_of(&rt, &mut rt.stdin(), &mut input);
+    lines_of(
+        &mut rt.stdin(),
+        &mut input,
+        |s, is_cut| line(&rt, s, is_cut),
+    );
 }

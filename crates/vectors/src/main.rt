@@ -2,10 +2,9 @@
 #![tactic(auto)]
 
 use digest::md5;
-use lines::input::{before_first, bytes_of, next_line};
+use lines::input::lines_of;
 use lines::output::{pair, print};
 use lines::word::{find, unhex};
-use std::io::Read;
 
 fn put_byte(rt: &impl Print, b: u8) {
     let two = pair(b);
@@ -72,23 +71,12 @@ fn line(rt: &impl Print, s: &[u8], is_cut: bool) {
     }
 }
 
-// Answers the lines of standard input, which is read into `s`. A line that is longer than the store has no answer.
-fn lines_of(rt: &impl Print, input: &mut impl Read, s: &mut [u8]) {
-    let mut steps = u64::MAX;
-    let mut at = before_first();
-    while steps > 0 {
-        at = next_line(input, s, at);
-        if at.is_over {
-            return;
-        }
-        if at.is_there {
-            line(rt, bytes_of(s, at), at.is_cut);
-        }
-        steps -= 1;
-    }
-}
-
+// Answers the lines of standard input. A line that is longer than the store has no answer.
 fn main(rt: HostRuntime) {
     let mut input = [0u8; 65536];
-    lines_of(&rt, &mut rt.stdin(), &mut input);
+    lines_of(
+        &mut rt.stdin(),
+        &mut input,
+        |s, is_cut| line(&rt, s, is_cut),
+    );
 }
