@@ -40,6 +40,7 @@ pub fn read_full(from: &mut impl Read, s: &mut [u8]) -> usize
     ensures { result ≤ length s.new }
 {
     let mut n = 0;
+    // Stays a loop over a place: each read says itself how many bytes it passes.
     while n < s.len() {
         let k = read(from, &mut s[n..]);
         if k == 0 {
@@ -51,17 +52,14 @@ pub fn read_full(from: &mut impl Read, s: &mut [u8]) -> usize
 }
 
 // Moves what stands from `from` up to `to` to the front of `s`, and returns how many bytes that are.
+#[tactic(auto, unfolding(crate::specs::Input::kept_front))]
 pub fn keep(s: &mut [u8], from: usize, to: usize) -> usize
     requires { (from ≤ to) × (to ≤ length s.old) }
     ensures within { result ≤ length s.new }
     ensures kept { filled s.new result ≡ kept_front s.old from to }
 {
-    let mut i = 0;
-    while i < to - from {
-        s[i] = s[from + i];
-        i += 1;
-    }
-    i
+    s.copy_within(from..to, 0);
+    to - from
 }
 
 // Returns what stands before the first line.
