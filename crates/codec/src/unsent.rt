@@ -189,20 +189,16 @@ fn put_again(
 }
 
 // Returns what is still to be sent once a packet was put back.
-fn put_back(rt: &impl Print, q: Unsent, done: Rewound) -> Unsent {
-    let Rewound::Back {
-        headers: n,
-        pending: m,
-    } = done
-    else {
+fn put_back(rt: &impl Print, q: Unsent, done: Option<Rewound>) -> Unsent {
+    let Some(Rewound { headers, pending }) = done else {
         put(rt, b" short");
         return q;
     };
     Unsent {
         sent: q.sent,
-        total: sum(q.sent, n),
+        total: sum(q.sent, headers),
         given: q.given,
-        end: sum(q.given, m),
+        end: sum(q.given, pending),
         has_body: q.has_body,
         made: 3,
     }
