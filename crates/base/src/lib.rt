@@ -9,21 +9,21 @@ ghost use Rattle.base.specs.Bytes.{be16};
 pub fn wide(b: u8) -> usize
     ensures { (result ≡ b) × (result < 256) }
 {
-    b as usize
+    usize::from(b)
 }
 
 // Returns the byte `b` as a `u32`.
 pub fn wide32(b: u8) -> u32
     ensures { (result ≡ b) × (result < 256) }
 {
-    b as u32
+    u32::from(b)
 }
 
 // Returns the byte `b` as a `u64`.
 pub fn wide64(b: u8) -> u64
     ensures { (result ≡ b) × (result < 256) }
 {
-    b as u64
+    u64::from(b)
 }
 
 // Reads the 16-bit number at `at`, its high-order byte first: OBEX writes all numbers in network byte order.
@@ -32,7 +32,7 @@ pub fn be16_at(s: &[u8], at: usize) -> usize
     ensures value { result ≡ be16 s.now at }
     ensures small { result < 65536 }
 {
-    wide(s[at]) * 256 + wide(s[at + 1])
+    usize::from(u16::from_be_bytes([s[at], s[at + 1]]))
 }
 
 // Copies all of `src` into `dst`, from `at` on.
@@ -40,9 +40,5 @@ pub fn copy_into(dst: &mut [u8], at: usize, src: &[u8])
     requires { at + length src.now ≤ length dst.old }
     ensures { dst.new ≡ paste dst.old at src.now (length src.now) }
 {
-    let mut i = 0;
-    while i < src.len() {
-        dst[at + i] = src[i];
-        i += 1;
-    }
+    dst[at..at + src.len()].copy_from_slice(src);
 }
