@@ -7,6 +7,7 @@ use Prim.Native.Nat.{ℕ, ◌≤◌}
 use native.Mathlib.Omega.{arith}
 use lib.ListN.{take}
 use lib.Dec.{eqb}
+use Rattle.std.specs.Prelude.{Some, None}
 use Rattle.base.specs.Pick.{pick}
 use Rattle.packet.specs.HeaderIds as header_id
 use Rattle.packet.specs.Header.{Header, first, read_headers}
@@ -28,9 +29,7 @@ use Rattle.incoming.specs.declared.frame.Frame.{Frame}
 use Rattle.incoming.specs.declared.frame.Frame.TheVariants as frame
 use Rattle.incoming.specs.declared.frame.Framed.{Framed}
 use Rattle.outgoing.specs.declared.object.Outgoing.{Outgoing}
-use Rattle.connection.specs.Peer.{at_least255, id_in}
-use Rattle.connection.specs.declared.peer.ConnectionId.{ConnectionId}
-use Rattle.connection.specs.declared.peer.ConnectionId.TheVariants.{Id, Missing}
+use Rattle.connection.specs.Peer.{at_least255, id_in, ConnectionId}
 use Rattle.client_model.specs.declared.Kind.{Kind}
 use Rattle.client_model.specs.declared.Kind.TheVariants as kind
 use Rattle.client_model.specs.declared.Operation.{Operation}
@@ -54,7 +53,7 @@ use Rattle.client.proofs.Guards.{Goes, request-fits}
 
 -- ---- the heading
 
-id_first : (x : Option (List ℕ)) → pick (present x) (Id (id_of x)) Missing ≡ id_in x
+id_first : (x : Option (List ℕ)) → pick (present x) (Some (id_of x)) None ≡ id_in x
 id_first none = refl
 id_first (some v) = refl
 

@@ -8,6 +8,7 @@ use denote.Enum.Declared.{tag_of}
 use types.Run.{OneOf, miss}
 use lib.ListN.{length, take, length-append}
 use lib.Seq.{paste}
+use Rattle.std.specs.Prelude.{Some, None}
 use Rattle.base.specs.Pick.{pick}
 use Rattle.base.specs.Bytes.{bytes16}
 use Rattle.packet.specs.Header.{all_bytes, bytes_of, encoding_of}
@@ -22,8 +23,7 @@ use Rattle.outgoing.specs.declared.object.NextPacket.{NextPacket}
 use Rattle.outgoing.specs.declared.object.Next.{Next}
 use Rattle.outgoing.specs.declared.object.Next.TheVariants as next
 use Rattle.connection.specs.Reply.{front, start_bytes, fields_of}
-use Rattle.connection.specs.declared.peer.ConnectionId.{ConnectionId}
-use Rattle.connection.specs.declared.peer.ConnectionId.TheVariants.{Id, Missing}
+use Rattle.connection.specs.Peer.{ConnectionId}
 use Rattle.connection.proofs.Front.{front-paste}
 use Rattle.client_model.specs.declared.Kind.{Kind}
 use Rattle.client_model.specs.declared.Operation.{Operation}
@@ -51,21 +51,21 @@ abbrev pub IsLead : ConnectionId → Bool → List ℕ → ℕ → Type 0
 IsLead id srm b n = (take n b ≡ leading id srm) × (n ≡ length (leading id srm)) × (n ≤ 7) × (length b ≡ 7)
 
 module _ (id : ConnectionId) (srm : Bool) where
-  pub leads-both : (i : ℕ) → id ≡ Id i → srm ≡ true
+  pub leads-both : (i : ℕ) → id ≡ Some i → srm ≡ true
       → IsLead id srm (0xCB ∷ i / 16777216 % 256 ∷ i / 65536 % 256 ∷ i / 256 % 256 ∷ i % 256 ∷ 0x97 ∷ 0x01 ∷ []) 7
   unfolding leading leading_headers insert_early must_lead all_bytes bytes_of encoding_of
   leads-both i e k = rw (e, k) (refl, refl, omega arith, refl)
 
-  pub leads_id : (i : ℕ) → id ≡ Id i → srm ≡ false
+  pub leads_id : (i : ℕ) → id ≡ Some i → srm ≡ false
       → IsLead id srm (0xCB ∷ i / 16777216 % 256 ∷ i / 65536 % 256 ∷ i / 256 % 256 ∷ i % 256 ∷ 0x97 ∷ 0x01 ∷ []) 5
   unfolding leading leading_headers insert_early must_lead all_bytes bytes_of encoding_of
   leads_id i e k = rw (e, k) (refl, refl, omega arith, refl)
 
-  pub leads-mode : id ≡ Missing → srm ≡ true → IsLead id srm (0x97 ∷ 0x01 ∷ 0 ∷ 0 ∷ 0 ∷ 0 ∷ 0 ∷ []) 2
+  pub leads-mode : id ≡ None → srm ≡ true → IsLead id srm (0x97 ∷ 0x01 ∷ 0 ∷ 0 ∷ 0 ∷ 0 ∷ 0 ∷ []) 2
   unfolding leading leading_headers insert_early must_lead all_bytes bytes_of encoding_of
   leads-mode e k = rw (e, k) (refl, refl, omega arith, refl)
 
-  pub leads-none : id ≡ Missing → srm ≡ false → IsLead id srm (0x97 ∷ 0x01 ∷ 0 ∷ 0 ∷ 0 ∷ 0 ∷ 0 ∷ []) 0
+  pub leads-none : id ≡ None → srm ≡ false → IsLead id srm (0x97 ∷ 0x01 ∷ 0 ∷ 0 ∷ 0 ∷ 0 ∷ 0 ∷ []) 0
   unfolding leading leading_headers insert_early must_lead all_bytes bytes_of encoding_of
   leads-none e k = rw (e, k) (refl, refl, omega arith, refl)
 

@@ -20,7 +20,6 @@ use crate::step::{
     awaits_first, client_with, ends, over, stream_end, took, wants, with_begun, with_taken,
 };
 use client_model::{Await, CallResult, Client, End, Kind, Operation, Outcome, Refusal, Settings};
-use connection::peer::ConnectionId;
 use incoming::frame::{Frame, read_packet};
 use packet::limits::MIN_PACKET;
 
@@ -31,7 +30,7 @@ fn fresh(settings: Settings, awaits: Await) -> Client
     client_with(
         settings,
         MIN_PACKET,
-        ConnectionId::Missing,
+        None,
         Operation::Nothing,
         awaits,
         false,

@@ -1,13 +1,12 @@
 -- How the client's state and the result of a call stand in the 32 numbers that a user outside Rattle keeps (bindings/c/obex_client.h names their
 -- places). `result_of` reads the numbers: every list is read as some state, a kind that nothing has as the last kind, and a field keeps the bits
 -- that its type has. `words_of` is what a call leaves, all 32 of them. `start_on` is the start, which refuses numbers that are no settings.
-use Rattle.std.specs.Prelude.{ℕ, ◌%◌, ◌^◌, List, [], ◌∷◌, Bool, true, false, ◌&&◌, ◌||◌, not, get_or, eqb, ltb}
+use Rattle.std.specs.Prelude.{ℕ, ◌%◌, ◌^◌, List, [], ◌∷◌, Bool, true, false, ◌&&◌, ◌||◌, not, get_or, eqb, ltb, Some, None}
 use Rattle.base.specs.Pick.{pick}
 use Rattle.packet.specs.Limits.{min_packet}
 use Rattle.outgoing.specs.declared.object.Outgoing.{Outgoing}
 use Rattle.outgoing.specs.declared.object.Chunk.{Chunk}
-use Rattle.connection.specs.declared.peer.ConnectionId.{ConnectionId}
-use Rattle.connection.specs.declared.peer.ConnectionId.TheVariants as server_id
+use Rattle.connection.specs.Peer.{ConnectionId}
 use Rattle.client_model.specs.declared.Settings.{Settings}
 use Rattle.client_model.specs.declared.Kind.{Kind}
 use Rattle.client_model.specs.declared.Kind.TheVariants as kind_of
@@ -72,12 +71,12 @@ settings_fit w = ltb (at w 0) (2 ^ 16) && (ltb (at w 1) 2 && eqb (at w 2) versio
 
 -- The ConnectionID `x` if `n` is 1, else none.
 abbrev pub id_from : ℕ → ℕ → ConnectionId
-id_from n x = pick (eqb n 1) (server_id.Id (x % 2 ^ 32)) server_id.Missing
+id_from n x = pick (eqb n 1) (Some (x % 2 ^ 32)) None
 
 -- The numbers of a ConnectionID.
 abbrev pub id_numbers : ConnectionId → Four
-id_numbers (server_id.Id x) = four 1 x 0 0
-id_numbers server_id.Missing = four 0 0 0 0
+id_numbers (Some x) = four 1 x 0 0
+id_numbers None = four 0 0 0 0
 
 -- ---- the open operation: numbers 7 to 19
 
@@ -290,7 +289,7 @@ words_of r =
 
 -- The state after a start that was refused: it has ended.
 abbrev pub ended_with : Settings → Client
-ended_with st = client_with st min_packet server_id.Missing operation.Nothing await.Nothing false 0 0
+ended_with st = client_with st min_packet None operation.Nothing await.Nothing false 0 0
 
 -- What a start with these settings gives: its result `r` if the numbers are settings, and else a refusal, unless `r` is one.
 abbrev pub judged_start : Bool → Settings → CallResult → CallResult

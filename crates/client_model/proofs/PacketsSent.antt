@@ -41,9 +41,8 @@ use Rattle.outgoing.specs.declared.object.Next.{Next}
 use Rattle.outgoing.specs.declared.object.Next.TheVariants as next
 use Rattle.outgoing.proofs.Sender.{Left, packets_left, ending, At, Reading, Makes, Making, given_making, next_making}
 use Rattle.outgoing.proofs.Sized.{Sized, AllSized, packets-sized}
-use Rattle.connection.specs.Peer.{at_least255, id_in}
+use Rattle.connection.specs.Peer.{at_least255, id_in, ConnectionId}
 use Rattle.connection.specs.Reply.{fields_of, front}
-use Rattle.connection.specs.declared.peer.ConnectionId.{ConnectionId}
 use Rattle.client_model.specs.declared.Kind.{Kind}
 use Rattle.client_model.specs.declared.Kind.TheVariants as kind
 use Rattle.client_model.specs.declared.Operation.{Operation}

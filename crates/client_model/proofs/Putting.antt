@@ -35,7 +35,7 @@ use Rattle.outgoing.proofs.Sender.{Left, headers_left, ahead_left, packets_left,
 use Rattle.outgoing.proofs.Sent.{SendsFrom, next-after-sends, body-sends}
 use Rattle.outgoing.proofs.Sized.{Sized, AllSized, packets-sized}
 use Rattle.connection.specs.Reply.{front}
-use Rattle.connection.specs.declared.peer.ConnectionId.{ConnectionId}
+use Rattle.connection.specs.Peer.{ConnectionId}
 use Rattle.client_model.specs.Leading.{leading_headers, leading}
 use Rattle.client_model.specs.Step.{Stores, stores, with_request, client_with, goes, capacity_of, Done}
 use Rattle.client_model.specs.Request.{request_of as requestBegins, requests_by, requests, requests_next, requests_first, sends_abort}

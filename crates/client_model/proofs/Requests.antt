@@ -26,7 +26,7 @@ use Rattle.packet.proofs.HeaderWrites.{read_shaped}
 use Rattle.journal.specs.Record.{Record, joined, is_body, is_srm, carried_one, carried_by}
 use Rattle.journal.specs.Journal.{list_of}
 use Rattle.outgoing.specs.Packets.{packet, before, packets_from}
-use Rattle.connection.specs.declared.peer.ConnectionId.{ConnectionId}
+use Rattle.connection.specs.Peer.{ConnectionId}
 use Rattle.client_model.specs.Leading.{leading_headers, leading}
 use Rattle.client_model.specs.Guard.{any_of, is_reserved, bad_headers, too_long_of}
 use Rattle.client_model.proofs.Conveyed.{Conveyed, body_record, conveyed, conveyed_as}

@@ -2,6 +2,7 @@
 use Rattle.std.proofs.Common.{◌≡◌, ℕ, ◌-◌, Bool, true, false, List, [], ◌∷◌, ◌++◌, length, take, drop, sym, refl, ap, ◌∙◌, ap₂, append_assoc, append-nil, arith, length-drop, take-append-drop, take_all}
 use mathlib.Core.Option.{Option, none, some}
 use lib.Seq.{take-length}
+use Rattle.std.specs.Prelude.{Some, None}
 use Rattle.base.specs.Pick.{pick}
 use Rattle.base.specs.Bytes.{bytes32}
 use Rattle.packet.specs.HeaderWriter.{header}
@@ -19,8 +20,7 @@ use Rattle.packet.specs.declared.tlv.Found.TheVariants as place
 use Rattle.packet.proofs.HeaderBytes.{Octets, header-bytes, header_at_bytes}
 use Rattle.packet.proofs.HeaderLaws.{by_cursor_lem, first_found}
 use Rattle.journal.specs.Journal.{list_of}
-use Rattle.connection.specs.declared.peer.ConnectionId.{ConnectionId}
-use Rattle.connection.specs.declared.peer.ConnectionId.TheVariants.{Id, Missing}
+use Rattle.connection.specs.Peer.{ConnectionId}
 use Rattle.connection.specs.ConnectReply.{second, with_id, who_for, answer_with, grant, answered_challenge, connect_headers}
 use Rattle.connection.specs.Pieces.{headers_from, first_in, answered_in, realm_of, nonce_of, nonce_for, who_place, end_of, readable}
 use Rattle.connection.specs.Pieces.{who_bytes, answer_bytes, grant_bytes, named_bytes, added_bytes, Inside, credentials_of, id_given}
@@ -100,14 +100,14 @@ second-bytes s t hs o e = go (header_at_of s 0) refl hs e
 named-bytes : (f : ConnectionId) (who : Option (List ℕ)) (s : List ℕ) (hs : List Header) → Octets s → read_headers s 0 ≡ some hs
     → all_bytes (placing who (with_id (id_given f) hs)) ≡ named_bytes f who s
 unfolding named_bytes all_bytes
-named-bytes (Id i) none s hs o e =
+named-bytes (Some i) none s hs o e =
     let b : bytes_of (header 0xCB (bytes32 i)) ++ [] ++ [] ≡ bytes_of (header 0xCB (bytes32 i)) = simp append-nil in
     rw (header-bytes s 0 hs o e, rest_part s 0, first_part s 0, b)
-named-bytes (Id i) (some t) s hs o e =
+named-bytes (Some i) (some t) s hs o e =
     rw (header-bytes s 0 hs o e, rest_part s 0, first_part s 0, append-nil, append_assoc)
-named-bytes Missing none s hs o e =
+named-bytes None none s hs o e =
     rw (header-bytes s 0 hs o e, rest_part s (end_of (header_at_of s 0)), first_part s (end_of (header_at_of s 0)), append-nil, take-append-drop)
-named-bytes Missing (some t) s hs o e =
+named-bytes None (some t) s hs o e =
     rw (rest_part s (end_of (header_at_of s 0)), first_part s (end_of (header_at_of s 0))) (second-bytes s t hs o e)
 
 -- ---- the answer to the challenge, and SRM

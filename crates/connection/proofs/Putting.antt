@@ -1,6 +1,7 @@
 -- Pieces of a reply: one behind the other in the store, and their lengths. Assumes nothing.
 use Rattle.std.proofs.Common.{◌≡◌, ℕ, ◌+◌, ◌-◌, ◌≤◌, Bool, true, false, ltb, List, [], ◌∷◌, ◌++◌, length, sym, refl, ap, ◌∙◌, append-nil, arith, length-append, ltb-false, le-ltb}
 use mathlib.Core.Option.{Option}
+use Rattle.std.specs.Prelude.{Some, None}
 use Rattle.base.specs.Pick.{pick}
 use Rattle.base.specs.Bytes.{bytes32}
 use Rattle.digest.specs.Md5.{octets16}
@@ -27,8 +28,7 @@ use Rattle.connection.specs.ConnectReply.{challenge_header}
 use Rattle.packet.specs.declared.header.HeaderAt.{HeaderAt}
 use Rattle.packet.specs.declared.header.HeaderAt.TheVariants.{At, Unreadable, End}
 use Rattle.packet.proofs.HeaderBytes.{header_at_within, part_length}
-use Rattle.connection.specs.declared.peer.ConnectionId.{ConnectionId}
-use Rattle.connection.specs.declared.peer.ConnectionId.TheVariants.{Id, Missing}
+use Rattle.connection.specs.Peer.{ConnectionId}
 use Rattle.connection.specs.Pieces.{id_bytes, who_bytes, answer_bytes, grant_bytes, end_of, cut_at, named_bytes, added_bytes, Room, Puts}
 use Rattle.connection.specs.Pieces.{id_size, who_size, answer_size, size_of, Inside, Ordered}
 
@@ -89,8 +89,8 @@ bytes-short id n a b h = rw (a, b) (le-ltb 65535 (3 + n) (omega arith))
 
 id_length : (f : ConnectionId) → length (id_bytes f) ≡ id_size f
 unfolding bytes_of encoding_of
-id_length (Id i) = refl
-id_length Missing = refl
+id_length (Some i) = refl
+id_length None = refl
 
 grant-length : (srm : Bool) → length (grant_bytes srm) ≡ pick srm 2 0
 unfolding bytes_of encoding_of
@@ -129,11 +129,11 @@ tags-laid y z w v at id size r f forbidden a b l h s o p =
 
 -- ---- each piece
 
-pub id_puts : (y z : List ℕ) (at i : ℕ) (f : ConnectionId) (r : Wrote) → f ≡ Id i → Room y at (id_bytes f) → putting r z ≡ put_header y at (header 0xCB (bytes32 i))
+pub id_puts : (y z : List ℕ) (at i : ℕ) (f : ConnectionId) (r : Wrote) → f ≡ Some i → Room y at (id_bytes f) → putting r z ≡ put_header y at (header 0xCB (bytes32 i))
     → Puts y at (id_bytes f) (at + 5) z
 unfolding bytes_of encoding_of
 id_puts y z at i f r e m p =
-    let room : Room y at (id_bytes (Id i)) = rw e at m in
+    let room : Room y at (id_bytes (Some i)) = rw e at m in
     rw e (record { next_is = refl; store = header-laid y z at (header 0xCB (bytes32 i)) r refl (omega (arith, room.small, room.store)) p })
 
 pub who-puts : (y z s : List ℕ) (at a b : ℕ) (w : Found) (r : Wrote) → w ≡ place.At a b → Room y at (who_bytes (bytes_at s w)) → Inside s w
@@ -194,8 +194,8 @@ no_grant y z a at next srm t p = rw (t, append-nil a) p.store
 -- ---- the headers with the id and Who
 
 pub cut-within : (f : ConnectionId) (hs : List ℕ) → cut_at f hs ≤ length hs
-cut-within (Id i) hs = omega arith
-cut-within Missing hs = go (header_at_of hs 0) refl
+cut-within (Some i) hs = omega arith
+cut-within None hs = go (header_at_of hs 0) refl
   where
     go : (a : HeaderAt) → header_at_of hs 0 ≡ a → end_of a ≤ length hs
     go End e = omega arith
@@ -245,8 +245,8 @@ module _ (y hs : List ℕ) (at cut : ℕ) (f : ConnectionId) (who : Option (List
 -- ---- bounds of their lengths
 
 pub id_at_most : (f : ConnectionId) → id_size f ≤ 5
-id_at_most (Id i) = omega arith
-id_at_most Missing = omega arith
+id_at_most (Some i) = omega arith
+id_at_most None = omega arith
 
 pub who_at_most : (w : Found) → Ordered w → who_size w ≤ 65538
 who_at_most place.Missing o = omega arith

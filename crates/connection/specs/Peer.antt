@@ -1,5 +1,6 @@
 -- What Connect and Disconnect change (docs/PROTOCOL.md#connect, #connection-ids, #disconnect).
-use Rattle.std.specs.Prelude.{ℕ, ◌+◌, ◌%◌, ◌^◌, Bool, true, false, List, length, take, ◌==◌, nat_le, nat_lt, slice_set}
+use Rattle.std.specs.Prelude.{ℕ, ◌+◌, ◌%◌, ◌^◌, Bool, true, false, List, length, take, ◌==◌, nat_le, nat_lt, slice_set, Some, None}
+use Rattle.std.specs.Prelude.{Option as OrNone}
 use Rattle.std.proofs.Math.Option.{Option, none, some}
 use Rattle.base.specs.Pick.{pick}
 use Rattle.base.specs.Bytes.{be32}
@@ -15,10 +16,12 @@ use Rattle.connection.specs.Reply.{front}
 use Rattle.connection.specs.declared.peer.Challenge.{Challenge}
 use Rattle.connection.specs.declared.peer.Challenge.TheVariants.{Stored, Absent}
 use Rattle.connection.specs.declared.peer.Peer.{Peer}
-use Rattle.connection.specs.declared.peer.ConnectionId.{ConnectionId}
-use Rattle.connection.specs.declared.peer.ConnectionId.TheVariants.{Id, Missing}
 use Rattle.connection.specs.declared.peer.Opening.{Opening}
 use Rattle.connection.specs.declared.peer.Answer.{Answer}
+
+-- The id that a header names, or that goes in front of an answer, if there is one, as the code has it.
+abbrev pub ConnectionId : Type 0
+ConnectionId = OrNone ℕ
 
 -- The one definition that lists the fields; it is shut, so that proofs do not write them all out.
 unfoldable pub peer_with : ℕ → ℕ → ℕ → Bool → Bool → Challenge → ℕ → ℕ → Peer
@@ -140,8 +143,8 @@ disconnected_peer p t (some v) = closed_linked p t (be32 v 0)
 
 -- The id that a header names, as the code has it.
 abbrev pub id_in : Option (List ℕ) → ConnectionId
-id_in none = Missing
-id_in (some v) = Id (be32 v 0)
+id_in none = None
+id_in (some v) = Some (be32 v 0)
 
 -- What opening leads to, with the table store afterwards.
 pub record Opens : Type 0 where
@@ -159,15 +162,15 @@ opening_of p t (some q) = opens (record { full = false; peer = q.peer }) q.table
 
 -- A Connect succeeds, by numbers: the id that the answer names, whether there is a Target header, and the Target `g` that it gives.
 abbrev pub opened_by : Peer → List ℕ → Bool → ConnectionId → Bool → Target → Option Linked
-opened_by p t srm (Id i) has g = opened p t srm i p.next_connection_id g
-opened_by p t srm Missing true g = opened p t srm (searched p t) ((searched p t + 1) % 2 ^ 32) g
-opened_by p t srm Missing false g = some (linked (srm_peer p srm) t)
+opened_by p t srm (Some i) has g = opened p t srm i p.next_connection_id g
+opened_by p t srm None true g = opened p t srm (searched p t) ((searched p t + 1) % 2 ^ 32) g
+opened_by p t srm None false g = some (linked (srm_peer p srm) t)
 
 -- The id that goes in front: for a Target, if the answer has none.
 abbrev pub front_by_of : Peer → List ℕ → ConnectionId → Bool → ConnectionId
-front_by_of p t (Id i) target = Missing
-front_by_of p t Missing true = Id (searched p t)
-front_by_of p t Missing false = Missing
+front_by_of p t (Some i) target = None
+front_by_of p t None true = Some (searched p t)
+front_by_of p t None false = None
 
 -- What the host's answer to a Connect leads to, with the table store afterwards.
 pub record Answers : Type 0 where
@@ -189,5 +192,5 @@ answer_by p t srm given has g = answer_from (opening_of p t (opened_by p t srm g
 
 -- A Disconnect, by the number that it names.
 abbrev pub disconnected_by : Peer → List ℕ → ConnectionId → Linked
-disconnected_by p t Missing = linked (cleared_peer p) t
-disconnected_by p t (Id i) = closed_linked p t i
+disconnected_by p t None = linked (cleared_peer p) t
+disconnected_by p t (Some i) = closed_linked p t i

@@ -1,6 +1,6 @@
 -- The reply to a Connect as the code has it: places in the packet, numbers, and bytes piece by piece. proofs/ConnectBytes says that the
 -- pieces are the bytes of `connect_headers`.
-use Rattle.std.specs.Prelude.{◌≡◌, ℕ, ◌+◌, ◌-◌, ◌≤◌, Bool, true, false, List, [], ◌∷◌, ◌++◌, length, ◌==◌}
+use Rattle.std.specs.Prelude.{◌≡◌, ℕ, ◌+◌, ◌-◌, ◌≤◌, Bool, true, false, List, [], ◌∷◌, ◌++◌, length, ◌==◌, Some, None}
 use Rattle.std.proofs.Math.Option.{Option, none, some}
 use Rattle.base.specs.Pick.{pick}
 use Rattle.base.specs.Bytes.{bytes32}
@@ -29,8 +29,7 @@ use Rattle.journal.specs.Calls.{Credentials}
 use Rattle.journal.specs.Journal.{list_of}
 use Rattle.connection.specs.declared.peer.Challenge.{Challenge}
 use Rattle.connection.specs.declared.peer.Challenge.TheVariants.{Stored, Absent}
-use Rattle.connection.specs.declared.peer.ConnectionId.{ConnectionId}
-use Rattle.connection.specs.declared.peer.ConnectionId.TheVariants.{Id, Missing}
+use Rattle.connection.specs.Peer.{ConnectionId}
 use Rattle.connection.specs.ConnectReply.{challenges, answered_challenge}
 
 -- ---- what is read
@@ -93,8 +92,8 @@ end_of End = 0
 
 -- Where Who goes: behind the id in front, or behind the first header.
 abbrev pub cut_at : ConnectionId → List ℕ → ℕ
-cut_at (Id i) s = 0
-cut_at Missing s = end_of (header_at_of s 0)
+cut_at (Some i) s = 0
+cut_at None s = end_of (header_at_of s 0)
 
 -- ---- the check of a password
 
@@ -110,8 +109,8 @@ check_of (Stored n) (response.Response d u m) demands (some p) = verifies n d u 
 
 -- The bytes of the ConnectionID in front.
 abbrev pub id_bytes : ConnectionId → List ℕ
-id_bytes Missing = []
-id_bytes (Id i) = bytes_of (header header_id.connection_id (bytes32 i))
+id_bytes None = []
+id_bytes (Some i) = bytes_of (header header_id.connection_id (bytes32 i))
 
 -- The bytes of Who.
 abbrev pub who_bytes : Option (List ℕ) → List ℕ
@@ -154,8 +153,8 @@ readable s = pick (readable_from s 0) s []
 
 -- How many bytes the ConnectionID in front takes.
 abbrev pub id_size : ConnectionId → ℕ
-id_size Missing = 0
-id_size (Id i) = 5
+id_size None = 0
+id_size (Some i) = 5
 
 -- How many bytes Who takes.
 abbrev pub who_size : Found → ℕ
@@ -188,5 +187,5 @@ credentials_of true user password = some (record { user = user; password = passw
 
 -- The id that goes in front.
 abbrev pub id_given : ConnectionId → Option ℕ
-id_given Missing = none
-id_given (Id i) = some i
+id_given None = none
+id_given (Some i) = some i

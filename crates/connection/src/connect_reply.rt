@@ -20,7 +20,6 @@ ghost use Rattle.connection.specs.Pieces.{id_bytes, who_bytes, answer_bytes, nam
 ghost use Rattle.connection.specs.Pieces.{id_size, who_size, answer_size, size_of, Inside, Ordered};
 
 use crate::challenge::{first_in, nonce_for};
-use crate::peer::ConnectionId;
 use crate::reply::{Sent, begin_connect};
 use base::copy_into;
 use digest::md5::Octets16;
@@ -56,10 +55,10 @@ fn who_place(target: Found, headers: &[u8]) -> Found
 }
 
 // Returns how many of the host's header bytes go before Who, which is the second header.
-fn who_cut(front: ConnectionId, headers: &[u8]) -> usize
+fn who_cut(front: Option<u32>, headers: &[u8]) -> usize
     ensures { result ≡ cut_at front headers.now }
 {
-    if let ConnectionId::Id(_) = front {
+    if let Some(_) = front {
         return 0;
     }
     match header_at(headers, 0) {
@@ -77,12 +76,12 @@ fn who_cut(front: ConnectionId, headers: &[u8]) -> usize
 // ---- how long it is
 
 // Returns how many bytes the ConnectionID in front takes.
-fn id_size(front: ConnectionId) -> usize
+fn id_size(front: Option<u32>) -> usize
     ensures { result ≡ id_size front }
 {
     match front {
-        ConnectionId::Id(_) => 5,
-        ConnectionId::Missing => 0,
+        Some(_) => 5,
+        None => 0,
     }
 }
 
@@ -134,7 +133,7 @@ fn grant_size(srm: bool) -> usize
 
 // Returns how many bytes the headers of the reply take.
 fn connect_size(
-    front: ConnectionId,
+    front: Option<u32>,
     who: Found,
     headers: usize,
     nonce: Named,
@@ -170,11 +169,11 @@ fn put_part(reply: &mut [u8], at: usize, s: &[u8], from: usize, to: usize) -> us
 }
 
 // Writes the ConnectionID in front, if there is one, and returns the place behind it.
-fn put_id(reply: &mut [u8], at: usize, front: ConnectionId) -> usize
+fn put_id(reply: &mut [u8], at: usize, front: Option<u32>) -> usize
     requires { Room reply.old at (id_bytes front) }
     ensures { Puts reply.old at (id_bytes front) result reply.new }
 {
-    let ConnectionId::Id(id) = front else {
+    let Some(id) = front else {
         return at;
     };
     put_u32(reply, at, CONNECTION_ID, id);
@@ -197,7 +196,7 @@ fn put_who(reply: &mut [u8], at: usize, who: Found, packet: &[u8]) -> usize
 fn put_named(
     reply: &mut [u8],
     at: usize,
-    front: ConnectionId,
+    front: Option<u32>,
     who: Found,
     packet: &[u8],
     headers: &[u8],
@@ -263,7 +262,7 @@ fn send_pieces(
     remote: usize,
     code: u8,
     limit: u16,
-    front: ConnectionId,
+    front: Option<u32>,
     who: Found,
     packet: &[u8],
     headers: &[u8],
@@ -295,7 +294,7 @@ pub fn connect_reply(
     remote: usize,
     code: u8,
     limit: u16,
-    front: ConnectionId,
+    front: Option<u32>,
     packet: &[u8],
     from: usize,
     target: Found,

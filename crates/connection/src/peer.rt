@@ -44,13 +44,6 @@ pub struct Peer {
     pub challenge: Challenge,
 }
 
-// An id that a header names, or that goes in front of an answer.
-#[derive(Clone, Copy)]
-pub enum ConnectionId {
-    Id(u32),
-    Missing,
-}
-
 // An id that the search found.
 #[derive(Clone, Copy)]
 pub struct NewId {
@@ -70,7 +63,7 @@ pub struct Opening {
 #[derive(Clone, Copy)]
 pub struct Answer {
     pub opening: Opening,
-    pub front: ConnectionId,
+    pub front: Option<u32>,
 }
 
 // ---- the open ids
@@ -274,7 +267,7 @@ pub fn opened(
 pub fn opened_for(
     peer: Peer,
     srm: bool,
-    given: ConnectionId,
+    given: Option<u32>,
     has_target: bool,
     target: Target,
     tables: &mut [u64],
@@ -282,10 +275,10 @@ pub fn opened_for(
     requires { (peer.count ≤ max_connections) × (table_length ≤ length tables.old) }
     ensures { answers result tables.new ≡ answer_by peer tables.old srm given has_target target }
 {
-    if let ConnectionId::Id(id) = given {
+    if let Some(id) = given {
         return Answer {
             opening: opened(peer, srm, id, peer.next_connection_id, target, tables),
-            front: ConnectionId::Missing,
+            front: None,
         };
     }
     if !has_target {
@@ -294,13 +287,13 @@ pub fn opened_for(
                 full: false,
                 peer: with_srm(peer, srm),
             },
-            front: ConnectionId::Missing,
+            front: None,
         };
     }
     let found = allocate_connection_id(&tables[..], peer.count, peer.next_connection_id);
     Answer {
         opening: opened(peer, srm, found.id, found.next, target, tables),
-        front: ConnectionId::Id(found.id),
+        front: Some(found.id),
     }
 }
 
@@ -329,11 +322,11 @@ pub fn with_left(peer: Peer, count: usize) -> Peer
 }
 
 // Closes the id that a Disconnect names. If it names none, or the last closes, all is cleared.
-pub fn disconnected(peer: Peer, named: ConnectionId, tables: &mut [u64]) -> Peer
+pub fn disconnected(peer: Peer, named: Option<u32>, tables: &mut [u64]) -> Peer
     requires { (peer.count ≤ max_connections) × (table_length ≤ length tables.old) }
     ensures { linked result tables.new ≡ disconnected_by peer tables.old named }
 {
-    let ConnectionId::Id(id) = named else {
+    let Some(id) = named else {
         return cleared(peer);
     };
     let count = close_link(tables, peer.count, id);

@@ -22,11 +22,10 @@ use Rattle.packet.specs.declared.auth.DigestChallenge.TheVariants as challenge
 use Rattle.journal.specs.Calls.{Credentials}
 use Rattle.incoming.specs.Survey.{survey_of}
 use Rattle.connection.specs.Reply.{Sending as Sent, fields_of, send_bytes, sent_into, front}
-use Rattle.connection.specs.Peer.{Linked, linked, id_in, isGiven, target_given, opened_for, opened_by as peerOpened, opening_of, front_by_of, Answers, answer_from, answer_by, disconnected_peer, disconnected_by}
+use Rattle.connection.specs.Peer.{Linked, linked, id_in, isGiven, target_given, opened_for, opened_by as peerOpened, opening_of, front_by_of, Answers, answer_from, answer_by, disconnected_peer, disconnected_by, ConnectionId}
 use Rattle.connection.specs.ConnectReply.{answered_challenge, connect_headers}
 use Rattle.connection.specs.Pieces.{headers_from, realm_of, answered_in, id_given, credentials_of}
 use Rattle.connection.specs.declared.peer.Peer.{Peer}
-use Rattle.connection.specs.declared.peer.ConnectionId.{ConnectionId}
 use Rattle.connection.proofs.ByNumbers.{opened_by_lem, disconnected_by_lem}
 use Rattle.journal.specs.Journal.{list_of}
 use Rattle.model.specs.Step.{Stores, Stepped, stepped, Called, called, DoneTabled, done_tabled, after, sends, sends_connect}

@@ -8,6 +8,7 @@ use native.Mathlib.Omega.{arith}
 use lib.ListN.{length, get_or, take, drop}
 use lib.Dec.{ltb, eqb}
 use lib.Seq.{get_or-take, get_or-drop}
+use Rattle.std.specs.Prelude.{Some, None}
 use Rattle.base.specs.Pick.{pick}
 use Rattle.packet.specs.FirstByte.{first_byte}
 use Rattle.packet.specs.Header.{Header, read_headers, encoding_of, first, first_place, part}
@@ -31,7 +32,6 @@ use Rattle.incoming.specs.Survey.{id_of, present, survey_of}
 use Rattle.incoming.specs.declared.survey.Survey.{Survey}
 use Rattle.connection.specs.Peer.{id_in, isGiven}
 use Rattle.connection.specs.Pieces.{headers_from, first_in, check_of}
-use Rattle.connection.specs.declared.peer.ConnectionId.TheVariants as connection_id
 use Rattle.connection.specs.declared.peer.Challenge.{Challenge}
 use Rattle.connection.specs.declared.peer.Challenge.TheVariants.{Stored, Absent}
 use Rattle.connection.proofs.Challenges.{first_in_bytes}
@@ -110,21 +110,21 @@ first-value id q f e =
 -- ---- what else is asked of headers
 
 -- the first ConnectionID, by the survey
-pub id_given_lem : (r : Option (List Header)) (v : Survey) → v ≡ survey_of r → v.has_id ≡ true → connection_id.Id v.id ≡ id_in (first 0xCB (list_of r))
+pub id_given_lem : (r : Option (List Header)) (v : Survey) → v ≡ survey_of r → v.has_id ≡ true → Some v.id ≡ id_in (first 0xCB (list_of r))
 unfolding survey_of
 id_given_lem none v e h = absurd (let z : ◌≡◌ {A = ℕ} 0 1 = cc in omega arith)
 id_given_lem (some hs) v e h = rw e (go (first 0xCB hs) (rw e at h))
   where
-    go : (o : Option (List ℕ)) → present o ≡ true → connection_id.Id (id_of o) ≡ id_in o
+    go : (o : Option (List ℕ)) → present o ≡ true → Some (id_of o) ≡ id_in o
     go none k = absurd (let z : ◌≡◌ {A = ℕ} 0 1 = cc in omega arith)
     go (some x) k = refl
 
-pub id_missing : (r : Option (List Header)) (v : Survey) → v ≡ survey_of r → v.has_id ≡ false → connection_id.Missing ≡ id_in (first 0xCB (list_of r))
+pub id_missing : (r : Option (List Header)) (v : Survey) → v ≡ survey_of r → v.has_id ≡ false → None ≡ id_in (first 0xCB (list_of r))
 unfolding survey_of first
 id_missing none v e h = refl
 id_missing (some hs) v e h = go (first 0xCB hs) (rw e at h)
   where
-    go : (o : Option (List ℕ)) → present o ≡ false → connection_id.Missing ≡ id_in o
+    go : (o : Option (List ℕ)) → present o ≡ false → None ≡ id_in o
     go none k = refl
     go (some x) k = absurd (let z : ◌≡◌ {A = ℕ} 0 1 = cc in omega arith)
 

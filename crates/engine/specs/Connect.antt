@@ -13,12 +13,11 @@ use Rattle.packet.specs.declared.auth.DigestChallenge.TheVariants as challenge
 use Rattle.journal.specs.Calls.{Credentials}
 use Rattle.incoming.specs.Survey.{survey_of}
 use Rattle.connection.specs.Reply.{fields_of, front}
-use Rattle.connection.specs.Peer.{Linked, linked, id_in, isGiven, target_given, Answers, answer_by, disconnected_peer, checked_peer, verified_peer, limited}
+use Rattle.connection.specs.Peer.{Linked, linked, id_in, isGiven, target_given, Answers, answer_by, disconnected_peer, checked_peer, verified_peer, limited, ConnectionId}
 use Rattle.connection.specs.ConnectReply.{connect_headers}
 use Rattle.connection.specs.Pieces.{headers_from, answered_in, id_given}
 use Rattle.connection.specs.declared.peer.Peer.{Peer}
 use Rattle.connection.specs.declared.peer.Answer.{Answer}
-use Rattle.connection.specs.declared.peer.ConnectionId.{ConnectionId}
 use Rattle.journal.specs.Checks.{most_wrong}
 use Rattle.journal.specs.Journal.{headers_of as headersIn}
 use Rattle.model.specs.Step.{Stores, Stepped, stepped, stores}

@@ -32,7 +32,7 @@ use connection::challenge::answered_challenge;
 use connection::checks::too_many;
 use connection::connect_reply::{challenge_reply, connect_reply};
 use connection::peer::{
-    Answer, Challenge, ConnectionId, Peer, disconnected, limited, opened_for, verified, with_check,
+    Answer, Challenge, Peer, disconnected, limited, opened_for, verified, with_check,
 };
 use connection::reply::Sent;
 use connection::request::ConnectRequest;
@@ -106,7 +106,7 @@ pub(crate) fn connect_sends(
     e: Engine,
     peer: Peer,
     code: u8,
-    front: ConnectionId,
+    front: Option<u32>,
     packet: &[u8],
     c: ConnectRequest,
     header_bytes: &[u8],
@@ -147,7 +147,7 @@ fn unchallenged(
     e: Engine,
     peer: Peer,
     code: u8,
-    front: ConnectionId,
+    front: Option<u32>,
     header_bytes: &[u8],
     packet: &[u8],
     c: ConnectRequest,
@@ -193,7 +193,7 @@ fn accepted(
     e: Engine,
     peer: Peer,
     code: u8,
-    front: ConnectionId,
+    front: Option<u32>,
     header_bytes: &[u8],
     packet: &[u8],
     c: ConnectRequest,

@@ -13,7 +13,7 @@ ghost use Rattle.model.specs.Connect.{checks};
 ghost use Rattle.engine.specs.Request.{last_from, last_connect, is_found};
 
 use connection::challenge::verify_client;
-use connection::peer::{Challenge, ConnectionId};
+use connection::peer::Challenge;
 use connection::request::{ConnectRequest, connect_request};
 use incoming::survey::survey_headers;
 use packet::auth::read_response;
@@ -46,14 +46,14 @@ pub(crate) fn last_connect(q: &[u8]) -> ConnectRequest
 }
 
 // Returns the first ConnectionID among the headers of `s` from `from` on, if there is one.
-pub(crate) fn first_id(s: &[u8], from: usize) -> ConnectionId
+pub(crate) fn first_id(s: &[u8], from: usize) -> Option<u32>
     ensures { result ≡ id_in (first header_id.connection_id (headers_from s.now from)) }
 {
     let v = survey_headers(s, from);
     if v.has_id {
-        return ConnectionId::Id(v.id);
+        return Some(v.id);
     }
-    ConnectionId::Missing
+    None
 }
 
 // Whether the Connect `c` has a Target.

@@ -1,7 +1,7 @@
 -- How the state and the result of a call stand in the 64 numbers that a host outside Rattle keeps (docs/RUST.md has the table). `result_of`
 -- reads the numbers: every list is read as some state, a kind that nothing has as the last kind, and a field of the state keeps the bits that
 -- its type has. `words_of` is what a call leaves, all 64 of them. `start_on` is the start, which refuses numbers that are no settings.
-use Rattle.std.specs.Prelude.{ℕ, ◌%◌, ◌^◌, List, [], ◌∷◌, Bool, true, false, ◌&&◌, ◌||◌, not, get_or, eqb, ltb}
+use Rattle.std.specs.Prelude.{ℕ, ◌%◌, ◌^◌, List, [], ◌∷◌, Bool, true, false, ◌&&◌, ◌||◌, not, get_or, eqb, ltb, Some, None}
 use Rattle.base.specs.Pick.{pick}
 use Rattle.digest.specs.declared.md5.Octets16.{Octets16}
 use Rattle.packet.specs.declared.opcode.Opcode.{Opcode}
@@ -14,8 +14,7 @@ use Rattle.outgoing.specs.declared.object.Chunk.{Chunk}
 use Rattle.table.specs.declared.targets.Target.{Target}
 use Rattle.connection.specs.declared.peer.Challenge.{Challenge}
 use Rattle.connection.specs.declared.peer.Challenge.TheVariants.{Stored, Absent}
-use Rattle.connection.specs.declared.peer.ConnectionId.{ConnectionId}
-use Rattle.connection.specs.declared.peer.ConnectionId.TheVariants as front_id
+use Rattle.connection.specs.Peer.{ConnectionId}
 use Rattle.connection.specs.declared.peer.Peer.{Peer}
 use Rattle.server.specs.Numbers.{await_of, await_number, end_number, refusal_number}
 use Rattle.server.specs.declared.Await.TheVariants as await
@@ -184,7 +183,7 @@ gathered_of kept n came over full = record { kept = kept; body = n; came = flag 
 
 -- The ConnectionID `x` if `n` is 1, else none.
 abbrev pub id_of : ℕ → ℕ → ConnectionId
-id_of n x = pick (eqb n 1) (front_id.Id (x % 2 ^ 32)) front_id.Missing
+id_of n x = pick (eqb n 1) (Some (x % 2 ^ 32)) None
 
 -- An object that is being sent: its header bytes, how many of them went out, three flags, and the byte `x` that was read ahead.
 abbrev pub outgoing_of : ℕ → ℕ → ℕ → ℕ → ℕ → ℕ → Outgoing
@@ -220,8 +219,8 @@ sending_numbers o c srm wait =
 
 -- The numbers of a Connect that waits for credentials.
 abbrev pub connecting_numbers : ℕ → ConnectionId → ℕ → Numbers
-connecting_numbers code (front_id.Id x) n = twelve 5 code 1 x n 0 0 0 0 0 0 0
-connecting_numbers code front_id.Missing n = twelve 5 code 0 0 n 0 0 0 0 0 0 0
+connecting_numbers code (Some x) n = twelve 5 code 1 x n 0 0 0 0 0 0 0
+connecting_numbers code None n = twelve 5 code 0 0 n 0 0 0 0 0 0 0
 
 -- The numbers of an operation.
 abbrev pub operation_numbers : Operation → Numbers

@@ -9,7 +9,7 @@ ghost use Rattle.engine_c.specs.Words.{settings_numbers, challenge_numbers, peer
 ghost use Rattle.engine_c.specs.Words.{credentials_numbers, request_numbers, outcome_numbers, words_of};
 ghost use Rattle.engine_c.specs.Words.{flags_fit, settings_fit, is_waiting, judged_start};
 
-use connection::peer::{Challenge, ConnectionId, Peer};
+use connection::peer::{Challenge, Peer};
 use digest::md5::Octets16;
 use incoming::gather::Gathered;
 use outgoing::object::{Chunk, Outgoing};
@@ -177,19 +177,19 @@ fn sending_numbers(o: Outgoing, c: Chunk, srm: bool, wait: bool) -> Numbers
 }
 
 // Returns the numbers of a Connect that waits for credentials.
-fn connecting_numbers(code: u8, front: ConnectionId, length: usize) -> Numbers
+fn connecting_numbers(code: u8, front: Option<u32>, length: usize) -> Numbers
     ensures numbers { result ≡ connecting_numbers code front length }
     ensures back { operation_of (connecting_numbers code front length) ≡ Operation.Connecting code front length }
 {
     let mut r = few(5, wide8(code), 0, 0);
     r.d = wide(length);
     match front {
-        ConnectionId::Id(x) => {
+        Some(x) => {
             r.b = 1;
             r.c = wide32(x);
             r
         }
-        ConnectionId::Missing => r,
+        None => r,
     }
 }
 
@@ -539,13 +539,13 @@ fn chunk_of(n: Numbers) -> Chunk
 }
 
 // Returns an id, or that there is none.
-fn id_of(n: u64, x: u64) -> ConnectionId
+fn id_of(n: u64, x: u64) -> Option<u32>
     ensures { result ≡ id_of n x }
 {
     if n == 1 {
-        return ConnectionId::Id((x % 4294967296) as u32);
+        return Some((x % 4294967296) as u32);
     }
-    ConnectionId::Missing
+    None
 }
 
 // Returns a challenge, or that there is none.

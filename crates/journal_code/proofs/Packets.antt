@@ -8,6 +8,7 @@ use Prim.Native.Nat.{ℕ}
 use native.Mathlib.Omega.{arith}
 use lib.ListN.{length, get_or}
 use lib.Dec.{ltb}
+use Rattle.std.specs.Prelude.{Some, None}
 use Rattle.base.specs.Pick.{pick}
 use Rattle.packet.specs.FirstByte.{first_byte}
 use Rattle.packet.specs.Header.{Header, read_headers, first, present}
@@ -22,7 +23,6 @@ use Rattle.incoming.specs.Survey.{survey_of, id_of}
 use Rattle.incoming.specs.declared.survey.Survey.{Survey}
 use Rattle.table.specs.declared.targets.Target.{Target}
 use Rattle.connection.specs.Peer.{target_given, id_in}
-use Rattle.connection.specs.declared.peer.ConnectionId.TheVariants as connection_id
 use Rattle.journal_code.specs.Heading.{link_by, reading_of}
 use Rattle.journal_code.specs.declared.heading.Link.{Link}
 use Rattle.journal_code.specs.declared.heading.Reading.TheVariants.{Unreadable, Read}
@@ -115,20 +115,20 @@ module _ (p : List ℕ) (o : Opcode) (f : Bool) (n : ℕ) where
 
 -- ---- the first ConnectionID of an answer
 
-pub id_given_lem : (r : Option (List Header)) (v : Survey) → v ≡ survey_of r → v.has_id ≡ true → connection_id.Id v.id ≡ id_in (first 0xCB (list_of r))
+pub id_given_lem : (r : Option (List Header)) (v : Survey) → v ≡ survey_of r → v.has_id ≡ true → Some v.id ≡ id_in (first 0xCB (list_of r))
 unfolding survey_of
 id_given_lem none v e h = absurd (let z : ◌≡◌ {A = ℕ} 0 1 = cc in omega arith)
 id_given_lem (some hs) v e h = rw e (go (first 0xCB hs) (rw e at h))
   where
-    go : (o : Option (List ℕ)) → present o ≡ true → connection_id.Id (id_of o) ≡ id_in o
+    go : (o : Option (List ℕ)) → present o ≡ true → Some (id_of o) ≡ id_in o
     go none k = absurd (let z : ◌≡◌ {A = ℕ} 0 1 = cc in omega arith)
     go (some x) k = refl
 
-pub id_missing : (r : Option (List Header)) (v : Survey) → v ≡ survey_of r → v.has_id ≡ false → connection_id.Missing ≡ id_in (first 0xCB (list_of r))
+pub id_missing : (r : Option (List Header)) (v : Survey) → v ≡ survey_of r → v.has_id ≡ false → None ≡ id_in (first 0xCB (list_of r))
 unfolding survey_of first
 id_missing none v e h = refl
 id_missing (some hs) v e h = go (first 0xCB hs) (rw e at h)
   where
-    go : (o : Option (List ℕ)) → present o ≡ false → connection_id.Missing ≡ id_in o
+    go : (o : Option (List ℕ)) → present o ≡ false → None ≡ id_in o
     go none k = refl
     go (some x) k = absurd (let z : ◌≡◌ {A = ℕ} 0 1 = cc in omega arith)

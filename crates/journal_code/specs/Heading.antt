@@ -1,5 +1,5 @@
 -- What the journal asks of a packet, as the code has it (docs/PROTOCOL.md#journal): of a few headers the first.
-use Rattle.std.specs.Prelude.{ℕ, List, Bool, true, false}
+use Rattle.std.specs.Prelude.{ℕ, List, Bool, true, false, Some, None}
 use Rattle.std.proofs.Math.Option.{Option, none, some}
 use Rattle.base.specs.Pick.{pick}
 use Rattle.packet.specs.HeaderIds as header_id
@@ -11,9 +11,7 @@ use Rattle.journal.specs.Ids.{member}
 use Rattle.table.specs.Targets.{unnamed, place_of, target_at}
 use Rattle.table.specs.declared.targets.Target.{Target}
 use Rattle.incoming.specs.Survey.{survey_of}
-use Rattle.connection.specs.Peer.{target_given}
-use Rattle.connection.specs.declared.peer.ConnectionId.{ConnectionId}
-use Rattle.connection.specs.declared.peer.ConnectionId.TheVariants.{Id, Missing}
+use Rattle.connection.specs.Peer.{target_given, ConnectionId}
 use Rattle.journal_code.specs.declared.heading.Link.{Link}
 use Rattle.journal_code.specs.declared.heading.Heading.{Heading}
 use Rattle.journal_code.specs.declared.heading.Reading.{Reading}
@@ -29,8 +27,8 @@ link named unknown under = record { named = named; unknown = unknown; under = un
 unfoldable pub link_by : Bool → ℕ → List ℕ → List ℕ → Link
 link_by has id ids t =
     pick has
-    (pick (member id ids) (link (Id id) false (target_at t (place_of id ids))) (link (Id id) true unnamed))
-    (link Missing false unnamed)
+    (pick (member id ids) (link (Some id) false (target_at t (place_of id ids))) (link (Some id) true unnamed))
+    (link None false unnamed)
 
 -- The connection that a request names.
 abbrev pub link_of : Request → List ℕ → List ℕ → Link

@@ -13,7 +13,7 @@ ghost use Rattle.journal_code.specs.Answer.{linked_in, is_nothing, tabled, conne
 use crate::route::is_srm_on;
 use crate::state::{Last, Open, State, ended_with, opening, quiet, standing_by};
 use connection::peer::{
-    ConnectionId, Peer, close_link, disconnected, opened_for, verified, with_check, with_left,
+    Peer, close_link, disconnected, opened_for, verified, with_check, with_left,
 };
 use incoming::survey::survey_headers;
 use packet::header::be32_at;
@@ -55,14 +55,14 @@ fn is_nothing(opened: Open) -> bool
 }
 
 // Returns the first ConnectionID among the headers `hs`, if there is one and all can be read.
-fn first_id(hs: &[u8]) -> ConnectionId
+fn first_id(hs: &[u8]) -> Option<u32>
     ensures { result ≡ id_in (first header_id.connection_id (headers_from hs.now 0)) }
 {
     let v = survey_headers(hs, 0);
     if v.has_id {
-        return ConnectionId::Id(v.id);
+        return Some(v.id);
     }
-    ConnectionId::Missing
+    None
 }
 
 // Answers a Connect: a success opens the id that the answer names, else, for a Target, a new one.

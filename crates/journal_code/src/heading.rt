@@ -8,7 +8,7 @@ ghost use Rattle.connection.specs.Peer.{target_given};
 ghost use Rattle.table.specs.Places.{table_length};
 ghost use Rattle.journal_code.specs.Heading.{link_by, reading_of};
 
-use connection::peer::{ConnectionId, is_open};
+use connection::peer::is_open;
 use incoming::survey::{Survey, survey_headers};
 use packet::header::first_header;
 use packet::header_id::{AUTHENTICATE_RESPONSE, NAME, TARGET};
@@ -21,7 +21,7 @@ use table::targets::{Target, find_place, target_at, target_of, unnamed};
 #[derive(Clone, Copy)]
 pub(crate) struct Link {
     // The first ConnectionID.
-    pub named: ConnectionId,
+    pub named: Option<u32>,
     // It is not open.
     pub unknown: bool,
     // The Target under which it was opened; the mark if there is none, or if it is not open.
@@ -37,7 +37,7 @@ pub(crate) struct Heading {
     pub headers: usize,
     // The first SingleResponseMode is Enable.
     pub enable: bool,
-    pub named: ConnectionId,
+    pub named: Option<u32>,
     pub unknown: bool,
     pub under: Target,
     pub has_name: bool,
@@ -81,21 +81,21 @@ fn link_of(v: Survey, tables: &[u64], count: usize) -> Link
 {
     if !v.has_id {
         return Link {
-            named: ConnectionId::Missing,
+            named: None,
             unknown: false,
             under: unnamed(),
         };
     }
     if !is_open(tables, count, v.id) {
         return Link {
-            named: ConnectionId::Id(v.id),
+            named: Some(v.id),
             unknown: true,
             under: unnamed(),
         };
     }
     let place = find_place(tables, count, v.id);
     Link {
-        named: ConnectionId::Id(v.id),
+        named: Some(v.id),
         unknown: false,
         under: target_at(tables, place),
     }

@@ -3,7 +3,7 @@
 ghost use Rattle.std.specs.Prelude.{◌≡◌};
 ghost use Rattle.journal_code.specs.State.{quiet as quietState, ended_with, coming_to, standing_by, opens_now, moved_to, fresh_state, nothing_gathered as nothingKept, is_busy, fits_in};
 
-use connection::peer::{Challenge, ConnectionId, Peer};
+use connection::peer::{Challenge, Peer};
 use incoming::gather::Gathered;
 use packet::limits::{MAX_CONNECTIONS, MAX_PACKET, MIN_PACKET};
 use packet::opcode::Opcode;
@@ -50,7 +50,7 @@ pub enum Last {
         target: Target,
     },
     // The id that it names.
-    Disconnect(ConnectionId),
+    Disconnect(Option<u32>),
 }
 
 // The journal, as far as the records depend on it.

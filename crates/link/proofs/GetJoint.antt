@@ -22,9 +22,8 @@ use Rattle.incoming.proofs.Queued.{Half}
 use Rattle.outgoing.specs.Packets.{all_sent}
 use Rattle.outgoing.proofs.Sender.{ending}
 use Rattle.journal.specs.Ids.{member}
-use Rattle.connection.specs.Peer.{ids_of}
+use Rattle.connection.specs.Peer.{ids_of, ConnectionId}
 use Rattle.connection.specs.declared.peer.Peer.{Peer}
-use Rattle.connection.specs.declared.peer.ConnectionId.{ConnectionId}
 use Rattle.server.specs.declared.Settings.{Settings as ServerSettings}
 use Rattle.server.specs.declared.Operation.TheVariants.{Getting}
 use Rattle.server.specs.declared.Await.TheVariants as waits

@@ -10,6 +10,7 @@ use lib.ListN.{length, take, drop}
 use lib.Seq.{take-append_seam}
 use lib.Dec.{ltb, leb, eqb}
 use borrow.Author.Tests.{ltb-true, ltb-false, le-leb, lt-leb, lt-ltb, eqb-true}
+use Rattle.std.specs.Prelude.{None}
 use Rattle.base.specs.Pick.{pick}
 use Rattle.text.specs.Unicode.{Octets}
 use Rattle.packet.specs.Canonical.{canonical_as, canonical}
@@ -65,7 +66,6 @@ use Rattle.client_model.proofs.Conveyed.{Holding, carried_all}
 use Rattle.client_model.proofs.Requests.{response-read}
 use Rattle.journal.specs.Journal.{is_enable}
 use Rattle.outgoing.specs.Queue.{insert_early}
-use Rattle.connection.specs.declared.peer.ConnectionId.TheVariants.{Missing}
 use Rattle.client_model.specs.Leading.{leading_headers}
 use Rattle.client_model.proofs.Leads.{lead_shaped}
 use Rattle.client_model.proofs.Putting.{Job, onto, Answered, Up, ends-carried}
@@ -156,7 +156,7 @@ unfolding is_code codes leading_headers insert_early all_bytes bytes_of encoding
 grant-down false = (reply-down 0x10 [] [] refl (omega arith) (λ k. omega arith) none_read, refl)
 grant-down true =
     let h = header header_id.single_response_mode (modes.enable ∷ []) in (
-      reply-down 0x10 (0x97 ∷ 0x01 ∷ []) (h ∷ []) refl (omega arith) few (read-written (h ∷ []) (0x97 ∷ 0x01 ∷ []) 0 (lead_shaped Missing true) refl),
+      reply-down 0x10 (0x97 ∷ 0x01 ∷ []) (h ∷ []) refl (omega arith) few (read-written (h ∷ []) (0x97 ∷ 0x01 ∷ []) 0 (lead_shaped None true) refl),
       refl,
     )
   where

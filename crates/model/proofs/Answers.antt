@@ -20,7 +20,7 @@ use Rattle.journal.specs.Checks.{Check, right, wrong}
 use Rattle.journal.specs.Journal.{Settings as JournalSettings, Standing, Opened, Journal, unchanged, stands, asks_srm, opens_for, connected, disconnected, reply_to, reply_last, replied, passes_with, response_in, passes, headers_of, password_checked, challenged, list_of}
 use Rattle.incoming.specs.Survey.{survey_of}
 use Rattle.connection.specs.Reply.{fields_of, send_bytes, front}
-use Rattle.connection.specs.Peer.{ids_of, Linked, checked_peer, verified_peer, challenged_peer, opened_for, disconnected_peer}
+use Rattle.connection.specs.Peer.{ids_of, Linked, checked_peer, verified_peer, challenged_peer, opened_for, disconnected_peer, ConnectionId}
 use Rattle.connection.specs.ConnectReply.{answered_challenge}
 use Rattle.connection.specs.declared.peer.Challenge.{Challenge}
 use Rattle.connection.specs.declared.peer.Challenge.TheVariants.{Stored, Absent}
@@ -31,7 +31,6 @@ use Rattle.model.specs.Calls.{sends_linked}
 use Rattle.model.specs.Connect.{srm_asked, connect_sends, front_for, credentials_for, connect_challenged, connect_opened, connect_answer, checks, password_answered, password_answer, nonce_answer, demands_user}
 use Rattle.model.specs.Theorem.{settings_of}
 use Rattle.server.specs.declared.Operation.TheVariants.{Nothing, Connecting}
-use Rattle.connection.specs.declared.peer.ConnectionId.{ConnectionId}
 use Rattle.server.specs.declared.Await.TheVariants as await
 use Rattle.server.specs.declared.Engine.{Engine}
 use Rattle.server.specs.declared.HostRequest.TheVariants as request

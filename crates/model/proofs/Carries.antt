@@ -26,11 +26,10 @@ use Rattle.outgoing.specs.declared.object.Outgoing.{Outgoing}
 use Rattle.outgoing.specs.declared.object.Next.{Next}
 use Rattle.outgoing.specs.declared.object.Next.TheVariants as next
 use Rattle.connection.specs.Reply.{fields_of, send_bytes, front}
-use Rattle.connection.specs.Peer.{Linked, limited, checked_peer, verified_peer, challenged_peer, opened_for}
+use Rattle.connection.specs.Peer.{Linked, limited, checked_peer, verified_peer, challenged_peer, opened_for, ConnectionId}
 use Rattle.connection.specs.ConnectReply.{answered_challenge}
 use Rattle.connection.specs.declared.peer.Challenge.{Challenge}
 use Rattle.connection.specs.declared.peer.Challenge.TheVariants.{Stored, Absent}
-use Rattle.connection.specs.declared.peer.ConnectionId.{ConnectionId}
 use Rattle.connection.specs.declared.peer.Peer.{Peer}
 use Rattle.server.specs.declared.Operation.{Operation}
 use Rattle.server.specs.declared.Operation.TheVariants.{Nothing, Trailing, Putting, Getting, Sending, Gathering as GatheringOp, Connecting, Draining}

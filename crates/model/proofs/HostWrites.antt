@@ -38,13 +38,12 @@ use Rattle.outgoing.specs.declared.object.Next.{Next}
 use Rattle.outgoing.specs.declared.object.Next.TheVariants as next
 use Rattle.outgoing.specs.declared.object.Outgoing.{Outgoing}
 use Rattle.connection.specs.Reply.{fields_of, send_bytes, front}
-use Rattle.connection.specs.Peer.{Linked, limited, checked_peer, challenged_peer, disconnected_peer, opened_for, ids_of}
+use Rattle.connection.specs.Peer.{Linked, limited, checked_peer, challenged_peer, disconnected_peer, opened_for, ids_of, ConnectionId}
 use Rattle.connection.specs.Pieces.{id_given}
 use Rattle.connection.specs.ConnectReply.{answered_challenge, connect_headers}
 use Rattle.connection.specs.declared.peer.Peer.{Peer}
 use Rattle.connection.specs.declared.peer.Challenge.{Challenge}
 use Rattle.connection.specs.declared.peer.Challenge.TheVariants.{Absent, Stored}
-use Rattle.connection.specs.declared.peer.ConnectionId.{ConnectionId}
 use Rattle.journal.specs.Ids.{all_open, repeats}
 use Rattle.journal.specs.Journal.{list_of, response_in, headers_of as headersIn}
 use Rattle.journal.specs.Calls.{Credentials, Call, bytes_offered_of, stream_ended_of, reply_taken_of, reply_given_of, object_given_of, body_given_of, body_failed_of, abort_acknowledged_of, password_given_of, nonce_given_of, credentials_given_of, connections_closed_of}

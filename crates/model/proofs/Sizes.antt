@@ -36,13 +36,12 @@ use Rattle.outgoing.specs.declared.object.Next.TheVariants as next
 use Rattle.connection.specs.Reply.{fields_of, send_bytes, front}
 use Rattle.table.specs.Targets.{target_by}
 use Rattle.table.specs.declared.targets.Target.{Target}
-use Rattle.connection.specs.Peer.{ids_of, Linked, opened, searched, target_given, opened_for, limited, verified_peer, challenged_peer, checked_peer}
+use Rattle.connection.specs.Peer.{ids_of, Linked, opened, searched, target_given, opened_for, limited, verified_peer, challenged_peer, checked_peer, ConnectionId}
 use Rattle.connection.specs.ConnectReply.{answered_challenge, connect_headers, challenge_header}
 use Rattle.connection.specs.Pieces.{id_given}
 use Rattle.connection.specs.declared.peer.Challenge.{Challenge}
 use Rattle.connection.specs.declared.peer.Challenge.TheVariants.{Stored, Absent}
 use Rattle.connection.specs.declared.peer.Peer.{Peer}
-use Rattle.connection.specs.declared.peer.ConnectionId.{ConnectionId}
 use Rattle.model.specs.Step.{Stores, with_reply, with_gathered, engine_with, Done, done, DoneTabled, done_tabled, sent, sends, sends_connect, capacity_of}
 use Rattle.model.specs.Request.{last_packet, last_headers, client_response}
 use Rattle.model.specs.Guard.{long_realm}

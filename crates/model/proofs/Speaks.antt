@@ -32,11 +32,10 @@ use Rattle.outgoing.specs.declared.object.Next.{Next}
 use Rattle.outgoing.specs.declared.object.Next.TheVariants as next
 use Rattle.connection.specs.Reply.{fields_of, send_bytes}
 use Rattle.connection.specs.ConnectReply.{answered_challenge}
-use Rattle.connection.specs.Peer.{Linked, opened_for, limited, verified_peer, challenged_peer, checked_peer}
+use Rattle.connection.specs.Peer.{Linked, opened_for, limited, verified_peer, challenged_peer, checked_peer, ConnectionId}
 use Rattle.connection.specs.declared.peer.Challenge.{Challenge}
 use Rattle.connection.specs.declared.peer.Challenge.TheVariants.{Stored, Absent}
 use Rattle.connection.specs.declared.peer.Peer.{Peer}
-use Rattle.connection.specs.declared.peer.ConnectionId.{ConnectionId}
 use Rattle.model.specs.Step.{Stores, with_gathered, engine_with, Done, done, DoneTabled, sent, sends, sends_connect, wants, asks, replies, replies_code, continue_bytes, limit_of, capacity_of}
 use Rattle.model.specs.Request.{last_packet, last_headers, client_response}
 use Rattle.model.specs.Operation.{nothing_gathered, gathers, put_gathered, put_packet, get_gathered, get_packet, headers_gathered, headers_packet, overrun}

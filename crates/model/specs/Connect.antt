@@ -1,5 +1,5 @@
 -- Connect, from its packet to its reply (the source's handle_connect and verify_client).
-use Rattle.std.specs.Prelude.{ℕ, ◌+◌, ◌*◌, List, [], ◌∷◌, Bool, true, false, ◌&&◌, ◌||◌, length, leb}
+use Rattle.std.specs.Prelude.{ℕ, ◌+◌, ◌*◌, List, [], ◌∷◌, Bool, true, false, ◌&&◌, ◌||◌, length, leb, Some, None}
 use Rattle.std.proofs.Math.Option.{Option, none, some}
 use Rattle.std.specs.Int.Count.{ones}
 use Rattle.base.specs.Pick.{pick}
@@ -17,14 +17,12 @@ use Rattle.journal.specs.Journal.{list_of}
 use Rattle.incoming.specs.Survey.{survey_of}
 use Rattle.incoming.specs.declared.survey.Survey.{Survey}
 use Rattle.connection.specs.Reply.{fields_of, front}
-use Rattle.connection.specs.Peer.{Linked, isGiven, limited, checked_peer, verified_peer, challenged_peer, searched, opened_for}
+use Rattle.connection.specs.Peer.{Linked, isGiven, limited, checked_peer, verified_peer, challenged_peer, searched, opened_for, ConnectionId}
 use Rattle.connection.specs.ConnectReply.{answered_challenge, connect_headers, challenge_header}
 use Rattle.connection.specs.Pieces.{id_given}
 use Rattle.connection.specs.declared.peer.Challenge.{Challenge}
 use Rattle.connection.specs.declared.peer.Challenge.TheVariants.{Stored, Absent}
 use Rattle.connection.specs.declared.peer.Peer.{Peer}
-use Rattle.connection.specs.declared.peer.ConnectionId.{ConnectionId}
-use Rattle.connection.specs.declared.peer.ConnectionId.TheVariants as front_id
 use Rattle.server.specs.declared.Settings.{Settings}
 use Rattle.server.specs.declared.Operation.TheVariants.{Nothing, Connecting}
 use Rattle.server.specs.declared.Await.TheVariants as await
@@ -74,9 +72,9 @@ connect_sends e p code f answer c s =
 
 -- The ConnectionID that the engine puts in front of the host's headers: a new one for a Target, if the host gave none.
 abbrev pub front_for : Peer → List ℕ → Option (List ℕ) → Option (List ℕ) → ConnectionId
-front_for p t (some v) target = front_id.Missing
-front_for p t none none = front_id.Missing
-front_for p t none (some v) = front_id.Id (searched p t)
+front_for p t (some v) target = None
+front_for p t none none = None
+front_for p t none (some v) = Some (searched p t)
 
 -- What the host is told of the client's challenge.
 abbrev pub credentials_for : List ℕ → PeerChallenge → HostRequest

@@ -85,7 +85,7 @@ pub enum Operation {
     // waits for credentials. `front` is the ConnectionID that the engine puts in front of them.
     Connecting {
         code: u8,
-        front: connection::peer::ConnectionId,
+        front: Option<u32>,
         length: usize,
     },
     // A Put or Get that the engine turned away under SRM. The client keeps sending without waiting, so the engine reads the packets up to
