@@ -7,7 +7,6 @@ use packet::action::permissions;
 use packet::header::{HeaderAt, HeaderEncoding};
 use packet::tlv::{TagAt, Wrote};
 use packet::{header, tlv};
-use walk::Count;
 
 // How a header's value is shown and written.
 #[derive(Clone, Copy)]
@@ -337,7 +336,7 @@ fn put_read_headers(rt: &impl Print, n: usize, s: &[u8]) {
 // Answers with the headers of `s`.
 pub(crate) fn put_headers(rt: &impl Print, s: &[u8]) {
     match walk::len(s, 0) {
-        Count::Headers(n) => put_read_headers(rt, n, s),
-        Count::Unreadable => put(rt, b"unreadable"),
+        Some(n) => put_read_headers(rt, n, s),
+        None => put(rt, b"unreadable"),
     }
 }
