@@ -16,12 +16,11 @@ use Rattle.base.specs.Bytes.{be32, bytes16, bytes32}
 use Rattle.text.specs.Unicode.{Octets}
 use Rattle.packet.specs.HeaderIds as header_id
 use Rattle.packet.specs.Header.{Header, encoding_of, length_field, bytes_of, all_bytes, first, present}
-use Rattle.packet.specs.FirstByte.{named, first_byte, byte_of}
+use Rattle.packet.specs.FirstByte.{known_byte, named, first_byte, byte_of}
 use Rattle.packet.specs.Packet.{request_of, packet_bytes}
 use Rattle.packet.specs.ResponsePacket.{ResponsePacket}
 use Rattle.packet.specs.declared.opcode.Opcode.{Opcode}
 use Rattle.packet.specs.declared.opcode.Opcode.TheVariants as op
-use Rattle.packet.specs.declared.opcode.FirstByte.TheVariants.{Known}
 use Rattle.packet.proofs.HeaderBytes.{header-bytes}
 use Rattle.packet.proofs.HeaderWrites.{AllShaped, read_shaped}
 use Rattle.journal.specs.Record.{Record, bare, join_body, size_of, is_body, is_srm, carried_one, carried_by, kept_by_get}
@@ -290,7 +289,7 @@ pub record Up (q : List ℕ) (o : Opcode) (last : Bool) (x : List Header) : Type
   pub whole : IsWhole q
   pub reads : request_of q ≡ some (record { opcode = o; final = last; bytes = q; headers = x })
 
-first_get_lem : (last : Bool) → first_byte (byte_of op.Get last) ≡ Known op.Get last
+first_get_lem : (last : Bool) → first_byte (byte_of op.Get last) ≡ known_byte op.Get last
 unfolding first_byte named byte_of
 first_get_lem true = refl
 first_get_lem false = refl
@@ -482,7 +481,7 @@ next_up =
 abbrev pub abort_bytes : ConnectionId → List ℕ
 abort_bytes id = packet_bytes (byte_of op.Abort true) [] (id_bytes id)
 
-first_abort : first_byte (byte_of op.Abort true) ≡ Known op.Abort true
+first_abort : first_byte (byte_of op.Abort true) ≡ known_byte op.Abort true
 unfolding first_byte named byte_of
 first_abort = refl
 

@@ -7,17 +7,19 @@ use base::wide;
 use lines::word::byte_at;
 use packet::flags::flag_bits;
 use packet::opcode::{FirstByte, Opcode};
-use packet::packet::{ConnectParameters, Fields, Length, Parsed, ParsedResponse};
+use packet::packet::{ConnectParameters, Fields, Request, Response};
 use packet::{header, opcode, packet as packets, response};
 
 // ---- bytes that name things
 
 // Answers a question on the first byte of a request: opcode, Final bit, and the byte that the two make again.
 pub(crate) fn first(rt: &impl Print, byte: u8) {
-    let FirstByte::Known {
-        opcode: op,
-        is_final,
-    } = opcode::from_byte(byte)
+    let Some(
+        FirstByte {
+            opcode: op,
+            is_final,
+        },
+    ) = opcode::from_byte(byte)
     else {
         put(rt, b"unknown");
         return;
@@ -50,8 +52,8 @@ pub(crate) fn code(rt: &impl Print, byte: u8) {
 // Answers with the length that the front of a packet states.
 pub(crate) fn packet_length(rt: &impl Print, s: &[u8]) {
     match packets::packet_length(s) {
-        Length::Known(n) => put_number(rt, n),
-        Length::Missing => put(rt, b"none"),
+        Some(n) => put_number(rt, n),
+        None => put(rt, b"none"),
     }
 }
 
@@ -99,12 +101,14 @@ fn put_request(rt: &impl Print, op: Opcode, is_final: bool, p: &[u8], left: usiz
 
 // Answers with the request at the front of `s`.
 pub(crate) fn parsed(rt: &impl Print, s: &[u8]) {
-    let Parsed::Request {
-        opcode,
-        is_final,
-        headers,
-        length,
-    } = packets::parse(s)
+    let Some(
+        Request {
+            opcode,
+            is_final,
+            headers,
+            length,
+        },
+    ) = packets::parse(s)
     else {
         put(rt, b"unreadable");
         return;
@@ -127,20 +131,22 @@ fn front_len(s: &[u8]) -> usize
     ensures { result ≤ length s.now }
 {
     match packets::packet_length(s) {
-        Length::Known(n) => { if n <= s.len() { n } else { 0 } }
-        Length::Missing => 0,
+        Some(n) => { if n <= s.len() { n } else { 0 } }
+        None => 0,
     }
 }
 
 // Answers a question on a response, to a Connect or to another request.
 pub(crate) fn answered(rt: &impl Print, s: &[u8], connect: bool) {
     let n = front_len(s);
-    let ParsedResponse::Response {
-        code,
-        is_final,
-        headers,
-        length,
-    } = packets::parse_response(&s[0..n], connect)
+    let Some(
+        Response {
+            code,
+            is_final,
+            headers,
+            length,
+        },
+    ) = packets::parse_response(&s[0..n], connect)
     else {
         put(rt, b"unreadable");
         return;
@@ -189,24 +195,20 @@ pub(crate) fn fields_of(b: &[u8], is_default: bool) -> Fields {
 }
 
 // Returns the Connect parameters of a response, from its bytes.
-fn parameters_of(b: &[u8], is_none: bool) -> ConnectParameters {
+fn parameters_of(b: &[u8], is_none: bool) -> Option<ConnectParameters> {
     if is_none {
-        return ConnectParameters::Missing;
+        return None;
     }
-    ConnectParameters::Parameters {
+    Some(ConnectParameters {
         version: byte_at(b, 0),
         flags: byte_at(b, 1),
         max_packet_length: u16_at(b, 2),
-    }
+    })
 }
 
 // Answers with the bytes of a request. `byte` names an opcode only if it is the opcode's own value.
 pub(crate) fn request(rt: &impl Print, byte: u8, is_final: bool, fields: Fields, headers: &[u8]) {
-    let FirstByte::Known {
-        opcode: op,
-        is_final: _,
-    } = opcode::from_byte(byte)
-    else {
+    let Some(FirstByte { opcode: op, .. }) = opcode::from_byte(byte) else {
         put(rt, b"unknown");
         return;
     };

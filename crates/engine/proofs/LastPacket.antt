@@ -14,14 +14,14 @@ use Rattle.packet.specs.FirstByte.{first_byte}
 use Rattle.packet.specs.Header.{Header, read_headers, encoding_of, first, first_place, part}
 use Rattle.packet.specs.HeaderList.{readable_from}
 use Rattle.packet.specs.Packet.{request_of, request_by, request_with, prefix_of}
-use Rattle.packet.specs.PacketRead.{head_by}
+use Rattle.packet.specs.PacketRead.{known_head, head_by}
 use Rattle.packet.specs.Tags.{bytes_at}
 use Rattle.packet.specs.Auth.{Response, response_of}
 use Rattle.packet.specs.AuthRead.{read_response}
 use Rattle.packet.specs.declared.opcode.Opcode.{Opcode}
 use Rattle.packet.specs.declared.opcode.FirstByte.{FirstByte}
-use Rattle.packet.specs.declared.opcode.FirstByte.TheVariants.{Known, Unknown}
-use Rattle.packet.specs.declared.packet.Head.TheVariants as head
+use Rattle.packet.specs.declared.packet.Head.{Head}
+use Rattle.std.specs.Prelude.{Option as Maybe, Some, None}
 use Rattle.packet.specs.declared.tlv.Found.{Found}
 use Rattle.packet.specs.declared.tlv.Found.TheVariants as place
 use Rattle.packet.proofs.HeaderBytes.{Octets}
@@ -52,19 +52,21 @@ use Rattle.engine.proofs.Guards.{Goes}
 use Rattle.engine.specs.Request.{from_by, last_from, last_connect, is_found}
 
 -- where the headers start, by what stands before them
-pub from-head : (b : FirstByte) (q : List ℕ) (o : Opcode) (f : Bool) (h : ℕ) → head_by b q ≡ head.Known o f h → h ≡ from_by b (length q)
-from-head Unknown q o f h e = let z : ◌≡◌ {A = ℕ} 0 1 = cc in absurd (omega arith)
-from-head (Known p g) q o f h e = go (ltb (length q) (prefix_of p)) e
+pub from-head : (b : Maybe FirstByte) (q : List ℕ) (h : Head) → head_by b q ≡ Some h → h.headers ≡ from_by b (length q)
+from-head None q h e = let z : ◌≡◌ {A = ℕ} 0 1 = cc in absurd (omega arith)
+from-head (Some b) q h e = go (ltb (length q) (prefix_of b.opcode)) e
   where
-    go : (t : Bool) → pick t head.Unreadable (head.Known p g (prefix_of p)) ≡ head.Known o f h → h ≡ pick t (length q) (prefix_of p)
+    go : (t : Bool) → pick t None (known_head b.opcode b.is_final (prefix_of b.opcode)) ≡ Some h → h.headers ≡ pick t (length q) (prefix_of b.opcode)
     go true e = let z : ◌≡◌ {A = ℕ} 0 1 = cc in absurd (omega arith)
-    go false e = cc
+    go false e =
+        let is : ◌≡◌ {A = Head} (record { opcode = b.opcode; is_final = b.is_final; headers = prefix_of b.opcode }) h = cc in
+        ap (λ (x : Head). x.headers) (sym is)
 
-pub from_headless : (b : FirstByte) (q : List ℕ) → head_by b q ≡ head.Unreadable → length q ≡ from_by b (length q)
-from_headless Unknown q e = refl
-from_headless (Known p g) q e = go (ltb (length q) (prefix_of p)) e
+pub from_headless : (b : Maybe FirstByte) (q : List ℕ) → head_by b q ≡ None → length q ≡ from_by b (length q)
+from_headless None q e = refl
+from_headless (Some b) q e = go (ltb (length q) (prefix_of b.opcode)) e
   where
-    go : (t : Bool) → pick t head.Unreadable (head.Known p g (prefix_of p)) ≡ head.Unreadable → length q ≡ pick t (length q) (prefix_of p)
+    go : (t : Bool) → pick t None (known_head b.opcode b.is_final (prefix_of b.opcode)) ≡ None → length q ≡ pick t (length q) (prefix_of b.opcode)
     go true e = refl
     go false e = let z : ◌≡◌ {A = ℕ} 0 1 = cc in absurd (omega arith)
 
@@ -85,9 +87,9 @@ last-headers q = go (first_byte (get_or q 0 0))
     by o f true = none_at_end q
     by o f false = with_read o f (read_headers q (prefix_of o))
 
-    go : (b : FirstByte) → headers_from q (from_by b (length q)) ≡ headersIn (request_by b q)
-    go Unknown = none_at_end q
-    go (Known o f) = by o f (ltb (length q) (prefix_of o))
+    go : (b : Maybe FirstByte) → headers_from q (from_by b (length q)) ≡ headersIn (request_by b q)
+    go None = none_at_end q
+    go (Some b) = by b.opcode b.is_final (ltb (length q) (prefix_of b.opcode))
 
 -- a Connect's headers, as they were read in one walk
 pub last_finds : (q : List ℕ) (c : ConnectRequest) → c ≡ last_connect q → Finds q (last_from q) c

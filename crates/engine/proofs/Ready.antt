@@ -14,7 +14,7 @@ use Rattle.packet.specs.FirstByte.{first_byte, same_opcode}
 use Rattle.packet.specs.Header.{Header, read_headers}
 use Rattle.packet.specs.Packet.{Request as Packet, request_of, request_by, request_with, prefix_of}
 use Rattle.packet.specs.declared.opcode.FirstByte.{FirstByte}
-use Rattle.packet.specs.declared.opcode.FirstByte.TheVariants.{Known, Unknown}
+use Rattle.std.specs.Prelude.{Option as Maybe, Some, None}
 use Rattle.packet.specs.declared.opcode.Opcode.{Opcode}
 use Rattle.packet.specs.declared.opcode.Opcode.TheVariants as op
 use Rattle.incoming.specs.Survey.{survey_of}
@@ -57,9 +57,9 @@ parts q r e = go (first_byte (get_or q 0 0)) e
     long c f true w = absurd (none-some w)
     long c f false w = read c f (read_headers q (prefix_of c)) refl w
 
-    go : (b : FirstByte) → request_by b q ≡ some r → Parts q r
-    go Unknown w = absurd (none-some w)
-    go (Known c f) w = long c f (ltb (length q) (prefix_of c)) w
+    go : (b : Maybe FirstByte) → request_by b q ≡ some r → Parts q r
+    go None w = absurd (none-some w)
+    go (Some b) w = long b.opcode b.is_final (ltb (length q) (prefix_of b.opcode)) w
 
 -- by the way it goes
 abbrev pub Ready : Route → Engine → List ℕ → List Header → Type 0

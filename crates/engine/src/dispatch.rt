@@ -21,8 +21,8 @@ use incoming::survey::{Survey, survey_headers};
 use outgoing::object::Outgoing;
 use packet::header::first_header;
 use packet::header_id::NAME;
-use packet::opcode::{FirstByte, Opcode, from_byte, same};
-use packet::packet::{Head, packet_head, set_path_flags};
+use packet::opcode::{Opcode, from_byte, same};
+use packet::packet::{packet_head, set_path_flags};
 use packet::response;
 use packet::tlv::Found;
 use server::{Await, CallResult, End, Engine, HostRequest, Operation, Outcome};
@@ -464,13 +464,7 @@ pub(crate) fn unreadable(e: Engine, unknown: bool) -> Route
 fn is_unknown(byte: u8) -> bool
     ensures { result ≡ unknown_byte (first_byte byte) }
 {
-    match from_byte(byte) {
-        FirstByte::Known {
-            opcode: _,
-            is_final: _,
-        } => false,
-        FirstByte::Unknown => true,
-    }
+    from_byte(byte).is_none()
 }
 
 // Whether the packet names a ConnectionID that is open: one of the ids in the table store.
@@ -549,34 +543,29 @@ pub(crate) fn route_packet(e: Engine, p: &[u8], tables: &[u64]) -> Routed
     requires { (1 ≤ length p.now) × (e.peer.count ≤ 64) × (table_length ≤ length tables.now) }
     ensures { result ≡ routed (packet_route e p.now tables.now) (packetTargetOf (request_of p.now) e tables.now) }
 {
-    let Head::Known {
-        opcode,
-        is_final,
-        headers,
-    } = packet_head(p)
-    else {
+    let Some(head) = packet_head(p) else {
         return unreadable_route(e, p[0]);
     };
-    let survey = survey_headers(p, headers);
+    let survey = survey_headers(p, head.headers);
     if !survey.readable {
         return unreadable_route(e, p[0]);
     }
     let flags = set_path_flags(p);
     let known = is_known(e, survey, tables);
-    let trails = is_trailed(e, opcode, p);
+    let trails = is_trailed(e, head.opcode, p);
     let route = heading_route(
         e,
         Heading {
             survey,
-            opcode,
+            opcode: head.opcode,
             backup: flags.backup,
             no_create: flags.no_create,
-            is_final,
+            is_final: head.is_final,
             known,
             trails,
         },
     );
-    let target = packet_target(e, opcode, survey, known, tables);
+    let target = packet_target(e, head.opcode, survey, known, tables);
     Routed { route, target }
 }
 

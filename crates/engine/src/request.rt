@@ -17,7 +17,7 @@ use connection::peer::Challenge;
 use connection::request::{ConnectRequest, connect_request};
 use incoming::survey::survey_headers;
 use packet::auth::read_response;
-use packet::packet::{Head, packet_head};
+use packet::packet::packet_head;
 use packet::srm::ENABLE;
 use packet::tlv::Found;
 use table::targets::{Target, target_of, unnamed};
@@ -27,15 +27,10 @@ use table::targets::{Target, target_of, unnamed};
 pub(crate) fn last_from(q: &[u8]) -> usize
     ensures { result ≡ last_from q.now }
 {
-    let Head::Known {
-        opcode: _,
-        is_final: _,
-        headers,
-    } = packet_head(q)
-    else {
-        return q.len();
-    };
-    headers
+    match packet_head(q) {
+        Some(head) => head.headers,
+        None => q.len(),
+    }
 }
 
 // Reads the headers of packet `q` that the answer to a Connect looks for, in one walk.

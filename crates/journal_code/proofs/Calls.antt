@@ -16,7 +16,7 @@ use Rattle.packet.specs.HeaderList.{is_read, readable_from}
 use Rattle.packet.specs.Packet.{Request, prefix_of, request_with, request_by, request_of}
 use Rattle.packet.specs.declared.opcode.Opcode.{Opcode}
 use Rattle.packet.specs.declared.opcode.FirstByte.{FirstByte}
-use Rattle.packet.specs.declared.opcode.FirstByte.TheVariants.{Known, Unknown}
+use Rattle.std.specs.Prelude.{Option as Maybe, Some, None}
 use Rattle.journal.specs.Journal.{list_of}
 use Rattle.incoming.specs.Frame.{Frames, frames}
 use Rattle.incoming.specs.declared.frame.Frame.TheVariants.{More, Whole, Short}
@@ -94,9 +94,9 @@ request-headers p r e = go (first_byte (get_or p 0 0)) e
     by true o f e = absurd (let z : ◌≡◌ {A = ℕ} 0 1 = cc in omega arith)
     by false o f e = read o f (read_headers p (prefix_of o)) refl e
 
-    go : (b : FirstByte) → request_by b p ≡ some r → read_headers p (prefix_of r.opcode) ≡ some r.headers
-    go Unknown e = absurd (let z : ◌≡◌ {A = ℕ} 0 1 = cc in omega arith)
-    go (Known o f) e = by (ltb (length p) (prefix_of o)) o f e
+    go : (b : Maybe FirstByte) → request_by b p ≡ some r → read_headers p (prefix_of r.opcode) ≡ some r.headers
+    go None e = absurd (let z : ◌≡◌ {A = ℕ} 0 1 = cc in omega arith)
+    go (Some b) e = by (ltb (length p) (prefix_of b.opcode)) b.opcode b.is_final e
 
 module _ (s : State) (p t hd bd : List ℕ) where
   abbrev ids : List ℕ

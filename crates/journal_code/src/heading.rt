@@ -13,7 +13,7 @@ use incoming::survey::{Survey, survey_headers};
 use packet::header::first_header;
 use packet::header_id::{AUTHENTICATE_RESPONSE, NAME, TARGET};
 use packet::opcode::Opcode;
-use packet::packet::{Head, packet_head};
+use packet::packet::packet_head;
 use packet::tlv::Found;
 use table::targets::{Target, find_place, target_at, target_of, unnamed};
 
@@ -106,14 +106,10 @@ pub(crate) fn read_heading(p: &[u8], tables: &[u64], count: usize) -> Reading
     requires { (count ≤ 64) × (table_length ≤ length tables.now) }
     ensures { result ≡ reading_of (request_of p.now) (take count tables.now) tables.now }
 {
-    let Head::Known {
-        opcode,
-        is_final,
-        headers,
-    } = packet_head(p)
-    else {
+    let Some(head) = packet_head(p) else {
         return Reading::Unreadable;
     };
+    let headers = head.headers;
     let v = survey_headers(p, headers);
     if !v.readable {
         return Reading::Unreadable;
@@ -122,8 +118,8 @@ pub(crate) fn read_heading(p: &[u8], tables: &[u64], count: usize) -> Reading
     let named = link.named;
     let under = link.under;
     Reading::Read(Heading {
-        opcode,
-        is_final,
+        opcode: head.opcode,
+        is_final: head.is_final,
         headers,
         enable: v.enable,
         named,

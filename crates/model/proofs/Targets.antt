@@ -21,7 +21,7 @@ use Rattle.packet.specs.Packet.{Request as Packet, prefix_of, request_with, requ
 use Rattle.packet.specs.declared.tlv.Found.{Found}
 use Rattle.packet.specs.declared.tlv.Found.TheVariants as place
 use Rattle.packet.specs.declared.opcode.FirstByte.{FirstByte}
-use Rattle.packet.specs.declared.opcode.FirstByte.TheVariants.{Known as KnownByte, Unknown}
+use Rattle.std.specs.Prelude.{Option as Maybe, Some, None}
 use Rattle.packet.specs.declared.opcode.Opcode.{Opcode}
 use Rattle.packet.specs.declared.opcode.Opcode.TheVariants as op
 use Rattle.table.specs.Targets.{unnamed, target_bytes, place_of, target_at}
@@ -106,9 +106,9 @@ request-given p id o = go (first_byte (get_or p 0 0))
     by true c f = tt
     by false c f = with_headers_lem c f (read_headers p (prefix_of c)) refl
 
-    go : (b : FirstByte) → Given (first id (headers_of (request_by b p)))
-    go Unknown = tt
-    go (KnownByte c f) = by (ltb (length p) (prefix_of c)) c f
+    go : (b : Maybe FirstByte) → Given (first id (headers_of (request_by b p)))
+    go None = tt
+    go (Some b) = by (ltb (length p) (prefix_of b.opcode)) b.opcode b.is_final
 
 -- ---- between two calls
 

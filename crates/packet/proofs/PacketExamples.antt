@@ -8,10 +8,8 @@ use lib.ListN.{replicate, length}
 use Rattle.digest.specs.Md5.{le_value, be_value, numbers16}
 use Rattle.packet.specs.declared.opcode.Opcode.TheVariants as op
 use Rattle.packet.specs.declared.tlv.Found.TheVariants as place
-use Rattle.packet.specs.declared.packet.Length.TheVariants as size
-use Rattle.packet.specs.declared.packet.Parsed.TheVariants as parsed
+use Rattle.std.specs.Prelude.{Some, None}
 use Rattle.packet.specs.declared.packet.Fields.TheVariants as fields
-use Rattle.packet.specs.declared.packet.ConnectParameters.TheVariants as connect
 use Rattle.packet.specs.declared.auth.Named.TheVariants as nonce
 use Rattle.packet.specs.declared.auth.DigestResponse.TheVariants as response
 use Rattle.packet.specs.declared.auth.DigestChallenge.TheVariants as challenge
@@ -23,7 +21,7 @@ use Rattle.packet.specs.Flags.{flag_bits}
 use Rattle.packet.specs.Tags.{tags_by, tags, last_from, last_under, last_value, write_tags}
 use Rattle.packet.specs.Auth.{response_from, response_of, challenge_from, challenge_of, realm_place, user_id_required_of, read_only_of, challenge_tags}
 use Rattle.packet.specs.AuthRead.{read_response, read_challenge}
-use Rattle.packet.specs.PacketRead.{packet_length, parse_packet, parse_front, flags_of}
+use Rattle.packet.specs.PacketRead.{packet_length, known_request, parse_packet, parse_front, flags_of}
 use Rattle.packet.specs.PacketWrite.{field_bytes, parameter_bytes}
 
 -- ---- packets
@@ -34,11 +32,11 @@ connect_bytes_lem : packet_bytes (byte_of op.Connect true) (field_bytes op.Conne
 unfolding packet_bytes byte_of
 connect_bytes_lem = refl
 
-response-bytes : packet_bytes (sent_code 0x20) (parameter_bytes (connect.Parameters 0x10 0 0x0400)) [] ≡ 0xA0 ∷ 0x00 ∷ 0x07 ∷ 0x10 ∷ 0x00 ∷ 0x04 ∷ 0x00 ∷ []
+response-bytes : packet_bytes (sent_code 0x20) (parameter_bytes (Some (record { version = 0x10; flags = 0; max_packet_length = 0x0400 }))) [] ≡ 0xA0 ∷ 0x00 ∷ 0x07 ∷ 0x10 ∷ 0x00 ∷ 0x04 ∷ 0x00 ∷ []
 unfolding packet_bytes
 response-bytes = refl
 
-success-bytes : packet_bytes (sent_code 0x20) (parameter_bytes connect.Missing) [] ≡ 0xA0 ∷ 0x00 ∷ 0x03 ∷ []
+success-bytes : packet_bytes (sent_code 0x20) (parameter_bytes None) [] ≡ 0xA0 ∷ 0x00 ∷ 0x03 ∷ []
 unfolding packet_bytes
 success-bytes = refl
 
@@ -52,37 +50,37 @@ unfolding packet_bytes byte_of
 other-bytes = refl
 
 -- a Put with an empty End of Body, one byte of another packet behind it
-put-read : parse_front (0x82 ∷ 0 ∷ 6 ∷ 0x49 ∷ 0 ∷ 3 ∷ 0x80 ∷ []) ≡ parsed.Request op.Put true 3 6
+put-read : parse_front (0x82 ∷ 0 ∷ 6 ∷ 0x49 ∷ 0 ∷ 3 ∷ 0x80 ∷ []) ≡ known_request op.Put true 3 6
 unfolding parse_front request_at request_of first_byte named read_headers walk header_at_of encoded_at encoding_of allowed tagged
 put-read = refl
 
-connect_read_lem : parse_packet (0x80 ∷ 0x00 ∷ 0x11 ∷ 0x10 ∷ 0x00 ∷ 0x20 ∷ 0x00 ∷ 0xC0 ∷ 0 ∷ 0 ∷ 0 ∷ 4 ∷ 0xC3 ∷ 0 ∷ 0 ∷ 0xF4 ∷ 0x83 ∷ []) ≡ parsed.Request op.Connect true 7 17
+connect_read_lem : parse_packet (0x80 ∷ 0x00 ∷ 0x11 ∷ 0x10 ∷ 0x00 ∷ 0x20 ∷ 0x00 ∷ 0xC0 ∷ 0 ∷ 0 ∷ 0 ∷ 4 ∷ 0xC3 ∷ 0 ∷ 0 ∷ 0xF4 ∷ 0x83 ∷ []) ≡ known_request op.Connect true 7 17
 unfolding parse_packet request_of first_byte named read_headers walk header_at_of encoded_at encoding_of allowed tagged
 connect_read_lem = refl
 
 -- a Connect with no fields, and with three bytes of them
-connect_short : parse_packet (0x80 ∷ 0x00 ∷ 0x03 ∷ []) ≡ parsed.Unreadable
+connect_short : parse_packet (0x80 ∷ 0x00 ∷ 0x03 ∷ []) ≡ None
 unfolding parse_packet request_of first_byte named
 connect_short = refl
 
-connect_three : parse_front (0x80 ∷ 0x00 ∷ 0x06 ∷ 0x10 ∷ 0x00 ∷ 0x20 ∷ []) ≡ parsed.Unreadable
+connect_three : parse_front (0x80 ∷ 0x00 ∷ 0x06 ∷ 0x10 ∷ 0x00 ∷ 0x20 ∷ []) ≡ None
 unfolding parse_front request_at request_of first_byte named
 connect_three = refl
 
 -- a length under 3, an unknown first byte
-length_two : parse_front (0x81 ∷ 0x00 ∷ 0x02 ∷ []) ≡ parsed.Unreadable
+length_two : parse_front (0x81 ∷ 0x00 ∷ 0x02 ∷ []) ≡ None
 unfolding parse_front request_at
 length_two = refl
 
-unknown_read : parse_packet (0x84 ∷ 0x00 ∷ 0x03 ∷ []) ≡ parsed.Unreadable
+unknown_read : parse_packet (0x84 ∷ 0x00 ∷ 0x03 ∷ []) ≡ None
 unfolding parse_packet request_of first_byte named
 unknown_read = refl
 
-length-missing : packet_length (0xA0 ∷ 0x00 ∷ []) ≡ size.Missing
+length-missing : packet_length (0xA0 ∷ 0x00 ∷ []) ≡ None
 unfolding packet_length
 length-missing = refl
 
-length-known : packet_length (0xA0 ∷ 0x00 ∷ 0x07 ∷ []) ≡ size.Known 7
+length-known : packet_length (0xA0 ∷ 0x00 ∷ 0x07 ∷ []) ≡ Some 7
 unfolding packet_length
 length-known = refl
 

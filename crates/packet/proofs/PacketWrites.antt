@@ -16,6 +16,7 @@ use Rattle.packet.specs.declared.opcode.Opcode.{Opcode}
 use Rattle.packet.specs.declared.opcode.Opcode.TheVariants.{Connect, Disconnect, Put, Get, SetPath, Action, Session, Abort, UserDefined}
 use Rattle.packet.specs.declared.packet.Fields.{Fields}
 use Rattle.packet.specs.declared.packet.Fields.TheVariants as fields
+use Rattle.std.specs.Prelude.{Option as Maybe}
 use Rattle.packet.specs.declared.opcode.FirstByte.{FirstByte}
 use Rattle.packet.specs.FirstByte.{first_byte, always_final, byte_of}
 use Rattle.packet.specs.Header.{Header, read_headers}
@@ -124,7 +125,7 @@ packet-back : (o : Opcode) (final : Bool) (f : Fields) (h : List ℕ) (hs : List
 unfolding request_of
 packet-back o final f h hs t oct e =
     let p = packet_bytes (byte_of o final) (field_bytes o f) h in
-    ap (λ (b : FirstByte). request_by b p) (first_back (byte_of o final) (field_bytes o f) h ∙ read_back o final t)
+    ap (λ (b : Maybe FirstByte). request_by b p) (first_back (byte_of o final) (field_bytes o f) h ∙ read_back o final t)
     ∙ rw (
       le-ltb (length p) (prefix_of o) (omega (arith, packet-length (byte_of o final) (field_bytes o f) h, fields_length o f)),
       headers-back o f (byte_of o final) h hs oct e,

@@ -18,11 +18,11 @@ pub enum Opcode {
     UserDefined(u8),
 }
 
-// What the first byte of a request says: an opcode and the Final bit, or nothing that is known.
+// What the first byte of a request says: an opcode and the Final bit.
 #[derive(Clone, Copy)]
-pub enum FirstByte {
-    Known { opcode: Opcode, is_final: bool },
-    Unknown,
+pub struct FirstByte {
+    pub opcode: Opcode,
+    pub is_final: bool,
 }
 
 // The Final bit of an opcode or a response code.
@@ -86,8 +86,8 @@ fn table() -> [u8; 256]
     FIRST_BYTES
 }
 
-// Names the opcode whose number is `value`.
-fn try_from(value: u8, is_final: bool) -> FirstByte
+// Names the opcode whose number is `value`, if there is one.
+fn try_from(value: u8, is_final: bool) -> Option<FirstByte>
     ensures { result ≡ named value is_final }
 {
     let opcode = match value {
@@ -100,29 +100,29 @@ fn try_from(value: u8, is_final: bool) -> FirstByte
         SESSION => Opcode::Session,
         FIRST_USER_DEFINED..=LAST_USER_DEFINED => Opcode::UserDefined(value),
         _ => {
-            return FirstByte::Unknown;
+            return None;
         }
     };
-    FirstByte::Known { opcode, is_final }
+    Some(FirstByte { opcode, is_final })
 }
 
 // Reads an entry of the table: the Final bit, and the opcode whose number the other bits are.
-fn from_entry(entry: u8) -> FirstByte
+fn from_entry(entry: u8) -> Option<FirstByte>
     ensures { result ≡ entry_says entry }
 {
     let is_final = FINAL_BIT <= entry;
     let value = entry % FINAL_BIT;
     if value == ABORT {
-        return FirstByte::Known {
+        return Some(FirstByte {
             opcode: Opcode::Abort,
             is_final,
-        };
+        });
     }
     try_from(value, is_final)
 }
 
-// Decodes the first byte of a request, by looking it up.
-pub fn from_byte(byte: u8) -> FirstByte
+// Decodes the first byte of a request, by looking it up. Nothing comes of a byte that names no opcode.
+pub fn from_byte(byte: u8) -> Option<FirstByte>
     ensures { result ≡ first_byte byte }
 {
     let entries = table();

@@ -8,14 +8,14 @@ use borrow.Author.Tests.{ne_eqb, le-leb, lt-leb}
 use Rattle.std.proofs.Common.{◌≢◌}
 use lib.Dec.{leb}
 use Rattle.base.specs.Pick.{pick}
-use Rattle.packet.specs.declared.opcode.FirstByte.TheVariants.{Known, Unknown}
+use Rattle.std.specs.Prelude.{None}
 use Rattle.packet.specs.declared.opcode.Opcode.TheVariants.{UserDefined}
-use Rattle.packet.specs.FirstByte.{named}
+use Rattle.packet.specs.FirstByte.{known_byte, named}
 use Rattle.packet.proofs.opcode.try_from.Goals as goal
 
 -- a value that is none of the seven
 others : (x : ℕ) (final : Bool) → x ≢ 0 → x ≢ 1 → x ≢ 2 → x ≢ 3 → x ≢ 5 → x ≢ 6 → x ≢ 7
-    → named x final ≡ pick (leb 0x10 x && leb x 0x1F) (Known (UserDefined x) final) Unknown
+    → named x final ≡ pick (leb 0x10 x && leb x 0x1F) (known_byte (UserDefined x) final) None
 unfolding named
 others x final a b d e f g h =
     simp (ne_eqb x 0 a, ne_eqb x 1 b, ne_eqb x 2 d, ne_eqb x 3 e, ne_eqb x 5 f, ne_eqb x 6 g, ne_eqb x 7 h)
