@@ -26,7 +26,7 @@ use Rattle.connection.specs.Pieces.{headers_from}
 use Rattle.filing.specs.Kinds.{ids_in}
 use Rattle.journal_code.specs.declared.state.State.{State}
 use Rattle.journal_code.specs.declared.heading.Heading.{Heading}
-use Rattle.journal_code.specs.declared.heading.Reading.TheVariants.{Unreadable, Read}
+use Rattle.std.specs.Prelude.{Some, None}
 use Rattle.journal_code.specs.State.{quiet, ended_with, coming_to, standing_by, fits_in}
 use Rattle.journal_code.specs.Heading.{heading_of, reading_of}
 use Rattle.journal_code.specs.Route.{heading_route}
@@ -102,15 +102,15 @@ module _ (s : State) (p t hd bd : List ℕ) where
   abbrev ids : List ℕ
   ids = ids_of s.peer t
 
-  pub unread : reading_of (request_of p) ids t ≡ Unreadable → step (unreadable_state s) hd bd ≡ packet_step s p t hd bd
+  pub unread : reading_of (request_of p) ids t ≡ None → step (unreadable_state s) hd bd ≡ packet_step s p t hd bd
   unfolding packet_step
   unread e = go (request_of p) e
     where
-      go : (r : Option Request) → reading_of r ids t ≡ Unreadable → step (unreadable_state s) hd bd ≡ request_step r s t hd bd
+      go : (r : Option Request) → reading_of r ids t ≡ None → step (unreadable_state s) hd bd ≡ request_step r s t hd bd
       go none e = refl
       go (some r) e = absurd (let z : ◌≡◌ {A = ℕ} 0 1 = cc in omega arith)
 
-  module _ (h : Heading) (e : reading_of (request_of p) ids t ≡ Read h) where
+  module _ (h : Heading) (e : reading_of (request_of p) ids t ≡ Some h) where
     -- the heading is that of a request
     record Found : Type 0 where
       request : Request
@@ -120,7 +120,7 @@ module _ (s : State) (p t hd bd : List ℕ) where
     found : Found
     found = go (request_of p) refl e
       where
-        go : (q : Option Request) → request_of p ≡ q → reading_of q ids t ≡ Read h → Found
+        go : (q : Option Request) → request_of p ≡ q → reading_of q ids t ≡ Some h → Found
         go none i e = absurd (let z : ◌≡◌ {A = ℕ} 0 1 = cc in omega arith)
         go (some r) i e = record { request = r; is = i; heading = cc }
 

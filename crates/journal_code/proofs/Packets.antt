@@ -26,19 +26,18 @@ use Rattle.table.specs.declared.targets.Target.{Target}
 use Rattle.connection.specs.Peer.{target_given, id_in}
 use Rattle.journal_code.specs.Heading.{link_by, reading_of}
 use Rattle.journal_code.specs.declared.heading.Link.{Link}
-use Rattle.journal_code.specs.declared.heading.Reading.TheVariants.{Unreadable, Read}
 
 -- what stands before the headers cannot be read
-pub headless : (p ids t : List ℕ) → packet_head p ≡ None → Unreadable ≡ reading_of (request_of p) ids t
+pub headless : (p ids t : List ℕ) → packet_head p ≡ None → None ≡ reading_of (request_of p) ids t
 unfolding packet_head request_of
 headless p ids t e = go (first_byte (get_or p 0 0)) e
   where
-    go : (b : Maybe FirstByte) → head_by b p ≡ None → Unreadable ≡ reading_of (request_by b p) ids t
+    go : (b : Maybe FirstByte) → head_by b p ≡ None → None ≡ reading_of (request_by b p) ids t
     go None e = refl
     go (Some b) e = by (ltb (length p) (prefix_of b.opcode)) e
       where
         by : (x : Bool) → pick x None (known_head b.opcode b.is_final (prefix_of b.opcode)) ≡ None
-            → Unreadable ≡ reading_of (pick x none (request_with b.opcode b.is_final p (read_headers p (prefix_of b.opcode)))) ids t
+            → None ≡ reading_of (pick x none (request_with b.opcode b.is_final p (read_headers p (prefix_of b.opcode)))) ids t
         by true e = refl
         by false e = let z : ◌≡◌ {A = ℕ} 0 1 = cc in absurd (omega arith)
 
@@ -61,11 +60,11 @@ module _ (p : List ℕ) (d : Head) where
   begins e = (head-place (first_byte (get_or p 0 0)) p d e, request-head p ∙ ap (λ (x : Maybe Head). request_head x p) e)
 
   module _ (ids t : List ℕ) (e : packet_head p ≡ Some d) (v : Survey) (ev : v ≡ survey_of (read_headers p n)) where
-    pub unreadable : v.readable ≡ false → Unreadable ≡ reading_of (request_of p) ids t
+    pub unreadable : v.readable ≡ false → None ≡ reading_of (request_of p) ids t
     unfolding survey_of
     unreadable i = rw (begins e).1 (go (read_headers p n) ev)
       where
-        go : (r : Option (List Header)) → v ≡ survey_of r → Unreadable ≡ reading_of (request_with o f p r) ids t
+        go : (r : Option (List Header)) → v ≡ survey_of r → None ≡ reading_of (request_with o f p r) ids t
         go none q = refl
         go (some hs) q = absurd (true≢false (sym (ap (λ (x : Survey). x.readable) q) ∙ i))
 
@@ -75,7 +74,7 @@ module _ (p : List ℕ) (d : Head) where
         → ((hs : List Header) → read_headers p n ≡ some hs → b ≡ present (first 0x4E hs))
         → ((hs : List Header) → read_headers p n ≡ some hs → c ≡ present (first 0x46 hs))
         → ((hs : List Header) → read_headers p n ≡ some hs → g ≡ target_given (first 0x46 hs))
-        → Read (record {
+        → Some (record {
           opcode = o;
           is_final = f;
           headers = n;
@@ -93,7 +92,7 @@ module _ (p : List ℕ) (d : Head) where
     heading_is i k ek a b c g fa fb fc fg = rw (begins e).1 (go (read_headers p n) refl)
       where
         go : (r : Option (List Header)) → read_headers p n ≡ r
-            → Read (record {
+            → Some (record {
               opcode = o;
               is_final = f;
               headers = n;

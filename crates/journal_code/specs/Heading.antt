@@ -1,5 +1,5 @@
 -- What the journal asks of a packet, as the code has it (docs/PROTOCOL.md#journal): of a few headers the first.
-use Rattle.std.specs.Prelude.{ℕ, List, Bool, true, false, Some, None}
+use Rattle.std.specs.Prelude.{ℕ, List, Bool, true, false, Option as Maybe, Some, None}
 use Rattle.std.proofs.Math.Option.{Option, none, some}
 use Rattle.base.specs.Pick.{pick}
 use Rattle.packet.specs.HeaderIds as header_id
@@ -14,8 +14,6 @@ use Rattle.incoming.specs.Survey.{survey_of}
 use Rattle.connection.specs.Peer.{target_given, ConnectionId}
 use Rattle.journal_code.specs.declared.heading.Link.{Link}
 use Rattle.journal_code.specs.declared.heading.Heading.{Heading}
-use Rattle.journal_code.specs.declared.heading.Reading.{Reading}
-use Rattle.journal_code.specs.declared.heading.Reading.TheVariants.{Unreadable, Read}
 use Rattle.journal_code.specs.declared.state.Last.{Last}
 use Rattle.journal_code.specs.declared.state.Last.TheVariants as last
 
@@ -52,9 +50,9 @@ heading_of r ids t =
     }
 
 -- The same of what a packet reads as.
-abbrev pub reading_of : Option Request → List ℕ → List ℕ → Reading
-reading_of none ids t = Unreadable
-reading_of (some r) ids t = Read (heading_of r ids t)
+abbrev pub reading_of : Option Request → List ℕ → List ℕ → Maybe Heading
+reading_of none ids t = None
+reading_of (some r) ids t = Some (heading_of r ids t)
 
 -- What of a request decides what the host's reply to it does.
 abbrev pub last_by : Opcode → Heading → Last

@@ -47,21 +47,12 @@ pub(crate) struct Heading {
     pub target: Target,
 }
 
-// A packet as read.
-#[derive(Clone, Copy)]
-pub(crate) enum Reading {
-    Unreadable,
-    Read(Heading),
-}
-
 // Tells whether the headers of `p` from `at` on, which can all be read, have one with `id`.
+#[tactic(auto, using(crate::proofs::Found::missing, crate::proofs::Found::there))]
 fn has_header(p: &[u8], at: usize, id: u8) -> bool
     ensures { (hs : List Header) → read_headers p.now at ≡ some hs → result ≡ present (first id hs) }
 {
-    let Found::At { start: _, end: _ } = first_header(p, at, id) else {
-        return false;
-    };
-    true
+    matches!(first_header(p, at, id), Found::At { .. })
 }
 
 // Returns the Target that an id takes by the headers of `p` from `at` on, which can all be read.
@@ -101,30 +92,28 @@ fn link_of(v: Survey, tables: &[u64], count: usize) -> Link
     }
 }
 
-// Reads a whole packet, if `count` ids of the table store are open.
-pub(crate) fn read_heading(p: &[u8], tables: &[u64], count: usize) -> Reading
+// Reads a whole packet, or none if it cannot be read, if `count` ids of the table store are open.
+pub(crate) fn read_heading(p: &[u8], tables: &[u64], count: usize) -> Option<Heading>
     requires { (count ≤ 64) × (table_length ≤ length tables.now) }
     ensures { result ≡ reading_of (request_of p.now) (take count tables.now) tables.now }
 {
     let Some(head) = packet_head(p) else {
-        return Reading::Unreadable;
+        return None;
     };
     let headers = head.headers;
     let v = survey_headers(p, headers);
     if !v.readable {
-        return Reading::Unreadable;
+        return None;
     }
     let link = link_of(v, tables, count);
-    let named = link.named;
-    let under = link.under;
-    Reading::Read(Heading {
+    Some(Heading {
         opcode: head.opcode,
         is_final: head.is_final,
         headers,
         enable: v.enable,
-        named,
+        named: link.named,
         unknown: link.unknown,
-        under,
+        under: link.under,
         has_name: has_header(p, headers, NAME),
         has_response: has_header(p, headers, AUTHENTICATE_RESPONSE),
         has_target: has_header(p, headers, TARGET),
