@@ -15,8 +15,8 @@ use crate::connect::{
 };
 use crate::dispatch::{more, packet_done, with_taken};
 use crate::guard::{
-    Guarded, guard, guard_lent, guard_nonce, guard_start, is_bad_headers, is_bad_reply,
-    is_long_realm, refuse, same_await,
+    guard, guard_lent, guard_nonce, guard_start, is_bad_headers, is_bad_reply, is_long_realm,
+    refuse, same_await,
 };
 use crate::object::{either, object_of, packet_plan, sends_next, turn_plan};
 use crate::request::is_right;
@@ -44,7 +44,7 @@ pub fn start(
         ≡ start_step settings realm.now (stores packet.old headers.old body.old
         reply.old) tables.now }
 {
-    if let Guarded::Refuse(refusal) = guard_start(
+    if let Err(refusal) = guard_start(
         settings.max_object_size,
         is_long_realm(settings.has_realm, realm.len()),
         tables.len(),
@@ -80,7 +80,7 @@ pub fn bytes_offered(
         (stores packet.old headers.old body.old reply.old) tables.now }
     ensures octets { Octets (coming packet.old e.begun placed input.now) }
 {
-    if let Guarded::Refuse(refusal) = guard_lent(
+    if let Err(refusal) = guard_lent(
         e,
         CallKind::FromPeer,
         tables.len(),
@@ -114,7 +114,7 @@ pub fn stream_ended(
     ensures { stepped result (stores packet.new headers.new body.new reply.new)
         ≡ stream_ended_step e (stores packet.old headers.old body.old reply.old) }
 {
-    if let Guarded::Refuse(refusal) = guard(
+    if let Err(refusal) = guard(
         e,
         CallKind::FromPeer,
         packet.len(),
@@ -139,7 +139,7 @@ pub fn reply_taken(
     ensures { stepped result (stores packet.new headers.new body.new reply.new)
         ≡ reply_taken_step e (stores packet.old headers.old body.old reply.old) }
 {
-    if let Guarded::Refuse(refusal) = guard(
+    if let Err(refusal) = guard(
         e,
         CallKind::ReplyTaken,
         packet.len(),
@@ -170,7 +170,7 @@ pub fn reply_given(
         ≡ reply_given_step e code header_bytes.now (stores packet.old headers.old body.old
         reply.old) tables.old }
 {
-    if let Guarded::Refuse(refusal) = guard_lent(
+    if let Err(refusal) = guard_lent(
         e,
         CallKind::ReplyGiven,
         tables.len(),
@@ -216,7 +216,7 @@ pub fn object_given(
         ≡ object_given_step e header_bytes.now has_body
         (stores packet.old headers.old body.old reply.old) }
 {
-    if let Guarded::Refuse(refusal) = guard(
+    if let Err(refusal) = guard(
         e,
         CallKind::ObjectGiven,
         packet.len(),
@@ -257,7 +257,7 @@ pub fn body_given(
     ensures { stepped result (stores packet.new headers.new body.new reply.new)
         ≡ body_given_step e bytes.now (stores packet.old headers.old body.old reply.old) }
 {
-    if let Guarded::Refuse(refusal) = guard(
+    if let Err(refusal) = guard(
         e,
         CallKind::FromBody,
         packet.len(),
@@ -295,7 +295,7 @@ pub fn body_failed(
     ensures { stepped result (stores packet.new headers.new body.new reply.new)
         ≡ body_failed_step e (stores packet.old headers.old body.old reply.old) }
 {
-    if let Guarded::Refuse(refusal) = guard(
+    if let Err(refusal) = guard(
         e,
         CallKind::FromBody,
         packet.len(),
@@ -322,7 +322,7 @@ pub fn abort_acknowledged(
     ensures { stepped result (stores packet.new headers.new body.new reply.new)
         ≡ abort_acknowledged_step e (stores packet.old headers.old body.old reply.old) }
 {
-    if let Guarded::Refuse(refusal) = guard(
+    if let Err(refusal) = guard(
         e,
         CallKind::AbortAcknowledged,
         packet.len(),
@@ -350,7 +350,7 @@ pub fn password_given(
         ≡ password_given_step e (given has_password password.now)
         (stores packet.old headers.old body.old reply.old) }
 {
-    if let Guarded::Refuse(refusal) = guard(
+    if let Err(refusal) = guard(
         e,
         CallKind::PasswordGiven,
         packet.len(),
@@ -386,7 +386,7 @@ pub fn nonce_given(
         ≡ nonce_given_step e nonce realm.now (stores packet.old headers.old body.old
         reply.old) tables.old }
 {
-    if let Guarded::Refuse(refusal) = guard_lent(
+    if let Err(refusal) = guard_lent(
         e,
         CallKind::NonceGiven,
         tables.len(),
@@ -398,7 +398,7 @@ pub fn nonce_given(
         return refuse(e, refusal);
     }
     let used = is_used(&tables[..], e.peer.nonces, nonce);
-    if let Guarded::Refuse(refusal) = guard_nonce(e.settings, realm.len(), used) {
+    if let Err(refusal) = guard_nonce(e.settings, realm.len(), used) {
         return refuse(e, refusal);
     }
     remember(tables, nonce);
@@ -430,7 +430,7 @@ pub fn credentials_given(
         ≡ credentials_given_step e (credentials_of has_credentials (given has_user user.now) password.now)
         (stores packet.old headers.old body.old reply.old) }
 {
-    if let Guarded::Refuse(refusal) = guard(
+    if let Err(refusal) = guard(
         e,
         CallKind::CredentialsGiven,
         packet.len(),
@@ -459,12 +459,12 @@ pub fn credentials_given(
 pub fn connections_closed(e: Engine, ids: &[u32], tables: &mut [u64]) -> CallResult
     ensures { closed result tables.new ≡ connections_closed_step e ids.now tables.old }
 {
-    if let Guarded::Refuse(refusal) = guard_close(e, tables.len()) {
+    if let Err(refusal) = guard_close(e, tables.len()) {
         return refuse(e, refusal);
     }
     let peer = e.peer;
     let count = peer.count;
-    if let Guarded::Refuse(refusal) = judge(ids, &tables[..], count) {
+    if let Err(refusal) = judge(ids, &tables[..], count) {
         return refuse(e, refusal);
     }
     let left = close_all(ids, tables, count);

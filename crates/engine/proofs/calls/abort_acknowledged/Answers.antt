@@ -9,12 +9,12 @@ use Rattle.engine.proofs.Carried.{refused-call, carried-call}
 use Rattle.engine.proofs.Plans.{code-planned}
 use Rattle.engine.proofs.calls.abort_acknowledged.Goals as goal
 
-pub returns-in-Refuse : goal.returns-in-Refuse
+pub returns-in-Err : goal.returns-in-Err
 unfolding abort_acknowledged_step
-returns-in-Refuse c =
+returns-in-Err c =
     let k = c.args in
     let s = stores k.packet.now k.headers.now k.body.now k.reply.now in
-    refused-call kind.AbortAcknowledged k.e s _ _ _ _ c.refuse.ensures c.guard.ensures c.in-Refuse.is
+    refused-call kind.AbortAcknowledged k.e s _ _ _ _ c.refuse.ensures c.guard.ensures c.in-Err.is
 
 pub carry_out-requires : goal.carry_out-requires
 carry_out-requires c =

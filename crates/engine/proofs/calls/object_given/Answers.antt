@@ -16,12 +16,12 @@ use Rattle.engine.proofs.Carried.{refused-call}
 use Rattle.engine.proofs.Objects.{object-other, object-bad, object-goes, good_length, store-front}
 use Rattle.engine.proofs.calls.object_given.Goals as goal
 
-pub returns-in-Refuse : goal.returns-in-Refuse
+pub returns-in-Err : goal.returns-in-Err
 unfolding object_given_step
-returns-in-Refuse c =
+returns-in-Err c =
     let k = c.args in
     let s = stores k.packet.now k.headers.now k.body.now k.reply.now in
-    refused-call kind.ObjectGiven k.e s _ _ _ _ c.refuse.ensures c.guard.ensures c.in-Refuse.is
+    refused-call kind.ObjectGiven k.e s _ _ _ _ c.refuse.ensures c.guard.ensures c.in-Err.is
 
 pub returns-in_default-operation : goal.returns-in_default-operation
 unfolding object_given_step
