@@ -2,6 +2,7 @@
 -- places). `result_of` reads the numbers: every list is read as some state, a kind that nothing has as the last kind, and a field keeps the bits
 -- that its type has. `words_of` is what a call leaves, all 32 of them. `start_on` is the start, which refuses numbers that are no settings.
 use Rattle.std.specs.Prelude.{ℕ, ◌%◌, ◌^◌, List, [], ◌∷◌, Bool, true, false, ◌&&◌, ◌||◌, not, get_or, eqb, ltb, Some, None}
+use Rattle.incoming.specs.Gather.{Body}
 use Rattle.base.specs.Pick.{pick}
 use Rattle.packet.specs.Limits.{min_packet}
 use Rattle.outgoing.specs.declared.object.Outgoing.{Outgoing}
@@ -15,8 +16,6 @@ use Rattle.client_model.specs.declared.Operation.TheVariants as operation
 use Rattle.client_model.specs.declared.Await.{Await}
 use Rattle.client_model.specs.declared.Await.TheVariants as await
 use Rattle.client_model.specs.declared.Client.{Client}
-use Rattle.client_model.specs.declared.Body.{Body}
-use Rattle.client_model.specs.declared.Body.TheVariants as body
 use Rattle.client_model.specs.declared.End.{End}
 use Rattle.client_model.specs.declared.End.TheVariants as end
 use Rattle.client_model.specs.declared.Refusal.{Refusal}
@@ -197,7 +196,7 @@ refusal_of n =
 
 -- A body of `a` bytes if `n` is 1, else none.
 abbrev pub body_of : ℕ → ℕ → Body
-body_of n a = pick (eqb n 1) (body.Bytes a) body.Missing
+body_of n a = pick (eqb n 1) (Some a) None
 
 -- The outcome, by its kind. Any kind over 8 is an operation that was aborted.
 unfoldable pub outcome_of : Four → Outcome
@@ -214,8 +213,8 @@ outcome_of n =
 
 -- The numbers of a part.
 abbrev pub part_numbers : ℕ → Body → Four
-part_numbers kept (body.Bytes n) = four 6 kept 1 n
-part_numbers kept body.Missing = four 6 kept 0 0
+part_numbers kept (Some n) = four 6 kept 1 n
+part_numbers kept None = four 6 kept 0 0
 
 -- The numbers of an outcome.
 abbrev pub outcome_numbers : Outcome → Four

@@ -7,7 +7,7 @@ ghost use Rattle.client_c.specs.Words.{outgoing_of, chunk_of, await_of, client_o
 ghost use Rattle.client_model.specs.Numbers.{await_number};
 
 use client_model::{
-    Await, Body, CallResult, Client, Kind, Operation, Outcome, Settings, await_number, end_number,
+    Await, CallResult, Client, Kind, Operation, Outcome, Settings, await_number, end_number,
     refusal_number,
 };
 use outgoing::object::{Chunk, Outgoing};
@@ -204,12 +204,12 @@ fn operation_numbers(o: Operation) -> Numbers
 }
 
 // Returns the numbers of a part.
-fn part_numbers(kept: usize, body: Body) -> Four
+fn part_numbers(kept: usize, body: Option<usize>) -> Four
     ensures { result ≡ part_numbers kept body }
 {
     match body {
-        Body::Bytes(n) => four_of(6, wide(kept), 1, wide(n)),
-        Body::Missing => four_of(6, wide(kept), 0, 0),
+        Some(n) => four_of(6, wide(kept), 1, wide(n)),
+        None => four_of(6, wide(kept), 0, 0),
     }
 }
 

@@ -4,6 +4,7 @@ use mathlib.Core.Path.{◌≡◌, refl, ap, ◌∙◌}
 use mathlib.Core.List.{List}
 use mathlib.Core.Bool.{Bool, true, false}
 use Prim.Native.Nat.{ℕ, ◌%◌, ◌^◌}
+use Rattle.std.specs.Prelude.{Some, None}
 use Rattle.packet.specs.declared.opcode.Opcode.{Opcode}
 use Rattle.packet.specs.declared.tlv.Found.{Found}
 use Rattle.packet.specs.declared.tlv.Found.TheVariants as place
@@ -16,7 +17,6 @@ use Rattle.connection.specs.declared.peer.Peer.{Peer}
 use Rattle.server.specs.Numbers.{end_number, refusal_number}
 use Rattle.server.specs.declared.Settings.{Settings}
 use Rattle.server.specs.declared.Operation.TheVariants as operation
-use Rattle.server.specs.declared.Body.TheVariants as body
 use Rattle.server.specs.declared.HostRequest.{HostRequest}
 use Rattle.server.specs.declared.HostRequest.TheVariants as request
 use Rattle.server.specs.declared.End.{End}
@@ -120,8 +120,8 @@ request-back (request.Connect n) = refl
 request-back (request.Disconnect n) = refl
 request-back (request.SetPath n backup no-create) = simp (flag-back backup, flag-back no-create)
 request-back (request.Abort n) = refl
-request-back (request.Put kept (body.Bytes n)) = refl
-request-back (request.Put kept body.Missing) = refl
+request-back (request.Put kept (Some n)) = refl
+request-back (request.Put kept None) = refl
 request-back (request.Get kept) = refl
 request-back (request.Action kept) = refl
 request-back (request.Session kept) = refl

@@ -2,6 +2,7 @@
 -- reads the numbers: every list is read as some state, a kind that nothing has as the last kind, and a field of the state keeps the bits that
 -- its type has. `words_of` is what a call leaves, all 64 of them. `start_on` is the start, which refuses numbers that are no settings.
 use Rattle.std.specs.Prelude.{ℕ, ◌%◌, ◌^◌, List, [], ◌∷◌, Bool, true, false, ◌&&◌, ◌||◌, not, get_or, eqb, ltb, Some, None}
+use Rattle.incoming.specs.Gather.{Body}
 use Rattle.base.specs.Pick.{pick}
 use Rattle.digest.specs.declared.md5.Octets16.{Octets16}
 use Rattle.packet.specs.declared.opcode.Opcode.{Opcode}
@@ -22,8 +23,6 @@ use Rattle.server.specs.declared.Settings.{Settings}
 use Rattle.server.specs.declared.Operation.{Operation}
 use Rattle.server.specs.declared.Operation.TheVariants as operation
 use Rattle.server.specs.declared.Engine.{Engine}
-use Rattle.server.specs.declared.Body.{Body}
-use Rattle.server.specs.declared.Body.TheVariants as body
 use Rattle.server.specs.declared.HostRequest.{HostRequest}
 use Rattle.server.specs.declared.HostRequest.TheVariants as request
 use Rattle.server.specs.declared.End.{End}
@@ -290,7 +289,7 @@ found_of n a b = pick (eqb n 1) (place.At a b) place.Missing
 
 -- A body of `a` bytes if `n` is 1, else none.
 abbrev pub body_of : ℕ → ℕ → Body
-body_of n a = pick (eqb n 1) (body.Bytes a) body.Missing
+body_of n a = pick (eqb n 1) (Some a) None
 
 -- The outcome, by its kind. From 4 on it is a request to the host; any kind over 15 asks for body bytes.
 unfoldable pub outcome_of : Numbers → Outcome
@@ -321,8 +320,8 @@ found_numbers kind place.Missing = numbers kind 0 0 0
 
 -- The numbers of a Put that is handed over.
 abbrev pub put_numbers : ℕ → Body → Numbers
-put_numbers kept (body.Bytes n) = numbers 8 kept 1 n
-put_numbers kept body.Missing = numbers 8 kept 0 0
+put_numbers kept (Some n) = numbers 8 kept 1 n
+put_numbers kept None = numbers 8 kept 0 0
 
 -- The numbers of a request for credentials.
 abbrev pub credentials_numbers : Octets16 → Bool → Bool → Found → Numbers

@@ -16,8 +16,8 @@ use outgoing::object::{Chunk, Outgoing};
 use packet::opcode::Opcode;
 use packet::tlv::Found;
 use server::{
-    Await, Body, CallResult, Engine, HostRequest, Operation, Outcome, Refusal, Settings,
-    await_number, end_number, refusal_number,
+    Await, CallResult, Engine, HostRequest, Operation, Outcome, Refusal, Settings, await_number,
+    end_number, refusal_number,
 };
 use table::targets::Target;
 
@@ -313,12 +313,12 @@ fn found_numbers(kind: u64, f: Found) -> Numbers
 }
 
 // Returns the numbers of a Put that is handed over.
-fn put_numbers(kept: usize, body: Body) -> Numbers
+fn put_numbers(kept: usize, body: Option<usize>) -> Numbers
     ensures { result ≡ put_numbers kept body }
 {
     match body {
-        Body::Bytes(n) => few(8, wide(kept), 1, wide(n)),
-        Body::Missing => few(8, wide(kept), 0, 0),
+        Some(n) => few(8, wide(kept), 1, wide(n)),
+        None => few(8, wide(kept), 0, 0),
     }
 }
 

@@ -26,7 +26,7 @@ use Rattle.journal.specs.Record.{Record, body_length, size_of, joined, carried_b
 use Rattle.journal.specs.Calls.{bytes_offered_of, reply_given_of, abort_acknowledged_of}
 use Rattle.journal.proofs.Laws.{joined-bare, joined_assoc}
 use Rattle.incoming.specs.Frame.{Frames, framed}
-use Rattle.incoming.specs.Gather.{Gathering, gathering as gatheringOf}
+use Rattle.incoming.specs.Gather.{Gathering, gathering as gatheringOf, Body}
 use Rattle.incoming.specs.Survey.{tests, survey_of}
 use Rattle.incoming.specs.declared.survey.Survey.{Survey}
 use Rattle.incoming.specs.declared.gather.Gathered.{Gathered}
@@ -421,7 +421,7 @@ module _ (g : Deal) (ab : Bool) (h : Heard) (l : Link) (begun : l.client.begun �
 
   -- the host gets the record
   did_hand : (initial srm : Bool) (sent : List (List ℕ)) (xs : List (List Header)) → Client' g (awaits true initial) srm sent ab h l → Holding sent xs
-      → (z : Stores) (k : ℕ) (y : Rattle.server.specs.declared.Body.Body) → Base e z → handed_by (request.Put k y) z ≡ carried_all xs ∷ []
+      → (z : Stores) (k : ℕ) (y : Body) → Base e z → handed_by (request.Put k y) z ≡ carried_all xs ∷ []
       → h.records ≡ [] → h.answer ≡ none → Gave g false h.given
       → Joint g ab (heard_did h (asks e e.peer Nothing waits.Reply (request.Put k y) z))
       (did_link l (asks e e.peer Nothing waits.Reply (request.Put k y) z) [])

@@ -10,7 +10,7 @@ use crate::stream::{WAY, part, place, placed_of, push};
 use digest::md5::{Octets16, octets16_at};
 use engine::calls;
 use lines::output::least;
-use server::{Body, CallResult, Engine, HostRequest, Outcome, Settings};
+use server::{CallResult, Engine, HostRequest, Outcome, Settings};
 
 // What a call returned, and the state after it.
 #[derive(Clone, Copy)]
@@ -199,10 +199,10 @@ enum Record {
     Nothing,
 }
 
-fn record_with(kept: usize, body: Body) -> Record {
+fn record_with(kept: usize, body: Option<usize>) -> Record {
     match body {
-        Body::Bytes(size) => Record::Bytes { kept, size },
-        Body::Missing => Record::NoBody { kept },
+        Some(size) => Record::Bytes { kept, size },
+        None => Record::NoBody { kept },
     }
 }
 

@@ -3,7 +3,7 @@ ghost use Rattle.std.specs.Prelude.{◌≤◌, length};
 
 use crate::state::{Call, Moment};
 use base::wide;
-use client_model::{Body, Outcome, end_number, refusal_number};
+use client_model::{Outcome, end_number, refusal_number};
 use lines::output::{put, put_byte, put_hex, put_line_at, put_number};
 
 // Longer byte strings are printed by length and MD5.
@@ -136,9 +136,9 @@ pub(crate) fn bare(words: usize) -> Line {
 }
 
 // Returns the line of a part of an object.
-fn part_line(kept: usize, body: Body) -> Line {
+fn part_line(kept: usize, body: Option<usize>) -> Line {
     match body {
-        Body::Bytes(n) => Line {
+        Some(n) => Line {
             words: 0,
             value: Value::Part {
                 kept,
@@ -146,7 +146,7 @@ fn part_line(kept: usize, body: Body) -> Line {
                 has_body: true,
             },
         },
-        Body::Missing => Line {
+        None => Line {
             words: 0,
             value: Value::Part {
                 kept,

@@ -19,7 +19,7 @@ use packet::tlv::Found;
 use reception::answer::{Answer, Decision, Secret};
 use reception::call::BODY;
 use reception::decide::{after_draw, after_filing, plain_answer};
-use server::{Body, HostRequest};
+use server::HostRequest;
 use std::env::Env;
 use std::fs::Files;
 use std::io::Read;
@@ -245,7 +245,7 @@ fn put_record<R: Env + Files + Clock>(
     s: Session,
     said: Said,
     kept: usize,
-    content: Body,
+    content: Option<usize>,
     target: Target,
     headers: &[u8; 65535],
     body: &[u8; BODY],

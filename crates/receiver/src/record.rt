@@ -20,7 +20,6 @@ use filing::note::{LogPlace, write_note};
 use filing::paths::{Place, SessionId};
 use filing::plan::{Filing, Step, next_step};
 use lines::output::put;
-use server::Body;
 use std::env::Env;
 use std::fs::Files;
 use std::io::Write;
@@ -210,27 +209,27 @@ pub(crate) fn no_record() -> Tried {
 #[derive(Clone, Copy)]
 pub(crate) struct Handed {
     pub kept: usize,
-    pub body: Body,
+    pub body: Option<usize>,
     pub target: Target,
     pub number: u32,
     pub clock: u32,
 }
 
 // Tells whether a record has a body.
-fn has_body(body: Body) -> bool
+fn has_body(body: Option<usize>) -> bool
     ensures { result ≡ body_there body }
 {
     match body {
-        Body::Bytes(_) => true,
-        Body::Missing => false,
+        Some(_) => true,
+        None => false,
     }
 }
 
 // Returns how many bytes a body has.
-fn body_length(body: Body) -> usize {
+fn body_length(body: Option<usize>) -> usize {
     match body {
-        Body::Bytes(n) => n,
-        Body::Missing => 0,
+        Some(n) => n,
+        None => 0,
     }
 }
 
@@ -423,7 +422,7 @@ pub(crate) fn file<R: Env + Files + Clock>(
     s: Session,
     is_taken: bool,
     kept: usize,
-    content: Body,
+    content: Option<usize>,
     target: Target,
     headers: &[u8],
     body: &[u8],

@@ -6,7 +6,7 @@ use digest::md5::octets;
 use lines::printed::{Hex, Shown, Sum};
 use lines::store::between;
 use packet::tlv::Found;
-use server::{Body, HostRequest};
+use server::HostRequest;
 use std::fmt;
 use table::targets::{Target, is_named};
 
@@ -88,13 +88,13 @@ impl fmt::Display for RequestLine<'_> {
                 self.packet(3, length),
             ),
             HostRequest::Put { kept, body } => match body {
-                Body::Bytes(size) => writeln!(
+                Some(size) => writeln!(
                     f,
                     "put final=1 headers={} body={}",
                     self.headers(kept),
                     self.body(size),
                 ),
-                Body::Missing => writeln!(
+                None => writeln!(
                     f,
                     "put final=1 headers={} body=none",
                     self.headers(kept)

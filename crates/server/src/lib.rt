@@ -158,13 +158,6 @@ pub struct Engine {
     pub target: table::targets::Target,
 }
 
-// The body of a Put: so many bytes of the body store, or none if no body header came, which differs from a body of 0 bytes.
-#[derive(Clone, Copy)]
-pub enum Body {
-    Bytes(usize),
-    Missing,
-}
-
 // What the engine asks the host, by the names of the source's handler methods. docs/EMBEDDING.md says which call answers each request.
 // A `length` is that of the client's packet at the front of the packet store, a `kept` that of the kept headers at the front of the
 // header store; a user id and a realm are places in the packet store.
@@ -184,10 +177,11 @@ pub enum HostRequest {
     Abort {
         length: usize,
     },
-    // The Put is whole: its record is handed over here. The body stands in the body store.
+    // The Put is whole: its record is handed over here. The body is so many bytes of the body store; none if no body header
+    // came, which differs from a body of 0 bytes.
     Put {
         kept: usize,
-        body: Body,
+        body: Option<usize>,
     },
     Get {
         kept: usize,
