@@ -13,8 +13,6 @@ use Rattle.journal.specs.Ids.{member, without, new_id}
 use Rattle.journal.specs.Checks.{shifted}
 use Rattle.table.specs.Nonces.{counted}
 use Rattle.connection.specs.Reply.{front}
-use Rattle.connection.specs.declared.peer.Challenge.{Challenge}
-use Rattle.connection.specs.declared.peer.Challenge.TheVariants.{Stored, Absent}
 use Rattle.connection.specs.declared.peer.Peer.{Peer}
 use Rattle.connection.specs.declared.peer.Opening.{Opening}
 use Rattle.connection.specs.declared.peer.Answer.{Answer}
@@ -22,6 +20,10 @@ use Rattle.connection.specs.declared.peer.Answer.{Answer}
 -- The id that a header names, or that goes in front of an answer, if there is one, as the code has it.
 abbrev pub ConnectionId : Type 0
 ConnectionId = OrNone ℕ
+
+-- The nonce of the challenge that was sent and not yet answered, if there is one, as the code has it.
+abbrev pub Challenge : Type 0
+Challenge = OrNone Octets16
 
 -- The one definition that lists the fields; it is shut, so that proofs do not write them all out.
 unfoldable pub peer_with : ℕ → ℕ → ℕ → Bool → Bool → Challenge → ℕ → ℕ → Peer
@@ -52,7 +54,7 @@ linked p t = record { peer = p; tables = t }
 
 -- A fresh engine's peer: nothing is open or remembered, the counter is at 1, and the limit is the smallest.
 abbrev pub fresh_peer : Peer
-fresh_peer = peer_with 0 1 min_packet false false Absent 0 0
+fresh_peer = peer_with 0 1 min_packet false false None 0 0
 
 -- A limit that a Connect names, at least 255.
 abbrev pub at_least255 : ℕ → ℕ
@@ -76,13 +78,13 @@ checked_peer p wrong =
 
 -- The peer after a right password: the challenge is used up.
 abbrev pub verified_peer : Peer → Peer
-verified_peer p = authenticated_peer p true Absent
+verified_peer p = authenticated_peer p true None
 
 -- The peer once a challenge with the nonce `n` was sent: there is one more that the table store remembers, up to 32
 -- (docs/PROTOCOL.md#nonces).
 abbrev pub challenged_peer : Peer → Octets16 → Peer
 challenged_peer p n =
-    peer_with p.count p.next_connection_id p.remote_max_packet_length p.srm_enabled false (Stored n) p.window (counted p.nonces)
+    peer_with p.count p.next_connection_id p.remote_max_packet_length p.srm_enabled false (Some n) p.window (counted p.nonces)
 
 -- The peer with Single Response Mode (SRM) on or off.
 abbrev pub srm_peer : Peer → Bool → Peer

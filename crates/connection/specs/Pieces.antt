@@ -27,9 +27,7 @@ use Rattle.packet.specs.declared.auth.DigestResponse.{DigestResponse}
 use Rattle.packet.specs.declared.auth.DigestResponse.TheVariants as response
 use Rattle.journal.specs.Calls.{Credentials}
 use Rattle.journal.specs.Journal.{list_of}
-use Rattle.connection.specs.declared.peer.Challenge.{Challenge}
-use Rattle.connection.specs.declared.peer.Challenge.TheVariants.{Stored, Absent}
-use Rattle.connection.specs.Peer.{ConnectionId}
+use Rattle.connection.specs.Peer.{ConnectionId, Challenge}
 use Rattle.connection.specs.ConnectReply.{challenges, answered_challenge}
 
 -- ---- what is read
@@ -100,10 +98,10 @@ cut_at None s = end_of (header_at_of s 0)
 -- The check of a password (verify_client): without a stored challenge, a readable response or a password it fails, and without a user id if
 -- the server `demands` one.
 abbrev pub check_of : Challenge → DigestResponse → Bool → Option (List ℕ) → Bool
-check_of Absent r demands p = false
-check_of (Stored n) response.Unreadable demands p = false
-check_of (Stored n) (response.Response d u m) demands none = false
-check_of (Stored n) (response.Response d u m) demands (some p) = verifies n d u m demands p
+check_of None r demands p = false
+check_of (Some n) response.Unreadable demands p = false
+check_of (Some n) (response.Response d u m) demands none = false
+check_of (Some n) (response.Response d u m) demands (some p) = verifies n d u m demands p
 
 -- ---- the bytes
 

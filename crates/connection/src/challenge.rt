@@ -5,7 +5,7 @@ ghost use Rattle.packet.specs.Header.{read_headers};
 ghost use Rattle.packet.specs.AuthWrite.{given};
 ghost use Rattle.connection.specs.Pieces.{headers_from, first_in, known_header, known_in, answered_in, nonce_for, check_of};
 
-use crate::peer::Challenge;
+use digest::md5::Octets16;
 use packet::auth::{DigestChallenge, DigestResponse, Named, read_challenge, verify};
 use packet::header::{HeaderAt, first_header, header_at, is_readable};
 use packet::header_id::AUTHENTICATE_CHALLENGE;
@@ -104,7 +104,7 @@ pub fn nonce_for(packet: &[u8], from: usize, has_credentials: bool) -> Named
 // Tells whether the password is right for the stored challenge and the client's response (the source's verify_client). If the server
 // `demands` a user id, a response without one fails (docs/PROTOCOL.md#digest).
 pub fn verify_client(
-    stored: Challenge,
+    stored: Option<Octets16>,
     found: DigestResponse,
     demands: bool,
     has_password: bool,
@@ -112,7 +112,7 @@ pub fn verify_client(
 ) -> bool
     ensures { result ≡ check_of stored found demands (given has_password password.now) }
 {
-    let Challenge::Stored(nonce) = stored else {
+    let Some(nonce) = stored else {
         return false;
     };
     let DigestResponse::Response {

@@ -17,13 +17,6 @@ use table::targets::{Target, close_targets, find_place, put_target};
 // The number that is reserved as an invalid connection id.
 const INVALID_ID: u32 = 0xFFFFFFFF;
 
-// The nonce of the challenge that was sent and not yet answered.
-#[derive(Clone, Copy)]
-pub enum Challenge {
-    Stored(Octets16),
-    Absent,
-}
-
 // What Connect and Disconnect change. The open ids are not here: they are the first `count` numbers of the table store, which the host
 // lends to the calls that look at them, so that a state of few bytes goes from call to call.
 #[derive(Clone, Copy)]
@@ -41,7 +34,8 @@ pub struct Peer {
     pub srm_enabled: bool,
     // The peer gave the right password.
     pub authenticated: bool,
-    pub challenge: Challenge,
+    // The nonce of the challenge that was sent and not yet answered.
+    pub challenge: Option<Octets16>,
 }
 
 // An id that the search found.
@@ -168,7 +162,7 @@ pub fn limited(peer: Peer, max_packet_length: u16) -> Peer
 }
 
 // Returns the peer with this authentication; the rest stays.
-fn with_authentication(peer: Peer, authenticated: bool, challenge: Challenge) -> Peer
+fn with_authentication(peer: Peer, authenticated: bool, challenge: Option<Octets16>) -> Peer
     ensures { result ≡ authenticated_peer peer authenticated challenge }
 {
     Peer {
@@ -196,14 +190,14 @@ pub fn with_check(peer: Peer, wrong: bool) -> Peer
 pub fn verified(peer: Peer) -> Peer
     ensures { result ≡ verified_peer peer }
 {
-    with_authentication(peer, true, Challenge::Absent)
+    with_authentication(peer, true, None)
 }
 
 // Stores the nonce of a new challenge, which is one more that is remembered; the peer is no longer authenticated.
 pub fn challenged(peer: Peer, nonce: Octets16) -> Peer
     ensures { result ≡ challenged_peer peer nonce }
 {
-    let mut r = with_authentication(peer, false, Challenge::Stored(nonce));
+    let mut r = with_authentication(peer, false, Some(nonce));
     r.nonces = counted(peer.nonces);
     r
 }

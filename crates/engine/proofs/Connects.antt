@@ -8,6 +8,7 @@ use native.Mathlib.Omega.{arith}
 use lib.ListN.{length}
 use denote.Enum.Declared.{tag_of}
 use types.Run.{OneOf, miss}
+use Rattle.std.specs.Prelude.{Some, None}
 use Rattle.digest.specs.declared.md5.Octets16.{Octets16}
 use Rattle.packet.specs.Header.{read_headers, first_place, part}
 use Rattle.packet.specs.Packet.{request_of}
@@ -24,14 +25,12 @@ use Rattle.packet.proofs.TagWrites.{Within}
 use Rattle.journal.specs.Journal.{headers_of as headersIn}
 use Rattle.model.specs.Request.{user_in, placed_at}
 use Rattle.connection.specs.declared.peer.Peer.{Peer}
-use Rattle.connection.specs.declared.peer.Challenge.{Challenge}
-use Rattle.connection.specs.declared.peer.Challenge.TheVariants.{Stored, Absent}
 use Rattle.server.specs.declared.Engine.{Engine}
 use Rattle.server.specs.declared.Operation.TheVariants.{Nothing}
 use Rattle.server.specs.declared.Await.TheVariants as await
 use Rattle.server.specs.declared.HostRequest.TheVariants as request
 use Rattle.base.specs.Pick.{pick}
-use Rattle.connection.specs.Peer.{checked_peer}
+use Rattle.connection.specs.Peer.{checked_peer, Challenge}
 use Rattle.engine.specs.Step.{asks_plan, fields_plan}
 use Rattle.engine.specs.Connect.{answered_read, answered_as, answered_by, asked, verifies_by, question_of, question_plan, verifies_plan, carries, stops_by, limited_plan, Below}
 use Rattle.engine.specs.declared.connect.Answered.{Answered}
@@ -86,10 +85,10 @@ is_carried Unreadable k = refl
 is_carried (User u) k = refl
 
 pub not-read : (c : Challenge) (a : Answered) → OneOf (0 ∷ 1 ∷ []) (tag_of the_type a) → verifies_by c a ≡ asked await.Nonce request.Nonce
-not-read Absent a k = refl
-not-read (Stored n) Missing k = refl
-not-read (Stored n) Unreadable k = refl
-not-read (Stored n) (User u) k = absurd (miss (0 ∷ 1 ∷ []) 2 tt k)
+not-read None a k = refl
+not-read (Some n) Missing k = refl
+not-read (Some n) Unreadable k = refl
+not-read (Some n) (User u) k = absurd (miss (0 ∷ 1 ∷ []) 2 tt k)
 
 -- a Connect that is not stopped leads to the question
 pub not_stopped : (e : Engine) (p : Peer) (a : Answered) → (e.settings.authentication && stops_by p.window a) ≡ false

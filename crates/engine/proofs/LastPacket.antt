@@ -30,10 +30,8 @@ use Rattle.packet.proofs.TextForms.{octets-take}
 use Rattle.journal.specs.Journal.{list_of, headers_of as headersIn, response_in, is_enable}
 use Rattle.incoming.specs.Survey.{id_of, present, survey_of}
 use Rattle.incoming.specs.declared.survey.Survey.{Survey}
-use Rattle.connection.specs.Peer.{id_in, isGiven}
+use Rattle.connection.specs.Peer.{id_in, isGiven, Challenge}
 use Rattle.connection.specs.Pieces.{headers_from, first_in, check_of}
-use Rattle.connection.specs.declared.peer.Challenge.{Challenge}
-use Rattle.connection.specs.declared.peer.Challenge.TheVariants.{Stored, Absent}
 use Rattle.connection.proofs.Challenges.{first_in_bytes}
 use Rattle.connection.proofs.Requests.{Finds, finds, at_end}
 use Rattle.connection.specs.declared.request.ConnectRequest.{ConnectRequest}
@@ -167,10 +165,10 @@ found_given id q f e = go f ∙ ap (λ (v : Option (List ℕ)). isGiven v) (firs
 -- ---- the password's check
 
 same_check : (ch : Challenge) (r : Option Response) (d : Bool) (p : Option (List ℕ)) → check_by ch r d p ≡ checks ch r d p
-same_check Absent r d p = refl
-same_check (Stored n) none d p = refl
-same_check (Stored n) (some r) d none = refl
-same_check (Stored n) (some r) d (some p) = refl
+same_check None r d p = refl
+same_check (Some n) none d p = refl
+same_check (Some n) (some r) d none = refl
+same_check (Some n) (some r) d (some p) = refl
 
 octets-drop : (n : ℕ) (l : List ℕ) → Octets l → Octets (drop n l)
 octets-drop n l o k = rw (get_or-drop n l k 0) (o (n + k))
@@ -180,8 +178,8 @@ pub right-missing : (ch : Challenge) (q : List ℕ) (d : Bool) (p : Option (List
 right-missing ch q d p e = simp (sym (first-value 0x4E q place.Missing e)) (go ch)
   where
     go : (ch : Challenge) → false ≡ checks ch none d p
-    go Absent = refl
-    go (Stored n) = refl
+    go None = refl
+    go (Some n) = refl
 
 pub right_at : (ch : Challenge) (q : List ℕ) (d : Bool) (p : Option (List ℕ)) (a b : ℕ) → Octets q → first_in 0x4E q (last_from q) ≡ place.At a b
     → check_of ch (read_response (part q a b)) d p ≡ checks ch (response_in (first 0x4E (headersIn (request_of q)))) d p

@@ -7,6 +7,7 @@ use Prim.Native.Nat.{ℕ}
 use lib.ListN.{take}
 use lib.Count.{ones}
 use lib.Dec.{leb}
+use Rattle.std.specs.Prelude.{Some, None}
 use Rattle.base.specs.Pick.{pick}
 use Rattle.packet.specs.Codes.{sent_code}
 use Rattle.packet.specs.FirstByte.{same_opcode}
@@ -20,9 +21,7 @@ use Rattle.packet.specs.declared.opcode.Opcode.TheVariants as op
 use Rattle.incoming.specs.Survey.{survey_of}
 use Rattle.incoming.specs.declared.gather.Gathered.{Gathered}
 use Rattle.incoming.specs.declared.gather.Keep.TheVariants as keep
-use Rattle.connection.specs.Peer.{isGiven, limited, checked_peer}
-use Rattle.connection.specs.declared.peer.Challenge.{Challenge}
-use Rattle.connection.specs.declared.peer.Challenge.TheVariants.{Stored, Absent}
+use Rattle.connection.specs.Peer.{isGiven, limited, checked_peer, Challenge}
 use Rattle.connection.specs.declared.peer.Peer.{Peer}
 use Rattle.journal.specs.Checks.{most_wrong}
 use Rattle.journal.specs.Journal.{response_in, headers_of as headersIn}
@@ -103,15 +102,15 @@ module _ (e : Engine) (q : List ℕ) (s : Stores) where
 
 module _ (e : Engine) (s : Stores) where
   read-planned : (p : Peer) (n : Octets16) (r : Option Response)
-      → Carries (verifies_plan e p (Stored n) (answered_read r (user_place e s))) s (verifies e p (Stored n) r s)
+      → Carries (verifies_plan e p (Some n) (answered_read r (user_place e s))) s (verifies e p (Some n) r s)
   read-planned p n none = asks-planned e p Nothing await.Nonce request.Nonce s
   read-planned p n (some r) = asks-planned e p Nothing await.Password (request.Password (user_place e s)) s
 
   verifies-planned : (p : Peer) (c : Challenge) (v : Option (List ℕ))
       → Carries (verifies_plan e p c (answered_as v (user_place e s))) s (verifies e p c (response_in v) s)
-  verifies-planned p Absent v = asks-planned e p Nothing await.Nonce request.Nonce s
-  verifies-planned p (Stored n) none = asks-planned e p Nothing await.Nonce request.Nonce s
-  verifies-planned p (Stored n) (some v) = read-planned p n (response_of v)
+  verifies-planned p None v = asks-planned e p Nothing await.Nonce request.Nonce s
+  verifies-planned p (Some n) none = asks-planned e p Nothing await.Nonce request.Nonce s
+  verifies-planned p (Some n) (some v) = read-planned p n (response_of v)
 
   -- a response is carried if its header is there
   carries-read : (r : Option Response) (u : Found) → carries (answered_read r u) ≡ true

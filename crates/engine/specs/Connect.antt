@@ -1,6 +1,6 @@
 -- Connect from its packet to its reply, and Disconnect, by the stores that they touch: the design level between model/specs/Connect and the
 -- code.
-use Rattle.std.specs.Prelude.{ℕ, ◌+◌, ◌^◌, ◌≤◌, ◌<◌, List, [], Bool, true, false, ◌&&◌, ◌||◌, length, take, leb}
+use Rattle.std.specs.Prelude.{ℕ, ◌+◌, ◌^◌, ◌≤◌, ◌<◌, List, [], Bool, true, false, ◌&&◌, ◌||◌, length, take, leb, Some, None}
 use Rattle.std.proofs.Math.Option.{Option, none, some}
 use Rattle.std.specs.Int.Count.{ones}
 use Rattle.base.specs.Pick.{pick}
@@ -13,7 +13,7 @@ use Rattle.packet.specs.declared.auth.DigestChallenge.TheVariants as challenge
 use Rattle.journal.specs.Calls.{Credentials}
 use Rattle.incoming.specs.Survey.{survey_of}
 use Rattle.connection.specs.Reply.{fields_of, front}
-use Rattle.connection.specs.Peer.{Linked, linked, id_in, isGiven, target_given, Answers, answer_by, disconnected_peer, checked_peer, verified_peer, limited, ConnectionId}
+use Rattle.connection.specs.Peer.{Linked, linked, id_in, isGiven, target_given, Answers, answer_by, disconnected_peer, checked_peer, verified_peer, limited, ConnectionId, Challenge}
 use Rattle.connection.specs.ConnectReply.{connect_headers}
 use Rattle.connection.specs.Pieces.{headers_from, answered_in, id_given}
 use Rattle.connection.specs.declared.peer.Peer.{Peer}
@@ -40,8 +40,6 @@ use Rattle.packet.specs.ResponseCodes as response
 use Rattle.packet.specs.Auth.{Response, response_of}
 use Rattle.packet.specs.declared.tlv.Found.{Found}
 use Rattle.packet.specs.declared.tlv.Found.TheVariants as place
-use Rattle.connection.specs.declared.peer.Challenge.{Challenge}
-use Rattle.connection.specs.declared.peer.Challenge.TheVariants.{Stored, Absent}
 use Rattle.engine.specs.declared.connect.Answered.{Answered}
 use Rattle.engine.specs.declared.connect.Question.{Question}
 use Rattle.engine.specs.declared.connect.Answered.TheVariants.{Missing, Unreadable, User}
@@ -75,10 +73,10 @@ nonce_asked = asked await.Nonce request.Nonce
 
 -- If a challenge is stored and the client's response can be read, the engine asks the host for the password. Otherwise it asks for a nonce.
 abbrev pub verifies_by : Challenge → Answered → Question
-verifies_by Absent a = nonce_asked
-verifies_by (Stored n) Missing = nonce_asked
-verifies_by (Stored n) Unreadable = nonce_asked
-verifies_by (Stored n) (User u) = asked await.Password (request.Password u)
+verifies_by None a = nonce_asked
+verifies_by (Some n) Missing = nonce_asked
+verifies_by (Some n) Unreadable = nonce_asked
+verifies_by (Some n) (User u) = asked await.Password (request.Password u)
 
 -- What the host is asked about a Connect that is not stopped: the client is checked if a password is required, and else the host decides.
 abbrev pub question_of : Bool → Challenge → Answered → ℕ → Question

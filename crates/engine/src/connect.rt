@@ -31,9 +31,7 @@ use connection::challenge;
 use connection::challenge::answered_challenge;
 use connection::checks::too_many;
 use connection::connect_reply::{challenge_reply, connect_reply};
-use connection::peer::{
-    Answer, Challenge, Peer, disconnected, limited, opened_for, verified, with_check,
-};
+use connection::peer::{Answer, Peer, disconnected, limited, opened_for, verified, with_check};
 use connection::reply::Sent;
 use connection::request::ConnectRequest;
 use digest::md5::Octets16;
@@ -329,10 +327,10 @@ fn nonce_question() -> Question
 
 // Asks the host for the password, if the client has answered a stored challenge. Otherwise asks it for a nonce, to challenge the client
 // (again): the source's verify_client gives up at the same two places.
-fn verifies(challenge: Challenge, a: Answered) -> Question
+fn verifies(challenge: Option<Octets16>, a: Answered) -> Question
     ensures { result ≡ verifies_by challenge a }
 {
-    let Challenge::Stored(_) = challenge else {
+    let Some(_) = challenge else {
         return nonce_question();
     };
     let Answered::User(user_id) = a else {
@@ -348,7 +346,7 @@ fn verifies(challenge: Challenge, a: Answered) -> Question
 // otherwise the host decides.
 fn connect_question(
     authentication: bool,
-    challenge: Challenge,
+    challenge: Option<Octets16>,
     a: Answered,
     length: usize,
 ) -> Question

@@ -13,8 +13,8 @@ ghost use Rattle.model.specs.Connect.{checks};
 ghost use Rattle.engine.specs.Request.{last_from, last_connect, is_found};
 
 use connection::challenge::verify_client;
-use connection::peer::Challenge;
 use connection::request::{ConnectRequest, connect_request};
+use digest::md5::Octets16;
 use incoming::survey::survey_headers;
 use packet::auth::read_response;
 use packet::packet::packet_head;
@@ -89,7 +89,7 @@ pub(crate) fn is_enabling(q: &[u8], c: ConnectRequest) -> bool
 // Whether the password is right for the stored challenge and the first AuthenticateResponse of packet `q`, which must bring a user id if
 // the server `demands` one.
 pub(crate) fn is_right(
-    stored: Challenge,
+    stored: Option<Octets16>,
     q: &[u8],
     demands: bool,
     has_password: bool,

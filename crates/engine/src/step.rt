@@ -9,7 +9,7 @@ ghost use Rattle.table.specs.Targets.{unnamed as unnamedTarget};
 ghost use Rattle.server.specs.declared.End.TheVariants as end;
 ghost use Rattle.connection.specs.Reply.{fields_of, front};
 
-use connection::peer::{Challenge, Peer};
+use connection::peer::Peer;
 use connection::reply::{
     Sent, put_connect_prefix, put_continue, put_reply_code, send, send_connect,
 };
@@ -73,7 +73,7 @@ fn fresh_peer() -> Peer
         remote_max_packet_length: MIN_PACKET,
         srm_enabled: false,
         authenticated: false,
-        challenge: Challenge::Absent,
+        challenge: None,
     }
 }
 

@@ -5,14 +5,13 @@ use mathlib.Core.List.{List}
 use mathlib.Core.Bool.{Bool, true, false}
 use Prim.Native.Nat.{ℕ, ◌%◌, ◌^◌}
 use Rattle.std.specs.Prelude.{Some, None}
+use Rattle.connection.specs.Peer.{Challenge}
 use Rattle.packet.specs.declared.opcode.Opcode.{Opcode}
 use Rattle.packet.specs.declared.tlv.Found.{Found}
 use Rattle.packet.specs.declared.tlv.Found.TheVariants as place
 use Rattle.incoming.specs.declared.gather.Gathered.{Gathered}
 use Rattle.outgoing.specs.declared.object.Outgoing.{Outgoing}
 use Rattle.outgoing.specs.declared.object.Chunk.{Chunk}
-use Rattle.connection.specs.declared.peer.Challenge.{Challenge}
-use Rattle.connection.specs.declared.peer.Challenge.TheVariants.{Stored, Absent}
 use Rattle.connection.specs.declared.peer.Peer.{Peer}
 use Rattle.server.specs.Numbers.{end_number, refusal_number}
 use Rattle.server.specs.declared.Settings.{Settings}
@@ -77,8 +76,8 @@ settings-back s object packet charset =
     )
 
 challenge-back : (x : Challenge) → challenge_of (challenge_numbers x).kind (challenge_numbers x).a (challenge_numbers x).b ≡ x
-challenge-back (Stored n) = refl
-challenge-back Absent = refl
+challenge-back (Some n) = refl
+challenge-back None = refl
 
 pub peer-back : (p : Peer)
     → p.next_connection_id % 2 ^ 32 ≡ p.next_connection_id

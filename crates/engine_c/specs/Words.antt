@@ -13,9 +13,7 @@ use Rattle.incoming.specs.declared.gather.Gathered.{Gathered}
 use Rattle.outgoing.specs.declared.object.Outgoing.{Outgoing}
 use Rattle.outgoing.specs.declared.object.Chunk.{Chunk}
 use Rattle.table.specs.declared.targets.Target.{Target}
-use Rattle.connection.specs.declared.peer.Challenge.{Challenge}
-use Rattle.connection.specs.declared.peer.Challenge.TheVariants.{Stored, Absent}
-use Rattle.connection.specs.Peer.{ConnectionId}
+use Rattle.connection.specs.Peer.{ConnectionId, Challenge}
 use Rattle.connection.specs.declared.peer.Peer.{Peer}
 use Rattle.server.specs.Numbers.{await_of, await_number, end_number, refusal_number}
 use Rattle.server.specs.declared.Await.TheVariants as await
@@ -113,12 +111,12 @@ settings_fit w =
 
 -- The challenge: if `n` is 1, one is stored whose nonce has the halves `a` and `b`.
 abbrev pub challenge_of : ℕ → ℕ → ℕ → Challenge
-challenge_of n a b = pick (eqb n 1) (Stored (record { first = a; second = b })) Absent
+challenge_of n a b = pick (eqb n 1) (Some (record { first = a; second = b })) None
 
 -- The numbers of a challenge.
 abbrev pub challenge_numbers : Challenge → Numbers
-challenge_numbers (Stored n) = numbers 1 n.first n.second 0
-challenge_numbers Absent = numbers 0 0 0 0
+challenge_numbers (Some n) = numbers 1 n.first n.second 0
+challenge_numbers None = numbers 0 0 0 0
 
 -- The peer of ten numbers, in the order of the table in docs/RUST.md.
 abbrev pub peer_of : ℕ → ℕ → ℕ → ℕ → ℕ → ℕ → ℕ → ℕ → ℕ → ℕ → Peer

@@ -9,7 +9,7 @@ ghost use Rattle.engine_c.specs.Words.{settings_numbers, challenge_numbers, peer
 ghost use Rattle.engine_c.specs.Words.{credentials_numbers, request_numbers, outcome_numbers, words_of};
 ghost use Rattle.engine_c.specs.Words.{flags_fit, settings_fit, is_waiting, judged_start};
 
-use connection::peer::{Challenge, Peer};
+use connection::peer::Peer;
 use digest::md5::Octets16;
 use incoming::gather::Gathered;
 use outgoing::object::{Chunk, Outgoing};
@@ -261,12 +261,12 @@ fn settings_numbers(s: Settings) -> Numbers
 }
 
 // Returns the numbers of a challenge.
-fn challenge_numbers(c: Challenge) -> Numbers
+fn challenge_numbers(c: Option<Octets16>) -> Numbers
     ensures { result ≡ challenge_numbers c }
 {
     match c {
-        Challenge::Stored(n) => few(1, n.first, n.second, 0),
-        Challenge::Absent => few(0, 0, 0, 0),
+        Some(n) => few(1, n.first, n.second, 0),
+        None => few(0, 0, 0, 0),
     }
 }
 
@@ -549,13 +549,13 @@ fn id_of(n: u64, x: u64) -> Option<u32>
 }
 
 // Returns a challenge, or that there is none.
-fn challenge_of(n: u64, first: u64, second: u64) -> Challenge
+fn challenge_of(n: u64, first: u64, second: u64) -> Option<Octets16>
     ensures { result ≡ challenge_of n first second }
 {
     if n == 1 {
-        return Challenge::Stored(Octets16 { first, second });
+        return Some(Octets16 { first, second });
     }
-    Challenge::Absent
+    None
 }
 
 // Returns the open operation.

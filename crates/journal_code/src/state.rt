@@ -3,7 +3,7 @@
 ghost use Rattle.std.specs.Prelude.{◌≡◌};
 ghost use Rattle.journal_code.specs.State.{quiet as quietState, ended_with, coming_to, standing_by, opens_now, moved_to, fresh_state, nothing_gathered as nothingKept, is_busy, fits_in};
 
-use connection::peer::{Challenge, Peer};
+use connection::peer::Peer;
 use incoming::gather::Gathered;
 use packet::limits::{MAX_CONNECTIONS, MAX_PACKET, MIN_PACKET};
 use packet::opcode::Opcode;
@@ -192,7 +192,7 @@ pub fn fresh(settings: Settings) -> State
         remote_max_packet_length: MIN_PACKET,
         srm_enabled: false,
         authenticated: false,
-        challenge: Challenge::Absent,
+        challenge: None,
     };
     State {
         settings,

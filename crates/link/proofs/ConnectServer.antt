@@ -36,12 +36,10 @@ use Rattle.table.specs.Targets.{place_of, target_by, target_set}
 use Rattle.table.specs.declared.targets.Target.{Target}
 use Rattle.table.proofs.Remembering.{remembered-length, remembered-front}
 use Rattle.table.proofs.Naming.{target-set-front}
-use Rattle.connection.specs.Peer.{peer_with, ids_of, id_in, Linked, linked, at_least255, limited, checked_peer, verified_peer, challenged_peer, srm_peer, added_peer, opened, target_given, searched, opened_for, left_peer, cleared_peer, disconnected_peer, ConnectionId}
+use Rattle.connection.specs.Peer.{peer_with, ids_of, id_in, Linked, linked, at_least255, limited, checked_peer, verified_peer, challenged_peer, srm_peer, added_peer, opened, target_given, searched, opened_for, left_peer, cleared_peer, disconnected_peer, ConnectionId, Challenge}
 use Rattle.connection.specs.Pieces.{id_given}
 use Rattle.connection.specs.Reply.{fields_of, send_bytes, front}
 use Rattle.connection.specs.ConnectReply.{answered_challenge, connect_headers, challenge_header}
-use Rattle.connection.specs.declared.peer.Challenge.{Challenge}
-use Rattle.connection.specs.declared.peer.Challenge.TheVariants.{Stored, Absent}
 use Rattle.connection.specs.declared.peer.Peer.{Peer}
 use Rattle.connection.proofs.Front.{front_length}
 use Rattle.connection.proofs.Closing.{with_count}
@@ -390,13 +388,13 @@ module _ (cs : Settings) (id : ConnectionId) (e : Engine) (z : Stores) (w : Stoo
     verifies-did : (p : Peer) (t : List ℕ) (c : Challenge) (x : Option Response) → PeerStands connecting cs id p t
         → let d = verifies e p c x z in Did connecting cs id (state_at d t) d.outcome
     unfolding engine_with
-    verifies-did p t Absent x h =
+    verifies-did p t None x h =
         asks-did connecting cs id e z w p t Nothing waits.Nonce request.Nonce z h w.room refl
         (host-nonce refl refl, asked_as p t Nothing waits.Nonce z refl)
-    verifies-did p t (Stored n) none h =
+    verifies-did p t (Some n) none h =
         asks-did connecting cs id e z w p t Nothing waits.Nonce request.Nonce z h w.room refl
         (host-nonce refl refl, asked_as p t Nothing waits.Nonce z refl)
-    verifies-did p t (Stored n) (some x) h =
+    verifies-did p t (Some n) (some x) h =
         asks-did connecting cs id e z w p t Nothing waits.Password (request.Password (user_place e z)) z h w.room refl
         (host-password refl refl, asked_as p t Nothing waits.Password z refl)
 

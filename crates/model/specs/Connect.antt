@@ -17,11 +17,9 @@ use Rattle.journal.specs.Journal.{list_of}
 use Rattle.incoming.specs.Survey.{survey_of}
 use Rattle.incoming.specs.declared.survey.Survey.{Survey}
 use Rattle.connection.specs.Reply.{fields_of, front}
-use Rattle.connection.specs.Peer.{Linked, isGiven, limited, checked_peer, verified_peer, challenged_peer, searched, opened_for, ConnectionId}
+use Rattle.connection.specs.Peer.{Linked, isGiven, limited, checked_peer, verified_peer, challenged_peer, searched, opened_for, ConnectionId, Challenge}
 use Rattle.connection.specs.ConnectReply.{answered_challenge, connect_headers, challenge_header}
 use Rattle.connection.specs.Pieces.{id_given}
-use Rattle.connection.specs.declared.peer.Challenge.{Challenge}
-use Rattle.connection.specs.declared.peer.Challenge.TheVariants.{Stored, Absent}
 use Rattle.connection.specs.declared.peer.Peer.{Peer}
 use Rattle.server.specs.declared.Settings.{Settings}
 use Rattle.server.specs.declared.Operation.TheVariants.{Nothing, Connecting}
@@ -35,9 +33,9 @@ use Rattle.model.specs.Request.{last_packet, last_headers, client_response, user
 -- If a challenge is stored and the client's response can be read, the host is asked for the password; otherwise for a nonce, to challenge
 -- the client.
 abbrev pub verifies : Engine → Peer → Challenge → Option Response → Stores → Done
-verifies e p Absent r s = asks e p Nothing await.Nonce request.Nonce s
-verifies e p (Stored n) none s = asks e p Nothing await.Nonce request.Nonce s
-verifies e p (Stored n) (some r) s = asks e p Nothing await.Password (request.Password (user_place e s)) s
+verifies e p None r s = asks e p Nothing await.Nonce request.Nonce s
+verifies e p (Some n) none s = asks e p Nothing await.Nonce request.Nonce s
+verifies e p (Some n) (some r) s = asks e p Nothing await.Password (request.Password (user_place e s)) s
 
 -- Whether a Connect with these headers is stopped: eight or more of the last 64 checks were wrong, and the Connect carries an
 -- AuthenticateResponse, whether that can be read or not (docs/PROTOCOL.md#eight-wrong).
@@ -111,10 +109,10 @@ demands_user st = st.user_id_enforced && st.user_id_required
 -- Whether the client is verified: a challenge is stored, the response can be read and brings a user id if the server `demands` one, and its
 -- digest is that of the password (the source's verify_client).
 abbrev pub checks : Challenge → Option Response → Bool → Option (List ℕ) → Bool
-checks Absent r demands p = false
-checks (Stored n) none demands p = false
-checks (Stored n) (some r) demands none = false
-checks (Stored n) (some r) demands (some p) = verified demands (octets16 n) r p
+checks None r demands p = false
+checks (Some n) none demands p = false
+checks (Some n) (some r) demands none = false
+checks (Some n) (some r) demands (some p) = verified demands (octets16 n) r p
 
 -- What follows the check of a password, by what it said. If the client is verified, the host is asked about the Connect; otherwise for a
 -- nonce, to challenge the client again. Either way the window has one check more (docs/PROTOCOL.md#eight-wrong).

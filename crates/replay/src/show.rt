@@ -1,7 +1,7 @@
 // What the engine did, in the words of the original's `oracle engine`.
 use crate::command::Lent;
 use crate::stores::Stores;
-use connection::peer::{Challenge, Peer};
+use connection::peer::Peer;
 use digest::md5::octets;
 use lines::printed::{Hex, Shown, Sum};
 use lines::store::between;
@@ -209,8 +209,8 @@ struct Nonce(Challenge);
 impl fmt::Display for Nonce {
     fn fmt<W: fmt::Write>(&self, f: &mut fmt::Formatter<W>) -> fmt::Result {
         match self.0 {
-            Challenge::Stored(nonce) => write!(f, "{}", Hex(&octets(nonce))),
-            Challenge::Absent => write!(f, "none"),
+            Some(nonce) => write!(f, "{}", Hex(&octets(nonce))),
+            None => write!(f, "none"),
         }
     }
 }
