@@ -1,11 +1,12 @@
 // Reading: what stands in a store of an input, what is kept of it, and its lines one after the other.
-ghost use Rattle.std.specs.Prelude.{◌≡◌, true, ◌≤◌, length};
+ghost use Rattle.std.specs.Prelude.{◌≡◌, true, ◌≤◌, length, IfOk};
 ghost use Rattle.lines.specs.Word.{filled};
 ghost use Rattle.lines.specs.Input.{kept_front, before_first, has_cut, has_line, line_after, bytes_of};
 
 use crate::output::least;
 use crate::word::find;
-use std::io::Read;
+use std::io;
+use std::io::{ErrorKind, Read};
 
 // A line of the input, as a place in the store that it was read into, or the reason why there is none.
 #[derive(Clone, Copy)]
@@ -185,4 +186,21 @@ pub fn lines_of<F: FnMut(&[u8], bool)>(input: &mut impl Read, s: &mut [u8], mut 
             answer(bytes_of(s, at), at.is_cut);
         }
     }
+}
+
+// How often a read is tried again that a signal has interrupted.
+const TRIES: usize = 1000;
+
+// Reads the input `from` once into `s`, and returns how many bytes came, or why none could be read. A process that is stopped and continued may
+// find its read interrupted, which is no failure.
+pub fn read_once(from: &mut impl Read, s: &mut [u8]) -> io::Result<usize>
+    ensures { IfOk result (λ n. n ≤ length s.new) }
+{
+    for _ in 0..TRIES {
+        match from.read(s) {
+            Err(e) if e.kind() == ErrorKind::Interrupted => {}
+            read => return read,
+        }
+    }
+    from.read(s)
 }

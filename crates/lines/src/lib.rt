@@ -8,4 +8,5 @@ pub mod output;
 pub mod printed;
 pub mod queue;
 pub mod store;
+pub mod text;
 pub mod word;
