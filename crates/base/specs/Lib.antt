@@ -1,3 +1,4 @@
--- The definitions that every layer shares: choosing by a test, and numbers as bytes.
+-- The definitions that every layer shares: choosing by a test, numbers as bytes, and the store that is too short.
 pub mod Pick
 pub mod Bytes
+pub mod Store

@@ -1,9 +1,13 @@
-// What every layer shares: reading bytes as numbers, and copying bytes into a lent store.
+// What every layer shares: reading bytes as numbers, copying bytes into a lent store, and the error that the store is too short.
 #![tactic(auto)]
 
 ghost use Rattle.std.specs.Prelude.{◌≡◌, ◌+◌, ◌≤◌, ◌<◌, length};
 ghost use Rattle.std.proofs.Math.Seq.{paste};
 ghost use Rattle.base.specs.Bytes.{be16};
+
+// The error of a writer: the lent store is shorter than what was to be written, and nothing of it changed.
+#[derive(Clone, Copy, PartialEq, Eq)]
+pub struct Short;
 
 // Returns the byte `b` as a `usize`.
 pub fn wide(b: u8) -> usize
