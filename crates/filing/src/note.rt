@@ -154,7 +154,7 @@ fn put_record(store: &mut [u8], name: &[u8], number: u32, clock: u32) -> usize
     ensures small { result ≤ 67 + length name.now }
 {
     let mut time = [0u8; 16];
-    write_time(clock, &mut time);
+    let _ = write_time(clock, &mut time);
     let a = put_counted(store, 0, b"# record ", number as usize, b" of session ");
     let b = put_text(store, a, name);
     let c = put_text(store, b, b"\n# filed ");

@@ -70,7 +70,7 @@ fn put_peer(rt: &impl Env, out: &mut [u8], n: usize) -> usize {
 // Puts the time.
 fn put_time(rt: &impl Clock, out: &mut [u8], n: usize) -> usize {
     let mut time = [b'-'; 16];
-    write_time(clock::now(rt), &mut time);
+    let _ = write_time(clock::now(rt), &mut time);
     put(out, n, &time)
 }
 

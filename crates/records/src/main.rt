@@ -13,23 +13,20 @@ use crate::question::{Question, question_of};
 use lines::input::lines_of;
 use lines::word::{after, find};
 
-// Answers one line.
+// Answers one line. One that was cut, as longer than the store, is no question.
 fn line(rt: &impl Print, s: &[u8], is_cut: bool) {
     let gap = find(s, 0, b' ');
-    let rest = after(s, gap);
-    if is_cut {
-        bad_question(rt);
-        return;
-    }
-    match question_of(&s[0..gap]) {
-        Question::Write => blocks::answer(rt, true, &s[rest..]),
-        Question::Read => blocks::answer(rt, false, &s[rest..]),
-        Question::Store => readings::answer(rt, true, &s[rest..]),
-        Question::Restore => readings::answer(rt, false, &s[rest..]),
-        Question::Time => clocks::time(rt, &s[rest..]),
-        Question::Legacy => clocks::legacy(rt, &s[rest..]),
-        Question::Roll => clocks::roll(rt, &s[rest..]),
-        Question::Unknown => bad_question(rt),
+    let rest = &s[after(s, gap)..];
+    let asked = if is_cut { None } else { question_of(&s[..gap]) };
+    match asked {
+        Some(Question::Write) => blocks::answer(rt, blocks::write, rest),
+        Some(Question::Read) => blocks::answer(rt, blocks::read, rest),
+        Some(Question::Store) => readings::answer(rt, samples::encode, rest),
+        Some(Question::Restore) => readings::answer(rt, samples::decode, rest),
+        Some(Question::Time) => clocks::time(rt, rest),
+        Some(Question::Legacy) => clocks::legacy(rt, rest),
+        Some(Question::Roll) => clocks::roll(rt, rest),
+        None => bad_question(rt),
     }
 }
 

@@ -71,7 +71,7 @@ fn print_word(rt: &impl Print, text: &[u8], k: usize) {
 // Prints the time of a clock.
 fn print_clock(rt: &impl Print, clock: u32) {
     let mut text = [b'-'; 16];
-    write_time(clock, &mut text);
+    let _ = write_time(clock, &mut text);
     print(rt, &text);
 }
 
