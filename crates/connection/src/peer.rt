@@ -67,15 +67,7 @@ pub fn is_open(ids: &[u64], count: usize, id: u32) -> bool
     requires { (count ≤ max_connections) × (count ≤ length ids.now) }
     ensures { result ≡ member id (take count ids.now) }
 {
-    let wanted = id as u64;
-    let mut i = 0;
-    while i < count {
-        if ids[i] == wanted {
-            return true;
-        }
-        i += 1;
-    }
-    false
+    ids[..count].contains(&u64::from(id))
 }
 
 // Tells whether the search passes `id` over: it is reserved or open.
@@ -83,10 +75,7 @@ fn is_taken(ids: &[u64], count: usize, id: u32) -> bool
     requires { (count ≤ max_connections) × (count ≤ length ids.now) }
     ensures { result ≡ taken (take count ids.now) id }
 {
-    if id == INVALID_ID {
-        return true;
-    }
-    is_open(ids, count, id)
+    id == INVALID_ID || is_open(ids, count, id)
 }
 
 // Finds the first number that is not open, counting up from the counter, and leaves the counter one past it.
@@ -95,18 +84,13 @@ pub fn allocate_connection_id(ids: &[u64], count: usize, counter: u32) -> NewId
     ensures id_value { (result.id ≡ new_id (take count ids.now) counter) × (result.next ≡ (result.id + 1) % 2 ^ 32) }
     ensures unused { taken (take count ids.now) result.id ≡ false }
 {
-    let mut at = counter;
-    let mut looked: u32 = 0;
-    let id = loop {
-        if !is_taken(ids, count, at) {
-            break at;
-        }
-        at = std::num::wrapping_add_u32(at, 1);
-        looked += 1;
-    };
+    let mut id = counter;
+    while is_taken(ids, count, id) {
+        id = id.wrapping_add(1);
+    }
     NewId {
         id,
-        next: std::num::wrapping_add_u32(id, 1),
+        next: id.wrapping_add(1),
     }
 }
 
@@ -116,16 +100,13 @@ fn close_id(ids: &mut [u64], count: usize, id: u32) -> usize
     ensures value { result ≡ length (without id (take count ids.old)) }
     ensures store { ids.new ≡ front (without id (take count ids.old)) ids.old }
 {
-    let closed = id as u64;
     let mut kept = 0;
-    let mut i = 0;
-    while i < count {
-        let x = ids[i];
-        if x != closed {
-            ids[kept] = x;
+    // Stays a loop over an index: it writes at or in front of the place that it reads, and slices have no `retain`.
+    for i in 0..count {
+        if ids[i] != u64::from(id) {
+            ids[kept] = ids[i];
             kept += 1;
         }
-        i += 1;
     }
     kept
 }
@@ -146,19 +127,17 @@ pub fn close_link(tables: &mut [u64], count: usize, id: u32) -> usize
 fn at_least_minimum(n: u16) -> u16
     ensures { result ≡ at_least255 n }
 {
-    if n < MIN_PACKET {
-        return MIN_PACKET;
-    }
-    n
+    n.max(MIN_PACKET)
 }
 
 // Sets the peer's limit, which its Connect names.
 pub fn limited(peer: Peer, max_packet_length: u16) -> Peer
     ensures { result ≡ limitedPeer peer max_packet_length }
 {
-    let mut r = peer;
-    r.remote_max_packet_length = at_least_minimum(max_packet_length);
-    r
+    Peer {
+        remote_max_packet_length: at_least_minimum(max_packet_length),
+        ..peer
+    }
 }
 
 // Returns the peer with this authentication; the rest stays.
@@ -166,14 +145,9 @@ fn with_authentication(peer: Peer, authenticated: bool, challenge: Option<Octets
     ensures { result ≡ authenticated_peer peer authenticated challenge }
 {
     Peer {
-        count: peer.count,
-        nonces: peer.nonces,
-        window: peer.window,
-        next_connection_id: peer.next_connection_id,
-        remote_max_packet_length: peer.remote_max_packet_length,
-        srm_enabled: peer.srm_enabled,
         authenticated,
         challenge,
+        ..peer
     }
 }
 
@@ -181,9 +155,10 @@ fn with_authentication(peer: Peer, authenticated: bool, challenge: Option<Octets
 pub fn with_check(peer: Peer, wrong: bool) -> Peer
     ensures { result ≡ checked_peer peer wrong }
 {
-    let mut r = peer;
-    r.window = pushed(peer.window, wrong);
-    r
+    Peer {
+        window: pushed(peer.window, wrong),
+        ..peer
+    }
 }
 
 // Marks the peer as authenticated: the password was right, and the challenge is used up.
@@ -197,18 +172,20 @@ pub fn verified(peer: Peer) -> Peer
 pub fn challenged(peer: Peer, nonce: Octets16) -> Peer
     ensures { result ≡ challenged_peer peer nonce }
 {
-    let mut r = with_authentication(peer, false, Some(nonce));
-    r.nonces = counted(peer.nonces);
-    r
+    Peer {
+        nonces: counted(peer.nonces),
+        ..with_authentication(peer, false, Some(nonce))
+    }
 }
 
 // Returns the peer with Single Response Mode (SRM) on or off; the rest stays.
 fn with_srm(peer: Peer, srm: bool) -> Peer
     ensures { result ≡ srm_peer peer srm }
 {
-    let mut r = peer;
-    r.srm_enabled = srm;
-    r
+    Peer {
+        srm_enabled: srm,
+        ..peer
+    }
 }
 
 // Returns the peer with one id more, the counter `next`, and SRM.
@@ -216,11 +193,12 @@ fn with_id(peer: Peer, srm: bool, next: u32) -> Peer
     requires { peer.count < max_connections }
     ensures { result ≡ added_peer peer srm next }
 {
-    let mut r = peer;
-    r.count = peer.count + 1;
-    r.next_connection_id = next;
-    r.srm_enabled = srm;
-    r
+    Peer {
+        count: peer.count + 1,
+        next_connection_id: next,
+        srm_enabled: srm,
+        ..peer
+    }
 }
 
 // Opens `id` if it is not open yet, behind the ids of `tables` that are. A 65th is not opened. Open or not, it takes `target`.
@@ -237,8 +215,7 @@ pub fn opened(
         ≡ opening_of peer tables.old (openedPeer peer tables.old srm id next target) }
 {
     let count = peer.count;
-    if is_open(&tables[..], count, id) {
-        let place = find_place(&tables[..], count, id);
+    if let Some(place) = find_place(tables, count, id) {
         put_target(tables, place, target);
         return Opening {
             full: false,
@@ -248,7 +225,7 @@ pub fn opened(
     if count >= MAX_CONNECTIONS {
         return Opening { full: true, peer };
     }
-    tables[count] = id as u64;
+    tables[count] = u64::from(id);
     put_target(tables, count, target);
     Opening {
         full: false,
@@ -295,12 +272,13 @@ pub fn opened_for(
 fn cleared(peer: Peer) -> Peer
     ensures { result ≡ cleared_peer peer }
 {
-    let mut r = peer;
-    r.count = 0;
-    r.remote_max_packet_length = MIN_PACKET;
-    r.srm_enabled = false;
-    r.authenticated = false;
-    r
+    Peer {
+        count: 0,
+        remote_max_packet_length: MIN_PACKET,
+        srm_enabled: false,
+        authenticated: false,
+        ..peer
+    }
 }
 
 // Returns the peer with `count` ids left open; if none is left, all is cleared.
@@ -310,9 +288,7 @@ pub fn with_left(peer: Peer, count: usize) -> Peer
     if count == 0 {
         return cleared(peer);
     }
-    let mut r = peer;
-    r.count = count;
-    r
+    Peer { count, ..peer }
 }
 
 // Closes the id that a Disconnect names. If it names none, or the last closes, all is cleared.

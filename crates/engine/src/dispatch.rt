@@ -522,7 +522,10 @@ fn packet_target(e: Engine, opcode: Opcode, v: Survey, known: bool, tables: &[u6
         return target;
     }
     if known {
-        return target_at(tables, find_place(tables, e.peer.count, v.id));
+        return match find_place(tables, e.peer.count, v.id) {
+            Some(place) => target_at(tables, place),
+            None => unnamed(),
+        };
     }
     unnamed()
 }

@@ -8,7 +8,6 @@ ghost use Rattle.connection.specs.Peer.{target_given};
 ghost use Rattle.table.specs.Places.{table_length};
 ghost use Rattle.journal_code.specs.Heading.{link_by, reading_of};
 
-use connection::peer::is_open;
 use incoming::survey::{Survey, survey_headers};
 use packet::header::first_header;
 use packet::header_id::{AUTHENTICATE_RESPONSE, NAME, TARGET};
@@ -77,18 +76,17 @@ fn link_of(v: Survey, tables: &[u64], count: usize) -> Link
             under: unnamed(),
         };
     }
-    if !is_open(tables, count, v.id) {
-        return Link {
+    match find_place(tables, count, v.id) {
+        Some(place) => Link {
+            named: Some(v.id),
+            unknown: false,
+            under: target_at(tables, place),
+        },
+        None => Link {
             named: Some(v.id),
             unknown: true,
             under: unnamed(),
-        };
-    }
-    let place = find_place(tables, count, v.id);
-    Link {
-        named: Some(v.id),
-        unknown: false,
-        under: target_at(tables, place),
+        },
     }
 }
 
