@@ -110,6 +110,7 @@ pub extern "C" fn obex_header_find(headers: &[u8], from: usize, id: u8) -> Place
     place_of(packet::header::first_header(headers, from, id))
 }
 
+// Stays a function for each form of text: each is an exported name of the C interface (bindings/c).
 // Stores the UTF-16 text of a header's `value`, as of a Name, in UTF-8: up to its first zero unit, each unpaired surrogate as U+FFFD.
 #[unsafe(no_mangle)]
 pub extern "C" fn obex_header_text(value: &[u8], store: &mut [u8]) -> Answer
@@ -126,6 +127,7 @@ pub extern "C" fn obex_header_ascii(value: &[u8], store: &mut [u8]) -> Answer
     text_answer_of(text::decode_ascii(value, store))
 }
 
+// Stays a function for each form of value, with the store and its place beside it: each is an exported name of the C interface.
 // Writes a header with `value` at `at` of the store.
 #[unsafe(no_mangle)]
 pub extern "C" fn obex_header_put_bytes(store: &mut [u8], at: usize, id: u8, value: &[u8]) -> Answer
@@ -221,6 +223,7 @@ pub extern "C" fn obex_challenge_answer(
         ≡ given_putting (write_digest_response store.old at (record { first = first; second = second })
         (given has_user user.now) password.now) }
 {
+    // Stays a flag beside the bytes of a user: the C interface has no Option.
     let nonce = Octets16 { first, second };
     answer_of(packet::auth::respond(store, at, nonce, has_user, user, password))
 }

@@ -8,10 +8,12 @@ use lib.Dec.{T, eqb, leb, leb→le}
 use Rattle.base.specs.Pick.{pick}
 use Rattle.base.proofs.Below.{and_left, and_right}
 use Rattle.packet.specs.declared.opcode.FirstByte.{FirstByte}
-use Rattle.std.specs.Prelude.{Option, Some, None}
+use Rattle.std.specs.Prelude.{Option, Some, None, Ok, Err}
+use Rattle.std.specs.Result.{result_ok}
+use Rattle.packet.specs.declared.opcode.UnknownOpcode.{UnknownOpcode}
 use Rattle.packet.specs.declared.opcode.Opcode.{Opcode}
 use Rattle.packet.specs.declared.opcode.Opcode.TheVariants.{Connect, Disconnect, Put, Get, SetPath, Action, Session, Abort, UserDefined}
-use Rattle.packet.specs.FirstByte.{known_byte, named, first_byte, value_of, always_final, top_bit, byte_of, kind_of, same_opcode}
+use Rattle.packet.specs.FirstByte.{known_byte, named, numbered, first_byte, entry_says, value_of, always_final, top_bit, byte_of, kind_of, same_opcode}
 use Rattle.base.proofs.Below.{at_each}
 
 -- ---- proved cases P1 and P2 (docs/PROTOCOL.md#first-byte)
@@ -35,6 +37,48 @@ p2_final = refl
 p2_user : first_byte 0x1F ≡ known_byte (UserDefined 0x1F) false
 unfolding first_byte named
 p2_user = refl
+
+-- ---- what an entry of the table says, by the opcode with its number
+
+abbrev pub told : Bool → Option Opcode → Option FirstByte
+told final (Some o) = known_byte o final
+told final None = None
+
+pub entry-told : (n : ℕ) → entry_says n ≡ told (leb 0x80 n) (result_ok (numbered (n % 128)))
+unfolding entry_says named numbered
+entry-told n =
+    let x = n % 128 in
+    go (leb 0x80 n) x (eqb x 0x7F) (eqb x 0x00) (eqb x 0x01) (eqb x 0x02) (eqb x 0x03) (eqb x 0x05) (eqb x 0x06) (eqb x 0x07) (leb 0x10 x && leb x 0x1F)
+  where
+    go : (z : Bool) (y : ℕ) (i a b c d e f g u : Bool)
+        → pick i (known_byte Abort z)
+        (pick a (known_byte Connect z)
+        (pick b (known_byte Disconnect z)
+        (pick c (known_byte Put z)
+        (pick d (known_byte Get z)
+        (pick e (known_byte SetPath z)
+        (pick f (known_byte Action z)
+        (pick g (known_byte Session z)
+        (pick u (known_byte (UserDefined y) z) None))))))))
+        ≡ told z (result_ok {E = UnknownOpcode} (pick i (Ok Abort)
+        (pick a (Ok Connect)
+        (pick b (Ok Disconnect)
+        (pick c (Ok Put)
+        (pick d (Ok Get)
+        (pick e (Ok SetPath)
+        (pick f (Ok Action)
+        (pick g (Ok Session)
+        (pick u (Ok (UserDefined y)) (Err (record {}))))))))))))
+    go z y true a b c d e f g u = refl
+    go z y false true b c d e f g u = refl
+    go z y false false true c d e f g u = refl
+    go z y false false false true d e f g u = refl
+    go z y false false false false true e f g u = refl
+    go z y false false false false false true f g u = refl
+    go z y false false false false false false true g u = refl
+    go z y false false false false false false false true u = refl
+    go z y false false false false false false false false true = refl
+    go z y false false false false false false false false false = refl
 
 -- ---- what is read and written
 

@@ -7,9 +7,8 @@ use Prim.Native.Nat.{ℕ, ◌+◌, ◌-◌, ◌≤◌}
 use native.Mathlib.Omega.{arith}
 use lib.ListN.{length, get_or, take, drop, replicate, length-append}
 use lib.Seq.{take_at, drop_at, take-append_seam}
-use lib.Dec.{T, eqb}
+use lib.Dec.{T}
 use borrow.Author.Tests.{le-ltb}
-use Rattle.base.specs.Pick.{pick}
 use Rattle.base.specs.Bytes.{be16, bytes16}
 use Rattle.text.specs.Unicode.{Octets}
 use Rattle.packet.specs.declared.opcode.Opcode.{Opcode}
@@ -22,7 +21,7 @@ use Rattle.packet.specs.FirstByte.{first_byte, always_final, byte_of}
 use Rattle.packet.specs.Header.{Header, read_headers}
 use Rattle.packet.specs.Packet.{fields_of, prefix_of, request_by, request_of, request_at, connect_limit, backup, no_create_of, packet_bytes}
 use Rattle.packet.specs.Placed.{laid}
-use Rattle.packet.specs.PacketWrite.{connect_bytes, set_path_byte, field_bytes, filled4, write_packet}
+use Rattle.packet.specs.PacketWrite.{connect_bytes, field_bytes, filled4, write_packet}
 use Rattle.packet.proofs.OpcodeLaws.{fair, read_back}
 use Rattle.packet.proofs.HeaderBytes.{header-bytes}
 use Rattle.packet.proofs.HeaderWrites.{read-written, read_shaped}
@@ -49,23 +48,6 @@ packet-laid d s₁ s₂ s₃ f h b l e₁ e₂ e₃ =
     ∙ laid-append d x (f ++ h) 0 3 refl (omega (arith, length-append f h))
 
 -- ---- the fields
-
-pub fields_by : (o : Opcode) (f : Fields)
-    → field_bytes o f ≡ pick (eqb (fields_of o) 4) (connect_bytes f) (pick (eqb (fields_of o) 2) (set_path_byte f ∷ 0 ∷ []) [])
-fields_by Connect f = refl
-fields_by Disconnect f = refl
-fields_by Put f = refl
-fields_by Get f = refl
-fields_by SetPath f = refl
-fields_by Action f = refl
-fields_by Session f = refl
-fields_by Abort f = refl
-fields_by (UserDefined x) f = refl
-
-pub connect_four : (f : Fields) → filled4 (connect_bytes f) ≡ connect_bytes f
-connect_four fields.Default = refl
-connect_four (fields.Connect v g m) = refl
-connect_four (fields.SetPath b n) = refl
 
 connect_length_lem : (f : Fields) → length (connect_bytes f) ≡ 4
 connect_length_lem fields.Default = refl

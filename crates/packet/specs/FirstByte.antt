@@ -1,9 +1,10 @@
 -- The first byte of a request (IrOBEX 1.5, section 3.4; docs/PROTOCOL.md#first-byte): its opcode and the Final bit.
-use Rattle.std.specs.Prelude.{Bool, true, false, ◌&&◌, ◌||◌, List, [], ◌∷◌, map, ℕ, zero, suc, ◌+◌, ◌%◌, eqb, leb, Option, Some, None}
+use Rattle.std.specs.Prelude.{Bool, true, false, ◌&&◌, ◌||◌, List, [], ◌∷◌, map, ℕ, zero, suc, ◌+◌, ◌%◌, eqb, leb, Option, Some, None, Result, Ok, Err, codes}
 use Rattle.base.specs.Pick.{pick}
 use Rattle.packet.specs.declared.opcode.Opcode.{Opcode}
 use Rattle.packet.specs.declared.opcode.Opcode.TheVariants.{Connect, Disconnect, Put, Get, SetPath, Action, Session, Abort, UserDefined}
 use Rattle.packet.specs.declared.opcode.FirstByte.{FirstByte}
+use Rattle.packet.specs.declared.opcode.UnknownOpcode.{UnknownOpcode}
 
 -- The number of an opcode, without the Final bit.
 abbrev pub value_of : Opcode → ℕ
@@ -16,6 +17,18 @@ value_of Action = 0x06
 value_of Session = 0x07
 value_of Abort = 0x7F
 value_of (UserDefined x) = x
+
+-- The name of an operation, as programs print it; those that an application defines have one name.
+abbrev pub name_of : Opcode → List ℕ
+name_of Connect = codes "connect"
+name_of Disconnect = codes "disconnect"
+name_of Put = codes "put"
+name_of Get = codes "get"
+name_of SetPath = codes "set_path"
+name_of Action = codes "action"
+name_of Session = codes "session"
+name_of Abort = codes "abort"
+name_of (UserDefined x) = codes "user_defined"
 
 -- A first byte that names the opcode `o`, with the Final bit or without it.
 abbrev pub known_byte : Opcode → Bool → Option FirstByte
@@ -33,6 +46,20 @@ named x final =
     (pick (eqb x (value_of Session)) (known_byte Session final)
     (pick (leb 0x10 x && leb x 0x1F) (known_byte (UserDefined x) final)
     None)))))))
+
+-- The opcode with the number `x`, or an error if there is none.
+unfoldable pub numbered : ℕ → Result Opcode UnknownOpcode
+numbered x =
+    pick (eqb x (value_of Abort)) (Ok Abort)
+    (pick (eqb x (value_of Connect)) (Ok Connect)
+    (pick (eqb x (value_of Disconnect)) (Ok Disconnect)
+    (pick (eqb x (value_of Put)) (Ok Put)
+    (pick (eqb x (value_of Get)) (Ok Get)
+    (pick (eqb x (value_of SetPath)) (Ok SetPath)
+    (pick (eqb x (value_of Action)) (Ok Action)
+    (pick (eqb x (value_of Session)) (Ok Session)
+    (pick (leb 0x10 x && leb x 0x1F) (Ok (UserDefined x))
+    (Err (record {}))))))))))
 
 -- What the first byte of a request says: the top bit is the Final bit; low seven bits that are all ones are Abort; any other byte names an
 -- opcode by its low five bits, or none.

@@ -311,14 +311,11 @@ fn set_path_byte(fields: Fields) -> u8
 fn field_bytes(opcode: Opcode, fields: Fields) -> [u8; 4]
     ensures { result ≡ filled4 (field_bytes opcode fields) }
 {
-    let n = fields_len(opcode);
-    if n == 4 {
-        return connect_bytes(fields);
+    match opcode {
+        Opcode::Connect => connect_bytes(fields),
+        Opcode::SetPath => [set_path_byte(fields), 0, 0, 0],
+        _ => [0, 0, 0, 0],
     }
-    if n == 2 {
-        return [set_path_byte(fields), 0, 0, 0];
-    }
-    [0, 0, 0, 0]
 }
 
 // Writes a request at the front of the store. The Final bit is set if `is_final` asks for it or the opcode always has it.
