@@ -1,7 +1,7 @@
 // What every layer shares: reading bytes as numbers, copying bytes into a lent store, and the error that the store is too short.
 #![tactic(auto)]
 
-ghost use Rattle.std.specs.Prelude.{◌≡◌, ◌+◌, ◌≤◌, ◌<◌, length};
+ghost use Rattle.std.specs.Prelude.{◌≡◌, ◌+◌, ◌-◌, ◌≤◌, ◌<◌, length, take, drop};
 ghost use Rattle.std.proofs.Math.Seq.{paste};
 ghost use Rattle.base.specs.Bytes.{be16};
 
@@ -37,6 +37,33 @@ pub fn be16_at(s: &[u8], at: usize) -> usize
     ensures small { result < 65536 }
 {
     usize::from(u16::from_be_bytes([s[at], s[at + 1]]))
+}
+
+// A part of a list of bytes: those from `start` up to `end`.
+#[derive(Clone, Copy, PartialEq, Eq)]
+pub struct Span {
+    pub start: usize,
+    pub end: usize,
+}
+
+impl Span {
+    // Returns how many bytes the part has.
+    pub fn size(self) -> usize
+        requires { self.start ≤ self.end }
+        ensures { result ≡ self.end - self.start }
+    {
+        self.end - self.start
+    }
+
+    // Returns the part of `s`.
+    #[inline]
+    pub fn of(self, s: &[u8]) -> &[u8]
+        requires ordered { self.start ≤ self.end }
+        requires within { self.end ≤ length s.now }
+        ensures { result.now ≡ take (self.end - self.start) (drop self.start s.now) }
+    {
+        &s[self.start..self.end]
+    }
 }
 
 // Copies all of `src` into `dst`, from `at` on.

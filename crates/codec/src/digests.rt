@@ -1,29 +1,29 @@
 // Questions on challenges, on the responses to them, and on their digests.
 use crate::headers::piece_at;
 use crate::show::{put, put_byte, put_done, put_flag, put_hex, put_octets};
+use base::Span;
 use digest::md5;
 use lines::word::{after, byte_at};
 use packet::auth;
 use packet::auth::{DigestChallenge, DigestResponse, Named};
-use packet::tlv::Found;
 
 // Puts a value of the tag list `v`, if it is there.
-fn put_found(rt: &impl Print, v: &[u8], f: Found) {
+fn put_found(rt: &impl Print, v: &[u8], f: Option<Span>) {
     match f {
-        Found::At { start, end } => {
+        Some(Span { start, end }) => {
             let p = piece_at(v.len(), 0, start, end);
             let from = p.start;
             let to = p.end;
             put_hex(rt, &v[from..to]);
         }
-        Found::Missing => put(rt, b"none"),
+        None => put(rt, b"none"),
     }
 }
 
 // Puts a realm, whose first byte is its charset.
-fn put_realm(rt: &impl Print, v: &[u8], f: Found) {
+fn put_realm(rt: &impl Print, v: &[u8], f: Option<Span>) {
     match f {
-        Found::At { start, end } => {
+        Some(Span { start, end }) => {
             put_byte(rt, byte_at(v, start));
             put(rt, b":");
             let p = piece_at(v.len(), 0, start, end);
@@ -33,7 +33,7 @@ fn put_realm(rt: &impl Print, v: &[u8], f: Found) {
                 put_hex(rt, &v[from + 1..to]);
             }
         }
-        Found::Missing => put(rt, b"none"),
+        None => put(rt, b"none"),
     }
 }
 

@@ -2,13 +2,12 @@
 use Rattle.std.proofs.Common.{◌≡◌, ℕ, Bool, true, false, eqb, List, [], ◌∷◌, sym, refl, ap, ◌∙◌, arith}
 use mathlib.Core.Option.{Option, none, some}
 use Rattle.base.specs.Pick.{pick}
+use Rattle.base.specs.Place.{Place, None}
 use Rattle.packet.specs.Header.{Header, push, read_headers, first, first_place}
 use Rattle.packet.specs.HeaderList.{is_read}
 use Rattle.packet.specs.Tags.{bytes_at}
 use Rattle.packet.specs.Auth.{Challenge, challenge_of, realm_place}
 use Rattle.packet.specs.AuthRead.{challenge_read, read_challenge}
-use Rattle.packet.specs.declared.tlv.Found.{Found}
-use Rattle.packet.specs.declared.tlv.Found.TheVariants as place
 use Rattle.packet.specs.declared.auth.DigestChallenge.{DigestChallenge}
 use Rattle.packet.specs.declared.auth.DigestChallenge.TheVariants as challenge
 use Rattle.packet.proofs.HeaderLaws.{first-agrees}
@@ -18,7 +17,7 @@ use Rattle.connection.specs.Pieces.{headers_from, first_in, is_known, known_in, 
 
 -- ---- all can be read
 
-known_on : (b : Bool) (o : Option Challenge) (cs : Option (List Challenge)) (r : Found)
+known_on : (b : Bool) (o : Option Challenge) (cs : Option (List Challenge)) (r : Place)
     → is_known (pick b (push_challenge o cs) cs) ≡ pick (pick b (is_challenge (challenge_read o r)) true) (is_known cs) false
 known_on true none cs r = refl
 known_on true (some c) none r = refl
@@ -89,6 +88,6 @@ pub first_in_bytes : (id : ℕ) (s : List ℕ) (from : ℕ) → bytes_at s (firs
 unfolding first_in first
 first_in_bytes id s from = go (read_headers s from) refl
   where
-    go : (r : Option (List Header)) → read_headers s from ≡ r → bytes_at s (pick (is_read r) (first_place id s from) place.Missing) ≡ first id (list_of r)
+    go : (r : Option (List Header)) → read_headers s from ≡ r → bytes_at s (pick (is_read r) (first_place id s from) None) ≡ first id (list_of r)
     go none e = refl
     go (some hs) e = first-agrees id s from hs e

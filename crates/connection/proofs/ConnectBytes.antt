@@ -5,6 +5,7 @@ use lib.Seq.{take-length}
 use Rattle.std.specs.Prelude.{Some, None}
 use Rattle.base.specs.Pick.{pick}
 use Rattle.base.specs.Bytes.{bytes32}
+use Rattle.base.specs.Place.{Place, span}
 use Rattle.packet.specs.HeaderWriter.{header}
 use Rattle.packet.specs.Header.{Header, header_at_of, part, push, read_headers, walk, first, first_place, bytes_of, all_bytes}
 use Rattle.packet.specs.HeaderList.{is_read, readable_from}
@@ -15,8 +16,6 @@ use Rattle.packet.specs.declared.header.HeaderAt.{HeaderAt}
 use Rattle.packet.specs.declared.header.HeaderAt.TheVariants.{At, Unreadable, End}
 use Rattle.packet.specs.declared.auth.Named.{Named}
 use Rattle.packet.specs.declared.auth.Named.TheVariants as nonce
-use Rattle.packet.specs.declared.tlv.Found.{Found}
-use Rattle.packet.specs.declared.tlv.Found.TheVariants as place
 use Rattle.packet.proofs.HeaderBytes.{Octets, header-bytes, header_at_bytes}
 use Rattle.packet.proofs.HeaderLaws.{by_cursor_lem, first_found}
 use Rattle.journal.specs.Journal.{list_of}
@@ -71,9 +70,9 @@ who-placing none (some w) hs = refl
 who-placing (some t) none hs = refl
 who-placing (some t) (some w) hs = refl
 
-who-bytes : (p q : List ℕ) (t w : Found) → bytes_at p (who_place t w) ≡ who_of (bytes_at p t) (bytes_at q w)
-who-bytes p q t place.Missing = refl
-who-bytes p q t (place.At a b) = refl
+who-bytes : (p q : List ℕ) (t w : Place) → bytes_at p (who_place t w) ≡ who_of (bytes_at p t) (bytes_at q w)
+who-bytes p q t None = refl
+who-bytes p q t (Some w) = refl
 
 -- the first header ends at the cut
 second-bytes : (s : List ℕ) (t : List ℕ) (hs : List Header) → Octets s → read_headers s 0 ≡ some hs
@@ -168,7 +167,7 @@ connect_bytes_lem f s headers from has user password srm o p =
     ∙ append_assoc (named_bytes f (bytes_at s who) hs) (answer_bytes (nonce_for has request) user password) (grant_bytes srm))
 
 -- as the code has them
-pub connect_as : (f : ConnectionId) (s headers hs : List ℕ) (from : ℕ) (has : Bool) (user : Option (List ℕ)) (password : List ℕ) (srm : Bool) (who : Found) (m : Named)
+pub connect_as : (f : ConnectionId) (s headers hs : List ℕ) (from : ℕ) (has : Bool) (user : Option (List ℕ)) (password : List ℕ) (srm : Bool) (who : Place) (m : Named)
     → hs ≡ readable headers → who ≡ who_place (first_in 0x46 s from) (first_in 0x4A hs 0) → m ≡ nonce_for has (headers_from s from) → Octets s → Octets headers
     → named_bytes f (bytes_at s who) hs ++ added_bytes m user password srm
     ≡ all_bytes (connect_headers (id_given f) (headers_from s from) (headers_from headers 0) (credentials_of has user password) srm)
@@ -179,14 +178,14 @@ first-inside : (id : ℕ) (s : List ℕ) (from : ℕ) → Inside s (first_in id 
 unfolding first_in
 first-inside id s from = go (readable_from s from) (first_place id s from) refl
   where
-    go : (b : Bool) (f : Found) → first_place id s from ≡ f → Inside s (pick b f place.Missing)
+    go : (b : Bool) (f : Place) → first_place id s from ≡ f → Inside s (pick b f None)
     go false f e = tt
-    go true place.Missing e = tt
-    go true (place.At a b) e = let w = first_found id s from a b e in (w.stands.past, w.stands.fits)
+    go true None e = tt
+    go true (Some p) e = let w = first_found id s from p.start p.end e in (w.stands.past, w.stands.fits)
 
-pub who-inside : (s : List ℕ) (from : ℕ) (v w : Found) → w ≡ who_place (first_in 0x46 s from) v → Inside s w
+pub who-inside : (s : List ℕ) (from : ℕ) (v w : Place) → w ≡ who_place (first_in 0x46 s from) v → Inside s w
 who-inside s from v w e = rw e (go v)
   where
-    go : (v : Found) → Inside s (who_place (first_in 0x46 s from) v)
-    go place.Missing = first-inside 0x46 s from
-    go (place.At a b) = tt
+    go : (v : Place) → Inside s (who_place (first_in 0x46 s from) v)
+    go None = first-inside 0x46 s from
+    go (Some p) = tt

@@ -4,6 +4,7 @@ use mathlib.Core.Option.{Option}
 use Rattle.std.specs.Prelude.{Some, None}
 use Rattle.base.specs.Pick.{pick}
 use Rattle.base.specs.Bytes.{bytes32}
+use Rattle.base.specs.Place.{Place, span}
 use Rattle.digest.specs.Md5.{octets16}
 use Rattle.digest.specs.declared.md5.Octets16.{Octets16}
 use Rattle.digest.proofs.Octets.{length-octets16}
@@ -16,8 +17,6 @@ use Rattle.packet.specs.Placed.{Putting, putting, laid, placed}
 use Rattle.packet.specs.declared.tlv.Wrote.{Wrote}
 use Rattle.packet.specs.declared.store.LengthField.{LengthField}
 use Rattle.packet.specs.declared.store.LengthField.TheVariants.{OneByte, TwoBytes}
-use Rattle.packet.specs.declared.tlv.Found.{Found}
-use Rattle.packet.specs.declared.tlv.Found.TheVariants as place
 use Rattle.packet.specs.declared.auth.Named.{Named}
 use Rattle.packet.specs.declared.auth.Named.TheVariants as nonce
 use Rattle.packet.specs.declared.header.HeaderEncoding.TheVariants.{Bytes}
@@ -97,9 +96,9 @@ unfolding bytes_of encoding_of
 grant-length true = refl
 grant-length false = refl
 
-pub who-length : (s : List ℕ) (who : Found) → Inside s who → length (who_bytes (bytes_at s who)) ≡ who_size who
-who-length s place.Missing w = refl
-who-length s (place.At a b) w = bytes-length 0x4A (part s a b) refl refl ∙ ap (λ (n : ℕ). 3 + n) (part_length s a b w.1)
+pub who-length : (s : List ℕ) (who : Place) → Inside s who → length (who_bytes (bytes_at s who)) ≡ who_size who
+who-length s None w = refl
+who-length s (Some p) w = bytes-length 0x4A (part s p.start p.end) refl refl ∙ ap (λ (n : ℕ). 3 + n) (part_length s p.start p.end w.1)
 
 pub response-length : (n : Octets16) (has : Bool) (user password : List ℕ)
     → length (write_tags (response_tags (octets16 n) (given has user) password)) ≡ 36 + pick has (2 + length user) 0
@@ -136,13 +135,13 @@ id_puts y z at i f r e m p =
     let room : Room y at (id_bytes (Some i)) = rw e at m in
     rw e (record { next_is = refl; store = header-laid y z at (header 0xCB (bytes32 i)) r refl (omega (arith, room.small, room.store)) p })
 
-pub who-puts : (y z s : List ℕ) (at a b : ℕ) (w : Found) (r : Wrote) → w ≡ place.At a b → Room y at (who_bytes (bytes_at s w)) → Inside s w
+pub who-puts : (y z s : List ℕ) (at a b : ℕ) (w : Place) (r : Wrote) → w ≡ span a b → Room y at (who_bytes (bytes_at s w)) → Inside s w
     → putting r z ≡ put_header y at (header 0x4A (part s a b)) → Puts y at (who_bytes (bytes_at s w)) (at + 3 + (b - a)) z
 who-puts y z s at a b w r e m i p =
-    let room : Room y at (who_bytes (bytes_at s (place.At a b))) = rw e at m in
-    let inside : Inside s (place.At a b) = rw e at i in
+    let room : Room y at (who_bytes (bytes_at s (span a b))) = rw e at m in
+    let inside : Inside s (span a b) = rw e at i in
     let l : length (part s a b) ≡ b - a = part_length s a b inside.1 in
-    let n : length (who_bytes (bytes_at s (place.At a b))) ≡ 3 + (b - a) = who-length s (place.At a b) inside in
+    let n : length (who_bytes (bytes_at s (span a b))) ≡ 3 + (b - a) = who-length s (span a b) inside in
     rw e
     (record {
       next_is = omega (arith, n);
@@ -248,9 +247,9 @@ pub id_at_most : (f : ConnectionId) → id_size f ≤ 5
 id_at_most (Some i) = omega arith
 id_at_most None = omega arith
 
-pub who_at_most : (w : Found) → Ordered w → who_size w ≤ 65538
-who_at_most place.Missing o = omega arith
-who_at_most (place.At a b) o = omega (arith, o.0, o.1)
+pub who_at_most : (w : Place) → Ordered w → who_size w ≤ 65538
+who_at_most None o = omega arith
+who_at_most (Some p) o = omega (arith, o.0, o.1)
 
 pub answer_at_most : (m : Named) (has : Bool) (n : ℕ) → pick has n 0 ≤ 255 → answer_size m has n ≤ 296
 answer_at_most nonce.Missing has n h = omega arith
@@ -261,13 +260,13 @@ pub grant_at_most : (srm : Bool) → pick srm 2 0 ≤ 2
 grant_at_most true = omega arith
 grant_at_most false = omega arith
 
-pub inside-ordered : (s : List ℕ) (w : Found) → Inside s w → length s ≤ 65535 → Ordered w
-inside-ordered s place.Missing i h = tt
-inside-ordered s (place.At a b) i h = (i.0, omega (arith, i.1))
+pub inside-ordered : (s : List ℕ) (w : Place) → Inside s w → length s ≤ 65535 → Ordered w
+inside-ordered s None i h = tt
+inside-ordered s (Some p) i h = (i.0, omega (arith, i.1))
 
 -- ---- all of them
 
-pub pieces-length : (s hs user password : List ℕ) (f : ConnectionId) (w : Found) (m : Named) (has srm : Bool) → Inside s w
+pub pieces-length : (s hs user password : List ℕ) (f : ConnectionId) (w : Place) (m : Named) (has srm : Bool) → Inside s w
     → size_of f w (length hs) m has (length user) srm ≡ length (named_bytes f (bytes_at s w) hs ++ added_bytes m (given has user) password srm)
 unfolding named_bytes added_bytes
 pieces-length s hs user password f w m has srm i =

@@ -4,6 +4,7 @@ use Rattle.std.specs.Prelude.{◌≡◌, ℕ, ◌+◌, ◌-◌, ◌≤◌, Bool,
 use Rattle.std.proofs.Math.Option.{Option, none, some}
 use Rattle.base.specs.Pick.{pick}
 use Rattle.base.specs.Bytes.{bytes32}
+use Rattle.base.specs.Place.{Place}
 use Rattle.digest.specs.Md5.{octets16}
 use Rattle.packet.specs.Limits.{max_packet}
 use Rattle.packet.specs.HeaderIds as header_id
@@ -17,8 +18,6 @@ use Rattle.packet.specs.Auth.{Challenge as PeerChallenge, realm_place, response_
 use Rattle.packet.specs.AuthRead.{challenge_read, read_challenge, verifies}
 use Rattle.packet.specs.declared.header.HeaderAt.{HeaderAt}
 use Rattle.packet.specs.declared.header.HeaderAt.TheVariants.{At, Unreadable, End}
-use Rattle.packet.specs.declared.tlv.Found.{Found}
-use Rattle.packet.specs.declared.tlv.Found.TheVariants as place
 use Rattle.packet.specs.declared.auth.Named.{Named}
 use Rattle.packet.specs.declared.auth.Named.TheVariants as nonce
 use Rattle.packet.specs.declared.auth.DigestChallenge.{DigestChallenge}
@@ -37,8 +36,8 @@ abbrev pub headers_from : List ℕ → ℕ → List Header
 headers_from s from = list_of (read_headers s from)
 
 -- Where the value of the first header with an id stands, among headers that can all be read.
-unfoldable pub first_in : ℕ → List ℕ → ℕ → Found
-first_in id s from = pick (readable_from s from) (first_place id s from) place.Missing
+unfoldable pub first_in : ℕ → List ℕ → ℕ → Place
+first_in id s from = pick (readable_from s from) (first_place id s from) None
 
 -- The challenges could all be read.
 abbrev pub is_known : Option (List PeerChallenge) → Bool
@@ -60,8 +59,8 @@ abbrev pub known_header : ℕ → List ℕ → Bool
 known_header id v = pick (id == header_id.authenticate_challenge) (is_challenge (read_challenge v)) true
 
 -- Where the realm stands in the tag list of a challenge.
-abbrev pub realm_of : Option (List ℕ) → Found
-realm_of none = place.Missing
+abbrev pub realm_of : Option (List ℕ) → Place
+realm_of none = None
 realm_of (some v) = realm_place v
 
 -- The challenge that is answered, with its realm's place in its tag list.
@@ -78,9 +77,9 @@ abbrev pub nonce_for : Bool → List Header → Named
 nonce_for has hs = pick has (nonce_of (answered_in hs)) nonce.Missing
 
 -- The Target that Who gives back, if the answer has no Who.
-abbrev pub who_place : Found → Found → Found
-who_place target place.Missing = target
-who_place target (place.At a b) = place.Missing
+abbrev pub who_place : Place → Place → Place
+who_place target None = target
+who_place target (Some p) = None
 
 -- Where a header ends.
 abbrev pub end_of : HeaderAt → ℕ
@@ -155,9 +154,9 @@ id_size None = 0
 id_size (Some i) = 5
 
 -- How many bytes Who takes.
-abbrev pub who_size : Found → ℕ
-who_size place.Missing = 0
-who_size (place.At a b) = 3 + (b - a)
+abbrev pub who_size : Place → ℕ
+who_size None = 0
+who_size (Some p) = 3 + (p.end - p.start)
 
 -- How many bytes the answer to the peer's challenge takes.
 abbrev pub answer_size : Named → Bool → ℕ → ℕ
@@ -165,18 +164,18 @@ answer_size nonce.Missing has n = 0
 answer_size (nonce.Nonce m) has n = 39 + pick has (2 + n) 0
 
 -- How many bytes all the headers take.
-abbrev pub size_of : ConnectionId → Found → ℕ → Named → Bool → ℕ → Bool → ℕ
+abbrev pub size_of : ConnectionId → Place → ℕ → Named → Bool → ℕ → Bool → ℕ
 size_of f who n m has u srm = id_size f + n + who_size who + answer_size m has u + pick srm 2 0
 
 -- A place that starts before it ends, within 65,535 bytes.
-abbrev pub Ordered : Found → Type 0
-Ordered place.Missing = Unit {0}
-Ordered (place.At a b) = (a ≤ b) × (b ≤ max_packet)
+abbrev pub Ordered : Place → Type 0
+Ordered None = Unit {0}
+Ordered (Some p) = (p.start ≤ p.end) × (p.end ≤ max_packet)
 
 -- A place that lies inside some bytes.
-abbrev pub Inside : List ℕ → Found → Type 0
-Inside s place.Missing = Unit {0}
-Inside s (place.At a b) = (a ≤ b) × (b ≤ length s)
+abbrev pub Inside : List ℕ → Place → Type 0
+Inside s None = Unit {0}
+Inside s (Some p) = (p.start ≤ p.end) × (p.end ≤ length s)
 
 -- The credentials that the host gives.
 abbrev pub credentials_of : Bool → Option (List ℕ) → List ℕ → Option Credentials

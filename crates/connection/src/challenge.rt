@@ -5,18 +5,18 @@ ghost use Rattle.packet.specs.Header.{read_headers};
 ghost use Rattle.packet.specs.AuthWrite.{given};
 ghost use Rattle.connection.specs.Pieces.{headers_from, first_in, known_header, known_in, answered_in, nonce_for, check_of};
 
+use base::Span;
 use digest::md5::Octets16;
 use packet::auth::{DigestChallenge, DigestResponse, Named, read_challenge, verify};
 use packet::header::{HeaderAt, first_header, header_at, is_readable};
 use packet::header_id::AUTHENTICATE_CHALLENGE;
-use packet::tlv::Found;
 
 // Finds the value of the first header with `id`. If not all headers can be read, nothing is found.
-pub fn first_in(s: &[u8], from: usize, id: u8) -> Found
+pub fn first_in(s: &[u8], from: usize, id: u8) -> Option<Span>
     ensures { result ≡ first_in id s.now from }
 {
     if !is_readable(s, from) {
-        return Found::Missing;
+        return None;
     }
     first_header(s, from, id)
 }
@@ -76,10 +76,10 @@ pub fn answered_challenge(packet: &[u8], from: usize) -> DigestChallenge
     if !are_known(packet, from) {
         return DigestChallenge::Unreadable;
     }
-    let Found::At { start, end } = first_header(packet, from, AUTHENTICATE_CHALLENGE) else {
+    let Some(value) = first_header(packet, from, AUTHENTICATE_CHALLENGE) else {
         return DigestChallenge::Unreadable;
     };
-    read_challenge(&packet[start..end])
+    read_challenge(value.of(packet))
 }
 
 // Returns the nonce of the peer's first challenge, if the host has credentials to answer it.

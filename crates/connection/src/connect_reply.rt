@@ -21,7 +21,7 @@ ghost use Rattle.connection.specs.Pieces.{id_size, who_size, answer_size, size_o
 
 use crate::challenge::{first_in, nonce_for};
 use crate::reply::{Sent, begin_connect};
-use base::copy_into;
+use base::{Span, copy_into};
 use digest::md5::Octets16;
 use packet::auth::{Named, respond, write_challenge};
 use packet::header::{HeaderAt, header_at, is_readable, put_bytes, put_u8, put_u32};
@@ -30,7 +30,6 @@ use packet::header_id::{
 };
 use packet::response::UNAUTHORIZED;
 use packet::srm::ENABLE;
-use packet::tlv::Found;
 
 // ---- what goes into it
 
@@ -45,11 +44,11 @@ fn readable_len(headers: &[u8]) -> usize
 }
 
 // Returns the place that Who gives back: that of the packet's `target`, unless the host gave a Who itself.
-fn who_place(target: Found, headers: &[u8]) -> Found
+fn who_place(target: Option<Span>, headers: &[u8]) -> Option<Span>
     ensures { result ≡ who_place target (first_in header_id.who headers.now 0) }
 {
-    if let Found::At { start: _, end: _ } = first_in(headers, 0, WHO) {
-        return Found::Missing;
+    if first_in(headers, 0, WHO).is_some() {
+        return None;
     }
     target
 }
@@ -86,14 +85,14 @@ fn id_size(front: Option<u32>) -> usize
 }
 
 // Returns how many bytes Who takes.
-fn who_size(who: Found) -> usize
+fn who_size(who: Option<Span>) -> usize
     requires { Ordered who }
     ensures { result ≡ who_size who }
 {
-    let Found::At { start, end } = who else {
-        return 0;
-    };
-    3 + (end - start)
+    match who {
+        Some(value) => 3 + value.size(),
+        None => 0,
+    }
 }
 
 // Returns how many bytes the answer to the peer's challenge takes.
@@ -134,7 +133,7 @@ fn grant_size(srm: bool) -> usize
 // Returns how many bytes the headers of the reply take.
 fn connect_size(
     front: Option<u32>,
-    who: Found,
+    who: Option<Span>,
     headers: usize,
     nonce: Named,
     has_user: bool,
@@ -181,15 +180,15 @@ fn put_id(reply: &mut [u8], at: usize, front: Option<u32>) -> usize
 }
 
 // Writes Who, if there is one, and returns the place behind it.
-fn put_who(reply: &mut [u8], at: usize, who: Found, packet: &[u8]) -> usize
+fn put_who(reply: &mut [u8], at: usize, who: Option<Span>, packet: &[u8]) -> usize
     requires { Room reply.old at (who_bytes (bytes_at packet.now who)) × Inside packet.now who }
     ensures { Puts reply.old at (who_bytes (bytes_at packet.now who)) result reply.new }
 {
-    let Found::At { start, end } = who else {
+    let Some(value) = who else {
         return at;
     };
-    put_bytes(reply, at, WHO, &packet[start..end]);
-    at + 3 + (end - start)
+    put_bytes(reply, at, WHO, value.of(packet));
+    at + 3 + value.size()
 }
 
 // Writes the host's headers, with the id in front and Who in the second place, and returns the place behind them.
@@ -197,7 +196,7 @@ fn put_named(
     reply: &mut [u8],
     at: usize,
     front: Option<u32>,
-    who: Found,
+    who: Option<Span>,
     packet: &[u8],
     headers: &[u8],
 ) -> usize
@@ -263,7 +262,7 @@ fn send_pieces(
     code: u8,
     limit: u16,
     front: Option<u32>,
-    who: Found,
+    who: Option<Span>,
     packet: &[u8],
     headers: &[u8],
     nonce: Named,
@@ -297,7 +296,7 @@ pub fn connect_reply(
     front: Option<u32>,
     packet: &[u8],
     from: usize,
-    target: Found,
+    target: Option<Span>,
     headers: &[u8],
     has_credentials: bool,
     has_user: bool,

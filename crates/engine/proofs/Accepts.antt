@@ -11,12 +11,12 @@ use borrow.Author.Tests.{leb-true}
 use lib.ListN.{length, take}
 use lib.Dec.{ltb}
 use Rattle.base.specs.Pick.{pick}
+use Rattle.base.specs.Place.{Place}
 use Rattle.packet.specs.Codes.{is_success}
 use Rattle.packet.specs.Header.{Header, read_headers, first, first_place, all_bytes}
 use Rattle.packet.specs.Auth.{Challenge as PeerChallenge}
 use Rattle.packet.specs.AuthRead.{challenge_read}
 use Rattle.packet.specs.AuthWrite.{given, overlong}
-use Rattle.packet.specs.declared.tlv.Found.{Found}
 use Rattle.packet.specs.declared.auth.DigestChallenge.{DigestChallenge}
 use Rattle.packet.specs.declared.auth.DigestChallenge.TheVariants as challenge
 use Rattle.journal.specs.Calls.{Credentials}
@@ -107,7 +107,7 @@ module _ (e : Engine) (p : Peer) (code : ℕ) (f : ConnectionId) (q hs y : List 
   not-challenged h w k i =
       ap (λ (w : Written). leaving h w) i ∙ ap (λ (d : DigestChallenge). challenged_by d e p code f hs q h y) k
 
-  pub challenged : (h z : List ℕ) (n : Octets16) (u r : Bool) (a m : Found) (x : Plan) (t : CallResult)
+  pub challenged : (h z : List ℕ) (n : Octets16) (u r : Bool) (a m : Place) (x : Plan) (t : CallResult)
       → challenge.Challenge n u r a ≡ answered_in (headers_of q)
       → t ≡ took_by x → x ≡ asks_plan e p (Connecting code f (length hs)) await.Credentials (request.Credentials n u r m)
       → m ≡ realm_in q (first_place 0x4D q 7) → z ≡ front hs h
@@ -115,7 +115,7 @@ module _ (e : Engine) (p : Peer) (code : ℕ) (f : ConnectionId) (q hs y : List 
   challenged h z n u r a m x t k i j l o =
       ap₂ (λ (t : CallResult) (z : List ℕ). answering t z y)
       (i ∙ ap (λ (x : Plan). took_by x)
-      (j ∙ ap (λ (m : Found). asks_plan e p (Connecting code f (length hs)) await.Credentials (request.Credentials n u r m)) l)) o
+      (j ∙ ap (λ (m : Place). asks_plan e p (Connecting code f (length hs)) await.Credentials (request.Credentials n u r m)) l)) o
       ∙ ap (λ (d : DigestChallenge). challenged_by d e p code f hs q h y) k
 
 -- the ways of the answer
@@ -162,7 +162,7 @@ module _ (e : Engine) (s : Stores) where
   accepted-replies p code f hs c = replies_connect p code (accepted_headers e f (last_packet e s) hs c)
 
   module _ (code : ℕ) (hs : List ℕ) where
-    challenged_is : (p : Peer) (f : ConnectionId) (c : Option PeerChallenge) (x : Found)
+    challenged_is : (p : Peer) (f : ConnectionId) (c : Option PeerChallenge) (x : Place)
         → among (challenged_by (challenge_read c x) e p code f hs (last_packet e s) s.headers s.reply) s
         ≡ after 0 (connect_challenged e p code f hs c s)
     unfolding asks_plan

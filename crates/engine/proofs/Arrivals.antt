@@ -8,15 +8,15 @@ use native.Mathlib.Omega.{arith}
 use lib.ListN.{length, get_or, take}
 use lib.Dec.{ltb}
 use Rattle.base.specs.Pick.{pick}
+use Rattle.std.specs.Prelude.{is_none}
+use Rattle.base.specs.Place.{Place, Some, None}
 use Rattle.packet.specs.FirstByte.{first_byte, same_opcode}
 use Rattle.packet.specs.Header.{Header, read_headers, first, present, first_place}
 use Rattle.packet.specs.Tags.{bytes_at}
 use Rattle.packet.specs.Packet.{Request as Packet, request_with, request_of, prefix_of, backup, no_create_of}
 use Rattle.packet.specs.PacketRead.{packet_head}
-use Rattle.std.specs.Prelude.{Option as Maybe, Some, None}
+use Rattle.std.specs.Prelude.{Option as Maybe}
 use Rattle.packet.specs.declared.opcode.Opcode.TheVariants as op
-use Rattle.packet.specs.declared.tlv.Found.{Found}
-use Rattle.packet.specs.declared.tlv.Found.TheVariants as place
 use Rattle.packet.proofs.OpcodeLaws.{same-equal}
 use Rattle.packet.proofs.HeaderLaws.{first-agrees}
 use denote.Enum.Declared.{tag_of}
@@ -42,7 +42,7 @@ use Rattle.model.specs.Calls.{framed_as, with_packet, offers, bytes_offered_step
 use Rattle.model.specs.Operation.{gathers}
 use Rattle.model.specs.Guard.{sound_operation}
 use Rattle.engine.specs.Step.{planned, ends_plan, Written, carried, took_by}
-use Rattle.engine.specs.Dispatch.{is_trailing, is_missing, trailed_by, unreadable_route, heading_route, route_as, packet_route, routed, target_under, targeted, acts, with_taken, open_route, inside_route}
+use Rattle.engine.specs.Dispatch.{is_trailing, trailed_by, unreadable_route, heading_route, route_as, packet_route, routed, target_under, targeted, acts, with_taken, open_route, inside_route}
 use Rattle.engine.specs.Operation.{keep_of, from_of, kind_plan, acts_gathered}
 use Rattle.server.specs.declared.CallKind.TheVariants as kind
 use Rattle.server.specs.declared.End.TheVariants as end
@@ -122,11 +122,11 @@ module _ (e : Engine) (q t : List ℕ) (d : Head) (known : packet_head q ≡ Som
   unfolding trails
   trailed_way p hs k = ap (λ (u : Bool). is_trailing p && u) (go (same_opcode o op.Put) refl)
     where
-      missing : (x : Found) → is_missing x ≡ not (present (bytes_at q x))
-      missing place.Missing = refl
-      missing (place.At a b) = refl
+      missing : (x : Place) → is_none x ≡ not (present (bytes_at q x))
+      missing None = refl
+      missing (Some p) = refl
 
-      go : (u : Bool) → same_opcode o op.Put ≡ u → (u && is_missing (first_place 0x01 q 3)) ≡ (u && not (present (first 0x01 hs)))
+      go : (u : Bool) → same_opcode o op.Put ≡ u → (u && is_none (first_place 0x01 q 3)) ≡ (u && not (present (first 0x01 hs)))
       go false i = refl
       go true i =
           let a : from ≡ 3 = from-head ∙ ap prefix_of (same-equal o op.Put i) in

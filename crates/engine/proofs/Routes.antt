@@ -9,10 +9,10 @@ use lib.Count.{ones}
 use lib.Dec.{leb}
 use Rattle.std.specs.Prelude.{Some, None}
 use Rattle.base.specs.Pick.{pick}
+use Rattle.base.specs.Place.{Place}
 use Rattle.packet.specs.Codes.{sent_code}
 use Rattle.packet.specs.FirstByte.{same_opcode}
 use Rattle.packet.specs.Auth.{Response, response_of}
-use Rattle.packet.specs.declared.tlv.Found.{Found}
 use Rattle.digest.specs.declared.md5.Octets16.{Octets16}
 use Rattle.packet.specs.Header.{first}
 use Rattle.packet.specs.Packet.{Request as Packet, request_of, connect_limit, packet_bytes}
@@ -113,11 +113,11 @@ module _ (e : Engine) (s : Stores) where
   verifies-planned p (Some n) (some v) = read-planned p n (response_of v)
 
   -- a response is carried if its header is there
-  carries-read : (r : Option Response) (u : Found) → carries (answered_read r u) ≡ true
+  carries-read : (r : Option Response) (u : Place) → carries (answered_read r u) ≡ true
   carries-read none u = refl
   carries-read (some r) u = refl
 
-  carries-given : (v : Option (List ℕ)) (u : Found) → carries (answered_as v u) ≡ isGiven v
+  carries-given : (v : Option (List ℕ)) (u : Place) → carries (answered_as v u) ≡ isGiven v
   carries-given none u = refl
   carries-given (some v) u = carries-read (response_of v) u
 

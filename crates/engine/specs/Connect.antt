@@ -4,6 +4,7 @@ use Rattle.std.specs.Prelude.{ℕ, ◌+◌, ◌^◌, ◌≤◌, ◌<◌, List, [
 use Rattle.std.proofs.Math.Option.{Option, none, some}
 use Rattle.std.specs.Int.Count.{ones}
 use Rattle.base.specs.Pick.{pick}
+use Rattle.base.specs.Place.{Place}
 use Rattle.packet.specs.Codes.{is_success}
 use Rattle.packet.specs.Header.{Header, first, first_place, all_bytes}
 use Rattle.packet.specs.HeaderIds as header_id
@@ -38,19 +39,17 @@ use Rattle.server.specs.declared.CallResult.{CallResult}
 use Rattle.engine.specs.declared.step.Plan.{Plan}
 use Rattle.packet.specs.ResponseCodes as response
 use Rattle.packet.specs.Auth.{Response, response_of}
-use Rattle.packet.specs.declared.tlv.Found.{Found}
-use Rattle.packet.specs.declared.tlv.Found.TheVariants as place
 use Rattle.engine.specs.declared.connect.Answered.{Answered}
 use Rattle.engine.specs.declared.connect.Question.{Question}
 use Rattle.engine.specs.declared.connect.Answered.TheVariants.{Missing, Unreadable, User}
 
 -- The client's response can be read or not; `u` is the place of its user id.
-abbrev pub answered_read : Option Response → Found → Answered
+abbrev pub answered_read : Option Response → Place → Answered
 answered_read none u = Unreadable
 answered_read (some r) u = User u
 
 -- The header of the client's response is there or not.
-abbrev pub answered_as : Option (List ℕ) → Found → Answered
+abbrev pub answered_as : Option (List ℕ) → Place → Answered
 answered_as none u = Missing
 answered_as (some v) u = answered_read (response_of v) u
 
@@ -59,9 +58,9 @@ abbrev pub answered_by : List ℕ → Answered
 answered_by q = answered_as (first header_id.authenticate_response (headersIn (request_of q))) (user_in q (first_place header_id.authenticate_response q 7))
 
 -- A place that is moved on by `n` stays below the largest number of 64 bits.
-abbrev pub Below : ℕ → Found → Type 0
-Below n place.Missing = Unit {0}
-Below n (place.At a b) = (a ≤ b) × (n + b < 2 ^ 64)
+abbrev pub Below : ℕ → Place → Type 0
+Below n None = Unit {0}
+Below n (Some p) = (p.start ≤ p.end) × (n + p.end < 2 ^ 64)
 
 -- Makes a `Question`.
 abbrev pub asked : Await → HostRequest → Question

@@ -1,6 +1,6 @@
 -- Which way a packet goes, decided without the stores, and what acting on it does: the design level between model/specs/Dispatch and the
 -- code.
-use Rattle.std.specs.Prelude.{ℕ, List, Bool, true, false, ◌&&◌, not, get_or}
+use Rattle.std.specs.Prelude.{ℕ, List, Bool, true, false, is_none, ◌&&◌, not, get_or}
 use Rattle.std.proofs.Math.Option.{Option, none, some}
 use Rattle.base.specs.Pick.{pick}
 use Rattle.packet.specs.HeaderIds as header_id
@@ -9,8 +9,6 @@ use Rattle.packet.specs.FirstByte.{first_byte, same_opcode}
 use Rattle.packet.specs.Codes.{sent_code}
 use Rattle.packet.specs.Header.{first_place}
 use Rattle.packet.specs.Packet.{Request as Packet, request_of, backup, no_create_of}
-use Rattle.packet.specs.declared.tlv.Found.{Found}
-use Rattle.packet.specs.declared.tlv.Found.TheVariants as place
 use Rattle.packet.specs.declared.opcode.Opcode.{Opcode}
 use Rattle.packet.specs.declared.opcode.Opcode.TheVariants as op
 use Rattle.incoming.specs.Survey.{survey_of}
@@ -159,15 +157,10 @@ is_trailing (GatheringOp o g) = false
 is_trailing (Connecting c f n) = false
 is_trailing (Draining code) = false
 
--- No place was found.
-abbrev pub is_missing : Found → Bool
-is_missing place.Missing = true
-is_missing (place.At from to) = false
-
 -- The engine refuses what trails a Put, and packet `q` of this opcode does: it is a Put packet, whose headers start at place 3, without a
 -- Name.
 abbrev pub trailed_by : Operation → Opcode → List ℕ → Bool
-trailed_by o c q = is_trailing o && (same_opcode c op.Put && is_missing (first_place header_id.name q 3))
+trailed_by o c q = is_trailing o && (same_opcode c op.Put && is_none (first_place header_id.name q 3))
 
 -- The engine decides by the operation that is open. While it refuses what trails a Put, any other packet goes its way as with nothing open.
 abbrev pub inside_route : Operation → Engine → Heading → Route

@@ -26,7 +26,7 @@ ghost use Rattle.model.specs.Guard.{sound_operation, long_realm};
 use crate::guard::{refuse, same_await};
 use crate::request::{first_id, first_target, has_target, is_enabling, last_connect, last_from};
 use crate::step::{Plan, asks, fields, sends_connect, sent_plan, took, wide16};
-use base::copy_into;
+use base::{Span, copy_into};
 use connection::challenge;
 use connection::challenge::answered_challenge;
 use connection::checks::too_many;
@@ -40,7 +40,6 @@ use packet::header::first_header;
 use packet::header_id::{AUTHENTICATE_CHALLENGE, AUTHENTICATE_RESPONSE};
 use packet::packet::connect_limit;
 use packet::response::{SERVICE_UNAVAILABLE, is_success};
-use packet::tlv::Found;
 use server::{Await, CallResult, Engine, HostRequest, Operation, Refusal, Settings};
 
 // Whether the Connect `c` in `packet` asks for Single Response Mode (SRM) and the settings support it.
@@ -89,13 +88,11 @@ fn opens(
 }
 
 // Finds the realm of the client's challenge in its Connect packet, so that the host can choose credentials by it.
-fn challenge_realm(packet: &[u8]) -> Found
+fn challenge_realm(packet: &[u8]) -> Option<Span>
     ensures { result ≡ realm_in packet.now (first_place header_id.authenticate_challenge packet.now 7) }
 {
-    let Found::At { start, end } = first_header(packet, 7, AUTHENTICATE_CHALLENGE) else {
-        return Found::Missing;
-    };
-    placed(start, realm(&packet[start..end]))
+    let value = first_header(packet, 7, AUTHENTICATE_CHALLENGE)?;
+    placed(value.start, realm(value.of(packet)))
 }
 
 // Sends the reply to a Connect that the host has accepted: `front` in front, then Who if the packet has a Target, the host's headers, the
@@ -178,8 +175,7 @@ fn challenge_in(packet: &[u8], c: ConnectRequest) -> DigestChallenge
     requires { c ≡ last_connect packet.now }
     ensures { result ≡ answered_in (headers_of packet.now) }
 {
-    let challenge = c.challenge;
-    let Found::At { start: _, end: _ } = challenge else {
+    let Some(_) = c.challenge else {
         return DigestChallenge::Unreadable;
     };
     answered_challenge(packet, c.from)
@@ -272,21 +268,19 @@ pub(crate) fn connect_answer(
 pub(crate) enum Answered {
     Missing,
     Unreadable,
-    User(Found),
+    User(Option<Span>),
 }
 
 // Turns a place in the part of the packet that begins at `at` into a place in the packet.
-pub(crate) fn placed(at: usize, found: Found) -> Found
+pub(crate) fn placed(at: usize, found: Option<Span>) -> Option<Span>
     requires { Below at found }
     ensures { result ≡ placed_at at found }
 {
-    match found {
-        Found::At { start, end } => Found::At {
-            start: at + start,
-            end: at + end,
-        },
-        Found::Missing => Found::Missing,
-    }
+    let part = found?;
+    Some(Span {
+        start: at + part.start,
+        end: at + part.end,
+    })
 }
 
 // Finds the client's first AuthenticateResponse in the packet.
@@ -294,18 +288,18 @@ fn client_response(p: &[u8]) -> Answered
     requires { read_headers p.now 7 ≡ some (headersIn (request_of p.now)) }
     ensures { result ≡ answered_by p.now }
 {
-    let Found::At { start, end } = first_header(p, 7, AUTHENTICATE_RESPONSE) else {
+    let Some(value) = first_header(p, 7, AUTHENTICATE_RESPONSE) else {
         return Answered::Missing;
     };
     let DigestResponse::Response {
         digest: _,
         user,
         nonce: _,
-    } = read_response(&p[start..end])
+    } = read_response(value.of(p))
     else {
         return Answered::Unreadable;
     };
-    Answered::User(placed(start, user))
+    Answered::User(placed(value.start, user))
 }
 
 // What the engine asks the host, and what it waits for then.

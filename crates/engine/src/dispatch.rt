@@ -24,7 +24,6 @@ use packet::header_id::NAME;
 use packet::opcode::{Opcode, from_byte, same};
 use packet::packet::{packet_head, set_path_flags};
 use packet::response;
-use packet::tlv::Found;
 use server::{Await, CallResult, End, Engine, HostRequest, Operation, Outcome};
 use table::targets::{Target, find_place, target_at, unnamed};
 
@@ -487,13 +486,7 @@ fn is_trailed(e: Engine, opcode: Opcode, p: &[u8]) -> bool
     let Operation::Trailing = operation else {
         return false;
     };
-    if same(opcode, Opcode::Put) {
-        let Found::At { start: _, end: _ } = first_header(p, 3, NAME) else {
-            return true;
-        };
-        return false;
-    }
-    false
+    same(opcode, Opcode::Put) && first_header(p, 3, NAME).is_none()
 }
 
 // Whether an operation of this opcode goes under the mark wherever it comes: a Connect or an Abort.

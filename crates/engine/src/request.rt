@@ -1,5 +1,5 @@
 // The request that is being answered: the client's last whole packet, read again from the packet store in a later call.
-ghost use Rattle.std.specs.Prelude.{◌≡◌};
+ghost use Rattle.std.specs.Prelude.{◌≡◌, is_some};
 ghost use Rattle.std.proofs.Math.Option.{some};
 ghost use Rattle.packet.specs.Header.{first};
 ghost use Rattle.packet.specs.HeaderIds as header_id;
@@ -10,7 +10,7 @@ ghost use Rattle.connection.specs.Peer.{id_in, target_given};
 ghost use Rattle.connection.specs.Pieces.{headers_from};
 ghost use Rattle.journal.specs.Journal.{response_in, headers_of as headersIn};
 ghost use Rattle.model.specs.Connect.{checks};
-ghost use Rattle.engine.specs.Request.{last_from, last_connect, is_found};
+ghost use Rattle.engine.specs.Request.{last_from, last_connect};
 
 use connection::challenge::verify_client;
 use connection::request::{ConnectRequest, connect_request};
@@ -19,7 +19,6 @@ use incoming::survey::survey_headers;
 use packet::auth::read_response;
 use packet::packet::packet_head;
 use packet::srm::ENABLE;
-use packet::tlv::Found;
 use table::targets::{Target, target_of, unnamed};
 
 // Returns where the headers of packet `q` start, whether they can be read or not. If the first byte of `q` names no opcode, or its fields
@@ -53,13 +52,9 @@ pub(crate) fn first_id(s: &[u8], from: usize) -> Option<u32>
 
 // Whether the Connect `c` has a Target.
 pub(crate) fn has_target(c: ConnectRequest) -> bool
-    ensures { result ≡ is_found c.target }
+    ensures { result ≡ is_some c.target }
 {
-    let target = c.target;
-    let Found::At { start: _, end: _ } = target else {
-        return false;
-    };
-    true
+    c.target.is_some()
 }
 
 // Returns the Target that the Connect `c` in packet `q` gives an id: that of its first Target header, or the mark.
@@ -67,11 +62,10 @@ pub(crate) fn first_target(q: &[u8], c: ConnectRequest) -> Target
     requires { c ≡ last_connect q.now }
     ensures { result ≡ target_given (first header_id.target (headersIn (request_of q.now))) }
 {
-    let target = c.target;
-    let Found::At { start, end } = target else {
-        return unnamed();
-    };
-    target_of(&q[start..end])
+    match c.target {
+        Some(value) => target_of(value.of(q)),
+        None => unnamed(),
+    }
 }
 
 // Whether the first SingleResponseMode header of the Connect `c` in packet `q` is Enable.
@@ -79,11 +73,10 @@ pub(crate) fn is_enabling(q: &[u8], c: ConnectRequest) -> bool
     requires { c ≡ last_connect q.now }
     ensures { result ≡ (survey_of (some (headersIn (request_of q.now)))).enable }
 {
-    let mode = c.mode;
-    let Found::At { start, end: _ } = mode else {
-        return false;
-    };
-    q[start] == ENABLE
+    match c.mode {
+        Some(value) => q[value.start] == ENABLE,
+        None => false,
+    }
 }
 
 // Whether the password is right for the stored challenge and the first AuthenticateResponse of packet `q`, which must bring a user id if
@@ -99,13 +92,12 @@ pub(crate) fn is_right(
         (given has_password password.now) }
 {
     let c = last_connect(q);
-    let response = c.response;
-    let Found::At { start, end } = response else {
+    let Some(value) = c.response else {
         return false;
     };
     verify_client(
         stored,
-        read_response(&q[start..end]),
+        read_response(value.of(q)),
         demands,
         has_password,
         password,

@@ -4,11 +4,9 @@ use mathlib.Core.Path.{◌≡◌, refl, ap, ◌∙◌}
 use mathlib.Core.List.{List}
 use mathlib.Core.Bool.{Bool, true, false}
 use Prim.Native.Nat.{ℕ, ◌%◌, ◌^◌}
-use Rattle.std.specs.Prelude.{Some, None}
+use Rattle.base.specs.Place.{Place, Some, None}
 use Rattle.connection.specs.Peer.{Challenge}
 use Rattle.packet.specs.declared.opcode.Opcode.{Opcode}
-use Rattle.packet.specs.declared.tlv.Found.{Found}
-use Rattle.packet.specs.declared.tlv.Found.TheVariants as place
 use Rattle.incoming.specs.declared.gather.Gathered.{Gathered}
 use Rattle.outgoing.specs.declared.object.Outgoing.{Outgoing}
 use Rattle.outgoing.specs.declared.object.Chunk.{Chunk}
@@ -109,9 +107,9 @@ gathering-back o got h = simp (h, flag-back got.came, flag-back got.over, flag-b
 
 -- ---- the outcome
 
-found_back : (x : Found) → found_of (found_numbers 0 x).a (found_numbers 0 x).b (found_numbers 0 x).c ≡ x
-found_back (place.At start stop) = refl
-found_back place.Missing = refl
+found_back : (x : Place) → found_of (found_numbers 0 x).a (found_numbers 0 x).b (found_numbers 0 x).c ≡ x
+found_back (Some p) = refl
+found_back None = refl
 
 request-back : (x : HostRequest) → outcome_of (request_numbers x) ≡ outcome.Request x
 unfolding outcome_of
@@ -125,8 +123,8 @@ request-back (request.Get kept) = refl
 request-back (request.Action kept) = refl
 request-back (request.Session kept) = refl
 request-back (request.UserDefined opcode kept) = refl
-request-back (request.Password (place.At start stop)) = refl
-request-back (request.Password place.Missing) = refl
+request-back (request.Password (Some p)) = refl
+request-back (request.Password None) = refl
 request-back request.Nonce = refl
 request-back (request.Credentials nonce required only realm) = simp (flag-back required, flag-back only, found_back realm)
 request-back (request.Read room) = refl

@@ -4,11 +4,10 @@
 use Rattle.std.specs.Prelude.{ℕ, ◌%◌, ◌^◌, List, [], ◌∷◌, Bool, true, false, ◌&&◌, ◌||◌, not, get_or, eqb, ltb, Some, None}
 use Rattle.incoming.specs.Gather.{Body}
 use Rattle.base.specs.Pick.{pick}
+use Rattle.base.specs.Place.{Place, span}
 use Rattle.digest.specs.declared.md5.Octets16.{Octets16}
 use Rattle.packet.specs.declared.opcode.Opcode.{Opcode}
 use Rattle.packet.specs.declared.opcode.Opcode.TheVariants as op
-use Rattle.packet.specs.declared.tlv.Found.{Found}
-use Rattle.packet.specs.declared.tlv.Found.TheVariants as place
 use Rattle.incoming.specs.declared.gather.Gathered.{Gathered}
 use Rattle.outgoing.specs.declared.object.Outgoing.{Outgoing}
 use Rattle.outgoing.specs.declared.object.Chunk.{Chunk}
@@ -282,8 +281,8 @@ refusal_of n =
     (pick (eqb n 20) refusal.IdNotOpen refusal.IdRepeated)))))
 
 -- The place from `a` up to `b` if `n` is 1, else none.
-abbrev pub found_of : ℕ → ℕ → ℕ → Found
-found_of n a b = pick (eqb n 1) (place.At a b) place.Missing
+abbrev pub found_of : ℕ → ℕ → ℕ → Place
+found_of n a b = pick (eqb n 1) (span a b) None
 
 -- A body of `a` bytes if `n` is 1, else none.
 abbrev pub body_of : ℕ → ℕ → Body
@@ -312,9 +311,9 @@ outcome_of n =
     (outcome.Request (request.Read n.a)))))))))))))))))
 
 -- The numbers of a place in the packet store, with a kind.
-abbrev pub found_numbers : ℕ → Found → Numbers
-found_numbers kind (place.At start end) = numbers kind 1 start end
-found_numbers kind place.Missing = numbers kind 0 0 0
+abbrev pub found_numbers : ℕ → Place → Numbers
+found_numbers kind (Some p) = numbers kind 1 p.start p.end
+found_numbers kind None = numbers kind 0 0 0
 
 -- The numbers of a Put that is handed over.
 abbrev pub put_numbers : ℕ → Body → Numbers
@@ -322,7 +321,7 @@ put_numbers kept (Some n) = numbers 8 kept 1 n
 put_numbers kept None = numbers 8 kept 0 0
 
 -- The numbers of a request for credentials.
-abbrev pub credentials_numbers : Octets16 → Bool → Bool → Found → Numbers
+abbrev pub credentials_numbers : Octets16 → Bool → Bool → Place → Numbers
 credentials_numbers nonce required only realm =
     let n = found_numbers 0 realm in
     twelve 15 nonce.first nonce.second (flag_number required) (flag_number only) n.a n.b n.c 0 0 0 0

@@ -9,12 +9,12 @@ ghost use Rattle.engine_c.specs.Words.{settings_numbers, challenge_numbers, peer
 ghost use Rattle.engine_c.specs.Words.{credentials_numbers, request_numbers, outcome_numbers, words_of};
 ghost use Rattle.engine_c.specs.Words.{flags_fit, settings_fit, is_waiting, judged_start};
 
+use base::Span;
 use connection::peer::Peer;
 use digest::md5::Octets16;
 use incoming::gather::Gathered;
 use outgoing::object::{Chunk, Outgoing};
 use packet::opcode::Opcode;
-use packet::tlv::Found;
 use server::{
     Await, CallResult, Engine, HostRequest, Operation, Outcome, Refusal, Settings, await_number,
     end_number, refusal_number,
@@ -303,12 +303,12 @@ fn target_numbers(t: Target) -> Numbers
 // ---- what a call gave, as numbers
 
 // Returns `kind` with a place in the packet store, or with none.
-fn found_numbers(kind: u64, f: Found) -> Numbers
+fn found_numbers(kind: u64, f: Option<Span>) -> Numbers
     ensures { result ≡ found_numbers kind f }
 {
     match f {
-        Found::At { start, end } => few(kind, 1, wide(start), wide(end)),
-        Found::Missing => few(kind, 0, 0, 0),
+        Some(part) => few(kind, 1, wide(part.start), wide(part.end)),
+        None => few(kind, 0, 0, 0),
     }
 }
 
@@ -327,7 +327,7 @@ fn credentials_numbers(
     nonce: Octets16,
     user_id_required: bool,
     read_only: bool,
-    realm: Found,
+    realm: Option<Span>,
 ) -> Numbers
     ensures { result ≡ credentials_numbers nonce user_id_required read_only realm }
 {

@@ -7,12 +7,11 @@ use native.Mathlib.Omega.{arith}
 use lib.Dec.{ltb}
 use lib.ListN.{length, drop, length-append}
 use Rattle.base.specs.Pick.{pick}
+use Rattle.base.specs.Place.{Place, span, None}
 use Rattle.text.specs.Text.{Stored, stored, numbered, store_text, unicode_text}
 use Rattle.text.specs.declared.Decoded.{Decoded}
 use Rattle.text.specs.declared.Decoded.TheVariants.{Written, Short}
 use Rattle.packet.specs.Header.{part, first_place}
-use Rattle.packet.specs.declared.tlv.Found.{Found}
-use Rattle.packet.specs.declared.tlv.Found.TheVariants as place
 use Rattle.packet.proofs.Laid.{laid-nothing}
 use Rattle.files.specs.Store.{filled, fit}
 use Rattle.files.specs.Name.{text_at, name_text}
@@ -45,23 +44,23 @@ unfolding store_text fit
 text-short t d e p = short_by_lem t d e (ltb (length d) (length t)) p
 
 -- the text by the place of the Name
-name_at : (s : List ℕ) (f g : Found) → f ≡ first_place 0x01 s 0 → f ≡ g → text_at s g ≡ name_text s
+name_at : (s : List ℕ) (f g : Place) → f ≡ first_place 0x01 s 0 → f ≡ g → text_at s g ≡ name_text s
 unfolding name_text
 name_at s f g p q = ap (text_at s) (sym q ∙ p)
 
 -- there is no Name; its text was stored; it was too long
-pub name-missing : (s d : List ℕ) (f : Found) → f ≡ first_place 0x01 s 0 → f ≡ place.Missing → filled 0 d ≡ fit (name_text s) d
+pub name-missing : (s d : List ℕ) (f : Place) → f ≡ first_place 0x01 s 0 → f ≡ None → filled 0 d ≡ fit (name_text s) d
 name-missing s d f p q =
-    fit-fits [] d d 0 (omega arith) refl (sym (laid-nothing d 0)) ∙ ap (λ (t : List ℕ). fit t d) (name_at s f place.Missing p q)
+    fit-fits [] d d 0 (omega arith) refl (sym (laid-nothing d 0)) ∙ ap (λ (t : List ℕ). fit t d) (name_at s f None p q)
 
-pub name-written : (s d e : List ℕ) (f : Found) (b t n : ℕ) (r : Decoded) → f ≡ first_place 0x01 s 0 → f ≡ place.At b t
+pub name-written : (s d e : List ℕ) (f : Place) (b t n : ℕ) (r : Decoded) → f ≡ first_place 0x01 s 0 → f ≡ span b t
     → stored r e ≡ store_text (unicode_text (part s b t)) d → r ≡ Written n → (filled n e ≡ fit (name_text s) d) × (n ≤ length e)
 name-written s d e f b t n r p q h a =
     let w = text-written (unicode_text (part s b t)) d e n (ap (λ (x : Decoded). stored x e) (sym a) ∙ h) in
-    (w.0 ∙ ap (λ (t : List ℕ). fit t d) (name_at s f (place.At b t) p q), w.1)
+    (w.0 ∙ ap (λ (t : List ℕ). fit t d) (name_at s f (span b t) p q), w.1)
 
-pub name-short : (s d e : List ℕ) (f : Found) (b t : ℕ) (r : Decoded) → f ≡ first_place 0x01 s 0 → f ≡ place.At b t
+pub name-short : (s d e : List ℕ) (f : Place) (b t : ℕ) (r : Decoded) → f ≡ first_place 0x01 s 0 → f ≡ span b t
     → stored r e ≡ store_text (unicode_text (part s b t)) d → r ≡ Short → filled 0 e ≡ fit (name_text s) d
 name-short s d e f b t r p q h a =
     text-short (unicode_text (part s b t)) d e (ap (λ (x : Decoded). stored x e) (sym a) ∙ h)
-    ∙ ap (λ (t : List ℕ). fit t d) (name_at s f (place.At b t) p q)
+    ∙ ap (λ (t : List ℕ). fit t d) (name_at s f (span b t) p q)

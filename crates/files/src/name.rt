@@ -5,7 +5,6 @@ ghost use Rattle.files.specs.Store.{filled, fit};
 
 use packet::header::first_header;
 use packet::header_id::NAME;
-use packet::tlv::Found;
 use text::{Decoded, decode_unicode};
 
 // Puts the text of the first Name at the front of `store`, and returns its length: 0 if the Name is missing, or longer than the store.
@@ -13,10 +12,10 @@ pub fn name_in(headers: &[u8], store: &mut [u8]) -> usize
     ensures value { filled result store.new ≡ fit (name_text headers.now) store.old }
     ensures room { result ≤ length store.new }
 {
-    let Found::At { start, end } = first_header(headers, 0, NAME) else {
+    let Some(value) = first_header(headers, 0, NAME) else {
         return 0;
     };
-    let done = decode_unicode(&headers[start..end], store);
+    let done = decode_unicode(value.of(headers), store);
     match done {
         Decoded::Written(n) => n,
         Decoded::Short => 0,

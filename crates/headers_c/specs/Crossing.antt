@@ -1,10 +1,9 @@
 -- What crosses to C of what the readers and writers of `packet` and `text` answer: a place, a number with an end, a challenge.
 use Rattle.std.specs.Prelude.{ℕ, List, Bool, true, false}
+use Rattle.base.specs.Place.{Place as Found, Some, None}
 use Rattle.text.specs.declared.Decoded.{Decoded}
 use Rattle.text.specs.declared.Decoded.TheVariants as decoded
 use Rattle.text.specs.Text.{Stored, decoded_number}
-use Rattle.packet.specs.declared.tlv.Found.{Found}
-use Rattle.packet.specs.declared.tlv.Found.TheVariants as found
 use Rattle.packet.specs.declared.tlv.Wrote.{Wrote}
 use Rattle.packet.specs.declared.tlv.Wrote.TheVariants as wrote
 use Rattle.packet.specs.declared.auth.DigestChallenge.{DigestChallenge}
@@ -21,8 +20,8 @@ abbrev pub place_at : ℕ → ℕ → ℕ → Place
 place_at n start end = record { found = n; start = start; end = end }
 
 abbrev pub place_of : Found → Place
-place_of (found.At start end) = place_at 1 start end
-place_of found.Missing = place_at 0 0 0
+place_of (Some p) = place_at 1 p.start p.end
+place_of None = place_at 0 0 0
 
 -- ---- answers
 

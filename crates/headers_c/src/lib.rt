@@ -15,9 +15,10 @@ ghost use Rattle.packet.specs.AuthRead.{read_challenge};
 ghost use Rattle.packet.specs.AuthWrite.{given, write_digest_response};
 ghost use Rattle.headers_c.specs.Crossing.{place_of, answer_of, text_answer_of, flag_number, given_to_c, given_putting, given_text, challenge_told};
 
+use base::Span;
 use digest::md5::Octets16;
 use packet::auth::DigestChallenge;
-use packet::tlv::{Found, Wrote};
+use packet::tlv::Wrote;
 use text::Decoded;
 
 // A place in a list of bytes: `found` is 1 and the bytes are those from `start` up to `end`, or all three are 0.
@@ -63,16 +64,16 @@ fn flag_number(b: bool) -> u64
 }
 
 // Returns a place as C gets it.
-fn place_of(f: Found) -> Place
+fn place_of(f: Option<Span>) -> Place
     ensures { result ≡ place_of f }
 {
     match f {
-        Found::At { start, end } => Place {
+        Some(part) => Place {
             found: 1,
-            start,
-            end,
+            start: part.start,
+            end: part.end,
         },
-        Found::Missing => Place {
+        None => Place {
             found: 0,
             start: 0,
             end: 0,

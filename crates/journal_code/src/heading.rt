@@ -13,7 +13,6 @@ use packet::header::first_header;
 use packet::header_id::{AUTHENTICATE_RESPONSE, NAME, TARGET};
 use packet::opcode::Opcode;
 use packet::packet::packet_head;
-use packet::tlv::Found;
 use table::targets::{Target, find_place, target_at, target_of, unnamed};
 
 // The connection that a packet names.
@@ -47,21 +46,21 @@ pub(crate) struct Heading {
 }
 
 // Tells whether the headers of `p` from `at` on, which can all be read, have one with `id`.
-#[tactic(auto, using(crate::proofs::Found::missing, crate::proofs::Found::there))]
+#[tactic(auto, using(crate::proofs::Found::there))]
 fn has_header(p: &[u8], at: usize, id: u8) -> bool
     ensures { (hs : List Header) → read_headers p.now at ≡ some hs → result ≡ present (first id hs) }
 {
-    matches!(first_header(p, at, id), Found::At { .. })
+    first_header(p, at, id).is_some()
 }
 
 // Returns the Target that an id takes by the headers of `p` from `at` on, which can all be read.
 fn target_in(p: &[u8], at: usize) -> Target
     ensures { (hs : List Header) → read_headers p.now at ≡ some hs → result ≡ target_given (first header_id.target hs) }
 {
-    let Found::At { start, end } = first_header(p, at, TARGET) else {
-        return unnamed();
-    };
-    target_of(&p[start..end])
+    match first_header(p, at, TARGET) {
+        Some(value) => target_of(value.of(p)),
+        None => unnamed(),
+    }
 }
 
 // Returns the connection that a survey names, of the first `count` ids of the table store.

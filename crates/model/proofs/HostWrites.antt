@@ -12,6 +12,7 @@ use lib.Seq.{sets, length-sets, sets-eq, take_all, drop-length}
 use borrow.Author.Tests.{ltb-true, ltb-false}
 use Rattle.std.specs.Prelude.{Some, None}
 use Rattle.base.specs.Pick.{pick}
+use Rattle.base.specs.Place.{Place}
 use Rattle.digest.specs.declared.md5.Octets16.{Octets16}
 use Rattle.packet.specs.HeaderIds as header_id
 use Rattle.packet.specs.ResponseCodes as response
@@ -20,7 +21,6 @@ use Rattle.packet.specs.FirstByte.{same_opcode}
 use Rattle.packet.specs.Header.{Header, read_headers, first, first_place, all_bytes}
 use Rattle.packet.specs.Packet.{Request as Packet, request_of, connect_limit}
 use Rattle.packet.specs.Auth.{Challenge as PeerChallenge, Response}
-use Rattle.packet.specs.declared.tlv.Found.{Found}
 use Rattle.packet.specs.declared.opcode.Opcode.{Opcode}
 use Rattle.packet.specs.declared.opcode.Opcode.TheVariants as op
 use Rattle.table.specs.Nonces.{remembered_with, remembered, among}
@@ -231,7 +231,7 @@ module _ (q : List ℕ) (e : Engine) (s : Stores) where
     verifies_on p None r = leaf q e _ _ _ _ _
     verifies_on p (Some n) none = leaf q e _ _ _ _ _
     verifies_on p (Some n) (some r) =
-        subst (λ (f : Found). Like (verifies e p (Some n) (some r) s) (asks e p Nothing await.Password (request.Password f) z)) (sym same-user)
+        subst (λ (f : Place). Like (verifies e p (Some n) (some r) s) (asks e p Nothing await.Password (request.Password f) z)) (sym same-user)
         (leaf q e _ _ _ _ _)
 
     -- by the packet's bytes, its headers and its response

@@ -5,10 +5,10 @@ use mathlib.Core.List.{List, [], ◌∷◌, ◌++◌}
 use mathlib.Core.Option.{none, some}
 use Prim.Native.Nat.{ℕ}
 use lib.ListN.{replicate, length}
+use Rattle.base.specs.Place.{span, None}
 use Rattle.digest.specs.Md5.{le_value, be_value, numbers16}
 use Rattle.packet.specs.declared.opcode.Opcode.TheVariants as op
-use Rattle.packet.specs.declared.tlv.Found.TheVariants as place
-use Rattle.std.specs.Prelude.{Some, None}
+use Rattle.std.specs.Prelude.{Some}
 use Rattle.packet.specs.declared.packet.Fields.TheVariants as fields
 use Rattle.packet.specs.declared.auth.Named.TheVariants as nonce
 use Rattle.packet.specs.declared.auth.DigestResponse.TheVariants as response
@@ -98,12 +98,12 @@ twos = replicate 16 2
 
 -- digest, user id, a nonce: the last of each holds
 last_holds : read_response (0 ∷ 16 ∷ ones ++ (1 ∷ 1 ∷ 0x61 ∷ 2 ∷ 16 ∷ ones) ++ (0 ∷ 16 ∷ twos) ++ (1 ∷ 2 ∷ 0x62 ∷ 0x63 ∷ []) ++ (2 ∷ 16 ∷ twos))
-    ≡ response.Response (numbers16 twos) (place.At 59 61) (nonce.Nonce (numbers16 twos))
+    ≡ response.Response (numbers16 twos) (span 59 61) (nonce.Nonce (numbers16 twos))
 unfolding read_response response_of tags tags_by response_from last_value last_under last_from numbers16 be_value le_value
 last_holds = refl
 
 -- a nonce that is not 16 bytes long, after a good one: not named
-bad-nonce : read_response (0 ∷ 16 ∷ ones ++ (2 ∷ 16 ∷ ones) ++ (2 ∷ 1 ∷ 7 ∷ [])) ≡ response.Response (numbers16 ones) place.Missing nonce.Missing
+bad-nonce : read_response (0 ∷ 16 ∷ ones ++ (2 ∷ 16 ∷ ones) ++ (2 ∷ 1 ∷ 7 ∷ [])) ≡ response.Response (numbers16 ones) None nonce.Missing
 unfolding read_response response_of tags tags_by response_from last_value last_under last_from numbers16 be_value le_value
 bad-nonce = refl
 
@@ -117,12 +117,12 @@ unfolding read_response response_of tags tags_by response_from last_value last_u
 no_digest = refl
 
 -- a realm, and an empty one after it, which is passed over; options 3, an unknown tag
-empty-realm : read_challenge (0 ∷ 16 ∷ ones ++ (1 ∷ 1 ∷ 3 ∷ 9 ∷ 0 ∷ 2 ∷ 2 ∷ 0 ∷ 0x72 ∷ 2 ∷ 0 ∷ [])) ≡ challenge.Challenge (numbers16 ones) true true (place.At 25 27)
+empty-realm : read_challenge (0 ∷ 16 ∷ ones ++ (1 ∷ 1 ∷ 3 ∷ 9 ∷ 0 ∷ 2 ∷ 2 ∷ 0 ∷ 0x72 ∷ 2 ∷ 0 ∷ [])) ≡ challenge.Challenge (numbers16 ones) true true (span 25 27)
 unfolding read_challenge challenge_of tags tags_by challenge_from realm_place last_under last_from user_id_required_of read_only_of numbers16 be_value le_value
 empty-realm = refl
 
 -- empty options are 0
-empty-options : read_challenge (0 ∷ 16 ∷ ones ++ (1 ∷ 1 ∷ 3 ∷ 1 ∷ 0 ∷ [])) ≡ challenge.Challenge (numbers16 ones) false false place.Missing
+empty-options : read_challenge (0 ∷ 16 ∷ ones ++ (1 ∷ 1 ∷ 3 ∷ 1 ∷ 0 ∷ [])) ≡ challenge.Challenge (numbers16 ones) false false None
 unfolding read_challenge challenge_of tags tags_by challenge_from realm_place last_under last_from user_id_required_of read_only_of numbers16 be_value le_value
 empty-options = refl
 

@@ -3,10 +3,9 @@
 use Rattle.std.specs.Prelude.{ℕ, ◌-◌, List, [], ◌∷◌, Bool, true, false, not, ◌&&◌, ◌||◌, length, get_or, take, drop, eqb, ltb}
 use Rattle.std.proofs.Math.Option.{Option, none, some}
 use Rattle.base.specs.Pick.{pick}
+use Rattle.base.specs.Place.{Place, Some, None}
 use Rattle.digest.specs.Md5.{octets16, numbers16}
 use Rattle.digest.specs.declared.md5.Octets16.{Octets16}
-use Rattle.packet.specs.declared.tlv.Found.{Found}
-use Rattle.packet.specs.declared.tlv.Found.TheVariants as place
 use Rattle.packet.specs.declared.auth.Named.{Named}
 use Rattle.packet.specs.declared.auth.Named.TheVariants as nonce
 use Rattle.packet.specs.declared.auth.DigestResponse.{DigestResponse}
@@ -29,7 +28,7 @@ bytes_named nonce.Missing = none
 bytes_named (nonce.Nonce n) = some (octets16 n)
 
 -- The response that was read, with the place of its user id.
-abbrev pub response_read : Option Response → Found → DigestResponse
+abbrev pub response_read : Option Response → Place → DigestResponse
 response_read none u = response.Unreadable
 response_read (some r) u = response.Response (numbers16 r.digest) u (named_of r.nonce)
 
@@ -40,7 +39,7 @@ read_response v = response_read (response_of v) (last_value v 1)
 -- ---- the challenge
 
 -- The challenge that was read, with the place of its realm.
-abbrev pub challenge_read : Option Challenge → Found → DigestChallenge
+abbrev pub challenge_read : Option Challenge → Place → DigestChallenge
 challenge_read none r = challenge.Unreadable
 challenge_read (some c) r = challenge.Challenge (numbers16 c.nonce) (user_id_required_of c.options) (read_only_of c.options) r
 
@@ -65,27 +64,27 @@ sixteen_in unreadable = false
 sixteen_in (tag_list ts) = all_sixteen ts
 
 -- The 16 bytes at a place as two numbers; a value of another length is missing.
-abbrev pub sixteen_at : List ℕ → Found → Named
-sixteen_at v place.Missing = nonce.Missing
-sixteen_at v (place.At b e) = pick (eqb (e - b) 16) (nonce.Nonce (numbers16 (take 16 (drop b v)))) nonce.Missing
+abbrev pub sixteen_at : List ℕ → Place → Named
+sixteen_at v None = nonce.Missing
+sixteen_at v (Some p) = pick (eqb (p.end - p.start) 16) (nonce.Nonce (numbers16 (take 16 (drop p.start v)))) nonce.Missing
 
 -- The last value under tag 0, a response's digest or a challenge's nonce, if each tag 0 is 16 bytes long.
 unfoldable pub tag_zero : List ℕ → Named
 tag_zero v = pick (sixteen_in (tags v)) (sixteen_at v (last_value v 0)) nonce.Missing
 
 -- The options at a place: the first byte of the value, 0 if it is empty.
-abbrev pub options_at : List ℕ → Found → ℕ
-options_at v place.Missing = 0
-options_at v (place.At b e) = pick (ltb b e) (get_or v b 0) 0
+abbrev pub options_at : List ℕ → Place → ℕ
+options_at v None = 0
+options_at v (Some p) = pick (ltb p.start p.end) (get_or v p.start 0) 0
 
 -- ---- the check
 
 -- A value was found and is not empty.
-abbrev pub is_filled : Found → Bool
-is_filled place.Missing = false
-is_filled (place.At b e) = ltb b e
+abbrev pub is_filled : Place → Bool
+is_filled None = false
+is_filled (Some p) = ltb p.start p.end
 
 -- The check of a response by numbers: its digest, the place of its user id, and the nonce that it names, if it names one.
-abbrev pub verifies : Octets16 → Octets16 → Found → Named → Bool → List ℕ → Bool
+abbrev pub verifies : Octets16 → Octets16 → Place → Named → Bool → List ℕ → Bool
 verifies n d user named demands password =
     (not demands || is_filled user) && matches (octets16 n) (record { digest = octets16 d; user = none; nonce = bytes_named named }) password

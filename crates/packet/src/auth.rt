@@ -15,8 +15,8 @@ ghost use Rattle.packet.specs.AuthRead.{bytes_named, sixteen_or, sixteen_in, six
 use crate::flags::flag_bits;
 use crate::limits::MAX_TAG_VALUE;
 use crate::store::{LengthField, room};
-use crate::tlv::{Found, TagAt, Wrote, last_under, last_value, put_tag, tag_at};
-use base::copy_into;
+use crate::tlv::{TagAt, Wrote, last_under, last_value, put_tag, tag_at};
+use base::{Span, copy_into};
 use digest::md5::{Octets16, octets, octets16_at, request_digest};
 
 // The tag of the nonce in a challenge.
@@ -55,7 +55,7 @@ pub enum Named {
 pub enum DigestResponse {
     Response {
         digest: Octets16,
-        user: Found,
+        user: Option<Span>,
         nonce: Named,
     },
     Unreadable,
@@ -68,7 +68,7 @@ pub enum DigestChallenge {
         nonce: Octets16,
         user_id_required: bool,
         read_only: bool,
-        realm: Found,
+        realm: Option<Span>,
     },
     Unreadable,
 }
@@ -110,13 +110,13 @@ fn all_sixteen(v: &[u8]) -> bool
 fn sixteen(v: &[u8], tag: u8) -> Named
     ensures { result ≡ sixteen_at v.now (last_value v.now tag) }
 {
-    let Found::At { start, end } = last_value(v, tag) else {
+    let Some(value) = last_value(v, tag) else {
         return Named::Missing;
     };
-    if end - start != 16 {
+    if value.size() != 16 {
         return Named::Missing;
     }
-    Named::Nonce(octets16_at(v, start))
+    Named::Nonce(octets16_at(v, value.start))
 }
 
 // Reads the value under tag 0, a response's digest or a challenge's nonce, which is missing if any tag 0 is not 16 bytes long.
@@ -133,17 +133,17 @@ fn tag_zero(v: &[u8]) -> Named
 fn options(v: &[u8]) -> u8
     ensures { result ≡ options_at v.now (last_value v.now 1) }
 {
-    let Found::At { start, end } = last_value(v, CHALLENGE_OPTIONS_TAG) else {
+    let Some(value) = last_value(v, CHALLENGE_OPTIONS_TAG) else {
         return 0;
     };
-    if end <= start {
+    if value.end <= value.start {
         return 0;
     }
-    v[start]
+    v[value.start]
 }
 
 // Finds the last realm that is not empty, its charset byte included.
-pub fn realm(v: &[u8]) -> Found
+pub fn realm(v: &[u8]) -> Option<Span>
     ensures { result ≡ realm_place v.now }
 {
     last_under(v, CHALLENGE_REALM_TAG, false)
@@ -198,17 +198,17 @@ fn answers_nonce(nonce: Octets16, named: Named) -> bool
 }
 
 // Tells whether a value was found and is not empty.
-fn is_filled(found: Found) -> bool
+fn is_filled(found: Option<Span>) -> bool
     ensures { result ≡ is_filled found }
 {
     match found {
-        Found::At { start, end } => start < end,
-        Found::Missing => false,
+        Some(value) => value.start < value.end,
+        None => false,
     }
 }
 
 // Tells whether a response whose user id stands at `user` may pass: if the server `demands` a user id, one must be there and not empty.
-fn brings_user(demands: bool, user: Found) -> bool
+fn brings_user(demands: bool, user: Option<Span>) -> bool
     ensures { result ≡ (not demands || is_filled user) }
 {
     if !demands {
@@ -222,7 +222,7 @@ fn brings_user(demands: bool, user: Found) -> bool
 pub fn verify(
     nonce: Octets16,
     digest: Octets16,
-    user: Found,
+    user: Option<Span>,
     named: Named,
     demands: bool,
     password: &[u8],

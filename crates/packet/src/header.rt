@@ -20,8 +20,8 @@ use crate::header_id::{
 };
 use crate::limits::MAX_CAPACITY;
 use crate::srm::{is_mode, is_parameter};
-use crate::tlv::{Found, Wrote, is_tag_list};
-use base::{be16_at, copy_into, wide32};
+use crate::tlv::{Wrote, is_tag_list};
+use base::{Span, be16_at, copy_into, wide32};
 use text::{
     ascii_len, decode_ascii, encode_unicode, encoded_unicode_len, is_well_formed8, is_well_formed16,
 };
@@ -227,7 +227,7 @@ pub fn is_readable(s: &[u8], from: usize) -> bool
 }
 
 // Finds the value of the first header with `id`, in list order. The search ends at a header that cannot be read.
-pub fn first_header(s: &[u8], from: usize, id: u8) -> Found
+pub fn first_header(s: &[u8], from: usize, id: u8) -> Option<Span>
     ensures { result ≡ first_place id s.now from }
 {
     let mut at = from;
@@ -240,15 +240,15 @@ pub fn first_header(s: &[u8], from: usize, id: u8) -> Found
                 end,
             } => {
                 if i == id {
-                    return Found::At { start, end };
+                    return Some(Span { start, end });
                 }
                 at = end;
             }
             HeaderAt::Unreadable => {
-                return Found::Missing;
+                return None;
             }
             HeaderAt::End => {
-                return Found::Missing;
+                return None;
             }
         }
     }

@@ -7,7 +7,7 @@ ghost use Rattle.packet.specs.Placed.{putting};
 
 use crate::limits::MAX_TAG_VALUE;
 use crate::store::{LengthField, room};
-use base::{copy_into, wide};
+use base::{Span, copy_into, wide};
 
 // What stands at a place of a payload.
 #[derive(Clone, Copy)]
@@ -18,13 +18,6 @@ pub enum TagAt {
     Bad,
     // The payload ends here.
     End,
-}
-
-// Where a value stands.
-#[derive(Clone, Copy)]
-pub enum Found {
-    At { start: usize, end: usize },
-    Missing,
 }
 
 // What became of bytes that were to be written. Each case has its number in `wrote_number` (specs/Placed).
@@ -100,11 +93,11 @@ fn is_wanted(tag: u8, empty: bool, t: u8, n: usize) -> bool
 }
 
 // Finds the last value under `tag`; `empty` says whether an empty value counts. If the payload is no tag list, nothing is found.
-pub fn last_under(s: &[u8], tag: u8, empty: bool) -> Found
+pub fn last_under(s: &[u8], tag: u8, empty: bool) -> Option<Span>
     ensures { result ≡ last_under s.now tag empty }
 {
     let mut at = 0;
-    let mut found = Found::Missing;
+    let mut found = None;
     loop {
         match tag_at(s, at) {
             TagAt::At {
@@ -113,12 +106,12 @@ pub fn last_under(s: &[u8], tag: u8, empty: bool) -> Found
                 next,
             } => {
                 if is_wanted(tag, empty, t, next - start) {
-                    found = Found::At { start, end: next };
+                    found = Some(Span { start, end: next });
                 }
                 at = next;
             }
             TagAt::Bad => {
-                return Found::Missing;
+                return None;
             }
             TagAt::End => {
                 return found;
@@ -128,7 +121,7 @@ pub fn last_under(s: &[u8], tag: u8, empty: bool) -> Found
 }
 
 // Finds the last value under `tag`, even an empty one.
-pub fn last_value(s: &[u8], tag: u8) -> Found
+pub fn last_value(s: &[u8], tag: u8) -> Option<Span>
     ensures { result ≡ last_value s.now tag }
 {
     last_under(s, tag, true)

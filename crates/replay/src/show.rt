@@ -1,11 +1,11 @@
 // What the engine did, in the words of the original's `oracle engine`.
 use crate::command::Lent;
 use crate::stores::Stores;
+use base::Span;
 use connection::peer::Peer;
-use digest::md5::octets;
+use digest::md5::{Octets16, octets};
 use lines::printed::{Hex, Shown, Sum};
 use lines::store::between;
-use packet::tlv::Found;
 use server::HostRequest;
 use std::fmt;
 use table::targets::{Target, is_named};
@@ -94,11 +94,7 @@ impl fmt::Display for RequestLine<'_> {
                     self.headers(kept),
                     self.body(size),
                 ),
-                None => writeln!(
-                    f,
-                    "put final=1 headers={} body=none",
-                    self.headers(kept)
-                ),
+                None => writeln!(f, "put final=1 headers={} body=none", self.headers(kept)),
             },
             HostRequest::Get { kept } => writeln!(f, "get final=1 headers={}", self.headers(kept)),
             HostRequest::Action { kept } => {
@@ -114,8 +110,8 @@ impl fmt::Display for RequestLine<'_> {
             ),
             HostRequest::Read { room } => writeln!(f, "body-read {room}"),
             HostRequest::Password { user_id } => match user_id {
-                Found::At { start, end } => writeln!(f, "password {}", self.packet(start, end)),
-                Found::Missing => writeln!(f, "password none"),
+                Some(Span { start, end }) => writeln!(f, "password {}", self.packet(start, end)),
+                None => writeln!(f, "password none"),
             },
             HostRequest::Credentials {
                 nonce,
@@ -141,14 +137,14 @@ impl fmt::Display for RequestLine<'_> {
 // The realm of a challenge, in the packet: its charset, and the bytes behind that, which are printed whole.
 #[derive(Clone, Copy)]
 struct Realm<'a> {
-    found: Found,
+    found: Option<Span>,
     packet: &'a [u8],
 }
 
 impl fmt::Display for Realm<'_> {
     fn fmt<W: fmt::Write>(&self, f: &mut fmt::Formatter<W>) -> fmt::Result {
         match self.found {
-            Found::At { start, end } => write!(
+            Some(Span { start, end }) => write!(
                 f,
                 "{:02x}:{}",
                 self.packet.get(start).copied().unwrap_or(0),
@@ -157,7 +153,7 @@ impl fmt::Display for Realm<'_> {
                     longest: self.packet.len(),
                 },
             ),
-            Found::Missing => write!(f, "none"),
+            None => write!(f, "none"),
         }
     }
 }
@@ -204,7 +200,7 @@ impl fmt::Display for Ids<'_> {
 
 // The nonce of the challenge that was sent and not yet answered.
 #[derive(Clone, Copy)]
-struct Nonce(Challenge);
+struct Nonce(Option<Octets16>);
 
 impl fmt::Display for Nonce {
     fn fmt<W: fmt::Write>(&self, f: &mut fmt::Formatter<W>) -> fmt::Result {

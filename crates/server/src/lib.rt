@@ -198,7 +198,7 @@ pub enum HostRequest {
     },
     // The password of this user; the user id is missing if the client named none.
     Password {
-        user_id: packet::tlv::Found,
+        user_id: Option<base::Span>,
     },
     // Sixteen fresh bytes for a challenge, none of the last 32 that were taken (docs/PROTOCOL.md#nonces).
     Nonce,
@@ -207,7 +207,7 @@ pub enum HostRequest {
         nonce: digest::md5::Octets16,
         user_id_required: bool,
         read_only: bool,
-        realm: packet::tlv::Found,
+        realm: Option<base::Span>,
     },
     // At most `room` bytes of the object's body.
     Read {

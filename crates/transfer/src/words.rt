@@ -1,12 +1,13 @@
 // The headers of the requests: Target, Name, and the answer to a challenge.
 use crate::order;
 use crate::order::WORD;
+use base::Span;
 use digest::md5::Octets16;
 use lines::output::least;
 use packet::auth::{DigestChallenge, read_challenge, respond};
 use packet::header::{first_header, put_bytes, put_unicode};
 use packet::header_id;
-use packet::tlv::{Found, Wrote};
+use packet::tlv::Wrote;
 use std::env::Env;
 
 // How long the store of the headers is.
@@ -64,7 +65,7 @@ fn demand_of(value: &[u8]) -> Demand {
 
 // Returns what the response to a Connect asks for.
 pub(crate) fn demand_in(response: &[u8]) -> Demand {
-    let Found::At { start, end } = first_header(
+    let Some(Span { start, end }) = first_header(
         response,
         CONNECT_HEADERS,
         header_id::AUTHENTICATE_CHALLENGE,
