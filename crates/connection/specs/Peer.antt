@@ -1,6 +1,6 @@
 -- What Connect and Disconnect change (docs/PROTOCOL.md#connect, #connection-ids, #disconnect).
 use Rattle.std.specs.Prelude.{ℕ, ◌+◌, ◌%◌, ◌^◌, Bool, true, false, List, length, take, ◌==◌, nat_le, nat_lt, slice_set, Some, None}
-use Rattle.std.specs.Prelude.{Option as OrNone}
+use Rattle.std.specs.Prelude.{Option as OrNone, option_map}
 use Rattle.std.proofs.Math.Option.{Option, none, some}
 use Rattle.base.specs.Pick.{pick}
 use Rattle.base.specs.Bytes.{be32}
@@ -14,7 +14,6 @@ use Rattle.journal.specs.Checks.{shifted}
 use Rattle.table.specs.Nonces.{counted}
 use Rattle.connection.specs.Reply.{front}
 use Rattle.connection.specs.declared.peer.Peer.{Peer}
-use Rattle.connection.specs.declared.peer.Opening.{Opening}
 use Rattle.connection.specs.declared.peer.Answer.{Answer}
 
 -- The id that a header names, or that goes in front of an answer, if there is one, as the code has it.
@@ -148,19 +147,19 @@ abbrev pub id_in : Option (List ℕ) → ConnectionId
 id_in none = None
 id_in (some v) = Some (be32 v 0)
 
--- What opening leads to, with the table store afterwards.
+-- What opening leads to, with the table store afterwards: the peer, or none.
 pub record Opens : Type 0 where
-  pub opening : Opening
+  pub peer : OrNone Peer
   pub tables : List ℕ
 
 -- Makes an `Opens`.
-abbrev pub opens : Opening → List ℕ → Opens
-opens r t = record { opening = r; tables = t }
+abbrev pub opens : OrNone Peer → List ℕ → Opens
+opens r t = record { peer = r; tables = t }
 
--- A 65th leaves the peer and the table store as they were.
-abbrev pub opening_of : Peer → List ℕ → Option Linked → Opens
-opening_of p t none = opens (record { full = true; peer = p }) t
-opening_of p t (some q) = opens (record { full = false; peer = q.peer }) q.tables
+-- A 65th is not opened, and leaves the table store as it was.
+abbrev pub opening_of : List ℕ → Option Linked → Opens
+opening_of t none = opens None t
+opening_of t (some q) = opens (Some q.peer) q.tables
 
 -- A Connect succeeds, by numbers: the id that the answer names, whether there is a Target header, and the Target `g` that it gives.
 abbrev pub opened_by : Peer → List ℕ → Bool → ConnectionId → Bool → Target → Option Linked
@@ -174,23 +173,27 @@ front_by_of p t (Some i) target = None
 front_by_of p t None true = Some (searched p t)
 front_by_of p t None false = None
 
--- What the host's answer to a Connect leads to, with the table store afterwards.
+-- What the host's answer to a Connect leads to, with the table store afterwards: nothing if its id is a 65th.
 pub record Answers : Type 0 where
-  pub answer : Answer
+  pub answer : OrNone Answer
   pub tables : List ℕ
 
 -- Makes an `Answers`.
-abbrev pub answers : Answer → List ℕ → Answers
+abbrev pub answers : OrNone Answer → List ℕ → Answers
 answers r t = record { answer = r; tables = t }
+
+-- The peer with the id `f` that goes in front of the host's answer.
+abbrev pub answer_with : ConnectionId → Peer → Answer
+answer_with f p = record { peer = p; front = f }
 
 -- What opening leads to, with the id `f` that goes in front of the host's answer.
 abbrev pub answer_from : Opens → ConnectionId → Answers
-answer_from o f = answers (record { opening = o.opening; front = f }) o.tables
+answer_from o f = answers (option_map (answer_with f) o.peer) o.tables
 
 -- What the host's answer to a Connect leads to, by numbers: the id that it names, whether there is a Target header, and the Target `g` that
 -- it gives.
 abbrev pub answer_by : Peer → List ℕ → Bool → ConnectionId → Bool → Target → Answers
-answer_by p t srm given has g = answer_from (opening_of p t (opened_by p t srm given has g)) (front_by_of p t given has)
+answer_by p t srm given has g = answer_from (opening_of t (opened_by p t srm given has g)) (front_by_of p t given has)
 
 -- A Disconnect, by the number that it names.
 abbrev pub disconnected_by : Peer → List ℕ → ConnectionId → Linked

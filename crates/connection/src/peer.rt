@@ -46,17 +46,10 @@ pub struct NewId {
     pub next: u32,
 }
 
-// What opening an id leads to: with 64 ids open a further one is not opened, and the peer stays as it was.
-#[derive(Clone, Copy)]
-pub struct Opening {
-    pub full: bool,
-    pub peer: Peer,
-}
-
-// What the host's answer to a Connect leads to, with the id that goes in front of it.
+// What the host's answer to a Connect leads to: the peer, with the id that goes in front of the answer.
 #[derive(Clone, Copy)]
 pub struct Answer {
-    pub opening: Opening,
+    pub peer: Peer,
     pub front: Option<u32>,
 }
 
@@ -201,7 +194,8 @@ fn with_id(peer: Peer, srm: bool, next: u32) -> Peer
     }
 }
 
-// Opens `id` if it is not open yet, behind the ids of `tables` that are. A 65th is not opened. Open or not, it takes `target`.
+// Opens `id` if it is not open yet, behind the ids of `tables` that are. A 65th is not opened, and there is no peer with it. Open or not, it
+// takes `target`.
 pub fn opened(
     peer: Peer,
     srm: bool,
@@ -209,32 +203,26 @@ pub fn opened(
     next: u32,
     target: Target,
     tables: &mut [u64],
-) -> Opening
+) -> Option<Peer>
     requires { (peer.count ≤ max_connections) × (table_length ≤ length tables.old) }
     ensures { opens result tables.new
-        ≡ opening_of peer tables.old (openedPeer peer tables.old srm id next target) }
+        ≡ opening_of tables.old (openedPeer peer tables.old srm id next target) }
 {
     let count = peer.count;
     if let Some(place) = find_place(tables, count, id) {
         put_target(tables, place, target);
-        return Opening {
-            full: false,
-            peer: with_srm(peer, srm),
-        };
+        return Some(with_srm(peer, srm));
     }
     if count >= MAX_CONNECTIONS {
-        return Opening { full: true, peer };
+        return None;
     }
     tables[count] = u64::from(id);
     put_target(tables, count, target);
-    Opening {
-        full: false,
-        peer: with_id(peer, srm, next),
-    }
+    Some(with_id(peer, srm, next))
 }
 
 // Opens the id of a Connect that succeeded: the one that the host's answer names, else, for a Target header, a new one. `target` is the
-// Target that the header gives.
+// Target that the header gives. If the id is a 65th, there is no answer.
 pub fn opened_for(
     peer: Peer,
     srm: bool,
@@ -242,30 +230,29 @@ pub fn opened_for(
     has_target: bool,
     target: Target,
     tables: &mut [u64],
-) -> Answer
+) -> Option<Answer>
     requires { (peer.count ≤ max_connections) × (table_length ≤ length tables.old) }
     ensures { answers result tables.new ≡ answer_by peer tables.old srm given has_target target }
 {
     if let Some(id) = given {
-        return Answer {
-            opening: opened(peer, srm, id, peer.next_connection_id, target, tables),
+        let with = opened(peer, srm, id, peer.next_connection_id, target, tables)?;
+        return Some(Answer {
+            peer: with,
             front: None,
-        };
+        });
     }
     if !has_target {
-        return Answer {
-            opening: Opening {
-                full: false,
-                peer: with_srm(peer, srm),
-            },
+        return Some(Answer {
+            peer: with_srm(peer, srm),
             front: None,
-        };
+        });
     }
-    let found = allocate_connection_id(&tables[..], peer.count, peer.next_connection_id);
-    Answer {
-        opening: opened(peer, srm, found.id, found.next, target, tables),
+    let found = allocate_connection_id(tables, peer.count, peer.next_connection_id);
+    let with = opened(peer, srm, found.id, found.next, target, tables)?;
+    Some(Answer {
+        peer: with,
         front: Some(found.id),
-    }
+    })
 }
 
 // Clears all connections, SRM, authentication and the peer's limit; the counter, the challenge, the window and the nonces stay.

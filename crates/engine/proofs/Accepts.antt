@@ -6,6 +6,7 @@ use mathlib.Core.Option.{Option, none, some}
 use Prim.Native.Nat.{ℕ, ◌≤◌}
 use denote.Enum.Declared.{tag_of}
 use types.Run.{OneOf, miss}
+use Rattle.std.specs.Prelude.{Some, None}
 use Rattle.digest.specs.declared.md5.Octets16.{Octets16}
 use borrow.Author.Tests.{leb-true}
 use lib.ListN.{length, take}
@@ -22,6 +23,7 @@ use Rattle.packet.specs.declared.auth.DigestChallenge.TheVariants as challenge
 use Rattle.journal.specs.Calls.{Credentials}
 use Rattle.incoming.specs.Survey.{survey_of}
 use Rattle.connection.specs.Reply.{Sending as Sent, fields_of, send_bytes, sent_into, front}
+use Rattle.connection.specs.declared.peer.Answer.{Answer}
 use Rattle.connection.specs.Peer.{Linked, linked, id_in, isGiven, target_given, opened_for, opened_by as peerOpened, opening_of, front_by_of, Answers, answer_from, answer_by, disconnected_peer, disconnected_by, ConnectionId}
 use Rattle.connection.specs.ConnectReply.{answered_challenge, connect_headers}
 use Rattle.connection.specs.Pieces.{headers_from, realm_of, answered_in, id_given, credentials_of}
@@ -130,16 +132,16 @@ module _ (e : Engine) (t : List ℕ) (code : ℕ) (hs q h y : List ℕ) (b : Boo
     unfolding accepted_by
     answer_by_lem x i = i ∙ ap (λ (a : Answers). opened_in a e code hs q h y) opens ∙ sym (simp (sym success ∙ k))
 
-    pub answer-full : a.answer.opening.full ≡ true → (w : Written) → w ≡ connect_replies e e.peer 0x53 [] y
+    pub answer-full : a.answer ≡ None → (w : Written) → w ≡ connect_replies e e.peer 0x53 [] y
         → accepting (leaving h w) a.tables ≡ accepted_by e t code hs q h y
     answer-full f w i =
         answer_by_lem (accepting (leaving h w) a.tables)
         (ap (λ (x : Answering). accepting x a.tables) (ap (λ (w : Written). leaving h w) i ∙ sym (simp f)))
 
-    pub answer-accepted : a.answer.opening.full ≡ false → (x : Answering)
-        → x ≡ challenged_by (answered_in (headers_of q)) e a.answer.opening.peer code a.answer.front hs q h y
+    pub answer-accepted : (r : Answer) → a.answer ≡ Some r → (x : Answering)
+        → x ≡ challenged_by (answered_in (headers_of q)) e r.peer code r.front hs q h y
         → accepting x a.tables ≡ accepted_by e t code hs q h y
-    answer-accepted f x i = answer_by_lem (accepting x a.tables) (ap (λ (x : Answering). accepting x a.tables) (i ∙ sym (simp f)))
+    answer-accepted r f x i = answer_by_lem (accepting x a.tables) (ap (λ (x : Answering). accepting x a.tables) (i ∙ sym (simp f)))
 
 module _ (e : Engine) (s : Stores) where
   -- ---- a reply
@@ -171,7 +173,7 @@ module _ (e : Engine) (s : Stores) where
 
     module _ (t : List ℕ) where
       opened_is : (o : Option Linked) (f : ConnectionId)
-          → among_in (opened_in (answer_from (opening_of e.peer t o) f) e code hs (last_packet e s) s.headers s.reply) s
+          → among_in (opened_in (answer_from (opening_of t o) f) e code hs (last_packet e s) s.headers s.reply) s
           ≡ after_tabled (connect_opened e t o code f hs s)
       unfolding answered_in last_headers
       opened_is none f = ap (λ (m : Stepped). called m t) (replies_connect e.peer 0x53 [])

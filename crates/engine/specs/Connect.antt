@@ -1,6 +1,7 @@
 -- Connect from its packet to its reply, and Disconnect, by the stores that they touch: the design level between model/specs/Connect and the
 -- code.
 use Rattle.std.specs.Prelude.{ℕ, ◌+◌, ◌^◌, ◌≤◌, ◌<◌, List, [], Bool, true, false, ◌&&◌, ◌||◌, length, take, leb, Some, None}
+use Rattle.std.specs.Prelude.{Option as OrNone}
 use Rattle.std.proofs.Math.Option.{Option, none, some}
 use Rattle.std.specs.Int.Count.{ones}
 use Rattle.base.specs.Pick.{pick}
@@ -178,10 +179,9 @@ challenged_by (challenge.Challenge n u r x) e p code f hs q h y =
     y
 
 -- The engine answers a 65th id with 0x53.
-abbrev pub opened_by : Answer → Engine → ℕ → List ℕ → List ℕ → List ℕ → List ℕ → Answering
-opened_by a e code hs q h y =
-    pick a.opening.full (leaving h (connect_replies e e.peer response.service_unavailable [] y))
-    (challenged_by (answered_in (headers_of q)) e a.opening.peer code a.front hs q h y)
+abbrev pub opened_by : OrNone Answer → Engine → ℕ → List ℕ → List ℕ → List ℕ → List ℕ → Answering
+opened_by None e code hs q h y = leaving h (connect_replies e e.peer response.service_unavailable [] y)
+opened_by (Some a) e code hs q h y = challenged_by (answered_in (headers_of q)) e a.peer code a.front hs q h y
 
 -- The engine answers a Connect that the host accepts, and leaves the table store as opening the id left it.
 abbrev pub opened_in : Answers → Engine → ℕ → List ℕ → List ℕ → List ℕ → List ℕ → Accepting

@@ -72,7 +72,7 @@ fn opens(
     packet: &[u8],
     c: ConnectRequest,
     tables: &mut [u64],
-) -> Answer
+) -> Option<Answer>
     requires { (e.peer.count ≤ 64) × (table_length ≤ length tables.old) × (c ≡ last_connect packet.now) }
     ensures { answers result tables.new
         ≡ answer_for e tables.old header_bytes.now packet.now }
@@ -244,17 +244,14 @@ pub(crate) fn connect_answer(
         return sends_connect(e, e.peer, code, header_bytes, reply);
     }
     let c = last_connect(packet);
-    let answer = opens(e, header_bytes, packet, c, tables);
-    let opening = answer.opening;
-    if opening.full {
+    let Some(answer) = opens(e, header_bytes, packet, c, tables) else {
         return sends_connect(e, e.peer, SERVICE_UNAVAILABLE, &header_bytes[..0], reply);
-    }
-    let front = answer.front;
+    };
     accepted(
         e,
-        opening.peer,
+        answer.peer,
         code,
-        front,
+        answer.front,
         header_bytes,
         packet,
         c,

@@ -66,9 +66,10 @@ fn connect(
     }
     let srm = is_srm_on(s, enable);
     let given = first_id(hs);
-    let a = opened_for(s.peer, srm, given, has_target, target, tables);
-    let opening = a.opening;
-    standing_by(s, opening.peer)
+    match opened_for(s.peer, srm, given, has_target, target, tables) {
+        Some(answer) => standing_by(s, answer.peer),
+        None => quiet(s),
+    }
 }
 
 // Answers the last packet with nothing open.
