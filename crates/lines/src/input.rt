@@ -1,5 +1,6 @@
 // Reading: what stands in a store of an input, what is kept of it, and its lines one after the other.
-ghost use Rattle.std.specs.Prelude.{◌≡◌, true, ◌≤◌, length, IfOk};
+ghost use Rattle.std.specs.Prelude.{◌≡◌, true, ◌-◌, ◌<◌, ◌≤◌, length, Err, IfOk};
+ghost use Rattle.lines.specs.declared.input.NoMore.TheVariants.{Full};
 ghost use Rattle.lines.specs.Word.{filled};
 ghost use Rattle.lines.specs.Input.{kept_front, before_first, has_cut, has_line, line_after, bytes_of};
 
@@ -57,10 +58,42 @@ pub fn read_full(from: &mut impl Read, s: &mut [u8]) -> usize
 pub fn keep(s: &mut [u8], from: usize, to: usize) -> usize
     requires { (from ≤ to) × (to ≤ length s.old) }
     ensures within { result ≤ length s.new }
+    ensures count { result ≡ to - from }
     ensures kept { filled s.new result ≡ kept_front s.old from to }
 {
     s.copy_within(from..to, 0);
     to - from
+}
+
+// Why no more bytes came behind those that are kept.
+#[derive(Clone, Copy, PartialEq, Eq)]
+pub enum NoMore {
+    // They fill the store.
+    Full,
+    // The input has ended, or the system cannot read it.
+    End,
+}
+
+// Moves what stands from `from` up to `to` to the front of `s`, and reads on behind it once. Returns how many bytes stand there then.
+pub fn read_behind(
+    input: &mut impl Read,
+    s: &mut [u8],
+    from: usize,
+    to: usize,
+) -> Result<usize, NoMore>
+    requires { (from ≤ to) × (to ≤ length s.old) }
+    ensures more { IfOk result (λ n. (to - from < n) × (n ≤ length s.new)) }
+    ensures full { to - from ≡ length s.old → result ≡ Err Full }
+{
+    let kept = keep(s, from, to);
+    if kept == s.len() {
+        return Err(NoMore::Full);
+    }
+    let n = read(input, &mut s[kept..]);
+    if n == 0 {
+        return Err(NoMore::End);
+    }
+    Ok(kept + n)
 }
 
 // Returns what stands before the first line.

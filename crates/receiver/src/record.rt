@@ -9,7 +9,7 @@ use crate::session::{Session, note, sync_place, with_log, with_record};
 use crate::system::{EFBIG, Held};
 use crate::{clock, log, system, tell};
 use archive::block;
-use archive::block::Wrote;
+use archive::block::WriteError;
 use digest::md5::{digest, octets};
 use files::error::is_full;
 use files::path::front;
@@ -288,7 +288,7 @@ fn put_note(
     clock: u32,
     payload: &[u8],
     blocks: &[u8],
-) -> Wrote {
+) -> Result<usize, WriteError> {
     let name = session_name(id.clock, id.high, id.low);
     let check = octets(log.check);
     let sum = digest(blocks);
@@ -319,11 +319,11 @@ fn file_steps<R: Env + Files>(
     if log.error != 0 {
         return not_begun(Step::SyncLog, log.error);
     }
-    let Wrote::Written(n) = block::write(body, work) else {
+    let Ok(n) = block::write(body, work) else {
         return not_begun(Step::WriteBody, EFBIG);
     };
     let mut text = [0u8; 1024];
-    let Wrote::Written(k) = put_note(&mut text, id, log, r.clock, payload, front(work, n)) else {
+    let Ok(k) = put_note(&mut text, id, log, r.clock, payload, front(work, n)) else {
         return not_begun(Step::WriteNote, EFBIG);
     };
     carry_all(

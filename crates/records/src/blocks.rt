@@ -4,7 +4,7 @@ ghost use Rattle.std.specs.Prelude.{◌<◌, ◌^◌};
 
 use crate::answer::{bad_question, show_target};
 use crate::question::room_of;
-use archive::block::{self, Body, Wrote, body_number, wrote_number};
+use archive::block::{self, body_number, wrote_number};
 use lines::word::{after, find, unhex};
 
 // The largest target that is asked about: 1 MiB.
@@ -22,7 +22,7 @@ pub(crate) fn write(source: &[u8], target: &mut [u8]) -> Told {
     let answer = block::write(source, target);
     Told {
         number: wrote_number(answer),
-        length: if let Wrote::Written(n) = answer { n } else { 0 },
+        length: answer.unwrap_or(0),
     }
 }
 
@@ -31,7 +31,7 @@ pub(crate) fn read(source: &[u8], target: &mut [u8]) -> Told {
     let answer = block::read(source, target);
     Told {
         number: body_number(answer),
-        length: if let Body::Bytes(n) = answer { n } else { 0 },
+        length: answer.unwrap_or(0),
     }
 }
 

@@ -63,8 +63,10 @@ returns-then-blocks-ne0 c =
     let p = l.invariant.2 in
     let m : length x / 512 ≡ l.k = omega arith in
     let f : fault_in x ≡ 13 =
-    elim c.then-blocks-ne0.branch [ then-blocks-ne0-via-then-blocks-ne0 w ↦ fault-left-over x l.k l.is_ended l.invariant.0 p (omega arith) w.if-blocks-ne0.true
-    | then-blocks-ne0-via-else-blocks-ne0+then-not-is_ended w ↦ fault_no_last x l.k l.is_ended l.invariant.0 p (omega arith) w.if-not-is_ended.true w.if-blocks-ne0.false ]
+    elim c.then-blocks-ne0.branch [
+      | then-blocks-ne0-via-then-blocks-ne0 w ↦ fault-left-over x l.k l.is_ended l.invariant.0 p (omega arith) w.if-blocks-ne0.true
+      | then-blocks-ne0-via-else-blocks-ne0+then-not-is_ended w ↦ fault_no_last x l.k l.is_ended l.invariant.0 p (omega arith) w.if-not-is_ended.true w.if-blocks-ne0.false
+    ]
     in
     record {
       fault = sym f;
