@@ -3,9 +3,8 @@ use digest::md5;
 use digest::md5::Octets16;
 use lines::printed::{Hex, Shown};
 use packet::tlv::Wrote;
-use std::fmt;
-use std::io;
 use std::io::Write;
+use std::{fmt, io};
 
 // Sixteen bytes in hexadecimal.
 #[derive(Clone, Copy)]
