@@ -20,7 +20,7 @@ ghost use Rattle.connection.specs.Pieces.{id_bytes, who_bytes, answer_bytes, nam
 ghost use Rattle.connection.specs.Pieces.{id_size, who_size, answer_size, size_of, Inside, Ordered};
 
 use crate::challenge::{first_in, nonce_for};
-use crate::reply::{Sent, begin_connect};
+use crate::reply::begin_connect;
 use base::{Span, copy_into};
 use digest::md5::Octets16;
 use packet::auth::{Named, respond, write_challenge};
@@ -270,7 +270,7 @@ fn send_pieces(
     user: &[u8],
     password: &[u8],
     srm: bool,
-) -> Sent
+) -> Option<usize>
     requires { (max_packet ≤ length reply.old) × (length packet.now ≤ max_packet) × (length headers.now ≤ max_packet) × Inside packet.now who
         × (overlong (given has_user user.now) ≡ false) }
     ensures { sending result reply.new ≡ sent_into (send_bytes remote code (fields_of limit)
@@ -303,7 +303,7 @@ pub fn connect_reply(
     user: &[u8],
     password: &[u8],
     srm: bool,
-) -> Sent
+) -> Option<usize>
     requires { (max_packet ≤ length reply.old) × (length packet.now ≤ max_packet) × (length headers.now ≤ max_packet)
         × (overlong (given has_user user.now) ≡ false) × (target ≡ first_in header_id.target packet.now from) }
     ensures { sending result reply.new ≡ sent_into (send_bytes remote code (fields_of limit) (all_bytes
@@ -333,7 +333,7 @@ pub fn challenge_reply(
     has_realm: bool,
     charset: u8,
     realm: &[u8],
-) -> Sent
+) -> Option<usize>
     requires { (max_packet ≤ length reply.old) × (overlong (given has_realm (charset ∷ realm.now)) ≡ false) }
     ensures { sending result reply.new ≡ sent_into (send_bytes remote response.unauthorized (fields_of limit) (bytes_of
         (challenge_header (octets16 nonce) (flag_bits user_id_required read_only) (given has_realm (charset ∷ realm.now)))))

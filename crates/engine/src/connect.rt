@@ -32,7 +32,6 @@ use connection::challenge::answered_challenge;
 use connection::checks::too_many;
 use connection::connect_reply::{challenge_reply, connect_reply};
 use connection::peer::{Answer, Peer, disconnected, limited, opened_for, verified, with_check};
-use connection::reply::Sent;
 use connection::request::ConnectRequest;
 use digest::md5::Octets16;
 use packet::auth::{DigestChallenge, DigestResponse, is_long, read_response, realm};
@@ -439,7 +438,7 @@ pub(crate) fn send_challenge(
     remote: u16,
     nonce: Octets16,
     reply: &mut [u8],
-) -> Sent
+) -> Option<usize>
     requires { (long_realm settings realm.now ≡ false) × (max_packet ≤ length reply.old) }
     ensures { sending result reply.new
         ≡ sent_into (send_bytes remote response.unauthorized (fields_of settings.max_packet_length)

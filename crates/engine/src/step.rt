@@ -10,9 +10,7 @@ ghost use Rattle.server.specs.declared.End.TheVariants as end;
 ghost use Rattle.connection.specs.Reply.{fields_of, front};
 
 use connection::peer::Peer;
-use connection::reply::{
-    Sent, put_connect_prefix, put_continue, put_reply_code, send, send_connect,
-};
+use connection::reply::{put_connect_prefix, put_continue, put_reply_code, send, send_connect};
 use packet::limits::MIN_PACKET;
 use packet::response::{CONTINUE_BYTE, to_byte};
 use server::{Await, CallResult, End, Engine, HostRequest, Operation, Outcome, Settings};
@@ -288,12 +286,12 @@ pub(crate) fn carry_out(p: Plan, reply: &mut [u8]) -> CallResult
 }
 
 // Plans what follows the writing of a reply: the host sends it, or the engine ends with `ReplyTooLarge`.
-pub(crate) fn sent_plan(e: Engine, peer: Peer, sent: Sent) -> Plan
+pub(crate) fn sent_plan(e: Engine, peer: Peer, sent: Option<usize>) -> Plan
     ensures { result ≡ sent_plan e peer sent }
 {
     match sent {
-        Sent::TooLarge => ends(e, peer, End::ReplyTooLarge),
-        Sent::Reply(length) => Plan {
+        None => ends(e, peer, End::ReplyTooLarge),
+        Some(length) => Plan {
             engine: engine_with(
                 e.settings,
                 peer,

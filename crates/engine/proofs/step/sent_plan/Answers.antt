@@ -2,10 +2,10 @@
 use Rattle.engine.specs.Step.{sent_plan}
 use Rattle.engine.proofs.step.sent_plan.Goals as goal
 
-pub returns-in-TooLarge : goal.returns-in-TooLarge
+pub returns-in-None : goal.returns-in-None
 unfolding sent_plan
-returns-in-TooLarge c = rw c.in-TooLarge.is c.ends.ensures
+returns-in-None c = rw c.in-None.is c.ends.ensures
 
-pub returns-in-Reply : goal.returns-in-Reply
+pub returns-in-Some : goal.returns-in-Some
 unfolding sent_plan
-returns-in-Reply c = rw c.in-Reply.is (simp c.engine_with.ensures)
+returns-in-Some c = rw c.in-Some.is (simp c.engine_with.ensures)
