@@ -107,6 +107,7 @@ pub fn verify_client(
     stored: Option<Octets16>,
     found: DigestResponse,
     demands: bool,
+    // Stays a flag beside the bytes: so a host hands the password over, from C too (`engine::calls::password_given`).
     has_password: bool,
     password: &[u8],
 ) -> bool

@@ -95,6 +95,8 @@ fn who_size(who: Option<Span>) -> usize
     }
 }
 
+// Stays a flag beside a length, as `connect_reply` has them.
+//
 // Returns how many bytes the answer to the peer's challenge takes.
 fn answer_size(nonce: Named, has_user: bool, user: usize) -> usize
     requires { pick has_user user 0 ≤ max_tag_value }
@@ -109,6 +111,8 @@ fn answer_size(nonce: Named, has_user: bool, user: usize) -> usize
     39 + (2 + user)
 }
 
+// Stays a flag beside a length, as `challenge_reply` has them.
+//
 // Returns how many bytes the header with a challenge takes: 24 without a realm (IrOBEX 1.5, section 3.6.4).
 fn challenge_size(has_realm: bool, realm: usize) -> usize
     requires { pick has_realm realm 0 ≤ 254 }
@@ -136,6 +140,7 @@ fn connect_size(
     who: Option<Span>,
     headers: usize,
     nonce: Named,
+    // Stays a flag beside a length, as `connect_reply` has them.
     has_user: bool,
     user: usize,
     srm: bool,
@@ -216,6 +221,7 @@ fn put_answer(
     reply: &mut [u8],
     at: usize,
     nonce: Named,
+    // Stays a flag beside the bytes, as `connect_reply` has them.
     has_user: bool,
     user: &[u8],
     password: &[u8],
@@ -239,6 +245,7 @@ fn put_added(
     reply: &mut [u8],
     at: usize,
     nonce: Named,
+    // Stays a flag beside the bytes, as `connect_reply` has them.
     has_user: bool,
     user: &[u8],
     password: &[u8],
@@ -266,6 +273,7 @@ fn send_pieces(
     packet: &[u8],
     headers: &[u8],
     nonce: Named,
+    // Stays a flag beside the bytes, as `connect_reply` has them.
     has_user: bool,
     user: &[u8],
     password: &[u8],
@@ -299,6 +307,7 @@ pub fn connect_reply(
     target: Option<Span>,
     headers: &[u8],
     has_credentials: bool,
+    // Stays a flag beside the bytes: so a host hands a user id over, from C too (`engine::calls::credentials_given`).
     has_user: bool,
     user: &[u8],
     password: &[u8],
@@ -330,6 +339,7 @@ pub fn challenge_reply(
     nonce: Octets16,
     user_id_required: bool,
     read_only: bool,
+    // Stays a flag beside the bytes: so the settings say whether there is a realm, from C too (`server::Settings`).
     has_realm: bool,
     charset: u8,
     realm: &[u8],

@@ -78,6 +78,7 @@ pub fn allocate_connection_id(ids: &[u64], count: usize, counter: u32) -> NewId
     ensures unused { taken (take count ids.now) result.id ≡ false }
 {
     let mut id = counter;
+    // Stays a loop: `find` would answer an Option, and this search always finds an id.
     while is_taken(ids, count, id) {
         id = id.wrapping_add(1);
     }

@@ -276,6 +276,8 @@ pub struct CallResult {
     pub outcome: Outcome,
 }
 
+// Stays a function of this name: docs/EMBEDDING.md names it, and the definition `end_number` states its numbers.
+//
 // Returns the number of `end` (docs/PROTOCOL.md#ends), which logs and the C interface give instead of its name.
 pub fn end_number(end: End) -> u8
     ensures { result ≡ end_number end }
@@ -291,6 +293,8 @@ pub fn end_number(end: End) -> u8
     }
 }
 
+// Stays a function of this name: docs/EMBEDDING.md names it, and the definition `refusal_number` states its numbers.
+//
 // Returns the number of `refusal` (docs/PROTOCOL.md#refusals), which logs and the C interface give instead of its name.
 pub fn refusal_number(refusal: Refusal) -> u8
     ensures { result ≡ refusal_number refusal }
@@ -306,6 +310,8 @@ pub fn refusal_number(refusal: Refusal) -> u8
     }
 }
 
+// Stays a function of this name: the C interface passes the number, and the definition `await_of` leads back from it.
+//
 // Returns the number of `a`, what the engine waits for. Two such things are told apart by it.
 pub fn await_number(a: Await) -> u8
     ensures { result ≡ await_number a }
