@@ -23,30 +23,17 @@ pub fn name_in(headers: &[u8], store: &mut [u8]) -> usize
 }
 
 // Whether `b` is neither a zero nor a separator.
+#[tactic(auto, unfolding(crate::specs::Name::part))]
 fn is_part(b: u8) -> bool
     ensures { result ≡ part b }
 {
-    if b == 0 {
-        return false;
-    }
-    if b == b'/' {
-        return false;
-    }
-    true
+    b != 0 && b != b'/'
 }
 
 fn is_plain(s: &[u8]) -> bool
     ensures { result ≡ plain s.now }
 {
-    let mut i = 0;
-    while i < s.len() {
-        if is_part(s[i]) {
-            i += 1;
-        } else {
-            return false;
-        }
-    }
-    true
+    s.iter().all(|b| is_part(*b))
 }
 
 // Whether `s` may name a file here.
