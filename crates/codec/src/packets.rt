@@ -5,7 +5,7 @@ use base::wide;
 use lines::word::byte_at;
 use packet::flags::flag_bits;
 use packet::opcode::{FirstByte, Opcode};
-use packet::packet::{ConnectParameters, Fields, PACKET_PREFIX_LENGTH};
+use packet::packet::{ConnectParameters, Fields, PACKET_PREFIX_LENGTH, SetPathFlags};
 use packet::{header, opcode, packet as packets, response};
 use std::io;
 use std::io::Write;
@@ -154,18 +154,13 @@ pub(crate) fn fields_of(bytes: Option<&[u8]>) -> Fields {
         return Fields::Default;
     };
     if b.len() == 4 {
-        let connect = parameters_of(b);
-        return Fields::Connect {
-            version: connect.version,
-            flags: connect.flags,
-            max_packet_length: connect.max_packet_length,
-        };
+        return Fields::Connect(parameters_of(b));
     }
     let flags = byte_at(b, 0);
-    Fields::SetPath {
+    Fields::SetPath(SetPathFlags {
         backup: flags & 0x01 != 0,
         no_create: flags & 0x02 != 0,
-    }
+    })
 }
 
 // Answers with the bytes of a request. `byte` names an opcode only if it is the opcode's own value.

@@ -27,7 +27,7 @@ use Rattle.packet.specs.PacketWrite.{field_bytes, parameter_bytes}
 -- ---- packets
 
 -- 3.4.1.9: a Connect with Count and Length, and its response
-connect_bytes_lem : packet_bytes (byte_of op.Connect true) (field_bytes op.Connect (fields.Connect 0x10 0 0x2000)) (0xC0 ∷ 0 ∷ 0 ∷ 0 ∷ 4 ∷ 0xC3 ∷ 0 ∷ 0 ∷ 0xF4 ∷ 0x83 ∷ [])
+connect_bytes_lem : packet_bytes (byte_of op.Connect true) (field_bytes op.Connect (fields.Connect (record { version = 0x10; flags = 0; max_packet_length = 0x2000 }))) (0xC0 ∷ 0 ∷ 0 ∷ 0 ∷ 4 ∷ 0xC3 ∷ 0 ∷ 0 ∷ 0xF4 ∷ 0x83 ∷ [])
     ≡ 0x80 ∷ 0x00 ∷ 0x11 ∷ 0x10 ∷ 0x00 ∷ 0x20 ∷ 0x00 ∷ 0xC0 ∷ 0 ∷ 0 ∷ 0 ∷ 4 ∷ 0xC3 ∷ 0 ∷ 0 ∷ 0xF4 ∷ 0x83 ∷ []
 unfolding packet_bytes byte_of
 connect_bytes_lem = refl
@@ -45,7 +45,7 @@ default_bytes : packet_bytes (byte_of op.Connect false) (field_bytes op.Connect 
 unfolding packet_bytes byte_of
 default_bytes = refl
 
-other-bytes : packet_bytes (byte_of op.SetPath false) (field_bytes op.SetPath (fields.Connect 1 2 3)) [] ≡ 0x85 ∷ 0x00 ∷ 0x05 ∷ 0x00 ∷ 0x00 ∷ []
+other-bytes : packet_bytes (byte_of op.SetPath false) (field_bytes op.SetPath (fields.Connect (record { version = 1; flags = 2; max_packet_length = 3 }))) [] ≡ 0x85 ∷ 0x00 ∷ 0x05 ∷ 0x00 ∷ 0x00 ∷ []
 unfolding packet_bytes byte_of
 other-bytes = refl
 

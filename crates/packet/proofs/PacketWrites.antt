@@ -13,6 +13,8 @@ use Rattle.base.specs.Bytes.{be16, bytes16}
 use Rattle.text.specs.Unicode.{Octets}
 use Rattle.packet.specs.declared.opcode.Opcode.{Opcode}
 use Rattle.packet.specs.declared.opcode.Opcode.TheVariants.{Connect, Disconnect, Put, Get, SetPath, Action, Session, Abort, UserDefined}
+use Rattle.packet.specs.declared.packet.ConnectParameters.{ConnectParameters}
+use Rattle.packet.specs.declared.packet.SetPathFlags.{SetPathFlags}
 use Rattle.packet.specs.declared.packet.Fields.{Fields}
 use Rattle.packet.specs.declared.packet.Fields.TheVariants as fields
 use Rattle.std.specs.Prelude.{Option as Maybe}
@@ -51,8 +53,8 @@ packet-laid d s₁ s₂ s₃ f h b l e₁ e₂ e₃ =
 
 connect_length_lem : (f : Fields) → length (connect_bytes f) ≡ 4
 connect_length_lem fields.Default = refl
-connect_length_lem (fields.Connect v g m) = refl
-connect_length_lem (fields.SetPath b n) = refl
+connect_length_lem (fields.Connect c) = refl
+connect_length_lem (fields.SetPath s) = refl
 
 pub fields_length : (o : Opcode) (f : Fields) → length (field_bytes o f) ≡ fields_of o
 fields_length Connect f = connect_length_lem f
@@ -135,10 +137,12 @@ request-back o final f h rest hs t oct e =
     ) (packet-back o final f h hs t oct e)
 
 -- Connect's limit and SetPath's flags
-pub limit-back : (b v g m : ℕ) (h : List ℕ) → connect_limit (packet_bytes b (field_bytes Connect (fields.Connect v g m)) h) ≡ m
+pub limit-back : (b : ℕ) (c : ConnectParameters) (h : List ℕ)
+    → connect_limit (packet_bytes b (field_bytes Connect (fields.Connect c)) h) ≡ c.max_packet_length
 unfolding connect_limit packet_bytes
-limit-back b v g m h = omega arith
+limit-back b c h = omega arith
 
-pub flags-back : (b : ℕ) (x y : Bool) (h : List ℕ) → let p = packet_bytes b (field_bytes SetPath (fields.SetPath x y)) h in (backup p ≡ x) × (no_create_of p ≡ y)
+pub flags-back : (b : ℕ) (f : SetPathFlags) (h : List ℕ)
+    → let p = packet_bytes b (field_bytes SetPath (fields.SetPath f)) h in (backup p ≡ f.backup) × (no_create_of p ≡ f.no_create)
 unfolding backup no_create_of packet_bytes
-flags-back b x y h = flags-read x y
+flags-back b f h = flags-read f.backup f.no_create

@@ -14,17 +14,21 @@ use Rattle.packet.specs.declared.store.LengthField.TheVariants.{TwoBytes}
 use Rattle.packet.specs.Packet.{packet_bytes}
 use Rattle.packet.specs.Placed.{Putting, placed}
 
--- Connect's four bytes: version, flags and limit; by default version 1.0, no flags, and the smallest limit.
+-- Connect's four bytes: version, flags and limit.
+abbrev pub encoded_connect : ConnectParameters → List ℕ
+encoded_connect c = c.version ∷ c.flags ∷ bytes16 c.max_packet_length
+
+-- Connect's four bytes; by default version 1.0, no flags, and the smallest limit.
 abbrev pub connect_bytes : Fields → List ℕ
 connect_bytes fields.Default = obex_version ∷ 0 ∷ bytes16 min_packet
-connect_bytes (fields.Connect v f m) = v ∷ f ∷ bytes16 m
-connect_bytes (fields.SetPath b n) = obex_version ∷ 0 ∷ bytes16 min_packet
+connect_bytes (fields.Connect c) = encoded_connect c
+connect_bytes (fields.SetPath f) = obex_version ∷ 0 ∷ bytes16 min_packet
 
 -- SetPath's flags, by default none.
 abbrev pub set_path_byte : Fields → ℕ
 set_path_byte fields.Default = 0
-set_path_byte (fields.Connect v f m) = 0
-set_path_byte (fields.SetPath b n) = flag_bits b n
+set_path_byte (fields.Connect c) = 0
+set_path_byte (fields.SetPath f) = flag_bits f.backup f.no_create
 
 -- The bytes between length and headers; fields of another operation are ignored. SetPath's second byte, the constants, is 0.
 abbrev pub field_bytes : Opcode → Fields → List ℕ
@@ -45,7 +49,7 @@ filled4 l = l ++ replicate (4 - length l) 0
 -- The fields of a response: Connect's four bytes, or none.
 abbrev pub parameter_bytes : Option ConnectParameters → List ℕ
 parameter_bytes None = []
-parameter_bytes (Some c) = c.version ∷ c.flags ∷ bytes16 c.max_packet_length
+parameter_bytes (Some c) = encoded_connect c
 
 -- A packet goes to the front of the store. A store that is too short (10) is told before a packet over 65,535 bytes (7).
 unfoldable pub write_packet : List ℕ → List ℕ → Putting

@@ -4,7 +4,7 @@ ghost use Rattle.std.specs.Prelude.{◌≡◌, ◌∷◌, ◌+◌, ◌≤◌, �
 ghost use Rattle.base.specs.Bytes.{bytes16};
 ghost use Rattle.packet.specs.Placed.{laid, putting};
 ghost use Rattle.packet.specs.Packet.{fields_of, prefix_of, connect_limit, packet_bytes};
-ghost use Rattle.packet.specs.PacketWrite.{connect_bytes, set_path_byte, field_bytes, filled4, parameter_bytes, write_packet, write_request, write_response};
+ghost use Rattle.packet.specs.PacketWrite.{encoded_connect, connect_bytes, set_path_byte, field_bytes, filled4, parameter_bytes, write_packet, write_request, write_response};
 ghost use Rattle.packet.specs.PacketRead.{packet_head, packet_length, parse_packet, parse_front, flags_of, parse_response};
 ghost use Rattle.packet.specs.ResponsePacket.{response_prefix};
 
@@ -214,18 +214,11 @@ pub fn set_path_flags(p: &[u8]) -> SetPathFlags
 #[derive(Clone, Copy)]
 pub enum Fields {
     Default,
-    Connect {
-        version: u8,
-        flags: u8,
-        max_packet_length: u16,
-    },
-    SetPath {
-        backup: bool,
-        no_create: bool,
-    },
+    Connect(ConnectParameters),
+    SetPath(SetPathFlags),
 }
 
-// The fields of a response to a Connect. Such a response cannot be told from any other by its bytes alone.
+// The fields of a Connect, and of a response to one. Such a response cannot be told from any other by its bytes alone.
 #[derive(Clone, Copy)]
 pub struct ConnectParameters {
     pub version: u8,
@@ -277,9 +270,14 @@ fn write_packet(store: &mut [u8], byte: u8, fields: [u8; 4], n: usize, headers: 
 }
 
 // Returns Connect's four bytes: version, flags and limit.
-fn encode_connect(version: u8, flags: u8, limit: u16) -> [u8; 4]
-    ensures { result ≡ version ∷ flags ∷ bytes16 limit }
+fn encode_connect(connect: ConnectParameters) -> [u8; 4]
+    ensures { result ≡ encoded_connect connect }
 {
+    let ConnectParameters {
+        version,
+        flags,
+        max_packet_length: limit,
+    } = connect;
     [version, flags, (limit / 256) as u8, (limit % 256) as u8]
 }
 
@@ -288,12 +286,12 @@ fn connect_bytes(fields: Fields) -> [u8; 4]
     ensures { result ≡ connect_bytes fields }
 {
     match fields {
-        Fields::Connect {
-            version,
-            flags,
-            max_packet_length,
-        } => encode_connect(version, flags, max_packet_length),
-        _ => encode_connect(OBEX_VERSION, 0, MIN_PACKET),
+        Fields::Connect(connect) => encode_connect(connect),
+        _ => encode_connect(ConnectParameters {
+            version: OBEX_VERSION,
+            flags: 0,
+            max_packet_length: MIN_PACKET,
+        }),
     }
 }
 
@@ -302,7 +300,7 @@ fn set_path_byte(fields: Fields) -> u8
     ensures { result ≡ set_path_byte fields }
 {
     match fields {
-        Fields::SetPath { backup, no_create } => flag_bits(backup, no_create),
+        Fields::SetPath(flags) => flag_bits(flags.backup, flags.no_create),
         _ => 0,
     }
 }
@@ -338,7 +336,7 @@ fn parameter_bytes(connect: Option<ConnectParameters>) -> [u8; 4]
     ensures { result ≡ filled4 (parameter_bytes connect) }
 {
     match connect {
-        Some(c) => encode_connect(c.version, c.flags, c.max_packet_length),
+        Some(connect) => encode_connect(connect),
         None => [0, 0, 0, 0],
     }
 }
