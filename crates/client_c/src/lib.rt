@@ -73,6 +73,7 @@ pub extern "C" fn obex_client_start(
 }
 
 // Connects to the server, with header bytes in canonical form.
+// Stays beside those that follow: the C interface names each of the calls.
 #[unsafe(no_mangle)]
 pub extern "C" fn obex_client_connect(
     words: &mut [u64; 32],

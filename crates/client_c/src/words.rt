@@ -346,6 +346,7 @@ fn operation_of(n: Numbers) -> Operation
 }
 
 // Returns what the client waits for.
+// Stays a match on numbers: they are the C interface's.
 fn await_of(n: u64) -> Await
     ensures { result ≡ await_of n }
 {

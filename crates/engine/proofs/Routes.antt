@@ -32,9 +32,8 @@ use Rattle.model.specs.Operation.{nothing_gathered, gathers, put_packet, get_pac
 use Rattle.model.specs.Dispatch.{Rejection, admits, rejects, rejection, known_in, drains, rejected, dispatches, admitted_as, dispatch, interrupts, trails, inside, busy, read_as, packet_target, arrived, packet_done}
 use Rattle.table.specs.declared.targets.Target.{Target}
 use Rattle.engine.specs.declared.dispatch.Heading.{Heading}
-use Rattle.engine.specs.declared.dispatch.Admission.{Admission}
-use Rattle.engine.specs.declared.dispatch.Admission.TheVariants.{Admits, Rejects}
-use Rattle.engine.specs.Dispatch.{heading_of, ask_route, code_route, keep_route, trailed_route, is_trailing, admission_of, rejected_route, put_route, get_route, headers_route, dispatch_route, admitted_route, open_route, interrupts_route, inside_route, heading_route, route_as, packet_route, targeted, simple_plan, acts}
+use Rattle.std.specs.Prelude.{Ok, Err}
+use Rattle.engine.specs.Dispatch.{heading_of, ask_route, code_route, keep_route, trailed_route, is_trailing, Admission, admission_of, rejected_route, put_route, get_route, headers_route, dispatch_route, admitted_route, open_route, interrupts_route, inside_route, heading_route, route_as, packet_route, targeted, simple_plan, acts}
 use Rattle.engine.specs.Operation.{keep_of, kind_plan, acts_gathered}
 use Rattle.engine.specs.Connect.{answered_read, answered_as, verifies_plan, carries, stops_by, limited_plan, connect_plan}
 use Rattle.server.specs.declared.Operation.{Operation}
@@ -255,8 +254,8 @@ module _ (e : Engine) (g : Target) (h : Heading) where
 
   admitted-targeted : (a : Admission) → admitted_route a (targeted e g) h ≡ admitted_route a e h
   unfolding engine_with
-  admitted-targeted Admits = dispatch-targeted h.opcode
-  admitted-targeted (Rejects code) = refl
+  admitted-targeted (Ok x) = dispatch-targeted h.opcode
+  admitted-targeted (Err code) = refl
 
   open-targeted : open_route (targeted e g) h ≡ open_route e h
   unfolding open_route rejection engine_with

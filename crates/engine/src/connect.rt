@@ -25,7 +25,7 @@ ghost use Rattle.model.specs.Guard.{sound_operation, long_realm};
 
 use crate::guard::{refuse, same_await};
 use crate::request::{first_id, first_target, has_target, is_enabling, last_connect, last_from};
-use crate::step::{Plan, asks, fields, sends_connect, sent_plan, took, wide16};
+use crate::step::{Plan, asks, fields, sends_connect, sent_plan, took};
 use base::{Span, copy_into};
 use connection::challenge;
 use connection::challenge::answered_challenge;
@@ -46,10 +46,7 @@ fn srm_asked(e: Engine, packet: &[u8], c: ConnectRequest) -> bool
     requires { c ≡ last_connect packet.now }
     ensures { result ≡ srm_asked_by e packet.now }
 {
-    if !e.settings.srm_supported {
-        return false;
-    }
-    is_enabling(packet, c)
+    e.settings.srm_supported && is_enabling(packet, c)
 }
 
 // Whether SRM is on after the Connect `c` in `packet`. SRM that is on already stays on.
@@ -57,10 +54,7 @@ fn srm_after(e: Engine, packet: &[u8], c: ConnectRequest) -> bool
     requires { c ≡ last_connect packet.now }
     ensures { result ≡ e.peer.srm_enabled || srm_asked_by e packet.now }
 {
-    if e.peer.srm_enabled {
-        return true;
-    }
-    srm_asked(e, packet, c)
+    e.peer.srm_enabled || srm_asked(e, packet, c)
 }
 
 // Opens the ConnectionID that the host's answer names first. If it names none and the Connect has a Target, the engine looks for a new id
@@ -105,6 +99,7 @@ pub(crate) fn connect_sends(
     c: ConnectRequest,
     header_bytes: &[u8],
     has_credentials: bool,
+    // Stays a flag beside the bytes, as the C interface lends them (obex_engine_credentials_given).
     has_user: bool,
     user: &[u8],
     password: &[u8],
@@ -116,16 +111,15 @@ pub(crate) fn connect_sends(
         ≡ connect_replies e peer code (accepted_headers e front packet.now header_bytes.now
         (credentials_of has_credentials (given has_user user.now) password.now)) reply.old }
 {
-    let target = c.target;
     let sent = connect_reply(
         reply,
-        wide16(peer.remote_max_packet_length),
+        peer.remote_max_packet_length as usize,
         code,
         e.settings.max_packet_length,
         front,
         packet,
         c.from,
-        target,
+        c.target,
         header_bytes,
         has_credentials,
         has_user,
@@ -260,6 +254,7 @@ pub(crate) fn connect_answer(
 }
 
 // The client's response to the server's challenge: missing, unreadable, or readable, with the place of its user id in the packet.
+// Stays an enum of its own: three cases, of which a place within another Option would hide two.
 #[derive(Clone, Copy)]
 pub(crate) enum Answered {
     Missing,
@@ -366,10 +361,7 @@ fn is_stopped(window: u64, a: Answered) -> bool
 fn must_stop(authentication: bool, window: u64, a: Answered) -> bool
     ensures { result ≡ (authentication && stops_by window a) }
 {
-    if !authentication {
-        return false;
-    }
-    is_stopped(window, a)
+    authentication && is_stopped(window, a)
 }
 
 // Goes on after the client's packet limit is set: stops the Connect, checks the client, or asks the host whether it accepts the Connect.
@@ -402,10 +394,7 @@ pub(crate) fn handle_connect(e: Engine, p: &[u8]) -> Plan
 pub(crate) fn demands_user(settings: Settings) -> bool
     ensures { result ≡ demands_user settings }
 {
-    if !settings.user_id_enforced {
-        return false;
-    }
-    settings.user_id_required
+    settings.user_id_enforced && settings.user_id_required
 }
 
 // If the password was right, asks the host whether it accepts the Connect. Otherwise asks it for a nonce, to challenge the client again.
@@ -446,7 +435,7 @@ pub(crate) fn send_challenge(
 {
     challenge_reply(
         reply,
-        wide16(remote),
+        remote as usize,
         settings.max_packet_length,
         nonce,
         settings.user_id_required,
@@ -457,21 +446,12 @@ pub(crate) fn send_challenge(
     )
 }
 
-// Whether both flags are set: a user id counts only if there are credentials.
-fn both(a: bool, b: bool) -> bool
-    ensures { result ≡ a && b }
-{
-    if !a {
-        return false;
-    }
-    b
-}
-
 // Replies to the Connect that has waited, with credentials or without. A user id of over 255 bytes is refused with `BadAnswer`, since its
 // length field has one byte.
 pub(crate) fn connect_with_credentials(
     e: Engine,
     has_credentials: bool,
+    // Stays a flag beside the bytes, as the C interface lends them (obex_engine_credentials_given).
     has_user: bool,
     user: &[u8],
     password: &[u8],
@@ -485,16 +465,16 @@ pub(crate) fn connect_with_credentials(
         ≡ credentials_by e.operation e (credentials_of has_credentials (given has_user user.now)
         password.now) packet.now headers.now reply.old }
 {
-    let operation = e.operation;
     let Operation::Connecting {
         code,
         front,
         length: kept,
-    } = operation
+    } = e.operation
     else {
         return refuse(e, Refusal::WrongMoment);
     };
-    let named = both(has_credentials, has_user);
+    // A user id counts only if there are credentials.
+    let named = has_credentials && has_user;
     if is_long(named, user.len()) {
         return refuse(e, Refusal::BadAnswer);
     }
@@ -520,8 +500,7 @@ pub(crate) fn handle_disconnect(e: Engine, packet: &[u8], tables: &mut [u64]) ->
     requires { (e.peer.count ≤ 64) × (table_length ≤ length tables.old) }
     ensures { linked result tables.new ≡ replied_link e packet.now tables.old }
 {
-    let awaits = e.awaits;
-    if !same_await(awaits, Await::Disconnect) {
+    if !same_await(e.awaits, Await::Disconnect) {
         return e.peer;
     }
     disconnected(e.peer, first_id(packet, last_from(packet)), tables)

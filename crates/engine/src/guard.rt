@@ -17,6 +17,7 @@ use table::TABLE_LENGTH;
 use table::nonces::MAX_NONCES;
 
 // Whether the engine waits for the same thing in `a` and `b`.
+// Stays beside the client's of that name: each is one line over an enum of its own, and a trait for both would be longer.
 pub(crate) fn same_await(a: Await, b: Await) -> bool
     ensures { result ≡ same_await a b }
 {

@@ -21,6 +21,7 @@ use packet::response::REQUESTED_ENTITY_TOO_LARGE_BYTE;
 use server::{Await, End, Engine, HostRequest, Operation, Settings};
 
 // The kinds of operations whose packets the engine gathers.
+// Stays an enum of its own: three kinds, of which one holds its opcode.
 #[derive(Clone, Copy)]
 pub(crate) enum GatherKind {
     Put,
@@ -70,8 +71,7 @@ fn headers_from(kind: GatherKind) -> usize
     ensures { result ≡ from_of kind }
 {
     match kind {
-        GatherKind::Put => 3,
-        GatherKind::Get => 3,
+        GatherKind::Put | GatherKind::Get => 3,
         GatherKind::Headers(opcode) => prefix_len(opcode),
     }
 }

@@ -85,6 +85,7 @@ pub(crate) fn is_right(
     stored: Option<Octets16>,
     q: &[u8],
     demands: bool,
+    // Stays a flag beside the bytes, as the C interface lends them (obex_engine_password_given).
     has_password: bool,
     password: &[u8],
 ) -> bool

@@ -484,6 +484,7 @@ pub fn store(r: CallResult, words: &mut [u64; 64])
 // ---- and back
 
 // Returns the opcode of a kind and a value.
+// Stays a match on numbers: they are the C interface's.
 fn opcode_of(n: u64, x: u64) -> Opcode
     ensures { result ≡ opcode_of n x }
 {
@@ -598,6 +599,7 @@ fn operation_of(n: Numbers) -> Operation
 }
 
 // Returns what the engine waits for.
+// Stays a match on numbers: they are the C interface's.
 fn await_of(n: u64) -> Await
     ensures { result ≡ await_of n }
 {

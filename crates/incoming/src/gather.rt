@@ -165,6 +165,7 @@ pub fn gather(
 {
     let mut g = begun;
     let mut at = from;
+    // Stays a walk from place to place: each header tells where the next one starts.
     while !g.full {
         let HeaderAt::At { id, start, end, .. } = step(p, at) else {
             return g;

@@ -53,6 +53,7 @@ fn lead_end(s: &[u8]) -> usize
     ensures { (result ≡ lead_end s.now 0) × (result ≤ length s.now) }
 {
     let mut at = 0;
+    // Stays a walk from place to place: each header tells where the next one starts.
     while let HeaderAt::At { id, end, .. } = step(s, at) {
         if !must_lead(id) {
             return at;
@@ -142,6 +143,7 @@ fn back_len(part: Part, packet: &[u8]) -> usize
 {
     let mut at = 0;
     let mut n = 0;
+    // Stays a walk from place to place, as in `lead_end`.
     while let Some(Piece { from, to }) = piece_at(part, packet, at) {
         n += to - from;
         at = to;
@@ -156,6 +158,7 @@ fn put_back(part: Part, packet: &[u8], store: &mut [u8])
 {
     let mut at = 0;
     let mut n = 0;
+    // Stays a walk from place to place, as in `lead_end`.
     while let Some(Piece { from, to }) = piece_at(part, packet, at) {
         copy_into(store, n, &packet[from..to]);
         n += to - from;
