@@ -52,6 +52,7 @@ fn put_tags(out: &mut impl Write, s: &[u8], separator: &str) -> io::Result<()> {
         return write!(out, "-");
     }
     let mut at = 0;
+    // Stays a loop over a place: a tag says itself where the next one starts.
     while let Some(tag) = tag_piece(s, at) {
         if at != 0 {
             write!(out, "{separator}")?;
@@ -214,6 +215,7 @@ fn show_within<const TEXT: usize, const STORE: usize>(
 // Shows each header of `s`, with stores as long as its value needs.
 fn each_header(out: &mut impl Write, s: &[u8], is_rewritten: bool) -> io::Result<()> {
     let mut at = 0;
+    // Stays a loop over a place: a header says itself where the next one starts.
     while let Some(header) = header_piece(s, at) {
         if header.value.len() < 500 {
             show_within::<1600, 3300>(out, header.id, header.value, is_rewritten)?;

@@ -15,6 +15,7 @@ use std::io::Write;
 
 // What is still to be sent of an object: the headers of one store that `outgoing` names, and the body from `given` up to `end` of another. The
 // packet that was made last and not put back is the first `made` bytes of the third. No packet is longer than `limit`.
+// Stays stores with places beside them: what goes out is passed over and not moved, and what is put back is written in front of the rest.
 #[derive(Drop)]
 struct Unsent {
     limit: usize,

@@ -216,6 +216,7 @@ pub extern "C" fn obex_challenge_answer(
     at: usize,
     first: u64,
     second: u64,
+    // Stays a flag beside the bytes of a user: the C interface has no Option.
     has_user: bool,
     user: &[u8],
     password: &[u8],
@@ -224,7 +225,6 @@ pub extern "C" fn obex_challenge_answer(
         ≡ given_putting (write_digest_response store.old at (record { first = first; second = second })
         (given has_user user.now) password.now) }
 {
-    // Stays a flag beside the bytes of a user: the C interface has no Option.
     let nonce = Octets16 { first, second };
     answer_of(packet::auth::respond(store, at, nonce, has_user, user, password))
 }
