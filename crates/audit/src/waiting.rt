@@ -194,6 +194,7 @@ fn noted(w: Waiting, entry: EntryRead, here: Here, payload: &[u8]) -> Waiting
 }
 
 // Tells whether a record waits.
+// Stays beside `is_over`: one line each, for the two definitions that the contracts of this file cite.
 pub(crate) fn is_waiting(phase: Phase) -> bool
     ensures { result ≡ is_waiting phase }
 {

@@ -43,6 +43,7 @@ pub struct SettingsRead {
 }
 
 // Returns the kind of a frame, by its four letters as one number; none if no frame has these letters.
+// Stays a match on numbers: they are the letters that stand in the log (docs/ARCHIVE.md#the-log).
 pub fn kind_in(letters: u32) -> Option<Kind>
     ensures { result ≡ kind_read letters }
 {

@@ -71,6 +71,7 @@ const LEAST: usize = 32;
 const LONGEST: usize = 4294967295;
 
 // Returns the four letters of a frame as one number.
+// Stays a number for each: they are the letters that stand in the log (docs/ARCHIVE.md#the-log).
 pub fn kind_number(kind: Kind) -> u32
     ensures { result ≡ kind_number kind }
 {

@@ -147,6 +147,7 @@ fn again(out: &mut [u8], from: usize, to: usize, at: usize) -> usize
     ensures { filled out.new result ≡ copied_on (to - from) out.old from at }
 {
     let mut n = at;
+    // Stays a loop over an index: what is copied may be what was just written, and `copy_within` reads all before it writes.
     for i in from..to {
         if out.len() <= n || out.len() <= i {
             return n;
