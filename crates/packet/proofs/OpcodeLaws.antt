@@ -13,7 +13,7 @@ use Rattle.std.specs.Result.{result_ok}
 use Rattle.packet.specs.declared.opcode.UnknownOpcode.{UnknownOpcode}
 use Rattle.packet.specs.declared.opcode.Opcode.{Opcode}
 use Rattle.packet.specs.declared.opcode.Opcode.TheVariants.{Connect, Disconnect, Put, Get, SetPath, Action, Session, Abort, UserDefined}
-use Rattle.packet.specs.FirstByte.{known_byte, named, numbered, first_byte, entry_says, value_of, always_final, top_bit, byte_of, kind_of, same_opcode}
+use Rattle.packet.specs.FirstByte.{known_byte, named, opcode_numbered, first_byte, entry_says, value_of, always_final, top_bit, byte_of, kind_of, same_opcode}
 use Rattle.base.proofs.Below.{at_each}
 
 -- ---- proved cases P1 and P2 (docs/PROTOCOL.md#first-byte)
@@ -44,8 +44,8 @@ abbrev pub told : Bool → Option Opcode → Option FirstByte
 told final (Some o) = known_byte o final
 told final None = None
 
-pub entry-told : (n : ℕ) → entry_says n ≡ told (leb 0x80 n) (result_ok (numbered (n % 128)))
-unfolding entry_says named numbered
+pub entry-told : (n : ℕ) → entry_says n ≡ told (leb 0x80 n) (result_ok (opcode_numbered (n % 128)))
+unfolding entry_says named opcode_numbered
 entry-told n =
     let x = n % 128 in
     go (leb 0x80 n) x (eqb x 0x7F) (eqb x 0x00) (eqb x 0x01) (eqb x 0x02) (eqb x 0x03) (eqb x 0x05) (eqb x 0x06) (eqb x 0x07) (leb 0x10 x && leb x 0x1F)

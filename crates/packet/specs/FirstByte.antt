@@ -48,8 +48,8 @@ named x final =
     None)))))))
 
 -- The opcode with the number `x`, or an error if there is none.
-unfoldable pub numbered : ℕ → Result Opcode UnknownOpcode
-numbered x =
+unfoldable pub opcode_numbered : ℕ → Result Opcode UnknownOpcode
+opcode_numbered x =
     pick (eqb x (value_of Abort)) (Ok Abort)
     (pick (eqb x (value_of Connect)) (Ok Connect)
     (pick (eqb x (value_of Disconnect)) (Ok Disconnect)

@@ -1,7 +1,7 @@
 // The first byte of a request (IrOBEX 1.5, section 3.4; docs/PROTOCOL.md#first-byte): its opcode, and in the top bit the Final bit, which
 // marks the last packet of a request.
 ghost use Rattle.std.specs.Prelude.{◌≡◌, Some};
-ghost use Rattle.packet.specs.FirstByte.{name_of, numbered, first_byte, first_byte_table, entry_says, value_of, always_final, byte_of, kind_of, same_opcode};
+ghost use Rattle.packet.specs.FirstByte.{name_of, opcode_numbered, first_byte, first_byte_table, entry_says, value_of, always_final, byte_of, kind_of, same_opcode};
 
 use std::fmt;
 
@@ -95,7 +95,7 @@ fn table() -> [u8; 256]
 impl TryFrom<u8> for Opcode {
     type Error = UnknownOpcode;
 
-    ghost try_from_gives = { λ value r. r ≡ numbered value };
+    ghost try_from_gives = { λ value r. r ≡ opcode_numbered value };
 
     // Returns the opcode whose number is `value`.
     fn try_from(value: u8) -> Result<Self, UnknownOpcode> {
