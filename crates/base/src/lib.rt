@@ -10,6 +10,7 @@ ghost use Rattle.base.specs.Bytes.{be16};
 pub struct Short;
 
 // Returns the byte `b` as a `usize`.
+// Stays beside `usize::from`, as do the two below: its contract bounds the number, which callers cite.
 pub fn wide(b: u8) -> usize
     ensures { (result ≡ b) × (result < 256) }
 {

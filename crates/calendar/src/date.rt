@@ -192,6 +192,7 @@ fn rolled(date: Date) -> Result<Date, RollError>
 }
 
 // Returns the number of an answer of `roll`.
+// Stays a function: the numbers are those of docs/DECISIONS.md, part B, and an answer has one too that is no error.
 pub fn roll_number(answer: Result<(), RollError>) -> usize
     ensures { result ≡ roll_number answer }
 {

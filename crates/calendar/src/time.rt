@@ -48,6 +48,7 @@ pub fn wrote_number(answer: Result<(), Short>) -> usize
 }
 
 // Returns the number of an answer of `read_time`.
+// Stays a function, as does `wrote_number`: the numbers are those of docs/DECISIONS.md, part B, and an answer has one too that is no error.
 pub fn legacy_number(answer: Result<u32, LegacyError>) -> usize
     ensures { result ≡ legacy_number answer }
 {
@@ -60,6 +61,7 @@ pub fn legacy_number(answer: Result<u32, LegacyError>) -> usize
 }
 
 // Returns the last decimal digit of `n`, as a byte of text.
+// Stays beside `write!`: a text has sixteen places, and the contract says the byte at each.
 fn digit(n: u16) -> u8
     ensures { result ≡ 0x30 + n % 10 }
 {

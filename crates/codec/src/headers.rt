@@ -13,7 +13,6 @@ use packet::tlv::{TagAt, Wrote};
 use packet::{header, tlv};
 use std::io;
 use std::io::Write;
-use text::Decoded;
 
 // A header or a tag of a list, its value, and the place where the next one starts.
 #[derive(Clone, Copy)]
@@ -132,8 +131,8 @@ fn decoded<'a>(kind: Kind, v: &[u8], store: &'a mut [u8]) -> &'a [u8] {
         _ => text::decode_ascii(v, store),
     };
     match done {
-        Decoded::Written(n) => store.get(..n).unwrap_or(b""),
-        Decoded::Short => b"",
+        Ok(n) => store.get(..n).unwrap_or(b""),
+        Err(_) => b"",
     }
 }
 

@@ -59,6 +59,7 @@ fn sum4(a: u32, f: u32, k: u32, w: u32) -> u32
 }
 
 // Returns word `k` of the block `p`, the low-order byte first.
+// Stays a slice of 64 bytes, here and up to `block`: `whole_blocks` reads its blocks in place, and would have to try each as an array.
 fn word(p: &[u8], k: usize) -> u32
     requires { (k < 16) × (length p.now ≡ 64) }
     ensures { result ≡ word p.now k }

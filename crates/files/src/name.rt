@@ -5,7 +5,7 @@ ghost use Rattle.files.specs.Store.{filled, fit};
 
 use packet::header::first_header;
 use packet::header_id::NAME;
-use text::{Decoded, decode_unicode};
+use text::decode_unicode;
 
 // Puts the text of the first Name at the front of `store`, and returns its length: 0 if the Name is missing, or longer than the store.
 pub fn name_in(headers: &[u8], store: &mut [u8]) -> usize
@@ -17,8 +17,8 @@ pub fn name_in(headers: &[u8], store: &mut [u8]) -> usize
     };
     let done = decode_unicode(value.of(headers), store);
     match done {
-        Decoded::Written(n) => n,
-        Decoded::Short => 0,
+        Ok(n) => n,
+        Err(_) => 0,
     }
 }
 

@@ -1,8 +1,8 @@
 -- What crosses to C of what the readers and writers of `packet` and `text` answer: a place, a number with an end, a challenge.
 use Rattle.std.specs.Prelude.{ℕ, List, Bool, true, false}
 use Rattle.base.specs.Place.{Place as Found, Some, None}
-use Rattle.text.specs.declared.Decoded.{Decoded}
-use Rattle.text.specs.declared.Decoded.TheVariants as decoded
+use Rattle.std.specs.Prelude.{Result, Ok, Err}
+use Rattle.base.specs.declared.Short.{Short}
 use Rattle.text.specs.Text.{Stored, decoded_number}
 use Rattle.packet.specs.declared.tlv.Wrote.{Wrote}
 use Rattle.packet.specs.declared.tlv.Wrote.TheVariants as wrote
@@ -41,12 +41,12 @@ abbrev pub answer_of : Wrote → Answer
 answer_of w = answer_with (wrote_number w) (end_of_wrote w)
 
 -- Where a text ends.
-abbrev pub end_of_text : Decoded → ℕ
-end_of_text (decoded.Written n) = n
-end_of_text decoded.Short = 0
+abbrev pub end_of_text : Result ℕ Short → ℕ
+end_of_text (Ok n) = n
+end_of_text (Err e) = 0
 
 -- The answer of a reader of text.
-abbrev pub text_answer_of : Decoded → Answer
+abbrev pub text_answer_of : Result ℕ Short → Answer
 text_answer_of d = answer_with (decoded_number d) (end_of_text d)
 
 -- What C gets: the answer, and the store afterwards.

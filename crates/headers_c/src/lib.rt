@@ -15,11 +15,10 @@ ghost use Rattle.packet.specs.AuthRead.{read_challenge};
 ghost use Rattle.packet.specs.AuthWrite.{given, write_digest_response};
 ghost use Rattle.headers_c.specs.Crossing.{place_of, answer_of, text_answer_of, flag_number, given_to_c, given_putting, given_text, challenge_told};
 
-use base::Span;
+use base::{Short, Span};
 use digest::md5::Octets16;
 use packet::auth::DigestChallenge;
 use packet::tlv::Wrote;
-use text::Decoded;
 
 // A place in a list of bytes: `found` is 1 and the bytes are those from `start` up to `end`, or all three are 0.
 #[repr(C)]
@@ -94,12 +93,12 @@ fn answer_of(w: Wrote) -> Answer
 }
 
 // Returns the answer of a reader of text as C gets it.
-fn text_answer_of(d: Decoded) -> Answer
+fn text_answer_of(d: Result<usize, Short>) -> Answer
     ensures { result ≡ text_answer_of d }
 {
     match d {
-        Decoded::Written(end) => Answer { number: 0, end },
-        Decoded::Short => Answer { number: 10, end: 0 },
+        Ok(end) => Answer { number: 0, end },
+        Err(Short) => Answer { number: 10, end: 0 },
     }
 }
 

@@ -409,7 +409,7 @@ fn write_units(store: &mut [u8], from: usize, end: usize, text: &[u8])
     requires { (from + length (unicode_bytes text.now) ≡ end) × (end ≤ length store.old) }
     ensures { store.new ≡ laid store.old from (unicode_bytes text.now) }
 {
-    encode_unicode(text, &mut store[from..end]);
+    let _ = encode_unicode(text, &mut store[from..end]);
 }
 
 // Writes `text` in UTF-16 and a zero unit behind it, unless the text is empty.
@@ -431,7 +431,7 @@ fn write_bare(store: &mut [u8], from: usize, end: usize, text: &[u8])
     requires { (from + length (ascii_text text.now) ≡ end) × (end ≤ length store.old) }
     ensures { store.new ≡ laid store.old from (ascii_text text.now) }
 {
-    decode_ascii(text, &mut store[from..end]);
+    let _ = decode_ascii(text, &mut store[from..end]);
 }
 
 // Writes `text` in UTF-8, up to its first zero byte, and a zero byte behind it.

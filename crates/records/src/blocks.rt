@@ -18,6 +18,7 @@ pub(crate) struct Told {
 }
 
 // Writes `source` as blocks to `target`.
+// Stays beside `read`: the two answers of the archive are two types.
 pub(crate) fn write(source: &[u8], target: &mut [u8]) -> Told {
     let answer = block::write(source, target);
     Told {

@@ -3,6 +3,7 @@ ghost use Rattle.std.specs.Prelude.{◌<◌};
 
 use lines::word::number;
 
+// Stays an enum that `line` matches on: the questions differ in what follows the word.
 #[derive(Clone, Copy)]
 pub(crate) enum Question {
     Write,

@@ -28,6 +28,7 @@ fn words_of(octets: &[u8], words: &mut [u16]) -> usize
     ensures { result ≤ length words.new }
 {
     let count = words.len().min(octets.len() / 2);
+    // Stays a loop over an index: `count` is what is returned, and a `zip` would not say it.
     for k in 0..count {
         words[k] = u16::from_be_bytes([octets[2 * k], octets[2 * k + 1]]);
     }
@@ -39,6 +40,7 @@ fn octets_of(words: &[u16], octets: &mut [u8]) -> usize
     ensures { result ≤ length octets.new }
 {
     let count = words.len().min(octets.len() / 2);
+    // Stays a loop over an index, as in `words_of`.
     for k in 0..count {
         octets[2 * k..2 * k + 2].copy_from_slice(&words[k].to_be_bytes());
     }

@@ -11,6 +11,7 @@ ghost use Rattle.text.specs.Pieces.{Reads};
 use base::{Short, copy_into};
 
 // How text is laid out in bytes. UTF-16 has the high-order byte of a unit first and ends before a zero unit.
+// Stays an enum: the definitions of specs/Text are over it by cases, and a trait would compile each loop three times.
 #[derive(Clone, Copy)]
 enum Form {
     Utf8,
@@ -318,6 +319,7 @@ fn text_len(s: &[u8], from: Form, to: Form) -> usize
 {
     let mut at = 0;
     let mut n: usize = 0;
+    // Stays `while let`, here and below: an iterator over pieces would need a state and laws of its own in place of `at`.
     while let Some(p) = next_piece(s, at, from) {
         n = n.saturating_add(width(p.code, to));
         at += p.size;

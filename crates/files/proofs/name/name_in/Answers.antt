@@ -19,14 +19,14 @@ of-requires-clause-ordered c = (here c).stands.past
 pub of-requires-clause-within : goal.of-requires-clause-within
 of-requires-clause-within c = (here c).stands.fits
 
-pub returns-in-Written : goal.returns-in-Written
-returns-in-Written c =
+pub returns-in-Ok : goal.returns-in-Ok
+returns-in-Ok c =
     let p =
     name-written c.args.headers.now c.args.store.now _ c.first_header.result _ _ _ c.decode_unicode-done.result c.first_header.ensures
-    c.in-Some.is (rw c.of.ensures at c.decode_unicode-done.ensures) c.in-Written.is in
+    c.in-Some.is (rw c.of.ensures at c.decode_unicode-done.ensures) c.in-Ok.is in
     record { value = p.0; room = p.1 }
 
-pub returns-in-Short-clause-value : goal.returns-in-Short-clause-value
-returns-in-Short-clause-value c =
+pub returns-in-Err-clause-value : goal.returns-in-Err-clause-value
+returns-in-Err-clause-value c =
     name-short c.args.headers.now c.args.store.now _ c.first_header.result _ _ c.decode_unicode-done.result c.first_header.ensures
-    c.in-Some.is (rw c.of.ensures at c.decode_unicode-done.ensures) c.in-Short.is
+    c.in-Some.is (rw c.of.ensures at c.decode_unicode-done.ensures) c.in-Err.is
