@@ -4,7 +4,7 @@ use base::Span;
 use digest::md5;
 use lines::word::{after, byte_at};
 use packet::auth;
-use packet::auth::{DigestChallenge, DigestResponse, Named};
+use packet::auth::{DigestChallenge, DigestResponse};
 use std::io;
 use std::io::Write;
 
@@ -16,12 +16,14 @@ fn value_at(v: &[u8], place: Option<Span>) -> Option<&[u8]> {
 
 // Answers with the parts of a challenge. The first byte of a realm is its charset.
 pub(crate) fn challenge(out: &mut impl Write, v: &[u8]) -> io::Result<()> {
-    let DigestChallenge::Challenge {
-        nonce,
-        user_id_required,
-        read_only,
-        realm,
-    } = auth::read_challenge(v)
+    let Some(
+        DigestChallenge {
+            nonce,
+            user_id_required,
+            read_only,
+            realm,
+        },
+    ) = auth::read_challenge(v)
     else {
         return write!(out, "unreadable");
     };
@@ -44,11 +46,13 @@ pub(crate) fn challenge(out: &mut impl Write, v: &[u8]) -> io::Result<()> {
 
 // Answers with the parts of the response to a challenge.
 pub(crate) fn response_list(out: &mut impl Write, v: &[u8]) -> io::Result<()> {
-    let DigestResponse::Response {
-        digest,
-        user,
-        nonce,
-    } = auth::read_response(v)
+    let Some(
+        DigestResponse {
+            digest,
+            user,
+            nonce,
+        },
+    ) = auth::read_response(v)
     else {
         return write!(out, "unreadable");
     };
@@ -58,8 +62,8 @@ pub(crate) fn response_list(out: &mut impl Write, v: &[u8]) -> io::Result<()> {
         None => write!(out, "none")?,
     }
     match nonce {
-        Named::Nonce(named) => write!(out, " nonce={}", Sixteen(named)),
-        Named::Missing => write!(out, " nonce=none"),
+        Some(named) => write!(out, " nonce={}", Sixteen(named)),
+        None => write!(out, " nonce=none"),
     }
 }
 
@@ -70,14 +74,16 @@ pub(crate) fn verify(
     response: &[u8],
     password: &[u8],
 ) -> io::Result<()> {
-    let DigestChallenge::Challenge { nonce, .. } = auth::read_challenge(challenge) else {
+    let Some(DigestChallenge { nonce, .. }) = auth::read_challenge(challenge) else {
         return write!(out, "unreadable");
     };
-    let DigestResponse::Response {
-        digest,
-        user,
-        nonce: named,
-    } = auth::read_response(response)
+    let Some(
+        DigestResponse {
+            digest,
+            user,
+            nonce: named,
+        },
+    ) = auth::read_response(response)
     else {
         return write!(out, "unreadable");
     };
@@ -92,7 +98,7 @@ pub(crate) fn respond(
     user: Option<&[u8]>,
     password: &[u8],
 ) -> io::Result<()> {
-    let DigestChallenge::Challenge { nonce, .. } = auth::read_challenge(challenge) else {
+    let Some(DigestChallenge { nonce, .. }) = auth::read_challenge(challenge) else {
         return write!(out, "unreadable");
     };
     let mut store = [0u8; 4096];

@@ -2,14 +2,14 @@
 use Rattle.std.proofs.Common.{◌≡◌, ℕ, Bool, true, false, eqb, List, [], ◌∷◌, sym, refl, ap, ◌∙◌, arith}
 use mathlib.Core.Option.{Option, none, some}
 use Rattle.base.specs.Pick.{pick}
-use Rattle.base.specs.Place.{Place, None}
+use Rattle.std.specs.Prelude.{Option as Maybe, None}
+use Rattle.base.specs.Place.{Place}
 use Rattle.packet.specs.Header.{Header, push, read_headers, first, first_place}
 use Rattle.packet.specs.HeaderList.{is_read}
 use Rattle.packet.specs.Tags.{bytes_at}
 use Rattle.packet.specs.Auth.{Challenge, challenge_of, realm_place}
 use Rattle.packet.specs.AuthRead.{challenge_read, read_challenge}
 use Rattle.packet.specs.declared.auth.DigestChallenge.{DigestChallenge}
-use Rattle.packet.specs.declared.auth.DigestChallenge.TheVariants as challenge
 use Rattle.packet.proofs.HeaderLaws.{first-agrees}
 use Rattle.journal.specs.Journal.{list_of}
 use Rattle.connection.specs.ConnectReply.{push_challenge, challenges, first_of, answered_challenge}
@@ -37,8 +37,8 @@ known_step id v (some hs) = known_on (eqb id 0x4D) (challenge_of v) (challenges 
 -- ---- the one answered
 
 -- the first challenge, read from its tag list
-abbrev pub read_first : Option (List ℕ) → DigestChallenge
-read_first none = challenge.Unreadable
+abbrev pub read_first : Option (List ℕ) → Maybe DigestChallenge
+read_first none = None
 read_first (some v) = read_challenge v
 
 answered-first : (h : Header) (hs : List Header) (b : Bool) (o : Option Challenge) (cs : Option (List Challenge)) → challenge_of h.value ≡ o
@@ -57,20 +57,20 @@ unfolding answered_in answered_challenge challenges first
 answered-known [] k = refl
 answered-known (h ∷ hs) k = answered-first h hs (eqb h.id 0x4D) (challenge_of h.value) (challenges hs) refl k (answered-known hs)
 
-pub not-answered : (r : Option (List Header)) → known_in r ≡ false → answered_in (list_of r) ≡ challenge.Unreadable
+pub not-answered : (r : Option (List Header)) → known_in r ≡ false → answered_in (list_of r) ≡ None
 unfolding answered_in answered_challenge challenges first
 not-answered none k = refl
 not-answered (some hs) k = go (challenges hs) k
   where
-    go : (cs : Option (List Challenge)) → is_known cs ≡ false → challenge_read (first_of cs) (realm_of (first 0x4D hs)) ≡ challenge.Unreadable
+    go : (cs : Option (List Challenge)) → is_known cs ≡ false → challenge_read (first_of cs) (realm_of (first 0x4D hs)) ≡ None
     go none e = refl
     go (some cs) e = let z : ◌≡◌ {A = ℕ} 0 1 = cc in absurd (omega arith)
 
 -- without a challenge none is answered
-pub none-answered : (hs : List Header) → first 0x4D hs ≡ none → challenge.Unreadable ≡ answered_in hs
+pub none-answered : (hs : List Header) → first 0x4D hs ≡ none → None ≡ answered_in hs
 none-answered hs e = go (is_known (challenges hs)) refl
   where
-    go : (b : Bool) → is_known (challenges hs) ≡ b → challenge.Unreadable ≡ answered_in hs
+    go : (b : Bool) → is_known (challenges hs) ≡ b → None ≡ answered_in hs
     go true k = sym (answered-known hs k ∙ ap read_first e)
     go false k = sym (not-answered (some hs) k)
 

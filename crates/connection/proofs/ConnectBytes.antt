@@ -11,11 +11,9 @@ use Rattle.packet.specs.Header.{Header, header_at_of, part, push, read_headers, 
 use Rattle.packet.specs.HeaderList.{is_read, readable_from}
 use Rattle.packet.specs.Tags.{bytes_at, write_tags}
 use Rattle.packet.specs.Auth.{Challenge, response_tags}
-use Rattle.packet.specs.AuthRead.{challenge_read}
+use Rattle.packet.specs.AuthRead.{Named, challenge_read}
 use Rattle.packet.specs.declared.header.HeaderAt.{HeaderAt}
 use Rattle.packet.specs.declared.header.HeaderAt.TheVariants.{At, Unreadable, End}
-use Rattle.packet.specs.declared.auth.Named.{Named}
-use Rattle.packet.specs.declared.auth.Named.TheVariants as nonce
 use Rattle.packet.proofs.HeaderBytes.{Octets, header-bytes, header_at_bytes}
 use Rattle.packet.proofs.HeaderLaws.{by_cursor_lem, first_found}
 use Rattle.journal.specs.Journal.{list_of}
@@ -118,7 +116,7 @@ answer-part s from has user password o = go has (answered_challenge (headers_fro
   where
     go : (b : Bool) (c : Option Challenge) → answered_challenge (headers_from s from) ≡ c
         → all_bytes (answer_with c (credentials_of b user password))
-        ≡ answer_bytes (pick b (nonce_of (challenge_read c (realm_of (first 0x4D (headers_from s from))))) nonce.Missing) user password
+        ≡ answer_bytes (pick b (nonce_of (challenge_read c (realm_of (first 0x4D (headers_from s from))))) None) user password
     go false none e = refl
     go false (some c) e = refl
     go true none e = refl

@@ -4,6 +4,7 @@ use mathlib.Core.Option.{Option}
 use Rattle.std.specs.Prelude.{Some, None}
 use Rattle.base.specs.Pick.{pick}
 use Rattle.base.specs.Bytes.{bytes32}
+use Rattle.packet.specs.AuthRead.{Named}
 use Rattle.base.specs.Place.{Place, span}
 use Rattle.digest.specs.Md5.{octets16}
 use Rattle.digest.specs.declared.md5.Octets16.{Octets16}
@@ -17,8 +18,6 @@ use Rattle.packet.specs.Placed.{Putting, putting, laid, placed}
 use Rattle.packet.specs.declared.tlv.Wrote.{Wrote}
 use Rattle.packet.specs.declared.store.LengthField.{LengthField}
 use Rattle.packet.specs.declared.store.LengthField.TheVariants.{OneByte, TwoBytes}
-use Rattle.packet.specs.declared.auth.Named.{Named}
-use Rattle.packet.specs.declared.auth.Named.TheVariants as nonce
 use Rattle.packet.specs.declared.header.HeaderEncoding.TheVariants.{Bytes}
 use Rattle.packet.proofs.Laid.{length-laid, laid-nothing, laid-append}
 use Rattle.packet.proofs.AuthLaws.{length-request}
@@ -107,8 +106,8 @@ response-length n has user password =
     answer-length _ (octets16 n) (given has user) (length-request (octets16 n) password) (length-octets16 n) ∙ ap (λ (k : ℕ). 36 + k) (user-length has user)
 
 pub answer-bytes-length : (m : Named) (has : Bool) (user password : List ℕ) → length (answer_bytes m (given has user) password) ≡ answer_size m has (length user)
-answer-bytes-length nonce.Missing has user password = refl
-answer-bytes-length (nonce.Nonce n) has user password =
+answer-bytes-length None has user password = refl
+answer-bytes-length (Some n) has user password =
     let v = write_tags (response_tags (octets16 n) (given has user) password) in
     let e = response-length n has user password in
     bytes-length 0x4E v refl refl ∙ omega (arith, e)
@@ -155,7 +154,7 @@ pub user-small : (has : Bool) (user : List ℕ) → overlong (given has user) �
 user-small true user e = ltb-false 255 (length user) e
 user-small false user e = omega arith
 
-module _ (y user password : List ℕ) (at : ℕ) (n : Octets16) (has : Bool) (m : Named) (e : m ≡ nonce.Nonce n)
+module _ (y user password : List ℕ) (at : ℕ) (n : Octets16) (has : Bool) (m : Named) (e : m ≡ Some n)
     (room : Room y at (answer_bytes m (given has user) password)) (size : ℕ) (q : size ≡ 39 + pick has (2 + length user) 0) where
   bytes : length (answer_bytes m (given has user) password) ≡ size
   bytes = answer-bytes-length m has user password ∙ ap (λ (k : Named). answer_size k has (length user)) e ∙ sym q
@@ -252,9 +251,9 @@ who_at_most None o = omega arith
 who_at_most (Some p) o = omega (arith, o.0, o.1)
 
 pub answer_at_most : (m : Named) (has : Bool) (n : ℕ) → pick has n 0 ≤ 255 → answer_size m has n ≤ 296
-answer_at_most nonce.Missing has n h = omega arith
-answer_at_most (nonce.Nonce m) true n h = omega arith
-answer_at_most (nonce.Nonce m) false n h = omega arith
+answer_at_most None has n h = omega arith
+answer_at_most (Some m) true n h = omega arith
+answer_at_most (Some m) false n h = omega arith
 
 pub grant_at_most : (srm : Bool) → pick srm 2 0 ≤ 2
 grant_at_most true = omega arith

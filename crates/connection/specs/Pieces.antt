@@ -1,6 +1,6 @@
 -- The reply to a Connect as the code has it: places in the packet, numbers, and bytes piece by piece. proofs/ConnectBytes says that the
 -- pieces are the bytes of `connect_headers`.
-use Rattle.std.specs.Prelude.{◌≡◌, ℕ, ◌+◌, ◌-◌, ◌≤◌, Bool, true, false, List, [], ◌∷◌, ◌++◌, length, ◌==◌, Some, None}
+use Rattle.std.specs.Prelude.{◌≡◌, ℕ, ◌+◌, ◌-◌, ◌≤◌, Bool, true, false, List, [], ◌∷◌, ◌++◌, length, ◌==◌, Option as Maybe, Some, None}
 use Rattle.std.proofs.Math.Option.{Option, none, some}
 use Rattle.base.specs.Pick.{pick}
 use Rattle.base.specs.Bytes.{bytes32}
@@ -15,15 +15,11 @@ use Rattle.packet.specs.HeaderWriter.{header}
 use Rattle.packet.specs.Tags.{write_tags}
 use Rattle.packet.specs.Placed.{laid}
 use Rattle.packet.specs.Auth.{Challenge as PeerChallenge, realm_place, response_tags}
-use Rattle.packet.specs.AuthRead.{challenge_read, read_challenge, verifies}
+use Rattle.packet.specs.AuthRead.{Named, challenge_read, read_challenge, verifies}
 use Rattle.packet.specs.declared.header.HeaderAt.{HeaderAt}
 use Rattle.packet.specs.declared.header.HeaderAt.TheVariants.{At, Unreadable, End}
-use Rattle.packet.specs.declared.auth.Named.{Named}
-use Rattle.packet.specs.declared.auth.Named.TheVariants as nonce
 use Rattle.packet.specs.declared.auth.DigestChallenge.{DigestChallenge}
-use Rattle.packet.specs.declared.auth.DigestChallenge.TheVariants as challenge
 use Rattle.packet.specs.declared.auth.DigestResponse.{DigestResponse}
-use Rattle.packet.specs.declared.auth.DigestResponse.TheVariants as response
 use Rattle.journal.specs.Calls.{Credentials}
 use Rattle.journal.specs.Journal.{list_of}
 use Rattle.connection.specs.Peer.{ConnectionId, Challenge}
@@ -50,9 +46,9 @@ known_in none = false
 known_in (some hs) = is_known (challenges hs)
 
 -- A challenge could be read.
-abbrev pub is_challenge : DigestChallenge → Bool
-is_challenge challenge.Unreadable = false
-is_challenge (challenge.Challenge n u r p) = true
+abbrev pub is_challenge : Maybe DigestChallenge → Bool
+is_challenge None = false
+is_challenge (Some c) = true
 
 -- A header is no challenge, or one that can be read.
 abbrev pub known_header : ℕ → List ℕ → Bool
@@ -64,17 +60,17 @@ realm_of none = None
 realm_of (some v) = realm_place v
 
 -- The challenge that is answered, with its realm's place in its tag list.
-unfoldable pub answered_in : List Header → DigestChallenge
+unfoldable pub answered_in : List Header → Maybe DigestChallenge
 answered_in hs = challenge_read (answered_challenge hs) (realm_of (first header_id.authenticate_challenge hs))
 
 -- The nonce of a challenge.
-abbrev pub nonce_of : DigestChallenge → Named
-nonce_of challenge.Unreadable = nonce.Missing
-nonce_of (challenge.Challenge n u r p) = nonce.Nonce n
+abbrev pub nonce_of : Maybe DigestChallenge → Named
+nonce_of None = None
+nonce_of (Some c) = Some c.nonce
 
 -- The nonce of the challenge that is answered, if there are credentials to answer it.
 abbrev pub nonce_for : Bool → List Header → Named
-nonce_for has hs = pick has (nonce_of (answered_in hs)) nonce.Missing
+nonce_for has hs = pick has (nonce_of (answered_in hs)) None
 
 -- The Target that Who gives back, if the answer has no Who.
 abbrev pub who_place : Place → Place → Place
@@ -96,11 +92,11 @@ cut_at None s = end_of (header_at_of s 0)
 
 -- The check of a password (verify_client): without a stored challenge, a readable response or a password it fails, and without a user id if
 -- the server `demands` one.
-abbrev pub check_of : Challenge → DigestResponse → Bool → Option (List ℕ) → Bool
+abbrev pub check_of : Challenge → Maybe DigestResponse → Bool → Option (List ℕ) → Bool
 check_of None r demands p = false
-check_of (Some n) response.Unreadable demands p = false
-check_of (Some n) (response.Response d u m) demands none = false
-check_of (Some n) (response.Response d u m) demands (some p) = verifies n d u m demands p
+check_of (Some n) None demands p = false
+check_of (Some n) (Some r) demands none = false
+check_of (Some n) (Some r) demands (some p) = verifies n r.digest r.user r.nonce demands p
 
 -- ---- the bytes
 
@@ -116,8 +112,8 @@ who_bytes (some t) = bytes_of (header header_id.who t)
 
 -- The bytes of the answer to the peer's challenge.
 abbrev pub answer_bytes : Named → Option (List ℕ) → List ℕ → List ℕ
-answer_bytes nonce.Missing user password = []
-answer_bytes (nonce.Nonce n) user password = bytes_of (header header_id.authenticate_response (write_tags (response_tags (octets16 n) user password)))
+answer_bytes None user password = []
+answer_bytes (Some n) user password = bytes_of (header header_id.authenticate_response (write_tags (response_tags (octets16 n) user password)))
 
 -- The bytes of the header that grants Single Response Mode (SRM).
 abbrev pub grant_bytes : Bool → List ℕ
@@ -160,8 +156,8 @@ who_size (Some p) = 3 + (p.end - p.start)
 
 -- How many bytes the answer to the peer's challenge takes.
 abbrev pub answer_size : Named → Bool → ℕ → ℕ
-answer_size nonce.Missing has n = 0
-answer_size (nonce.Nonce m) has n = 39 + pick has (2 + n) 0
+answer_size None has n = 0
+answer_size (Some m) has n = 39 + pick has (2 + n) 0
 
 -- How many bytes all the headers take.
 abbrev pub size_of : ConnectionId → Place → ℕ → Named → Bool → ℕ → Bool → ℕ

@@ -23,7 +23,7 @@ use crate::challenge::{first_in, nonce_for};
 use crate::reply::begin_connect;
 use base::{Span, copy_into};
 use digest::md5::Octets16;
-use packet::auth::{Named, respond, write_challenge};
+use packet::auth::{respond, write_challenge};
 use packet::header::{HeaderAt, header_at, is_readable, put_bytes, put_u8, put_u32};
 use packet::header_id::{
     AUTHENTICATE_CHALLENGE, AUTHENTICATE_RESPONSE, CONNECTION_ID, SINGLE_RESPONSE_MODE, WHO,
@@ -98,13 +98,13 @@ fn who_size(who: Option<Span>) -> usize
 // Stays a flag beside a length, as `connect_reply` has them.
 //
 // Returns how many bytes the answer to the peer's challenge takes.
-fn answer_size(nonce: Named, has_user: bool, user: usize) -> usize
+fn answer_size(nonce: Option<Octets16>, has_user: bool, user: usize) -> usize
     requires { pick has_user user 0 ≤ max_tag_value }
     ensures { result ≡ answer_size nonce has_user user }
 {
-    if let Named::Missing = nonce {
+    let Some(_) = nonce else {
         return 0;
-    }
+    };
     if !has_user {
         return 39;
     }
@@ -139,7 +139,7 @@ fn connect_size(
     front: Option<u32>,
     who: Option<Span>,
     headers: usize,
-    nonce: Named,
+    nonce: Option<Octets16>,
     // Stays a flag beside a length, as `connect_reply` has them.
     has_user: bool,
     user: usize,
@@ -220,7 +220,7 @@ fn put_named(
 fn put_answer(
     reply: &mut [u8],
     at: usize,
-    nonce: Named,
+    nonce: Option<Octets16>,
     // Stays a flag beside the bytes, as `connect_reply` has them.
     has_user: bool,
     user: &[u8],
@@ -231,7 +231,7 @@ fn put_answer(
     ensures { Puts reply.old at (answer_bytes nonce (given has_user user.now) password.now)
         result reply.new }
 {
-    let Named::Nonce(n) = nonce else {
+    let Some(n) = nonce else {
         return at;
     };
     let size = answer_size(nonce, has_user, user.len());
@@ -244,7 +244,7 @@ fn put_answer(
 fn put_added(
     reply: &mut [u8],
     at: usize,
-    nonce: Named,
+    nonce: Option<Octets16>,
     // Stays a flag beside the bytes, as `connect_reply` has them.
     has_user: bool,
     user: &[u8],
@@ -272,7 +272,7 @@ fn send_pieces(
     who: Option<Span>,
     packet: &[u8],
     headers: &[u8],
-    nonce: Named,
+    nonce: Option<Octets16>,
     // Stays a flag beside the bytes, as `connect_reply` has them.
     has_user: bool,
     user: &[u8],

@@ -12,6 +12,7 @@ use borrow.Author.Tests.{leb-true}
 use lib.ListN.{length, take}
 use lib.Dec.{ltb}
 use Rattle.base.specs.Pick.{pick}
+use Rattle.std.specs.Prelude.{Option as Maybe, Some, None}
 use Rattle.base.specs.Place.{Place}
 use Rattle.packet.specs.Codes.{is_success}
 use Rattle.packet.specs.Header.{Header, read_headers, first, first_place, all_bytes}
@@ -19,7 +20,6 @@ use Rattle.packet.specs.Auth.{Challenge as PeerChallenge}
 use Rattle.packet.specs.AuthRead.{challenge_read}
 use Rattle.packet.specs.AuthWrite.{given, overlong}
 use Rattle.packet.specs.declared.auth.DigestChallenge.{DigestChallenge}
-use Rattle.packet.specs.declared.auth.DigestChallenge.TheVariants as challenge
 use Rattle.journal.specs.Calls.{Credentials}
 use Rattle.incoming.specs.Survey.{survey_of}
 use Rattle.connection.specs.Reply.{Sending as Sent, fields_of, send_bytes, sent_into, front}
@@ -103,22 +103,22 @@ module _ (e : Engine) (p : Peer) (code : ℕ) (f : ConnectionId) (q hs y : List 
       sent-written e p code (fields_of e.settings.max_packet_length) (accepted_headers e f q hs c) y n z x r
       (h ∙ ap₂ (λ (r : List Header) (b : Bool). made c n r b) (j ∙ last-headers q) k) i l t
 
-  pub not-challenged : (h : List ℕ) (w : Written) → challenge.Unreadable ≡ answered_in (headers_of q)
+  pub not-challenged : (h : List ℕ) (w : Written) → None ≡ answered_in (headers_of q)
       → w ≡ connect_replies e p code (accepted_headers e f q hs none) y
       → leaving h w ≡ challenged_by (answered_in (headers_of q)) e p code f hs q h y
   not-challenged h w k i =
-      ap (λ (w : Written). leaving h w) i ∙ ap (λ (d : DigestChallenge). challenged_by d e p code f hs q h y) k
+      ap (λ (w : Written). leaving h w) i ∙ ap (λ (d : Maybe DigestChallenge). challenged_by d e p code f hs q h y) k
 
-  pub challenged : (h z : List ℕ) (n : Octets16) (u r : Bool) (a m : Place) (x : Plan) (t : CallResult)
-      → challenge.Challenge n u r a ≡ answered_in (headers_of q)
-      → t ≡ took_by x → x ≡ asks_plan e p (Connecting code f (length hs)) await.Credentials (request.Credentials n u r m)
+  pub challenged : (h z : List ℕ) (c : DigestChallenge) (m : Place) (x : Plan) (t : CallResult)
+      → Some c ≡ answered_in (headers_of q)
+      → t ≡ took_by x → x ≡ asks_plan e p (Connecting code f (length hs)) await.Credentials (request.Credentials c.nonce c.user_id_required c.read_only m)
       → m ≡ realm_in q (first_place 0x4D q 7) → z ≡ front hs h
       → answering t z y ≡ challenged_by (answered_in (headers_of q)) e p code f hs q h y
-  challenged h z n u r a m x t k i j l o =
+  challenged h z c m x t k i j l o =
       ap₂ (λ (t : CallResult) (z : List ℕ). answering t z y)
       (i ∙ ap (λ (x : Plan). took_by x)
-      (j ∙ ap (λ (m : Place). asks_plan e p (Connecting code f (length hs)) await.Credentials (request.Credentials n u r m)) l)) o
-      ∙ ap (λ (d : DigestChallenge). challenged_by d e p code f hs q h y) k
+      (j ∙ ap (λ (m : Place). asks_plan e p (Connecting code f (length hs)) await.Credentials (request.Credentials c.nonce c.user_id_required c.read_only m)) l)) o
+      ∙ ap (λ (d : Maybe DigestChallenge). challenged_by d e p code f hs q h y) k
 
 -- the ways of the answer
 module _ (e : Engine) (t : List ℕ) (code : ℕ) (hs q h y : List ℕ) (b : Bool) (success : b ≡ is_success code) where

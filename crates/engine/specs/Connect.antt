@@ -11,7 +11,6 @@ use Rattle.packet.specs.Header.{Header, first, first_place, all_bytes}
 use Rattle.packet.specs.HeaderIds as header_id
 use Rattle.packet.specs.Packet.{request_of, connect_limit}
 use Rattle.packet.specs.declared.auth.DigestChallenge.{DigestChallenge}
-use Rattle.packet.specs.declared.auth.DigestChallenge.TheVariants as challenge
 use Rattle.journal.specs.Calls.{Credentials}
 use Rattle.incoming.specs.Survey.{survey_of}
 use Rattle.connection.specs.Reply.{fields_of, front}
@@ -170,11 +169,11 @@ answer_for e t hs q =
     (isGiven (first header_id.target (headers_of q))) (target_given (first header_id.target (headers_of q)))
 
 -- If the client sent challenges that can all be read, the engine asks for credentials, and the host's headers wait in the header store.
-abbrev pub challenged_by : DigestChallenge → Engine → Peer → ℕ → ConnectionId → List ℕ → List ℕ → List ℕ → List ℕ → Answering
-challenged_by challenge.Unreadable e p code f hs q h y = leaving h (connect_replies e p code (accepted_headers e f q hs none) y)
-challenged_by (challenge.Challenge n u r x) e p code f hs q h y =
+abbrev pub challenged_by : OrNone DigestChallenge → Engine → Peer → ℕ → ConnectionId → List ℕ → List ℕ → List ℕ → List ℕ → Answering
+challenged_by None e p code f hs q h y = leaving h (connect_replies e p code (accepted_headers e f q hs none) y)
+challenged_by (Some c) e p code f hs q h y =
     answering
-    (took_by (asks_plan e p (Connecting code f (length hs)) await.Credentials (request.Credentials n u r (realm_in q (first_place header_id.authenticate_challenge q 7)))))
+    (took_by (asks_plan e p (Connecting code f (length hs)) await.Credentials (request.Credentials c.nonce c.user_id_required c.read_only (realm_in q (first_place header_id.authenticate_challenge q 7)))))
     (front hs h)
     y
 

@@ -34,7 +34,7 @@ use connection::connect_reply::{challenge_reply, connect_reply};
 use connection::peer::{Answer, Peer, disconnected, limited, opened_for, verified, with_check};
 use connection::request::ConnectRequest;
 use digest::md5::Octets16;
-use packet::auth::{DigestChallenge, DigestResponse, is_long, read_response, realm};
+use packet::auth::{DigestChallenge, is_long, read_response, realm};
 use packet::header::first_header;
 use packet::header_id::{AUTHENTICATE_CHALLENGE, AUTHENTICATE_RESPONSE};
 use packet::packet::connect_limit;
@@ -164,12 +164,12 @@ fn unchallenged(
 }
 
 // Reads the challenge of the Connect `c` in `packet` that is to be answered. Only if there is one, the walk that reads all of them follows.
-fn challenge_in(packet: &[u8], c: ConnectRequest) -> DigestChallenge
+fn challenge_in(packet: &[u8], c: ConnectRequest) -> Option<DigestChallenge>
     requires { c ≡ last_connect packet.now }
     ensures { result ≡ answered_in (headers_of packet.now) }
 {
     let Some(_) = c.challenge else {
-        return DigestChallenge::Unreadable;
+        return None;
     };
     answered_challenge(packet, c.from)
 }
@@ -193,13 +193,7 @@ fn accepted(
         ≡ challenged_by (answered_in (headers_of packet.now)) e peer code front header_bytes.now
         packet.now headers.old reply.old }
 {
-    let DigestChallenge::Challenge {
-        nonce,
-        user_id_required,
-        read_only,
-        realm: _,
-    } = challenge_in(packet, c)
-    else {
+    let Some(challenge) = challenge_in(packet, c) else {
         return unchallenged(e, peer, code, front, header_bytes, packet, c, reply);
     };
     copy_into(headers, 0, header_bytes);
@@ -209,9 +203,9 @@ fn accepted(
         length: header_bytes.len(),
     };
     let request = HostRequest::Credentials {
-        nonce,
-        user_id_required,
-        read_only,
+        nonce: challenge.nonce,
+        user_id_required: challenge.user_id_required,
+        read_only: challenge.read_only,
         realm: challenge_realm(packet),
     };
     took(asks(e, peer, operation, Await::Credentials, request))
@@ -282,15 +276,10 @@ fn client_response(p: &[u8]) -> Answered
     let Some(value) = first_header(p, 7, AUTHENTICATE_RESPONSE) else {
         return Answered::Missing;
     };
-    let DigestResponse::Response {
-        digest: _,
-        user,
-        nonce: _,
-    } = read_response(value.of(p))
-    else {
+    let Some(response) = read_response(value.of(p)) else {
         return Answered::Unreadable;
     };
-    Answered::User(placed(value.start, user))
+    Answered::User(placed(value.start, response.user))
 }
 
 // What the engine asks the host, and what it waits for then.

@@ -1,5 +1,5 @@
 -- What crosses to C of what the readers and writers of `packet` and `text` answer: a place, a number with an end, a challenge.
-use Rattle.std.specs.Prelude.{ℕ, List, Bool, true, false}
+use Rattle.std.specs.Prelude.{ℕ, List, Bool, true, false, Option as Maybe}
 use Rattle.base.specs.Place.{Place as Found, Some, None}
 use Rattle.std.specs.Prelude.{Result, Ok, Err}
 use Rattle.base.specs.declared.Short.{Short}
@@ -7,7 +7,6 @@ use Rattle.text.specs.Text.{Stored, decoded_number}
 use Rattle.packet.specs.declared.tlv.Wrote.{Wrote}
 use Rattle.packet.specs.declared.tlv.Wrote.TheVariants as wrote
 use Rattle.packet.specs.declared.auth.DigestChallenge.{DigestChallenge}
-use Rattle.packet.specs.declared.auth.DigestChallenge.TheVariants as digest_challenge
 use Rattle.packet.specs.Placed.{Putting, wrote_number}
 use Rattle.headers_c.specs.declared.Place.{Place}
 use Rattle.headers_c.specs.declared.Answer.{Answer}
@@ -88,7 +87,7 @@ challenge_with readable first second user only realm =
     }
 
 -- What C is told of a challenge.
-abbrev pub challenge_told : DigestChallenge → Challenge
-challenge_told (digest_challenge.Challenge nonce user only realm) =
-    challenge_with 1 nonce.first nonce.second (flag_number user) (flag_number only) (place_of realm)
-challenge_told digest_challenge.Unreadable = challenge_with 0 0 0 0 0 (place_at 0 0 0)
+abbrev pub challenge_told : Maybe DigestChallenge → Challenge
+challenge_told (Some c) =
+    challenge_with 1 c.nonce.first c.nonce.second (flag_number c.user_id_required) (flag_number c.read_only) (place_of c.realm)
+challenge_told None = challenge_with 0 0 0 0 0 (place_at 0 0 0)

@@ -17,7 +17,6 @@ ghost use Rattle.headers_c.specs.Crossing.{place_of, answer_of, text_answer_of, 
 
 use base::{Short, Span};
 use digest::md5::Octets16;
-use packet::auth::DigestChallenge;
 use packet::tlv::Wrote;
 
 // A place in a list of bytes: `found` is 1 and the bytes are those from `start` up to `end`, or all three are 0.
@@ -176,25 +175,20 @@ pub extern "C" fn obex_challenge_read(value: &[u8]) -> Challenge
     ensures { result ≡ challenge_told (read_challenge value.now) }
 {
     match packet::auth::read_challenge(value) {
-        DigestChallenge::Challenge {
-            nonce,
-            user_id_required,
-            read_only,
-            realm,
-        } => {
-            let place = place_of(realm);
+        Some(challenge) => {
+            let place = place_of(challenge.realm);
             Challenge {
                 readable: 1,
-                first: nonce.first,
-                second: nonce.second,
-                user_id_required: flag_number(user_id_required),
-                read_only: flag_number(read_only),
+                first: challenge.nonce.first,
+                second: challenge.nonce.second,
+                user_id_required: flag_number(challenge.user_id_required),
+                read_only: flag_number(challenge.read_only),
                 has_realm: place.found,
                 realm_start: place.start,
                 realm_end: place.end,
             }
         }
-        DigestChallenge::Unreadable => Challenge {
+        None => Challenge {
             readable: 0,
             first: 0,
             second: 0,

@@ -10,9 +10,6 @@ use Rattle.digest.specs.Md5.{le_value, be_value, numbers16}
 use Rattle.packet.specs.declared.opcode.Opcode.TheVariants as op
 use Rattle.std.specs.Prelude.{Some}
 use Rattle.packet.specs.declared.packet.Fields.TheVariants as fields
-use Rattle.packet.specs.declared.auth.Named.TheVariants as nonce
-use Rattle.packet.specs.declared.auth.DigestResponse.TheVariants as response
-use Rattle.packet.specs.declared.auth.DigestChallenge.TheVariants as challenge
 use Rattle.packet.specs.FirstByte.{named, first_byte, byte_of}
 use Rattle.packet.specs.Codes.{sent_code}
 use Rattle.packet.specs.Header.{encoding_of, tagged, allowed, encoded_at, header_at_of, walk, read_headers}
@@ -20,7 +17,7 @@ use Rattle.packet.specs.Packet.{request_of, request_at, backup, no_create_of, pa
 use Rattle.packet.specs.Flags.{flag_bits}
 use Rattle.packet.specs.Tags.{tags_by, tags, last_from, last_under, last_value, write_tags}
 use Rattle.packet.specs.Auth.{response_from, response_of, challenge_from, challenge_of, realm_place, user_id_required_of, read_only_of, challenge_tags}
-use Rattle.packet.specs.AuthRead.{read_response, read_challenge}
+use Rattle.packet.specs.AuthRead.{digest_response, digest_challenge, read_response, read_challenge}
 use Rattle.packet.specs.PacketRead.{packet_length, known_request, parse_packet, parse_front, flags_of}
 use Rattle.packet.specs.PacketWrite.{field_bytes, parameter_bytes}
 
@@ -98,31 +95,31 @@ twos = replicate 16 2
 
 -- digest, user id, a nonce: the last of each holds
 last_holds : read_response (0 ∷ 16 ∷ ones ++ (1 ∷ 1 ∷ 0x61 ∷ 2 ∷ 16 ∷ ones) ++ (0 ∷ 16 ∷ twos) ++ (1 ∷ 2 ∷ 0x62 ∷ 0x63 ∷ []) ++ (2 ∷ 16 ∷ twos))
-    ≡ response.Response (numbers16 twos) (span 59 61) (nonce.Nonce (numbers16 twos))
+    ≡ digest_response (numbers16 twos) (span 59 61) (Some (numbers16 twos))
 unfolding read_response response_of tags tags_by response_from last_value last_under last_from numbers16 be_value le_value
 last_holds = refl
 
 -- a nonce that is not 16 bytes long, after a good one: not named
-bad-nonce : read_response (0 ∷ 16 ∷ ones ++ (2 ∷ 16 ∷ ones) ++ (2 ∷ 1 ∷ 7 ∷ [])) ≡ response.Response (numbers16 ones) None nonce.Missing
+bad-nonce : read_response (0 ∷ 16 ∷ ones ++ (2 ∷ 16 ∷ ones) ++ (2 ∷ 1 ∷ 7 ∷ [])) ≡ digest_response (numbers16 ones) None None
 unfolding read_response response_of tags tags_by response_from last_value last_under last_from numbers16 be_value le_value
 bad-nonce = refl
 
 -- a digest of 15 bytes before a good one; and no digest
-bad-digest : read_response (0 ∷ 15 ∷ replicate 15 1 ++ (0 ∷ 16 ∷ ones)) ≡ response.Unreadable
+bad-digest : read_response (0 ∷ 15 ∷ replicate 15 1 ++ (0 ∷ 16 ∷ ones)) ≡ None
 unfolding read_response response_of tags tags_by response_from last_value last_under last_from
 bad-digest = refl
 
-no_digest : read_response (2 ∷ 16 ∷ ones) ≡ response.Unreadable
+no_digest : read_response (2 ∷ 16 ∷ ones) ≡ None
 unfolding read_response response_of tags tags_by response_from last_value last_under last_from
 no_digest = refl
 
 -- a realm, and an empty one after it, which is passed over; options 3, an unknown tag
-empty-realm : read_challenge (0 ∷ 16 ∷ ones ++ (1 ∷ 1 ∷ 3 ∷ 9 ∷ 0 ∷ 2 ∷ 2 ∷ 0 ∷ 0x72 ∷ 2 ∷ 0 ∷ [])) ≡ challenge.Challenge (numbers16 ones) true true (span 25 27)
+empty-realm : read_challenge (0 ∷ 16 ∷ ones ++ (1 ∷ 1 ∷ 3 ∷ 9 ∷ 0 ∷ 2 ∷ 2 ∷ 0 ∷ 0x72 ∷ 2 ∷ 0 ∷ [])) ≡ digest_challenge (numbers16 ones) true true (span 25 27)
 unfolding read_challenge challenge_of tags tags_by challenge_from realm_place last_under last_from user_id_required_of read_only_of numbers16 be_value le_value
 empty-realm = refl
 
 -- empty options are 0
-empty-options : read_challenge (0 ∷ 16 ∷ ones ++ (1 ∷ 1 ∷ 3 ∷ 1 ∷ 0 ∷ [])) ≡ challenge.Challenge (numbers16 ones) false false None
+empty-options : read_challenge (0 ∷ 16 ∷ ones ++ (1 ∷ 1 ∷ 3 ∷ 1 ∷ 0 ∷ [])) ≡ digest_challenge (numbers16 ones) false false None
 unfolding read_challenge challenge_of tags tags_by challenge_from realm_place last_under last_from user_id_required_of read_only_of numbers16 be_value le_value
 empty-options = refl
 

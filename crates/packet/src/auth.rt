@@ -43,34 +43,24 @@ const OPTION_USER_ID_REQUIRED: u8 = 0x01;
 // The option bit by which the challenger offers read-only access.
 const OPTION_READ_ONLY: u8 = 0x02;
 
-// The nonce that a response names: the standard lets it name one if several challenges were sent.
-#[derive(Clone, Copy)]
-pub enum Named {
-    Nonce(Octets16),
-    Missing,
-}
-
 // The digest-response that an Authenticate Response header carries.
 #[derive(Clone, Copy)]
-pub enum DigestResponse {
-    Response {
-        digest: Octets16,
-        user: Option<Span>,
-        nonce: Named,
-    },
-    Unreadable,
+pub struct DigestResponse {
+    pub digest: Octets16,
+    // Where the user id stands.
+    pub user: Option<Span>,
+    // The nonce that it answers: the standard lets it name one if several challenges were sent.
+    pub nonce: Option<Octets16>,
 }
 
 // The digest-challenge that an Authenticate Challenge header carries.
 #[derive(Clone, Copy)]
-pub enum DigestChallenge {
-    Challenge {
-        nonce: Octets16,
-        user_id_required: bool,
-        read_only: bool,
-        realm: Option<Span>,
-    },
-    Unreadable,
+pub struct DigestChallenge {
+    pub nonce: Octets16,
+    pub user_id_required: bool,
+    pub read_only: bool,
+    // Where the realm stands, its charset byte first.
+    pub realm: Option<Span>,
 }
 
 // Tells whether `tag` is not tag 0, or `n` is 16: a digest and a challenge's nonce are 16 bytes long.
@@ -107,24 +97,24 @@ fn all_sixteen(v: &[u8]) -> bool
 }
 
 // Reads the last value under `tag`. A value that is not 16 bytes long counts as missing.
-fn sixteen(v: &[u8], tag: u8) -> Named
+fn sixteen(v: &[u8], tag: u8) -> Option<Octets16>
     ensures { result ≡ sixteen_at v.now (last_value v.now tag) }
 {
     let Some(value) = last_value(v, tag) else {
-        return Named::Missing;
+        return None;
     };
     if value.size() != 16 {
-        return Named::Missing;
+        return None;
     }
-    Named::Nonce(octets16_at(v, value.start))
+    Some(octets16_at(v, value.start))
 }
 
 // Reads the value under tag 0, a response's digest or a challenge's nonce, which is missing if any tag 0 is not 16 bytes long.
-fn tag_zero(v: &[u8]) -> Named
+fn tag_zero(v: &[u8]) -> Option<Octets16>
     ensures { result ≡ tag_zero v.now }
 {
     if !all_sixteen(v) {
-        return Named::Missing;
+        return None;
     }
     sixteen(v, RESPONSE_DIGEST_TAG)
 }
@@ -150,33 +140,29 @@ pub fn realm(v: &[u8]) -> Option<Span>
 }
 
 // Reads a digest-response, ignoring unknown tags. Of a repeated tag the last holds.
-pub fn read_response(v: &[u8]) -> DigestResponse
+pub fn read_response(v: &[u8]) -> Option<DigestResponse>
     ensures { result ≡ read_response v.now }
 {
-    let Named::Nonce(digest) = tag_zero(v) else {
-        return DigestResponse::Unreadable;
-    };
-    DigestResponse::Response {
+    let digest = tag_zero(v)?;
+    Some(DigestResponse {
         digest,
         user: last_value(v, RESPONSE_USER_ID_TAG),
         nonce: sixteen(v, RESPONSE_NONCE_TAG),
-    }
+    })
 }
 
 // Reads a digest-challenge, ignoring unknown tags. Of a repeated tag the last holds.
-pub fn read_challenge(v: &[u8]) -> DigestChallenge
+pub fn read_challenge(v: &[u8]) -> Option<DigestChallenge>
     ensures { result ≡ read_challenge v.now }
 {
-    let Named::Nonce(nonce) = tag_zero(v) else {
-        return DigestChallenge::Unreadable;
-    };
+    let nonce = tag_zero(v)?;
     let bits = options(v);
-    DigestChallenge::Challenge {
+    Some(DigestChallenge {
         nonce,
         user_id_required: bits & OPTION_USER_ID_REQUIRED != 0,
         read_only: bits & OPTION_READ_ONLY != 0,
         realm: realm(v),
-    }
+    })
 }
 
 // Tells whether `a` and `b` are the same sixteen bytes. As in the source the comparison does not stop at the first difference, so that its
@@ -188,12 +174,12 @@ fn same_octets(a: Octets16, b: Octets16) -> bool
 }
 
 // Tells whether a response that names `named` answers the challenge with `nonce`, as it does if it names that nonce or none.
-fn answers_nonce(nonce: Octets16, named: Named) -> bool
+fn answers_nonce(nonce: Octets16, named: Option<Octets16>) -> bool
     ensures { result ≡ answers (octets16 nonce) (bytes_named named) }
 {
     match named {
-        Named::Nonce(n) => same_octets(n, nonce),
-        Named::Missing => true,
+        Some(n) => same_octets(n, nonce),
+        None => true,
     }
 }
 
@@ -223,7 +209,7 @@ pub fn verify(
     nonce: Octets16,
     digest: Octets16,
     user: Option<Span>,
-    named: Named,
+    named: Option<Octets16>,
     demands: bool,
     password: &[u8],
 ) -> bool

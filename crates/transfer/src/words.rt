@@ -4,7 +4,7 @@ use crate::order::WORD;
 use base::Span;
 use digest::md5::Octets16;
 use lines::output::least;
-use packet::auth::{DigestChallenge, read_challenge, respond};
+use packet::auth::{read_challenge, respond};
 use packet::header::{first_header, put_bytes, put_unicode};
 use packet::header_id;
 use packet::tlv::Wrote;
@@ -53,13 +53,8 @@ pub enum Demand {
 // Reads the challenge `value` of a header.
 fn demand_of(value: &[u8]) -> Demand {
     match read_challenge(value) {
-        DigestChallenge::Challenge {
-            nonce,
-            user_id_required: _,
-            read_only: _,
-            realm: _,
-        } => Demand::Nonce(nonce),
-        DigestChallenge::Unreadable => Demand::Nothing,
+        Some(challenge) => Demand::Nonce(challenge.nonce),
+        None => Demand::Nothing,
     }
 }
 

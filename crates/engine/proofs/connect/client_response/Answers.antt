@@ -24,9 +24,9 @@ returns-in_default-read_response c =
 pub placed-requires : goal.placed-requires
 placed-requires c =
     let here = first_found 0x4E c.args.p.now 7 c.in-Some.value.start c.in-Some.value.end (sym c.first_header.ensures ∙ c.in-Some.is) in
-    user-below _ _ _ _ _ (sym (rw c.of.ensures at c.read_response.ensures) ∙ c.in-Response.is) (omega (arith, here.stands.past, here.stands.fits, part_length c.args.p.now c.in-Some.value.start c.in-Some.value.end here.stands.fits))
+    user-below _ _ _ (sym (rw c.of.ensures at c.read_response.ensures) ∙ c.in-Some-read_response.is) (omega (arith, here.stands.past, here.stands.fits, part_length c.args.p.now c.in-Some.value.start c.in-Some.value.end here.stands.fits))
 
 pub returns : goal.returns
 returns c =
     rw c.placed.ensures
-    (answer-read _ c.requires _ _ _ _ _ (sym c.first_header.ensures ∙ c.in-Some.is) (sym (rw c.of.ensures at c.read_response.ensures) ∙ c.in-Response.is))
+    (answer-read _ c.requires _ _ _ (sym c.first_header.ensures ∙ c.in-Some.is) (sym (rw c.of.ensures at c.read_response.ensures) ∙ c.in-Some-read_response.is))

@@ -2,6 +2,7 @@
 use native.Mathlib.Omega.{arith}
 use mathlib.Core.Path.{sym, ap, ◌∙◌}
 use Rattle.packet.specs.AuthWrite.{given}
+use Rattle.std.specs.Prelude.{Option as Maybe}
 use Rattle.packet.specs.declared.auth.DigestResponse.{DigestResponse}
 use Rattle.connection.specs.Pieces.{check_of}
 use Rattle.engine.proofs.LastPacket.{first_bounds, last_finds, right-missing, right_at}
@@ -23,6 +24,6 @@ pub returns : goal.returns
 returns c =
     let k = c.args in
     c.verify_client.ensures
-    ∙ ap (λ (x : DigestResponse). check_of k.stored x k.demands (given k.has_password k.password.now)) (rw c.of.ensures at c.read_response.ensures)
+    ∙ ap (λ (x : Maybe DigestResponse). check_of k.stored x k.demands (given k.has_password k.password.now)) (rw c.of.ensures at c.read_response.ensures)
     ∙ right_at k.stored k.q.now _ _ _ _ (λ i. omega (arith, c.type_inv.q i))
     (sym (last_finds _ _ c.last_connect-c.ensures).response ∙ c.in-Some.is)
