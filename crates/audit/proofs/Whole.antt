@@ -186,9 +186,9 @@ module _ (s : State) where
   reply_calm : (l : Last) (code : ℕ) (hs t : List ℕ) → (reply_step l s code hs t).state.handed ≡ false
   unfolding connected_step state_with
   reply_calm last_as.Other code hs t = refl
-  reply_calm (last_as.Connect enable has g) code hs t =
+  reply_calm (last_as.Connect enable w) code hs t =
       pick-tabled (is_success code)
-      (stands_answered s (answer_by s.peer t (asks_in s enable) (id_in (first header_id.connection_id (headers_from hs 0))) has g))
+      (stands_answered s (answer_by s.peer t (asks_in s enable) (id_in (first header_id.connection_id (headers_from hs 0))) w))
       (tabled (quiet s) t) refl refl
   reply_calm (last_as.Disconnect i) code hs t = refl
 

@@ -12,15 +12,16 @@ use Rattle.packet.proofs.HeaderBytes.{Octets}
 use Rattle.packet.proofs.TagWrites.{read_write}
 use Rattle.packet.proofs.AuthLaws.{filled-user}
 use Rattle.connection.specs.declared.peer.Peer.{Peer}
-use Rattle.connection.specs.Peer.{target_given, opened_for, opened_by, id_in, isGiven, disconnected_peer, disconnected_by, Challenge}
+use Rattle.connection.specs.Peer.{target_asked, opened_for, opened_by, id_in, disconnected_peer, disconnected_by, Challenge}
 use Rattle.connection.specs.Pieces.{check_of}
 use Rattle.connection.proofs.Nonces.{AllOctets, all-octets, Sixteen, Good}
 
 -- ---- ids
 
 pub opened_by_lem : (p : Peer) (t : List ℕ) (srm : Bool) (v target : Option (List ℕ))
-    → opened_for p t srm v target ≡ opened_by p t srm (id_in v) (isGiven target) (target_given target)
-opened_by_lem p t srm (some v) target = refl
+    → opened_for p t srm v target ≡ opened_by p t srm (id_in v) (target_asked target)
+opened_by_lem p t srm (some v) none = refl
+opened_by_lem p t srm (some v) (some target) = refl
 opened_by_lem p t srm none (some target) = refl
 opened_by_lem p t srm none none = refl
 

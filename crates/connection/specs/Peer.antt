@@ -1,6 +1,6 @@
 -- What Connect and Disconnect change (docs/PROTOCOL.md#connect, #connection-ids, #disconnect).
 use Rattle.std.specs.Prelude.{ℕ, ◌+◌, ◌%◌, ◌^◌, Bool, true, false, List, length, take, ◌==◌, nat_le, nat_lt, slice_set, Some, None}
-use Rattle.std.specs.Prelude.{Option as OrNone, option_map}
+use Rattle.std.specs.Prelude.{Option as OrNone, option_map, unwrap_or}
 use Rattle.std.proofs.Math.Option.{Option, none, some}
 use Rattle.base.specs.Pick.{pick}
 use Rattle.base.specs.Bytes.{be32}
@@ -147,6 +147,14 @@ abbrev pub id_in : Option (List ℕ) → ConnectionId
 id_in none = None
 id_in (some v) = Some (be32 v 0)
 
+-- The Target that an id takes, by the request's first Target header, if there is one, as the code has it.
+abbrev pub AskedTarget : Type 0
+AskedTarget = OrNone Target
+
+abbrev pub target_asked : Option (List ℕ) → AskedTarget
+target_asked none = None
+target_asked (some v) = Some (target_by v)
+
 -- What opening leads to, with the table store afterwards: the peer, or none.
 pub record Opens : Type 0 where
   pub peer : OrNone Peer
@@ -161,17 +169,17 @@ abbrev pub opening_of : List ℕ → Option Linked → Opens
 opening_of t none = opens None t
 opening_of t (some q) = opens (Some q.peer) q.tables
 
--- A Connect succeeds, by numbers: the id that the answer names, whether there is a Target header, and the Target `g` that it gives.
-abbrev pub opened_by : Peer → List ℕ → Bool → ConnectionId → Bool → Target → Option Linked
-opened_by p t srm (Some i) has g = opened p t srm i p.next_connection_id g
-opened_by p t srm None true g = opened p t srm (searched p t) ((searched p t + 1) % 2 ^ 32) g
-opened_by p t srm None false g = some (linked (srm_peer p srm) t)
+-- A Connect succeeds, by numbers: the id that the answer names, and the Target `w` that the Target header gives, if there is one.
+abbrev pub opened_by : Peer → List ℕ → Bool → ConnectionId → AskedTarget → Option Linked
+opened_by p t srm (Some i) w = opened p t srm i p.next_connection_id (unwrap_or w unnamed)
+opened_by p t srm None (Some g) = opened p t srm (searched p t) ((searched p t + 1) % 2 ^ 32) g
+opened_by p t srm None None = some (linked (srm_peer p srm) t)
 
 -- The id that goes in front: for a Target, if the answer has none.
-abbrev pub front_by_of : Peer → List ℕ → ConnectionId → Bool → ConnectionId
-front_by_of p t (Some i) target = None
-front_by_of p t None true = Some (searched p t)
-front_by_of p t None false = None
+abbrev pub front_by_of : Peer → List ℕ → ConnectionId → AskedTarget → ConnectionId
+front_by_of p t (Some i) w = None
+front_by_of p t None (Some g) = Some (searched p t)
+front_by_of p t None None = None
 
 -- What the host's answer to a Connect leads to, with the table store afterwards: nothing if its id is a 65th.
 pub record Answers : Type 0 where
@@ -190,10 +198,10 @@ answer_with f p = record { peer = p; front = f }
 abbrev pub answer_from : Opens → ConnectionId → Answers
 answer_from o f = answers (option_map (answer_with f) o.peer) o.tables
 
--- What the host's answer to a Connect leads to, by numbers: the id that it names, whether there is a Target header, and the Target `g` that
--- it gives.
-abbrev pub answer_by : Peer → List ℕ → Bool → ConnectionId → Bool → Target → Answers
-answer_by p t srm given has g = answer_from (opening_of t (opened_by p t srm given has g)) (front_by_of p t given has)
+-- What the host's answer to a Connect leads to, by numbers: the id that it names, and the Target `w` that the Target header gives, if there
+-- is one.
+abbrev pub answer_by : Peer → List ℕ → Bool → ConnectionId → AskedTarget → Answers
+answer_by p t srm given w = answer_from (opening_of t (opened_by p t srm given w)) (front_by_of p t given w)
 
 -- A Disconnect, by the number that it names.
 abbrev pub disconnected_by : Peer → List ℕ → ConnectionId → Linked

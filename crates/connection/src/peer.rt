@@ -12,7 +12,7 @@ use crate::checks::pushed;
 use digest::md5::Octets16;
 use packet::limits::{MAX_CONNECTIONS, MIN_PACKET};
 use table::nonces::counted;
-use table::targets::{Target, close_targets, find_place, put_target};
+use table::targets::{Target, close_targets, find_place, put_target, unnamed};
 
 // The number that is reserved as an invalid connection id.
 const INVALID_ID: u32 = 0xFFFFFFFF;
@@ -223,31 +223,31 @@ pub fn opened(
 }
 
 // Opens the id of a Connect that succeeded: the one that the host's answer names, else, for a Target header, a new one. `target` is the
-// Target that the header gives. If the id is a 65th, there is no answer.
+// Target that the header gives, if there is one. If the id is a 65th, there is no answer.
 pub fn opened_for(
     peer: Peer,
     srm: bool,
     given: Option<u32>,
-    has_target: bool,
-    target: Target,
+    target: Option<Target>,
     tables: &mut [u64],
 ) -> Option<Answer>
     requires { (peer.count ≤ max_connections) × (table_length ≤ length tables.old) }
-    ensures { answers result tables.new ≡ answer_by peer tables.old srm given has_target target }
+    ensures { answers result tables.new ≡ answer_by peer tables.old srm given target }
 {
     if let Some(id) = given {
-        let with = opened(peer, srm, id, peer.next_connection_id, target, tables)?;
+        let asked = target.unwrap_or(unnamed());
+        let with = opened(peer, srm, id, peer.next_connection_id, asked, tables)?;
         return Some(Answer {
             peer: with,
             front: None,
         });
     }
-    if !has_target {
+    let Some(target) = target else {
         return Some(Answer {
             peer: with_srm(peer, srm),
             front: None,
         });
-    }
+    };
     let found = allocate_connection_id(tables, peer.count, peer.next_connection_id);
     let with = opened(peer, srm, found.id, found.next, target, tables)?;
     Some(Answer {

@@ -24,7 +24,7 @@ use Rattle.journal.specs.Calls.{Credentials}
 use Rattle.incoming.specs.Survey.{survey_of}
 use Rattle.connection.specs.Reply.{Sending as Sent, fields_of, send_bytes, sent_into, front}
 use Rattle.connection.specs.declared.peer.Answer.{Answer}
-use Rattle.connection.specs.Peer.{Linked, linked, id_in, isGiven, target_given, opened_for, opened_by as peerOpened, opening_of, front_by_of, Answers, answer_from, answer_by, disconnected_peer, disconnected_by, ConnectionId}
+use Rattle.connection.specs.Peer.{Linked, linked, id_in, target_asked, opened_for, opened_by as peerOpened, opening_of, front_by_of, Answers, answer_from, answer_by, disconnected_peer, disconnected_by, ConnectionId}
 use Rattle.connection.specs.ConnectReply.{answered_challenge, connect_headers}
 use Rattle.connection.specs.Pieces.{headers_from, realm_of, answered_in, id_given, credentials_of}
 use Rattle.connection.specs.declared.peer.Peer.{Peer}
@@ -56,7 +56,7 @@ use Rattle.engine.proofs.LastPacket.{last-headers}
 
 -- ---- the id in front
 
-front_by : (p : Peer) (t : List ℕ) (v target : Option (List ℕ)) → front_by_of p t (id_in v) (isGiven target) ≡ front_for p t v target
+front_by : (p : Peer) (t : List ℕ) (v target : Option (List ℕ)) → front_by_of p t (id_in v) (target_asked target) ≡ front_for p t v target
 front_by p t (some v) target = refl
 front_by p t none none = refl
 front_by p t none (some target) = refl
@@ -182,11 +182,11 @@ module _ (e : Engine) (s : Stores) where
           (challenged_is l.peer f (answered_challenge (last_headers e s)) (realm_of (first 0x4D (last_headers e s))))
 
       answer-opened : (srm : Bool) (v target : Option (List ℕ))
-          → among_in (opened_in (answer_by e.peer t srm (id_in v) (isGiven target) (target_given target)) e code hs (last_packet e s) s.headers
+          → among_in (opened_in (answer_by e.peer t srm (id_in v) (target_asked target)) e code hs (last_packet e s) s.headers
           s.reply) s
           ≡ after_tabled (connect_opened e t (opened_for e.peer t srm v target) code (front_for e.peer t v target) hs s)
       answer-opened srm v target =
-          opened_is (peerOpened e.peer t srm (id_in v) (isGiven target) (target_given target)) (front_by_of e.peer t (id_in v) (isGiven target))
+          opened_is (peerOpened e.peer t srm (id_in v) (target_asked target)) (front_by_of e.peer t (id_in v) (target_asked target))
           ∙ ap₂ (λ (o : Option Linked) (f : ConnectionId). after_tabled (connect_opened e t o code f hs s)) (sym (opened_by_lem e.peer t srm v target))
           (front_by e.peer t v target)
 

@@ -10,7 +10,6 @@ use lib.Dec.{ltb, eqb}
 use lib.Seq.{get_or-take, get_or-drop}
 use Rattle.std.specs.Prelude.{Some, None}
 use Rattle.base.specs.Pick.{pick}
-use Rattle.std.specs.Prelude.{is_some}
 use Rattle.base.specs.Place.{Place, span}
 use Rattle.packet.specs.FirstByte.{first_byte}
 use Rattle.packet.specs.Header.{Header, read_headers, encoding_of, first, first_place, part}
@@ -25,12 +24,12 @@ use Rattle.packet.specs.declared.opcode.FirstByte.{FirstByte}
 use Rattle.packet.specs.declared.packet.Head.{Head}
 use Rattle.std.specs.Prelude.{Option as Maybe}
 use Rattle.packet.proofs.HeaderBytes.{Octets}
-use Rattle.packet.proofs.HeaderLaws.{is_some-present, first_found}
+use Rattle.packet.proofs.HeaderLaws.{first_found}
 use Rattle.packet.proofs.TextForms.{octets-take}
 use Rattle.journal.specs.Journal.{list_of, headers_of as headersIn, response_in, is_enable}
 use Rattle.incoming.specs.Survey.{id_of, present, survey_of}
 use Rattle.incoming.specs.declared.survey.Survey.{Survey}
-use Rattle.connection.specs.Peer.{id_in, isGiven, Challenge}
+use Rattle.connection.specs.Peer.{id_in, Challenge}
 use Rattle.connection.specs.Pieces.{headers_from, first_in, check_of}
 use Rattle.connection.proofs.Challenges.{first_in_bytes}
 use Rattle.connection.proofs.Requests.{Finds, finds, at_end}
@@ -153,10 +152,6 @@ enabling_at q a b e =
 pub enabling_missing : (q : List ℕ) → first_in 0x97 q (last_from q) ≡ None → false ≡ (survey_of (some (headersIn (request_of q)))).enable
 unfolding survey_of
 enabling_missing q e = ap (λ (v : Option (List ℕ)). is_enable v) (first-value 0x97 q None e)
-
--- a Target is found exactly if there is one
-pub found_given : (id : ℕ) (q : List ℕ) (f : Place) → f ≡ first_in id q (last_from q) → is_some f ≡ isGiven (first id (headersIn (request_of q)))
-found_given id q f e = is_some-present q f ∙ ap (λ (v : Option (List ℕ)). isGiven v) (first-value id q f (sym e))
 
 -- ---- the password's check
 

@@ -14,7 +14,7 @@ use Rattle.packet.specs.declared.auth.DigestChallenge.{DigestChallenge}
 use Rattle.journal.specs.Calls.{Credentials}
 use Rattle.incoming.specs.Survey.{survey_of}
 use Rattle.connection.specs.Reply.{fields_of, front}
-use Rattle.connection.specs.Peer.{Linked, linked, id_in, isGiven, target_given, Answers, answer_by, disconnected_peer, checked_peer, verified_peer, limited, ConnectionId, Challenge}
+use Rattle.connection.specs.Peer.{Linked, linked, id_in, target_asked, Answers, answer_by, disconnected_peer, checked_peer, verified_peer, limited, ConnectionId, Challenge}
 use Rattle.connection.specs.ConnectReply.{connect_headers}
 use Rattle.connection.specs.Pieces.{headers_from, answered_in, id_given}
 use Rattle.connection.specs.declared.peer.Peer.{Peer}
@@ -166,7 +166,7 @@ accepted_headers e f q hs c =
 unfoldable pub answer_for : Engine → List ℕ → List ℕ → List ℕ → Answers
 answer_for e t hs q =
     answer_by e.peer t (e.peer.srm_enabled || srm_asked_by e q) (id_in (first header_id.connection_id (headers_from hs 0)))
-    (isGiven (first header_id.target (headers_of q))) (target_given (first header_id.target (headers_of q)))
+    (target_asked (first header_id.target (headers_of q)))
 
 -- If the client sent challenges that can all be read, the engine asks for credentials, and the host's headers wait in the header store.
 abbrev pub challenged_by : OrNone DigestChallenge → Engine → Peer → ℕ → ConnectionId → List ℕ → List ℕ → List ℕ → List ℕ → Answering

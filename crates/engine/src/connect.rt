@@ -24,7 +24,7 @@ ghost use Rattle.model.specs.Connect.{demands_user, options_of, realm_of};
 ghost use Rattle.model.specs.Guard.{sound_operation, long_realm};
 
 use crate::guard::{refuse, same_await};
-use crate::request::{first_id, first_target, has_target, is_enabling, last_connect, last_from};
+use crate::request::{first_id, first_target, is_enabling, last_connect, last_from};
 use crate::step::{Plan, asks, fields, sends_connect, sent_plan, took};
 use base::{Span, copy_into};
 use connection::challenge;
@@ -74,7 +74,6 @@ fn opens(
         e.peer,
         srm_after(e, packet, c),
         first_id(header_bytes, 0),
-        has_target(c),
         first_target(packet, c),
         tables,
     )

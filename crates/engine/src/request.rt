@@ -6,7 +6,7 @@ ghost use Rattle.packet.specs.HeaderIds as header_id;
 ghost use Rattle.packet.specs.Packet.{request_of};
 ghost use Rattle.packet.specs.AuthWrite.{given};
 ghost use Rattle.incoming.specs.Survey.{survey_of};
-ghost use Rattle.connection.specs.Peer.{id_in, target_given};
+ghost use Rattle.connection.specs.Peer.{id_in, target_asked};
 ghost use Rattle.connection.specs.Pieces.{headers_from};
 ghost use Rattle.journal.specs.Journal.{response_in, headers_of as headersIn};
 ghost use Rattle.model.specs.Connect.{checks};
@@ -19,7 +19,7 @@ use incoming::survey::survey_headers;
 use packet::auth::read_response;
 use packet::packet::packet_head;
 use packet::srm::ENABLE;
-use table::targets::{Target, target_of, unnamed};
+use table::targets::{Target, target_of};
 
 // Returns where the headers of packet `q` start, whether they can be read or not. If the first byte of `q` names no opcode, or its fields
 // are not all there, that is its end, so that it has none.
@@ -50,21 +50,14 @@ pub(crate) fn first_id(s: &[u8], from: usize) -> Option<u32>
     None
 }
 
-// Whether the Connect `c` has a Target.
-pub(crate) fn has_target(c: ConnectRequest) -> bool
-    ensures { result ≡ is_some c.target }
-{
-    c.target.is_some()
-}
-
-// Returns the Target that the Connect `c` in packet `q` gives an id: that of its first Target header, or the mark.
-pub(crate) fn first_target(q: &[u8], c: ConnectRequest) -> Target
+// Returns the Target that the Connect `c` in packet `q` gives an id: that of its first Target header, if it has one.
+pub(crate) fn first_target(q: &[u8], c: ConnectRequest) -> Option<Target>
     requires { c ≡ last_connect q.now }
-    ensures { result ≡ target_given (first header_id.target (headersIn (request_of q.now))) }
+    ensures { result ≡ target_asked (first header_id.target (headersIn (request_of q.now))) }
 {
     match c.target {
-        Some(value) => target_of(value.of(q)),
-        None => unnamed(),
+        Some(value) => Some(target_of(value.of(q))),
+        None => None,
     }
 }
 

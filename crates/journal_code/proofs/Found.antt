@@ -4,13 +4,13 @@ use mathlib.Core.List.{List}
 use mathlib.Core.Option.{Option, some}
 use Prim.Native.Nat.{ℕ, ◌≤◌}
 use lib.ListN.{length}
-use Rattle.std.specs.Prelude.{is_some}
+use Rattle.std.specs.Prelude.{is_some, Some}
 use Rattle.base.specs.Place.{Place, span, None}
 use Rattle.packet.specs.Header.{Header, read_headers, first, present, first_place, part}
 use Rattle.packet.specs.Tags.{bytes_at}
 use Rattle.packet.proofs.HeaderLaws.{first-agrees, is_some-present, first_found}
-use Rattle.table.specs.Targets.{unnamed, target_by}
-use Rattle.connection.specs.Peer.{target_given}
+use Rattle.table.specs.Targets.{target_by}
+use Rattle.connection.specs.Peer.{target_asked}
 
 module _ (id : ℕ) (p : List ℕ) (at : ℕ) where
   -- where the first header stands is what it is
@@ -24,9 +24,9 @@ module _ (id : ℕ) (p : List ℕ) (at : ℕ) where
   bounds a b q = let w = first_found id p at a b q in (w.stands.past, w.stands.fits)
 
 pub no_target : (p : List ℕ) (at : ℕ) (hs : List Header) → read_headers p at ≡ some hs → first_place 0x46 p at ≡ None
-    → unnamed ≡ target_given (first 0x46 hs)
-no_target p at hs e q = sym (ap (λ (v : Option (List ℕ)). target_given v) (value 0x46 p at hs e None q))
+    → None ≡ target_asked (first 0x46 hs)
+no_target p at hs e q = sym (ap (λ (v : Option (List ℕ)). target_asked v) (value 0x46 p at hs e None q))
 
 pub the_target : (p : List ℕ) (at : ℕ) (hs : List Header) → read_headers p at ≡ some hs → (a b : ℕ) → first_place 0x46 p at ≡ span a b
-    → target_by (part p a b) ≡ target_given (first 0x46 hs)
-the_target p at hs e a b q = sym (ap (λ (v : Option (List ℕ)). target_given v) (value 0x46 p at hs e (span a b) q))
+    → Some (target_by (part p a b)) ≡ target_asked (first 0x46 hs)
+the_target p at hs e a b q = sym (ap (λ (v : Option (List ℕ)). target_asked v) (value 0x46 p at hs e (span a b) q))

@@ -23,7 +23,7 @@ use Rattle.journal.specs.Journal.{list_of}
 use Rattle.incoming.specs.Survey.{survey_of, id_of}
 use Rattle.incoming.specs.declared.survey.Survey.{Survey}
 use Rattle.table.specs.declared.targets.Target.{Target}
-use Rattle.connection.specs.Peer.{target_given, id_in}
+use Rattle.connection.specs.Peer.{target_asked, id_in, AskedTarget}
 use Rattle.journal_code.specs.Heading.{link_by, reading_of}
 use Rattle.journal_code.specs.declared.heading.Link.{Link}
 
@@ -69,11 +69,10 @@ module _ (p : List ℕ) (d : Head) where
         go (some hs) q = absurd (true≢false (sym (ap (λ (x : Survey). x.readable) q) ∙ i))
 
     pub heading_is : v.readable ≡ true → (k : Link) → k ≡ link_by v.has_id v.id ids t
-        → (a b c : Bool) (g : Target)
+        → (a b : Bool) (g : AskedTarget)
         → ((hs : List Header) → read_headers p n ≡ some hs → a ≡ present (first 0x01 hs))
         → ((hs : List Header) → read_headers p n ≡ some hs → b ≡ present (first 0x4E hs))
-        → ((hs : List Header) → read_headers p n ≡ some hs → c ≡ present (first 0x46 hs))
-        → ((hs : List Header) → read_headers p n ≡ some hs → g ≡ target_given (first 0x46 hs))
+        → ((hs : List Header) → read_headers p n ≡ some hs → g ≡ target_asked (first 0x46 hs))
         → Some (record {
           opcode = o;
           is_final = f;
@@ -84,12 +83,11 @@ module _ (p : List ℕ) (d : Head) where
           under = k.under;
           has_name = a;
           has_response = b;
-          has_target = c;
           target = g;
         })
         ≡ reading_of (request_of p) ids t
     unfolding survey_of
-    heading_is i k ek a b c g fa fb fc fg = rw (begins e).1 (go (read_headers p n) refl)
+    heading_is i k ek a b g fa fb fg = rw (begins e).1 (go (read_headers p n) refl)
       where
         go : (r : Option (List Header)) → read_headers p n ≡ r
             → Some (record {
@@ -102,12 +100,11 @@ module _ (p : List ℕ) (d : Head) where
               under = k.under;
               has_name = a;
               has_response = b;
-              has_target = c;
               target = g;
             })
             ≡ reading_of (request_with o f p r) ids t
         go none q = absurd (false≢true (sym (ap (λ (x : Survey). x.readable) (ev ∙ ap survey_of q)) ∙ i))
-        go (some hs) q = rw (fa hs q, fb hs q, fc hs q, fg hs q, ek, ev ∙ ap survey_of q, (begins e).0) refl
+        go (some hs) q = rw (fa hs q, fb hs q, fg hs q, ek, ev ∙ ap survey_of q, (begins e).0) refl
 
 -- ---- the first ConnectionID of an answer
 

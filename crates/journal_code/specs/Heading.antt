@@ -11,7 +11,7 @@ use Rattle.journal.specs.Ids.{member}
 use Rattle.table.specs.Targets.{unnamed, place_of, target_at}
 use Rattle.table.specs.declared.targets.Target.{Target}
 use Rattle.incoming.specs.Survey.{survey_of}
-use Rattle.connection.specs.Peer.{target_given, ConnectionId}
+use Rattle.connection.specs.Peer.{target_asked, ConnectionId}
 use Rattle.journal_code.specs.declared.heading.Link.{Link}
 use Rattle.journal_code.specs.declared.heading.Heading.{Heading}
 use Rattle.journal_code.specs.declared.state.Last.{Last}
@@ -45,8 +45,7 @@ heading_of r ids t =
       under = (link_of r ids t).under;
       has_name = present (first header_id.name r.headers);
       has_response = present (first header_id.authenticate_response r.headers);
-      has_target = present (first header_id.target r.headers);
-      target = target_given (first header_id.target r.headers);
+      target = target_asked (first header_id.target r.headers);
     }
 
 -- The same of what a packet reads as.
@@ -56,7 +55,7 @@ reading_of (some r) ids t = Some (heading_of r ids t)
 
 -- What of a request decides what the host's reply to it does.
 abbrev pub last_by : Opcode → Heading → Last
-last_by Connect h = last.Connect h.enable h.has_target h.target
+last_by Connect h = last.Connect h.enable h.target
 last_by Disconnect h = last.Disconnect h.named
 last_by Put h = last.Other
 last_by Get h = last.Other

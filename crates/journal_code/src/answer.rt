@@ -52,21 +52,20 @@ fn connect(
     s: State,
     enable: bool,
     code: u8,
-    has_target: bool,
-    target: Target,
+    target: Option<Target>,
     hs: &[u8],
     tables: &mut [u64],
 ) -> State
     requires { (s.peer.count ≤ max_connections) × (table_length ≤ length tables.old) }
     ensures { tabled result tables.new
-        ≡ connected_step s code hs.now enable has_target target tables.old }
+        ≡ connected_step s code hs.now enable target tables.old }
 {
     if !is_success(code) {
         return quiet(s);
     }
     let srm = is_srm_on(s, enable);
     let given = first_id(hs);
-    match opened_for(s.peer, srm, given, has_target, target, tables) {
+    match opened_for(s.peer, srm, given, target, tables) {
         Some(answer) => standing_by(s, answer.peer),
         None => quiet(s),
     }
@@ -80,11 +79,7 @@ fn reply_to(s: State, code: u8, hs: &[u8], tables: &mut [u64]) -> State
     let last = s.last;
     match last {
         Last::Other => quiet(s),
-        Last::Connect {
-            enable,
-            has_target,
-            target,
-        } => connect(s, enable, code, has_target, target, hs, tables),
+        Last::Connect { enable, target } => connect(s, enable, code, target, hs, tables),
         Last::Disconnect(named) => {
             let peer = disconnected(s.peer, named, tables);
             standing_by(s, peer)

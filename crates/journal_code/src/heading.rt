@@ -4,7 +4,7 @@ ghost use Rattle.std.proofs.Math.Option.{some};
 ghost use Rattle.packet.specs.Header.{Header, read_headers, first, present};
 ghost use Rattle.packet.specs.HeaderIds as header_id;
 ghost use Rattle.packet.specs.Packet.{request_of};
-ghost use Rattle.connection.specs.Peer.{target_given};
+ghost use Rattle.connection.specs.Peer.{target_asked};
 ghost use Rattle.table.specs.Places.{table_length};
 ghost use Rattle.journal_code.specs.Heading.{link_by, reading_of};
 
@@ -40,9 +40,8 @@ pub(crate) struct Heading {
     pub under: Target,
     pub has_name: bool,
     pub has_response: bool,
-    pub has_target: bool,
     // The Target that an id takes, by the first Target header.
-    pub target: Target,
+    pub target: Option<Target>,
 }
 
 // Tells whether the headers of `p` from `at` on, which can all be read, have one with `id`.
@@ -53,13 +52,13 @@ fn has_header(p: &[u8], at: usize, id: u8) -> bool
     first_header(p, at, id).is_some()
 }
 
-// Returns the Target that an id takes by the headers of `p` from `at` on, which can all be read.
-fn target_in(p: &[u8], at: usize) -> Target
-    ensures { (hs : List Header) → read_headers p.now at ≡ some hs → result ≡ target_given (first header_id.target hs) }
+// Returns the Target, if there is one, that an id takes by the headers of `p` from `at` on, which can all be read.
+fn target_in(p: &[u8], at: usize) -> Option<Target>
+    ensures { (hs : List Header) → read_headers p.now at ≡ some hs → result ≡ target_asked (first header_id.target hs) }
 {
     match first_header(p, at, TARGET) {
-        Some(value) => target_of(value.of(p)),
-        None => unnamed(),
+        Some(value) => Some(target_of(value.of(p))),
+        None => None,
     }
 }
 
@@ -113,7 +112,6 @@ pub(crate) fn read_heading(p: &[u8], tables: &[u64], count: usize) -> Option<Hea
         under: link.under,
         has_name: has_header(p, headers, NAME),
         has_response: has_header(p, headers, AUTHENTICATE_RESPONSE),
-        has_target: has_header(p, headers, TARGET),
         target: target_in(p, headers),
     })
 }

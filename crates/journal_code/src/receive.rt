@@ -76,7 +76,6 @@ fn last_of(h: Heading) -> Last
     match h.opcode {
         Opcode::Connect => Last::Connect {
             enable: h.enable,
-            has_target: h.has_target,
             target: h.target,
         },
         Opcode::Disconnect => Last::Disconnect(h.named),

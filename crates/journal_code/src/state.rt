@@ -45,9 +45,8 @@ pub enum Last {
     Connect {
         // Its first SingleResponseMode is Enable.
         enable: bool,
-        has_target: bool,
-        // The Target that an id takes.
-        target: Target,
+        // The Target that an id takes, if it has one.
+        target: Option<Target>,
     },
     // The id that it names.
     Disconnect(Option<u32>),

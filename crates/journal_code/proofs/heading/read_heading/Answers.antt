@@ -25,6 +25,5 @@ returns c =
     heading_is c.args.p.now c.in-Some.head _ _ (sym c.packet_head.ensures ∙ c.in-Some.is) _
     c.survey_headers-v.ensures
     (not-false c.survey_headers-v.result.readable c.if-not-v.false) _
-    c.link_of-link.ensures _ _ _ _ c.has_header.ensures
-    c.has_header-2.ensures
-    c.has_header-3.ensures c.target_in.ensures
+    c.link_of-link.ensures _ _ _ c.has_header.ensures
+    c.has_header-2.ensures c.target_in.ensures
