@@ -41,9 +41,9 @@ use Rattle.outgoing.specs.contracts.object.Next.{the_type as next-type}
 use Rattle.client_model.specs.Guard.{sound_operation}
 use Rattle.client.proofs.Guards.{request-fits}
 use Rattle.client.specs.Step.{took_by}
-use Rattle.client.specs.Request.{requested_by, first_put, turn_of}
+use Rattle.client.specs.Request.{requested_by, first_put, goes_next, turn_of}
 use Rattle.client.specs.declared.request.Turn.{Turn}
-use Rattle.client.specs.declared.request.Turn.TheVariants as turn
+use Rattle.std.specs.Prelude.{Option, None, Some}
 
 -- ---- the headers that lead
 
@@ -203,7 +203,7 @@ module _ (c : Client) (k : Kind) (hs : List ℕ) (has : Bool) (p h b y : List �
 
 -- ---- a packet was sent
 
-pub sent-other : (o : Operation) → OneOf (0 ∷ 1 ∷ 2 ∷ 4 ∷ 5 ∷ []) (tag_of the_type o) → turn.Wait ≡ turn_of o
+pub sent-other : (o : Operation) → OneOf (0 ∷ 1 ∷ 2 ∷ 4 ∷ 5 ∷ []) (tag_of the_type o) → None ≡ turn_of o
 sent-other Nothing k = refl
 sent-other Connecting k = refl
 sent-other Disconnecting k = refl
@@ -212,14 +212,14 @@ sent-other Aborting k = refl
 sent-other (Requesting kd o h srm first last) k = absurd (miss (0 ∷ 1 ∷ 2 ∷ 4 ∷ 5 ∷ []) 3 tt k)
 
 -- what the client does at a turn
-abbrev pub turned : Turn → Client → Stores → Done
-turned (turn.Next k o srm first) c s = requests_next c k srm first o s
-turned turn.Wait c s = wants c c.operation false s
+abbrev pub turned : Option Turn → Client → Stores → Done
+turned (Some t) c s = requests_next c t.kind t.srm t.first t.outgoing s
+turned None c s = wants c c.operation false s
 
 pub turn-sent : (o : Operation) (c : Client) (s : Stores) → turned (turn_of o) c s ≡ sent_for o c s
 turn-sent (Requesting k o h srm first last) c s = go (srm && not last)
   where
-    go : (t : Bool) → turned (pick t (turn.Next k o srm first) turn.Wait) c s ≡ pick t (requests_next c k srm first o s)
+    go : (t : Bool) → turned (pick t (goes_next k o srm first) None) c s ≡ pick t (requests_next c k srm first o s)
         (wants c c.operation false s)
     go true = refl
     go false = refl
@@ -229,21 +229,23 @@ turn-sent Disconnecting c s = refl
 turn-sent (Receiving srm last code) c s = refl
 turn-sent Aborting c s = refl
 
-pub goes-turn : (o : Operation) (c : Client) (s : Stores) (t u : Turn) (x : Stepped) → t ≡ turn_of o → t ≡ u → x ≡ after 0 (turned u c s)
+pub goes-turn : (o : Operation) (c : Client) (s : Stores) (t u : Option Turn) (x : Stepped) → t ≡ turn_of o → t ≡ u → x ≡ after 0 (turned u c s)
     → x ≡ after 0 (sent_for o c s)
 goes-turn o c s t u x e i h =
-    h ∙ ap (λ (v : Turn). after 0 (turned v c s)) (sym i ∙ e) ∙ ap (λ (d : Done). after 0 d) (turn-sent o c s)
+    h ∙ ap (λ (v : Option Turn). after 0 (turned v c s)) (sym i ∙ e) ∙ ap (λ (d : Done). after 0 d) (turn-sent o c s)
 
 -- the headers of a request that goes on lie in the header store
-pub turn-total : (p : Operation) (t : Turn) (k : Kind) (o : Outgoing) (srm first : Bool) → t ≡ turn_of p → t ≡ turn.Next k o srm first
-    → sound_operation p ≡ true → o.total ≤ 65535
-turn-total (Requesting k' o' h' srm' first' last') t k o srm first e i s = go (srm' && not last') (sym e ∙ i)
+pub turn-total : (p : Operation) (t : Option Turn) (x : Turn) → t ≡ turn_of p → t ≡ Some x → sound_operation p ≡ true
+    → x.outgoing.total ≤ 65535
+turn-total (Requesting k' o' h' srm' first' last') t x e i s = go (srm' && not last') (sym e ∙ i)
   where
-    go : (b : Bool) → pick b (turn.Next k' o' srm' first') turn.Wait ≡ turn.Next k o srm first → o.total ≤ 65535
+    go : (b : Bool) → pick b (goes_next k' o' srm' first') None ≡ Some x → x.outgoing.total ≤ 65535
     go false q = let z : ◌≡◌ {A = ℕ} 0 1 = cc in absurd (omega arith)
-    go true q = let w : o' ≡ o = cc in subst (λ (x : Outgoing). x.total ≤ 65535) w (request-fits o' h' s).total
-turn-total Nothing t k o srm first e i s = let q = sym e ∙ i in let z : ◌≡◌ {A = ℕ} 0 1 = cc in absurd (omega arith)
-turn-total Connecting t k o srm first e i s = let q = sym e ∙ i in let z : ◌≡◌ {A = ℕ} 0 1 = cc in absurd (omega arith)
-turn-total Disconnecting t k o srm first e i s = let q = sym e ∙ i in let z : ◌≡◌ {A = ℕ} 0 1 = cc in absurd (omega arith)
-turn-total (Receiving srm' last' code) t k o srm first e i s = let q = sym e ∙ i in let z : ◌≡◌ {A = ℕ} 0 1 = cc in absurd (omega arith)
-turn-total Aborting t k o srm first e i s = let q = sym e ∙ i in let z : ◌≡◌ {A = ℕ} 0 1 = cc in absurd (omega arith)
+    go true q =
+        let w : record { kind = k'; outgoing = o'; srm = srm'; first = first' } ≡ x = cc in
+        subst (λ (y : Turn). y.outgoing.total ≤ 65535) w (request-fits o' h' s).total
+turn-total Nothing t x e i s = let q = sym e ∙ i in let z : ◌≡◌ {A = ℕ} 0 1 = cc in absurd (omega arith)
+turn-total Connecting t x e i s = let q = sym e ∙ i in let z : ◌≡◌ {A = ℕ} 0 1 = cc in absurd (omega arith)
+turn-total Disconnecting t x e i s = let q = sym e ∙ i in let z : ◌≡◌ {A = ℕ} 0 1 = cc in absurd (omega arith)
+turn-total (Receiving srm' last' code) t x e i s = let q = sym e ∙ i in let z : ◌≡◌ {A = ℕ} 0 1 = cc in absurd (omega arith)
+turn-total Aborting t x e i s = let q = sym e ∙ i in let z : ◌≡◌ {A = ℕ} 0 1 = cc in absurd (omega arith)
