@@ -67,10 +67,7 @@ pub struct DigestChallenge {
 fn is_sixteen(tag: u8, n: usize) -> bool
     ensures { result ≡ sixteen_or tag n }
 {
-    if tag != RESPONSE_DIGEST_TAG {
-        return true;
-    }
-    n == 16
+    tag != RESPONSE_DIGEST_TAG || n == 16
 }
 
 // Tells whether tags fill the payload and each tag 0, a digest or a challenge's nonce, is 16 bytes long.
@@ -197,10 +194,7 @@ fn is_filled(found: Option<Span>) -> bool
 fn brings_user(demands: bool, user: Option<Span>) -> bool
     ensures { result ≡ (not demands || is_filled user) }
 {
-    if !demands {
-        return true;
-    }
-    is_filled(user)
+    !demands || is_filled(user)
 }
 
 // Checks a response with `digest`, which has its user id at `user` and names `named`, against the challenge's `nonce` and the expected
@@ -239,10 +233,7 @@ fn tag_len(there: bool, n: usize) -> usize
 pub fn is_long(there: bool, n: usize) -> bool
     ensures { result ≡ (there && ltb max_tag_value n) }
 {
-    if !there {
-        return false;
-    }
-    MAX_TAG_VALUE < n
+    there && MAX_TAG_VALUE < n
 }
 
 // Writes the realm with its charset in front, if there is one.

@@ -40,6 +40,8 @@ pub enum HeaderEncoding {
 }
 
 // What stands at a place of a packet.
+//
+// Stays an enum of its own: the packet's end is neither a header nor an error, and an Option of a Result says the same three cases in two layers.
 #[derive(Clone, Copy)]
 pub enum HeaderAt {
     // A whole header, whose value stands from `start` up to `end`; the next header starts at `end`.
@@ -71,6 +73,8 @@ pub fn encoding(id: u8) -> HeaderEncoding
     HeaderEncoding::U32
 }
 
+// Stays a number: it is how many bytes, and no code of a kind.
+//
 // Returns how many bytes stand before the value: the id, and for two encodings a length.
 fn lead(e: HeaderEncoding) -> usize
     ensures { (result ≡ lead_of e) × (result ≤ 3) }

@@ -10,6 +10,8 @@ use crate::store::{LengthField, room};
 use base::{Span, copy_into, wide};
 
 // What stands at a place of a payload.
+//
+// Stays an enum of its own: the payload's end is neither a tag nor an error, and an Option of a Result says the same three cases in two layers.
 #[derive(Clone, Copy)]
 pub enum TagAt {
     // A whole tag, with the places where its value starts and where the next tag does.
@@ -83,13 +85,7 @@ pub fn is_tag_list(s: &[u8]) -> bool
 fn is_wanted(tag: u8, empty: bool, t: u8, n: usize) -> bool
     ensures { result ≡ counts tag empty t n }
 {
-    if t != tag {
-        return false;
-    }
-    if empty {
-        return true;
-    }
-    0 < n
+    t == tag && (empty || 0 < n)
 }
 
 // Finds the last value under `tag`; `empty` says whether an empty value counts. If the payload is no tag list, nothing is found.
