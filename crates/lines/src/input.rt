@@ -204,8 +204,9 @@ pub fn bytes_of(s: &[u8], line: Line) -> &[u8]
 }
 
 // Reads the lines of `input` into the store `s`, one after the other, and has `answer` answer each. It is told, too, whether the line is longer
-// than the store, so that its start was dropped. The steps are counted up to a number that no run uses up, since a proved loop has to end and
-// nothing says that the input does.
+// than the store, so that its start was dropped. Which lines come is the input's to say, so no clause speaks of what was answered; `next_line`
+// says how each is cut out of the store. The steps are counted up to a number that no run uses up, since a proved loop has to end and nothing
+// says that the input does.
 pub fn lines_of<F: FnMut(&[u8], bool)>(input: &mut impl Read, s: &mut [u8], mut answer: F)
     requires { F.IsAlwaysCallable answer }
 {
