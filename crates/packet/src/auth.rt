@@ -270,6 +270,7 @@ fn put_challenge(
     at: usize,
     nonce: Octets16,
     bits: u8,
+    // Stays a flag beside the bytes: so the settings hold the realm, from C too (`server::Settings`).
     has_realm: bool,
     charset: u8,
     value: &[u8],
@@ -293,6 +294,7 @@ pub fn write_challenge(
     nonce: Octets16,
     user_id_required: bool,
     read_only: bool,
+    // Stays a flag beside the bytes: so the settings hold the realm, from C too (`server::Settings`).
     has_realm: bool,
     charset: u8,
     value: &[u8],
@@ -323,6 +325,7 @@ fn put_response(
     store: &mut [u8],
     at: usize,
     digest: Octets16,
+    // Stays a flag beside the bytes: so a host hands a user id over, from C too (`engine::calls::credentials_given`).
     has_user: bool,
     user: &[u8],
     nonce: Octets16,
@@ -351,6 +354,7 @@ pub fn respond(
     store: &mut [u8],
     at: usize,
     nonce: Octets16,
+    // Stays a flag beside the bytes: so a host hands a user id over, from C too (`engine::calls::credentials_given`).
     has_user: bool,
     user: &[u8],
     password: &[u8],

@@ -111,16 +111,14 @@ fn first_byte(value: &[u8]) -> u8
 }
 
 // Tells whether the value under `id` is a tag list.
+#[tactic(auto, unfolding(crate::specs::Header::tagged))]
 fn is_tagged(id: u8) -> bool
     ensures { result ≡ tagged id }
 {
-    match id {
-        APPLICATION_PARAMETERS
-        | AUTHENTICATE_CHALLENGE
-        | AUTHENTICATE_RESPONSE
-        | SESSION_PARAMETERS => true,
-        _ => false,
-    }
+    matches!(
+        id,
+        APPLICATION_PARAMETERS | AUTHENTICATE_CHALLENGE | AUTHENTICATE_RESPONSE | SESSION_PARAMETERS
+    )
 }
 
 // Tells whether `id` allows `value`. Ids that the standard does not define allow any, so that such headers survive.
@@ -408,6 +406,8 @@ fn text_size(text: &[u8], form: TextForm) -> usize
     }
 }
 
+// Stays beside `write_bare`: each is one call, of another function of `text`, and a common one would take that function as a parameter.
+//
 // Writes `text` in UTF-16 from `from` up to `end`.
 fn write_units(store: &mut [u8], from: usize, end: usize, text: &[u8])
     requires { (from + length (unicode_bytes text.now) ≡ end) × (end ≤ length store.old) }

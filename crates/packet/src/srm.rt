@@ -30,6 +30,8 @@ pub fn is_mode(b: u8) -> bool
     matches!(b, DISABLE | ENABLE | SUPPORTED)
 }
 
+// Stays beside the three tests like it: a common function would take the list of values, and each caller would write it.
+//
 // Tells whether `b` is a value of the Single Response Mode Parameters header.
 #[tactic(auto, unfolding(crate::specs::Modes::is_parameter))]
 pub fn is_parameter(b: u8) -> bool
