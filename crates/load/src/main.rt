@@ -3,12 +3,17 @@
 // input store.
 #![tactic(auto)]
 
+ghost use Rattle.std.specs.Prelude.{◌≤◌};
+
 use base::{be16_at, copy_into};
 use engine::calls;
-use lines::arguments::number_argument;
+use lines::arguments;
 use lines::input::read_full;
-use lines::store::between;
+use lines::output::{least, put, put_number, write};
+use lines::word::{byte_at, number};
 use server::{CallResult, Engine, HostRequest, Outcome, default_settings};
+use std::env::Env;
+use std::io::Read;
 use std::num::wrapping_add_usize;
 
 // The stores are arrays of known lengths, so that the proof need not be told that no call changes them. The table store is longer than the
@@ -30,21 +35,10 @@ const OBJECT: usize = 1048576;
 // More calls than any session has.
 const CALLS: usize = 1000000000000;
 
-// The stores that the engine is lent.
-#[derive(Drop)]
-struct Stores {
-    tables: [u64; TABLES],
-    packet: [u8; PACKET],
-    headers: [u8; PACKET],
-    body: [u8; BODY],
-    reply: [u8; PACKET],
-}
-
 // What the peer and the host have done, and what came back.
 #[derive(Clone, Copy)]
 struct Progress {
-    // How long a read is at most, 0 for one that ends where a packet does, and whether reads go straight into the packet store.
-    longest: usize,
+    // Whether a read goes straight into the packet store.
     placing: bool,
     // How much of the stream is read, and what of the last read is not taken.
     at: usize,
@@ -61,208 +55,398 @@ struct Progress {
 }
 
 fn last_byte(s: &[u8], n: usize) -> usize {
-    match n.checked_sub(1).and_then(|last| s.get(last)) {
-        Some(b) => usize::from(*b),
+    if n == 0 {
+        return 0;
+    }
+    base::wide(byte_at(s, n - 1))
+}
+
+// ---- the peer
+
+// Returns how long the next read is at most. If `longest` is 0, the read ends where a packet does.
+fn longest_read(longest: usize, rest: &[u8]) -> usize {
+    if longest != 0 {
+        return longest;
+    }
+    if rest.len() < 3 {
+        return rest.len();
+    }
+    be16_at(rest, 1)
+}
+
+// Reads on in the stream, into `store`.
+fn read_into(p: Progress, stream: &[u8], longest: usize, store: &mut [u8]) -> Progress {
+    let at = least(p.at, stream.len());
+    let n = least(longest_read(longest, &stream[at..]), stream.len() - at);
+    let m = least(n, store.len());
+    copy_into(store, 0, &stream[at..at + m]);
+    let mut q = p;
+    q.at = at + m;
+    q.from = 0;
+    q.to = m;
+    q
+}
+
+// Reads on in the stream, if nothing is left of the last read.
+fn next_read(
+    p: Progress,
+    stream: &[u8],
+    longest: usize,
+    input: &mut [u8; READ],
+    packet: &mut [u8; PACKET],
+) -> Progress {
+    if p.from < p.to {
+        return p;
+    }
+    if p.placing {
+        return read_into(p, stream, longest, packet);
+    }
+    read_into(p, stream, longest, input)
+}
+
+// Notes that the engine took `n` bytes of the last read.
+fn taken(p: Progress, n: usize) -> Progress {
+    let from = least(p.from, p.to);
+    let mut q = p;
+    q.from = from + least(n, p.to - from);
+    q
+}
+
+fn count_reply(p: Progress, n: usize, reply: &[u8]) -> Progress {
+    let mut q = p;
+    q.replies = wrapping_add_usize(p.replies, 1);
+    q.bytes = wrapping_add_usize(p.bytes, n);
+    q.sum = wrapping_add_usize(p.sum, last_byte(reply, n));
+    q
+}
+
+// ---- the host
+
+fn count_record(p: Progress, last: usize) -> Progress {
+    let mut q = p;
+    q.records = wrapping_add_usize(p.records, 1);
+    q.sum = wrapping_add_usize(p.sum, last);
+    q
+}
+
+fn last_of(b: Option<usize>, body: &[u8]) -> usize {
+    match b {
+        Some(n) => last_byte(body, n),
         None => 0,
     }
 }
 
-impl Progress {
-    // Returns the progress before the first session: nothing is read, and nothing has come back.
-    fn new(longest: usize, placing: bool) -> Progress {
-        Progress {
-            longest,
-            placing,
-            at: 0,
-            from: 0,
-            to: 0,
-            left: 0,
-            given: 0,
-            replies: 0,
-            bytes: 0,
-            records: 0,
-            sum: 0,
-        }
-    }
+fn begin_object(p: Progress) -> Progress {
+    let mut q = p;
+    q.left = OBJECT;
+    q
+}
 
-    // Begins a session at the start of the stream. What came back before stays counted.
-    fn begin(&mut self) {
-        self.at = 0;
-        self.from = 0;
-        self.to = 0;
-    }
+fn read_object(p: Progress, room: usize) -> Progress {
+    let given = least(room, p.left);
+    let mut q = p;
+    q.left = p.left - given;
+    q.given = given;
+    q
+}
 
-    // ---- the peer
-
-    // Returns how long the next read is at most.
-    fn next_length(&self, rest: &[u8]) -> usize {
-        if self.longest != 0 {
-            self.longest
-        } else if rest.len() < 3 {
-            rest.len()
-        } else {
-            be16_at(rest, 1)
-        }
-    }
-
-    // Reads on in the stream, into `store`.
-    fn read_into(&mut self, stream: &[u8], store: &mut [u8]) {
-        let at = self.at.min(stream.len());
-        let rest = &stream[at..];
-        let n = self.next_length(rest).min(rest.len()).min(store.len());
-        copy_into(store, 0, &rest[..n]);
-        self.at = at + n;
-        self.from = 0;
-        self.to = n;
-    }
-
-    // Reads on in the stream, if nothing is left of the last read.
-    fn read(&mut self, stream: &[u8], input: &mut [u8; READ], packet: &mut [u8; PACKET]) {
-        if self.from < self.to {
-            return;
-        }
-        if self.placing {
-            self.read_into(stream, packet);
-        } else {
-            self.read_into(stream, input);
-        }
-    }
-
-    // Notes that the engine took `n` bytes of the last read.
-    fn take(&mut self, n: usize) {
-        let from = self.from.min(self.to);
-        self.from = from + n.min(self.to - from);
-    }
-
-    fn count_reply(&mut self, length: usize, reply: &[u8]) {
-        self.replies = wrapping_add_usize(self.replies, 1);
-        self.bytes = wrapping_add_usize(self.bytes, length);
-        self.sum = wrapping_add_usize(self.sum, last_byte(reply, length));
-    }
-
-    // ---- the host
-
-    // Counts a record, begins an object, or chooses how much of it is given.
-    fn ask(&mut self, request: HostRequest, bytes: &[u8]) {
-        match request {
-            HostRequest::Put { body, .. } => {
-                let last = body.map_or(0, |n| last_byte(bytes, n));
-                self.records = wrapping_add_usize(self.records, 1);
-                self.sum = wrapping_add_usize(self.sum, last);
-            }
-            HostRequest::Get { .. } => self.left = OBJECT,
-            HostRequest::Read { room } => {
-                self.given = room.min(self.left);
-                self.left -= self.given;
-            }
-            _ => {}
-        }
+fn asked(p: Progress, request: HostRequest, body: &[u8]) -> Progress {
+    match request {
+        HostRequest::Put { kept: _, body: b } => count_record(p, last_of(b, body)),
+        HostRequest::Get { kept: _ } => begin_object(p),
+        HostRequest::Read { room } => read_object(p, room),
+        _ => p,
     }
 }
 
-impl Stores {
-    // Answers a Get with the object and a read of its body with `chunk`, acknowledges an Abort, and replies with Success to all else.
-    fn answer(&mut self, e: Engine, request: HostRequest, chunk: &[u8]) -> CallResult {
-        let packet = &mut self.packet;
-        let headers = &mut self.headers;
-        let body = &mut self.body;
-        let reply = &mut self.reply;
-        match request {
-            HostRequest::Get { .. } => {
-                calls::object_given(e, b"", true, packet, headers, body, reply)
-            }
-            HostRequest::Read { .. } => calls::body_given(e, chunk, packet, headers, body, reply),
-            HostRequest::Abort { .. } => {
-                calls::abort_acknowledged(e, packet, headers, body, reply)
-            }
-            _ => calls::reply_given(e, 0x20, b"", &mut self.tables, packet, headers, body, reply),
-        }
+// Does what comes before the call that follows `outcome`: reads on, counts what came back, or chooses how much of the object is given.
+fn noted(
+    p: Progress,
+    outcome: Outcome,
+    stream: &[u8],
+    longest: usize,
+    input: &mut [u8; READ],
+    packet: &mut [u8; PACKET],
+    body: &[u8],
+    reply: &[u8],
+) -> Progress {
+    match outcome {
+        Outcome::WantsBytes => next_read(p, stream, longest, input, packet),
+        Outcome::Reply { length } => count_reply(p, length, reply),
+        Outcome::Request(request) => asked(p, request, body),
+        Outcome::End(_) => p,
+        Outcome::Refused(_) => p,
     }
+}
 
-    // Offers what is left of the last read: of a read into the packet store, how much of it; of one into the input store, the bytes.
-    fn offer(&mut self, e: Engine, p: &Progress, input: &[u8; READ]) -> CallResult {
-        let packet = &mut self.packet;
-        let headers = &mut self.headers;
-        let body = &mut self.body;
-        let reply = &mut self.reply;
-        let left = between(input, p.from, p.to);
-        let n = left.len();
-        if n == 0 {
-            calls::stream_ended(e, packet, headers, body, reply)
-        } else if p.placing {
-            calls::bytes_offered(e, n, b"", &self.tables, packet, headers, body, reply)
-        } else {
-            calls::bytes_offered(e, 0, left, &self.tables, packet, headers, body, reply)
-        }
-    }
-
-    // Tells the engine that a reply was taken.
-    fn take_reply(&mut self, e: Engine) -> CallResult {
-        calls::reply_taken(
+// Answers a Get with the object and a read of its body with `chunk`, acknowledges an Abort, and replies with Success to all else.
+fn answer(
+    e: Engine,
+    request: HostRequest,
+    chunk: &[u8],
+    tables: &mut [u64; TABLES],
+    packet: &mut [u8; PACKET],
+    headers: &mut [u8; PACKET],
+    body: &mut [u8; BODY],
+    reply: &mut [u8; PACKET],
+) -> CallResult {
+    match request {
+        HostRequest::Get { kept: _ } => calls::object_given(
             e,
-            &mut self.packet,
-            &mut self.headers,
-            &mut self.body,
-            &mut self.reply,
-        )
+            &chunk[0..0],
+            true,
+            packet,
+            headers,
+            body,
+            reply,
+        ),
+        HostRequest::Read { room: _ } => calls::body_given(e, chunk, packet, headers, body, reply),
+        HostRequest::Abort { length: _ } => calls::abort_acknowledged(
+            e, packet, headers, body, reply,
+        ),
+        _ => calls::reply_given(e, 0x20, &chunk[0..0], tables, packet, headers, body, reply),
     }
+}
 
-    // Plays one session with an engine of its own.
-    fn play(&mut self, p: &mut Progress, stream: &[u8], zeros: &[u8], input: &mut [u8; READ]) {
-        p.begin();
-        let mut took = calls::start(
-            default_settings(LIMIT),
-            b"",
-            &self.tables,
-            &mut self.packet,
-            &mut self.headers,
-            &mut self.body,
-            &mut self.reply,
-        );
-        for _ in 0..CALLS {
-            let e = took.engine;
-            took = match took.outcome {
-                Outcome::End(_) | Outcome::Refused(_) => return,
-                Outcome::WantsBytes => {
-                    p.read(stream, input, &mut self.packet);
-                    self.offer(e, p, input)
-                }
-                Outcome::Reply { length } => {
-                    p.count_reply(length, &self.reply);
-                    self.take_reply(e)
-                }
-                Outcome::Request(request) => {
-                    p.ask(request, &self.body);
-                    self.answer(e, request, between(zeros, 0, p.given))
-                }
-            };
-            p.take(took.taken);
-        }
+// Returns up to where the bytes from `from` to `to` stand in the packet store already: all of them or none.
+fn placed_to(placing: bool, from: usize, to: usize) -> usize
+    requires { from ≤ to }
+    ensures { (from ≤ result) × (result ≤ to) }
+{
+    if placing {
+        return to;
     }
+    from
+}
+
+// Offers what is left of the last read: of a read into the packet store, how much of it; of one into the input store, the bytes.
+fn offer(
+    e: Engine,
+    p: Progress,
+    input: &[u8],
+    tables: &[u64; TABLES],
+    packet: &mut [u8; PACKET],
+    headers: &mut [u8; PACKET],
+    body: &mut [u8; BODY],
+    reply: &mut [u8; PACKET],
+) -> CallResult {
+    let to = least(p.to, input.len());
+    let from = least(p.from, to);
+    if from == to {
+        return calls::stream_ended(e, packet, headers, body, reply);
+    }
+    let at = placed_to(p.placing, from, to);
+    calls::bytes_offered(
+        e,
+        at - from,
+        &input[at..to],
+        tables,
+        packet,
+        headers,
+        body,
+        reply,
+    )
+}
+
+// Makes the call that follows `outcome`.
+fn call(
+    e: Engine,
+    outcome: Outcome,
+    p: Progress,
+    zeros: &[u8],
+    input: &[u8],
+    tables: &mut [u64; TABLES],
+    packet: &mut [u8; PACKET],
+    headers: &mut [u8; PACKET],
+    body: &mut [u8; BODY],
+    reply: &mut [u8; PACKET],
+) -> CallResult {
+    match outcome {
+        Outcome::Request(request) => {
+            let given = least(p.given, zeros.len());
+            answer(
+                e,
+                request,
+                &zeros[0..given],
+                tables,
+                packet,
+                headers,
+                body,
+                reply,
+            )
+        }
+        Outcome::Reply { length: _ } => calls::reply_taken(e, packet, headers, body, reply),
+        _ => offer(e, p, input, tables, packet, headers, body, reply),
+    }
+}
+
+fn is_over(outcome: Outcome) -> bool {
+    match outcome {
+        Outcome::End(_) => true,
+        Outcome::Refused(_) => true,
+        _ => false,
+    }
+}
+
+// Begins a session at the start of the stream. What came back before stays counted.
+fn begin(p: Progress) -> Progress {
+    let mut q = p;
+    q.at = 0;
+    q.from = 0;
+    q.to = 0;
+    q
+}
+
+// Plays one session with an engine of its own.
+fn play(
+    p: Progress,
+    stream: &[u8],
+    longest: usize,
+    zeros: &[u8],
+    input: &mut [u8; READ],
+    tables: &mut [u64; TABLES],
+    packet: &mut [u8; PACKET],
+    headers: &mut [u8; PACKET],
+    body: &mut [u8; BODY],
+    reply: &mut [u8; PACKET],
+) -> Progress {
+    let mut q = begin(p);
+    let mut took = calls::start(
+        default_settings(LIMIT),
+        &zeros[0..0],
+        &tables[..],
+        packet,
+        headers,
+        body,
+        reply,
+    );
+    let mut left = CALLS;
+    while left > 0 {
+        let outcome = took.outcome;
+        if is_over(outcome) {
+            return q;
+        }
+        q = noted(q, outcome, stream, longest, input, packet, body, reply);
+        took = call(
+            took.engine,
+            outcome,
+            q,
+            zeros,
+            input,
+            tables,
+            packet,
+            headers,
+            body,
+            reply,
+        );
+        q = taken(q, took.taken);
+        left -= 1;
+    }
+    q
 }
 
 // ---- the program
 
+fn argument(rt: &impl Env, i: usize) -> usize {
+    let mut word = [0u8; 20];
+    let n = arguments::argument(rt, i, &mut word);
+    number(&word[..n])
+}
+
+fn print(rt: &impl Print, p: Progress) {
+    let mut out = [0u8; 160];
+    let a = put(&mut out, 0, b"replies ");
+    let b = put_number(&mut out, a, p.replies);
+    let d = put(&mut out, b, b" bytes ");
+    let e = put_number(&mut out, d, p.bytes);
+    let f = put(&mut out, e, b" records ");
+    let g = put_number(&mut out, f, p.records);
+    let h = put(&mut out, g, b" sum ");
+    let i = put_number(&mut out, h, p.sum);
+    let n = put(&mut out, i, b"\n");
+    write(rt, &out, n);
+}
+
+// Returns the progress before the first session: nothing is read, and nothing has come back.
+fn nothing_yet(placing: bool) -> Progress {
+    Progress {
+        placing,
+        at: 0,
+        from: 0,
+        to: 0,
+        left: 0,
+        given: 0,
+        replies: 0,
+        bytes: 0,
+        records: 0,
+        sum: 0,
+    }
+}
+
+// Whether reads go into the packet store, by the last two arguments.
+fn places(longest: usize, offered: usize) -> bool {
+    if longest != 0 {
+        return false;
+    }
+    offered == 0
+}
+
 // Plays the session on standard input as often as the first argument says.
+fn run(
+    rt: &impl Env,
+    from: &mut impl Read,
+    stream: &mut [u8],
+    zeros: &[u8],
+    input: &mut [u8; READ],
+    tables: &mut [u64; TABLES],
+    packet: &mut [u8; PACKET],
+    headers: &mut [u8; PACKET],
+    body: &mut [u8; BODY],
+    reply: &mut [u8; PACKET],
+) -> Progress {
+    let n = read_full(from, stream);
+    let count = argument(rt, 1);
+    let longest = argument(rt, 2);
+    let mut p = nothing_yet(places(longest, argument(rt, 3)));
+    let mut i = 0;
+    while i < count {
+        p = play(
+            p,
+            &stream[..n],
+            longest,
+            zeros,
+            input,
+            tables,
+            packet,
+            headers,
+            body,
+            reply,
+        );
+        i += 1;
+    }
+    p
+}
+
 fn main(rt: HostRuntime) {
     let mut stream = [0u8; 1048576];
     let zeros = [0u8; 65536];
     let mut input = [0u8; READ];
-    let mut stores = Stores {
-        tables: [0; TABLES],
-        packet: [0; PACKET],
-        headers: [0; PACKET],
-        body: [0; BODY],
-        reply: [0; PACKET],
-    };
-    let n = read_full(&mut rt.stdin(), &mut stream);
-    let longest = number_argument(&rt, 2);
-    let mut p = Progress::new(longest, longest == 0 && number_argument(&rt, 3) == 0);
-    for _ in 0..number_argument(&rt, 1) {
-        stores.play(&mut p, between(&stream, 0, n), &zeros, &mut input);
-    }
-    let _ = println!(rt;
-        "replies {} bytes {} records {} sum {}",
-        p.replies, p.bytes, p.records, p.sum
+    let mut tables = [0u64; TABLES];
+    let mut packet = [0u8; PACKET];
+    let mut headers = [0u8; PACKET];
+    let mut body = [0u8; BODY];
+    let mut reply = [0u8; PACKET];
+    let p = run(
+        &rt,
+        &mut rt.stdin(),
+        &mut stream,
+        &zeros,
+        &mut input,
+        &mut tables,
+        &mut packet,
+        &mut headers,
+        &mut body,
+        &mut reply,
     );
+    print(&rt, p);
 }
