@@ -44,7 +44,7 @@ pub fn number_argument(rt: &impl Env, i: usize) -> usize
     number(&word[..n])
 }
 
-// Tells whether the word with the number `i` is `name`, which has at most sixteen bytes.
+// Tells whether the word with the number `i` is `name`, which has at most sixteen bytes. No clause can say what words a program is given.
 pub fn is_argument(rt: &impl Env, i: usize, name: &[u8]) -> bool {
     let mut word = [0u8; 16];
     let n = argument(rt, i, &mut word);

@@ -1,5 +1,5 @@
 // What a program prints: collected, so that a word costs no call of the system, and with byte strings in hexadecimal.
-ghost use Rattle.std.specs.Prelude.{◌≡◌, ◌≤◌, ◌-◌, ◌++◌, [], take, vec_len, OnOk, OnErr};
+ghost use Rattle.std.specs.Prelude.{◌≡◌, ◌≤◌, ◌-◌, ◌/◌, ◌++◌, [], take, vec_len, nat_le, if◌then◌else◌, OnOk, OnErr};
 
 use crate::output::print;
 use digest::md5;
@@ -48,7 +48,9 @@ impl Output {
 
     // Writes out what is there if it takes up half of the room.
     pub fn flush(&mut self, to: &impl Print)
-        ensures { self.new.room ≡ self.old.room }
+        ensures text { self.new.text.items
+            ≡ (if nat_le (self.old.room / 2) (vec_len self.old.text) then [] else self.old.text.items) }
+        ensures room { self.new.room ≡ self.old.room }
     {
         if self.room / 2 <= self.text.len() {
             self.write_out(to);

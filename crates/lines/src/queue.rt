@@ -1,5 +1,5 @@
 // Bytes that wait, of which the first are taken.
-ghost use Rattle.std.specs.Prelude.{◌≡◌, ◌-◌, ◌+◌, ◌≤◌, ◌++◌, [], take, drop, vec_len, min, OnErr};
+ghost use Rattle.std.specs.Prelude.{◌≡◌, ◌-◌, ◌+◌, ◌≤◌, ◌++◌, [], take, drop, vec_len, min, OnOk, OnErr, ◌==◌};
 
 use std::alloc::{AllocError, Global};
 
@@ -37,7 +37,10 @@ impl Queue {
         self.bytes.len() - self.taken
     }
 
-    pub fn is_empty(&self) -> bool {
+    // Tells whether nothing waits.
+    pub fn is_empty(&self) -> bool
+        ensures { result ≡ (vec_len self.now.bytes - self.now.taken == 0) }
+    {
         self.len() == 0
     }
 
@@ -58,7 +61,12 @@ impl Queue {
     }
 
     // Puts bytes behind those that wait, as far as no more than `room` wait then.
-    pub fn push(&mut self, bytes: &[u8], room: usize) -> Result<(), AllocError> {
+    pub fn push(&mut self, bytes: &[u8], room: usize) -> Result<(), AllocError>
+        ensures ok { OnOk result (self.new.bytes.items ≡ drop self.old.taken self.old.bytes.items
+            ++ take (room - (vec_len self.old.bytes - self.old.taken)) bytes.now) }
+        ensures err { OnErr result (self.new.bytes.items ≡ drop self.old.taken self.old.bytes.items) }
+        ensures taken { self.new.taken ≡ 0 }
+    {
         self.bytes.drain(..self.taken);
         self.taken = 0;
         let n = bytes.len().min(room.saturating_sub(self.bytes.len()));
