@@ -14,7 +14,7 @@ use answers::Answers;
 use check::same;
 use host::Host;
 use lines::arguments::{has_argument, is_argument, number_argument};
-use lines::input::lines_of;
+use lines::input;
 use lines::output::print;
 use lines::printed::Output;
 use lines::queue::Queue;
@@ -292,16 +292,27 @@ impl Pair {
 // ---- the program
 
 // Plays the sessions of the input. A line that is longer than the store is passed over.
-fn play(rt: &impl Print, input: &mut impl Read, alloc: Global, shuffle: Shuffle) -> io::Result<()> {
+fn play(rt: &impl Print, from: &mut impl Read, alloc: Global, shuffle: Shuffle) -> io::Result<()> {
     let mut pair = Pair::new(alloc, shuffle)?;
     let mut store = vec![in alloc; 0u8; INPUT]?;
-    let mut met = Ok(());
-    lines_of(input, store.as_mut_slice(), |line, is_cut| {
-        if !is_cut && met.is_ok() {
-            met = pair.follow(rt, line);
+    let mut at = input::before_first();
+    for _ in 0..u64::MAX {
+        at = input::next_line(from, store.as_mut_slice(), at);
+        if at.is_over {
+            break;
         }
-    });
-    met?;
+        if at.is_there && !at.is_cut {
+            let line = input::bytes_of(store.as_slice(), at);
+            pair.follow(rt, line)?;
+            // A session that begins with the input's last bytes has no end.
+            if at.end == at.next
+                && matches!(Command::parse(word_of(line, 0)), Some(Command::Session))
+            {
+                pair.out.write_out(rt);
+                return Ok(());
+            }
+        }
+    }
     pair.end_session()?;
     pair.out.write_out(rt);
     Ok(())
