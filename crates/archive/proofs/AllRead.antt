@@ -11,8 +11,11 @@ use lib.Seq.{drop-drop, length-take-le}
 use borrow.Author.Tests.{eq-eqb, ne_eqb, eqb-true, eqb-false, lt-ltb, le-ltb}
 use Rattle.archive.specs.Block.{longest, is_last_block, used, payload_of, fault_of}
 use Rattle.archive.specs.Writing.{front}
-use Rattle.archive.specs.Reading.{Judged, judged, judge, judged_all, body_of, fault_in, sound_from, sound_in, refused_for, reading, read_into}
-use Rattle.archive.specs.declared.block.Body.TheVariants.{Bytes, Short}
+use Rattle.archive.specs.Reading.{Judged, judged, judge, judged_all, body_of, fault_in, sound_from, sound_in, error_number, refused_for, fault_for, body_in, reading, read_into}
+use Rattle.std.specs.Prelude.{Some, None, Ok, Err}
+use Rattle.archive.specs.declared.block.BodyError.{BodyError}
+use Rattle.archive.specs.declared.block.BodyError.TheVariants.{Short, Damaged, Misplaced, Malformed}
+use Rattle.base.specs.Pick.{pick}
 use Rattle.archive.proofs.OneBlock.{sound, most, length-payload}
 
 -- ---- one block more
@@ -180,18 +183,78 @@ module _ (x : List ℕ) (k : ℕ) (ended : Bool) (b : List ℕ) (p : Passed x k 
   unfolding fault_in
   fault-none f e = rw (passed_all, eq-eqb (length x % 512) 0 e, f)
 
+-- ---- faults as errors
+
+pub number_refused : (f : ℕ) → 11 ≤ f → f ≤ 13 → error_number (refused_for f) ≡ f
+unfolding refused_for
+number_refused f h j = go (eqb f 11) (eqb f 12) refl refl
+  where
+    go : (a b : Bool) → eqb f 11 ≡ a → eqb f 12 ≡ b → error_number (pick a Damaged (pick b Misplaced Malformed)) ≡ f
+    go true b p q = sym (eqb-true f 11 p)
+    go false true p q = sym (eqb-true f 12 q)
+    go false false p q =
+        let u = eqb-false f 11 p in
+        let v = eqb-false f 12 q in
+        omega arith
+
+pub fault_found : (f : ℕ) (e : BodyError) → fault_for f ≡ Some e → (f ≡ 0 → ⊥) × (e ≡ refused_for f)
+unfolding fault_for
+fault_found f e h = go (eqb f 0) refl h
+  where
+    go : (b : Bool) → eqb f 0 ≡ b → pick b None (Some (refused_for f)) ≡ Some e → (f ≡ 0 → ⊥) × (e ≡ refused_for f)
+    go true p q = cc
+    go false p q = (eqb-false f 0 p, cc)
+
+pub fault_absent : (f : ℕ) → fault_for f ≡ None → f ≡ 0
+unfolding fault_for
+fault_absent f h = go (eqb f 0) refl h
+  where
+    go : (b : Bool) → eqb f 0 ≡ b → pick b None (Some (refused_for f)) ≡ None → f ≡ 0
+    go true p q = eqb-true f 0 p
+    go false p q = cc
+
+pub faulty_body : (x : List ℕ) (f : ℕ) → fault_in x ≡ f → (f ≡ 0 → ⊥) → Err (refused_for f) ≡ body_in x
+unfolding body_in
+faulty_body x f e n = rw (e, ne_eqb f 0 n)
+
+pub malformed_body : (x : List ℕ) → fault_in x ≡ 13 → Err Malformed ≡ body_in x
+unfolding body_in refused_for
+malformed_body x e = rw e
+
+pub sound_body : (x : List ℕ) (n : ℕ) → fault_in x ≡ 0 → length (body_of x) ≡ n → Ok n ≡ body_in x
+unfolding body_in
+sound_body x n e l = rw (e, l)
+
+pub body_sound : (x : List ℕ) (n : ℕ) → body_in x ≡ Ok n → (fault_in x ≡ 0) × (length (body_of x) ≡ n)
+unfolding body_in
+body_sound x n h = go (eqb (fault_in x) 0) refl h
+  where
+    go : (b : Bool) → eqb (fault_in x) 0 ≡ b → pick b (Ok (length (body_of x))) (Err (refused_for (fault_in x))) ≡ Ok n
+        → (fault_in x ≡ 0) × (length (body_of x) ≡ n)
+    go true p q = (eqb-true (fault_in x) 0 p, cc)
+    go false p q = cc
+
+pub body_faulty : (x : List ℕ) (e : BodyError) → body_in x ≡ Err e → (fault_in x ≡ 0 → ⊥) × (e ≡ refused_for (fault_in x))
+unfolding body_in
+body_faulty x e h = go (eqb (fault_in x) 0) refl h
+  where
+    go : (b : Bool) → eqb (fault_in x) 0 ≡ b → pick b (Ok (length (body_of x))) (Err (refused_for (fault_in x))) ≡ Err e
+        → (fault_in x ≡ 0 → ⊥) × (e ≡ refused_for (fault_in x))
+    go true p q = cc
+    go false p q = (eqb-false (fault_in x) 0 p, cc)
+
 -- ---- the tests of `read`, one after the other
 
 module _ (x t : List ℕ) where
-  pub read_short : length t / 490 < length x / 512 → reading Short t ≡ read_into x t
+  pub read_short : length t / 490 < length x / 512 → reading (Err Short) t ≡ read_into x t
   unfolding read_into
   read_short h = rw (lt-ltb (length t) (490 * (length x / 512)) (omega arith))
 
   module _ (h : length x / 512 ≤ length t / 490) where
-    pub read-refused : (fault_in x ≡ 0 → ⊥) → reading (refused_for (fault_in x)) t ≡ read_into x t
+    pub read-refused : (fault_in x ≡ 0 → ⊥) → reading (Err (refused_for (fault_in x))) t ≡ read_into x t
     unfolding read_into
     read-refused e = rw (le-ltb (length t) (490 * (length x / 512)) (omega arith), ne_eqb (fault_in x) 0 e)
 
-    pub read_done : fault_in x ≡ 0 → reading (Bytes (length (body_of x))) (front (body_of x) t) ≡ read_into x t
+    pub read_done : fault_in x ≡ 0 → reading (Ok (length (body_of x))) (front (body_of x) t) ≡ read_into x t
     unfolding read_into
     read_done e = rw (le-ltb (length t) (490 * (length x / 512)) (omega arith), eq-eqb (fault_in x) 0 e)

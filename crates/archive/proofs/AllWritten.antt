@@ -11,7 +11,8 @@ use lib.Seq.{paste, take_all, take_at, drop_at, drop-drop, length-take-le}
 use borrow.Author.Tests.{eqb-true, eqb-false, lt-ltb, le-ltb}
 use Rattle.archive.specs.Block.{longest, block}
 use Rattle.archive.specs.Writing.{block_count, blocks_from, blocks_of, front, writing, written}
-use Rattle.archive.specs.declared.block.Wrote.TheVariants.{Written, Short, TooLong}
+use Rattle.std.specs.Prelude.{Ok, Err}
+use Rattle.archive.specs.declared.block.WriteError.TheVariants.{Short, TooLong}
 use Rattle.archive.proofs.OneBlock.{length-block}
 use Rattle.archive.proofs.Laid.{front_longer, front-whole}
 
@@ -134,15 +135,15 @@ module _ (b t : List ℕ) where
   abbrev size : ℕ
   size = block_count (length b)
 
-  pub written-short : length t / 512 < size → writing Short t ≡ written b t
+  pub written-short : length t / 512 < size → writing (Err Short) t ≡ written b t
   unfolding written
   written-short h = rw (lt-ltb (length t) (512 * size) (omega arith))
 
   module _ (h : size ≤ length t / 512) where
-    pub written-long : longest < length b → writing TooLong t ≡ written b t
+    pub written-long : longest < length b → writing (Err TooLong) t ≡ written b t
     unfolding written
     written-long j = rw (le-ltb (length t) (512 * size) (omega arith), lt-ltb longest (length b) j)
 
-    pub written-done : length b ≤ longest → writing (Written (512 * size)) (front (blocks_of b) t) ≡ written b t
+    pub written-done : length b ≤ longest → writing (Ok (512 * size)) (front (blocks_of b) t) ≡ written b t
     unfolding written
     written-done j = rw (le-ltb (length t) (512 * size) (omega arith), le-ltb longest (length b) j)

@@ -1,13 +1,13 @@
 -- Lists compared element by element: two of them with one another, and one with zeros. Assumes nothing.
-use mathlib.Core.Path.{◌≡◌, refl, ap₂}
+use mathlib.Core.Path.{◌≡◌, refl, ap, ap₂}
 use mathlib.Core.Bool.{Bool, true, false, ◌&&◌}
 use mathlib.Core.List.{List, [], ◌∷◌}
-use Prim.Native.Nat.{ℕ, zero, suc, ◌+◌, ◌<◌}
-use native.Mathlib.Numerals.{add-one}
+use Prim.Native.Nat.{ℕ, zero, suc}
 use lib.Dec.{eqb}
-use lib.ListN.{length, get_or, drop, replicate}
-use lib.Seq.{drop-cons}
-use borrow.Author.Tests.{eqb-true, eq-eqb, ne_eqb}
+use lib.ListN.{length, replicate}
+use borrow.Author.Tests.{eqb-true, eq-eqb}
+use Rattle.std.specs.List.{list_all}
+use Rattle.std.specs.Cmp.Lexicographic.{pointwise}
 use Rattle.archive.specs.Block.{same, all_zero}
 
 -- both of two tests hold
@@ -33,14 +33,13 @@ same-eq (x ∷ a) (y ∷ b) e =
     let q = both (eqb x y) (same a b) e in
     ap₂ (λ (h : ℕ) (t : List ℕ). h ∷ t) (eqb-true x y q.0) (same-eq a b q.1)
 
-module _ (a b : List ℕ) (i : ℕ) (h : i < length a) (k : i < length b) where
-  pub same_next : get_or a i 0 ≡ get_or b i 0 → same (drop i a) (drop i b) ≡ same (drop (i + 1) a) (drop (i + 1) b)
-  unfolding same
-  same_next e = rw (add-one i, drop-cons a i 0 h, drop-cons b i 0 k, eq-eqb (get_or a i 0) (get_or b i 0) e)
-
-  pub same_not : (get_or a i 0 ≡ get_or b i 0 → ⊥) → same (drop i a) (drop i b) ≡ false
-  unfolding same
-  same_not e = rw (drop-cons a i 0 h, drop-cons b i 0 k, ne_eqb (get_or a i 0) (get_or b i 0) e)
+-- `==` of two slices
+pub same_pointwise : (a b : List ℕ) → pointwise eqb a b ≡ same a b
+unfolding same
+same_pointwise [] [] = refl
+same_pointwise [] (y ∷ b) = refl
+same_pointwise (x ∷ a) [] = refl
+same_pointwise (x ∷ a) (y ∷ b) = ap (λ (t : Bool). eqb x y && t) (same_pointwise a b)
 
 -- ---- zeros
 
@@ -56,11 +55,8 @@ zeros-only (x ∷ l) e =
     let q = both (eqb x 0) (all_zero l) e in
     ap₂ (λ (h : ℕ) (t : List ℕ). h ∷ t) (eqb-true x 0 q.0) (zeros-only l q.1)
 
-module _ (l : List ℕ) (i : ℕ) (h : i < length l) where
-  pub zero-next : get_or l i 0 ≡ 0 → all_zero (drop i l) ≡ all_zero (drop (i + 1) l)
-  unfolding all_zero
-  zero-next e = rw (add-one i, drop-cons l i 0 h, eq-eqb (get_or l i 0) 0 e)
-
-  pub zero-not : (get_or l i 0 ≡ 0 → ⊥) → all_zero (drop i l) ≡ false
-  unfolding all_zero
-  zero-not e = rw (drop-cons l i 0 h, ne_eqb (get_or l i 0) 0 e)
+-- `all` of the items of a slice
+pub all_zeros : (l : List ℕ) → list_all (λ (x : ℕ). eqb x 0) l ≡ all_zero l
+unfolding all_zero
+all_zeros [] = refl
+all_zeros (x ∷ l) = ap (λ (t : Bool). eqb x 0 && t) (all_zeros l)

@@ -14,12 +14,13 @@ use Rattle.archive.specs.Block.{longest, block, is_last_block, used, payload_of,
 use Rattle.archive.specs.Writing.{block_count, blocks_from, blocks_of, front, wrote_number, Writing, writing, written}
 use Rattle.archive.specs.Reading.{Judged, judged, judge, judged_all, body_of, fault_in, body_number, refused_for, Reading, reading, read_into}
 use Rattle.archive.specs.Claims.{Octets, ReadsWritten, RoundTrip, WritesRead, RefusedWriteLeaves, RefusedReadLeaves, before, FirstDecides}
-use Rattle.archive.specs.declared.block.Wrote.TheVariants as Wrote
-use Rattle.archive.specs.declared.block.Body.TheVariants.{Bytes, Short, Damaged, Misplaced, Malformed}
+use Rattle.std.specs.Prelude.{Ok, Err}
+use Rattle.archive.specs.declared.block.WriteError.TheVariants as wrote
+use Rattle.archive.specs.declared.block.BodyError.TheVariants.{Short, Damaged, Misplaced, Malformed}
 use Rattle.archive.proofs.Compare.{both}
 use Rattle.archive.proofs.OneBlock.{length-block, last_block, payload-block, block-sound, Sound, sound, fault-numbers, most, length-payload, block-only}
 use Rattle.archive.proofs.AllWritten.{counted, more, length-all}
-use Rattle.archive.proofs.AllRead.{step-sound, step_faulty, first-sound, read-refused, read_done}
+use Rattle.archive.proofs.AllRead.{step-sound, step_faulty, first-sound, number_refused, read-refused, read_done}
 
 -- ---- the blocks of a body
 
@@ -129,7 +130,7 @@ reads-written b t h room =
     let e = judged-written b h in
     let l = length-all b in
     let f : fault_in (blocks_of b) ≡ 0 = rw (e, eq-eqb (length (blocks_of b) % 512) 0 (omega arith)) in
-    sym (read_done (blocks_of b) t (omega arith) f) ∙ ap (λ (v : Judged). reading (Bytes (length v.body)) (front v.body t)) e
+    sym (read_done (blocks_of b) t (omega arith) f) ∙ ap (λ (v : Judged). reading (Ok (length v.body)) (front v.body t)) e
 
 -- an answer of blocks tells of the body and of the target
 record Stored (b t : List ℕ) (n : ℕ) : Type 0 where
@@ -137,16 +138,16 @@ record Stored (b t : List ℕ) (n : ℕ) : Type 0 where
   size : length (blocks_of b) ≡ n
   target : (written b t).target ≡ front (blocks_of b) t
 
-stored : (b t : List ℕ) (n : ℕ) → (written b t).answer ≡ Wrote.Written n → Stored b t n
+stored : (b t : List ℕ) (n : ℕ) → (written b t).answer ≡ Ok n → Stored b t n
 unfolding written
 stored b t n = go (ltb (length t) (512 * block_count (length b))) (ltb longest (length b)) refl refl
   where
     answered : Bool → Bool → Writing
     answered a d =
-        pick a (writing Wrote.Short t)
-        (pick d (writing Wrote.TooLong t) (writing (Wrote.Written (512 * block_count (length b))) (front (blocks_of b) t)))
+        pick a (writing (Err wrote.Short) t)
+        (pick d (writing (Err wrote.TooLong) t) (writing (Ok (512 * block_count (length b))) (front (blocks_of b) t)))
 
-    go : (a d : Bool) → ltb longest (length b) ≡ d → written b t ≡ answered a d → (answered a d).answer ≡ Wrote.Written n → Stored b t n
+    go : (a d : Bool) → ltb longest (length b) ≡ d → written b t ≡ answered a d → (answered a d).answer ≡ Ok n → Stored b t n
     go true d p r e =
         let z : ◌≡◌ {A = ℕ} 0 1 = cc in
         absurd (omega arith)
@@ -335,16 +336,16 @@ record Told (x t : List ℕ) (n : ℕ) : Type 0 where
   size : length (body_of x) ≡ n
   target : (read_into x t).target ≡ front (body_of x) t
 
-told : (x t : List ℕ) (n : ℕ) → (read_into x t).answer ≡ Bytes n → Told x t n
+told : (x t : List ℕ) (n : ℕ) → (read_into x t).answer ≡ Ok n → Told x t n
 unfolding read_into refused_for
 told x t n = go (ltb (length t) (490 * (length x / 512))) (eqb (fault_in x) 0) (eqb (fault_in x) 11) (eqb (fault_in x) 12) refl refl
   where
     answered : Bool → Bool → Bool → Bool → Reading
     answered a b c d =
-        pick a (reading Short t)
-        (pick b (reading (Bytes (length (body_of x))) (front (body_of x) t)) (reading (pick c Damaged (pick d Misplaced Malformed)) t))
+        pick a (reading (Err Short) t)
+        (pick b (reading (Ok (length (body_of x))) (front (body_of x) t)) (reading (Err (pick c Damaged (pick d Misplaced Malformed))) t))
 
-    go : (a b c d : Bool) → eqb (fault_in x) 0 ≡ b → read_into x t ≡ answered a b c d → (answered a b c d).answer ≡ Bytes n → Told x t n
+    go : (a b c d : Bool) → eqb (fault_in x) 0 ≡ b → read_into x t ≡ answered a b c d → (answered a b c d).answer ≡ Ok n → Told x t n
     go true b c d p r e =
         let z : ◌≡◌ {A = ℕ} 0 1 = cc in
         absurd (omega arith)
@@ -374,9 +375,9 @@ unfolding written
 refused_write_leaves b t = go (ltb (length t) (512 * block_count (length b))) (ltb longest (length b))
   where
     done : Writing
-    done = writing (Wrote.Written (512 * block_count (length b))) (front (blocks_of b) t)
+    done = writing (Ok (512 * block_count (length b))) (front (blocks_of b) t)
 
-    go : (a d : Bool) → let w = pick a (writing Wrote.Short t) (pick d (writing Wrote.TooLong t) done) in 0 < wrote_number w.answer → w.target ≡ t
+    go : (a d : Bool) → let w = pick a (writing (Err wrote.Short) t) (pick d (writing (Err wrote.TooLong) t) done) in 0 < wrote_number w.answer → w.target ≡ t
     go true d h = refl
     go false true h = refl
     go false false h = absurd (omega arith)
@@ -386,9 +387,9 @@ unfolding read_into
 refused-read-leaves x t = go (ltb (length t) (490 * (length x / 512))) (eqb (fault_in x) 0)
   where
     done : Reading
-    done = reading (Bytes (length (body_of x))) (front (body_of x) t)
+    done = reading (Ok (length (body_of x))) (front (body_of x) t)
 
-    go : (a d : Bool) → let r = pick a (reading Short t) (pick d done (reading (refused_for (fault_in x)) t)) in 0 < body_number r.answer → r.target ≡ t
+    go : (a d : Bool) → let r = pick a (reading (Err Short) t) (pick d done (reading (Err (refused_for (fault_in x))) t)) in 0 < body_number r.answer → r.target ≡ t
     go true d h = refl
     go false true h = absurd (omega arith)
     go false false h = refl
@@ -429,18 +430,6 @@ behind (suc m) n k e b x z =
     let s = step-sound m k e b x f in
     behind_more m n k e b x f (behind m n (k + 1) _ _ _ (sym (ap (λ (v : Judged). v.fault) s) ∙ z))
 
-number-refused : (f : ℕ) → 11 ≤ f → f ≤ 13 → body_number (refused_for f) ≡ f
-unfolding refused_for
-number-refused f h j = go (eqb f 11) (eqb f 12) refl refl
-  where
-    go : (a b : Bool) → eqb f 11 ≡ a → eqb f 12 ≡ b → body_number (pick a Damaged (pick b Misplaced Malformed)) ≡ f
-    go true b p q = sym (eqb-true f 11 p)
-    go false true p q = sym (eqb-true f 12 q)
-    go false false p q =
-        let u = eqb-false f 11 p in
-        let v = eqb-false f 12 q in
-        omega arith
-
 -- a fault behind blocks without one is the fault of all
 fault-first : (x : List ℕ) (k : ℕ) → k < length x / 512 → (before x k).fault ≡ 0
     → let f = fault_of k (before x k).ended (length (before x k).body) (take 512 (drop (512 * k) x)) in (f ≡ 0 → ⊥) → fault_in x ≡ f
@@ -463,4 +452,4 @@ first_decides x t k h z room p =
     let n = fault-numbers k v.ended (length v.body) (take 512 (drop (512 * k) x)) p in
     let e : fault_in x ≡ f = fault-first x k h z (λ q. omega arith) in
     let r = read-refused x t (omega arith) (λ q. omega arith) in
-    sym (ap (λ (u : Reading). body_number u.answer) r) ∙ rw e (number-refused f n.0 n.1)
+    sym (ap (λ (u : Reading). body_number u.answer) r) ∙ rw e (number_refused f n.0 n.1)

@@ -1,11 +1,9 @@
 -- One sequence of blocks for each body, and back: what is written reads as the body, and nothing else reads as it. A refusal changes
 -- nothing, and the first faulty block decides which it is.
-use Rattle.std.specs.Prelude.{ℕ, ◌*◌, ◌/◌, ◌<◌, ◌≤◌, ◌≡◌, false, List, [], length, get_or, take, drop}
+use Rattle.std.specs.Prelude.{ℕ, ◌*◌, ◌/◌, ◌<◌, ◌≤◌, ◌≡◌, false, List, [], length, get_or, take, drop, Ok}
 use Rattle.archive.specs.Block.{longest, fault_of}
 use Rattle.archive.specs.Writing.{block_count, blocks_of, front, wrote_number, written}
 use Rattle.archive.specs.Reading.{judge, Judged, read_into, reading, body_number}
-use Rattle.archive.specs.declared.block.Wrote.TheVariants.{Written}
-use Rattle.archive.specs.declared.block.Body.TheVariants.{Bytes}
 
 -- Each entry is a byte.
 abbrev pub Octets : List ℕ → Type 0
@@ -15,13 +13,13 @@ Octets l = (k : ℕ) → get_or l k 0 < 256
 abbrev pub ReadsWritten : Type 0
 ReadsWritten =
     (b t : List ℕ) → length b ≤ longest → 490 * block_count (length b) ≤ length t
-    → read_into (blocks_of b) t ≡ reading (Bytes (length b)) (front b t)
+    → read_into (blocks_of b) t ≡ reading (Ok (length b)) (front b t)
 
 -- What a call of `write` gives for the body `b` in any target `t`, a call of `read` turns back into `b` in any target `u` with room.
 abbrev pub RoundTrip : Type 0
 RoundTrip =
-    (b t u : List ℕ) (n : ℕ) → (written b t).answer ≡ Written n → 490 * (n / 512) ≤ length u
-    → read_into (take n (written b t).target) u ≡ reading (Bytes (length b)) (front b u)
+    (b t u : List ℕ) (n : ℕ) → (written b t).answer ≡ Ok n → 490 * (n / 512) ≤ length u
+    → read_into (take n (written b t).target) u ≡ reading (Ok (length b)) (front b u)
 
 -- The input `x` is what is written for the `n` bytes that were read to the front of the target `t`.
 pub record OneSequence (x t : List ℕ) (n : ℕ) : Type 0 where
@@ -30,7 +28,7 @@ pub record OneSequence (x t : List ℕ) (n : ℕ) : Type 0 where
 
 -- Whatever reads as a body is what is written for this body.
 abbrev pub WritesRead : Type 0
-WritesRead = (x t : List ℕ) (n : ℕ) → Octets x → (read_into x t).answer ≡ Bytes n → OneSequence x t n
+WritesRead = (x t : List ℕ) (n : ℕ) → Octets x → (read_into x t).answer ≡ Ok n → OneSequence x t n
 
 -- A call of `write` that is refused leaves the target as it was.
 abbrev pub RefusedWriteLeaves : Type 0

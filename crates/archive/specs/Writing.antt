@@ -1,9 +1,9 @@
 -- All blocks of a body (request (a); docs/ARCHIVE.md): full ones, numbered from 0, and then the last. What a call of `write` gives.
-use Rattle.std.specs.Prelude.{ℕ, zero, suc, ◌+◌, ◌-◌, ◌*◌, ◌/◌, true, false, List, ◌++◌, length, take, drop, ltb, eqb}
+use Rattle.std.specs.Prelude.{ℕ, zero, suc, ◌+◌, ◌-◌, ◌*◌, ◌/◌, true, false, List, ◌++◌, length, take, drop, ltb, eqb, Result, Ok, Err}
 use Rattle.base.specs.Pick.{pick}
 use Rattle.archive.specs.Block.{longest, block}
-use Rattle.archive.specs.declared.block.Wrote.{Wrote}
-use Rattle.archive.specs.declared.block.Wrote.TheVariants.{Written, Short, TooLong}
+use Rattle.archive.specs.declared.block.WriteError.{WriteError}
+use Rattle.archive.specs.declared.block.WriteError.TheVariants.{Short, TooLong}
 
 -- How many blocks a body of `n` bytes takes: an empty one takes one.
 unfoldable pub block_count : ℕ → ℕ
@@ -23,23 +23,23 @@ abbrev pub front : List ℕ → List ℕ → List ℕ
 front q t = q ++ drop (length q) t
 
 -- The number of an answer (docs/DECISIONS.md, part B).
-abbrev pub wrote_number : Wrote → ℕ
-wrote_number (Written n) = 0
-wrote_number Short = 10
-wrote_number TooLong = 13
+abbrev pub wrote_number : Result ℕ WriteError → ℕ
+wrote_number (Ok n) = 0
+wrote_number (Err Short) = 10
+wrote_number (Err TooLong) = 13
 
 -- What a call gives: its answer, and the target afterwards.
 pub record Writing : Type 0 where
-  pub answer : Wrote
+  pub answer : Result ℕ WriteError
   pub target : List ℕ
 
 -- Makes a `Writing`.
-abbrev pub writing : Wrote → List ℕ → Writing
+abbrev pub writing : Result ℕ WriteError → List ℕ → Writing
 writing r t = record { answer = r; target = t }
 
 -- The body `b` written to the target `t`: 10 comes before 13, and neither changes the target.
 unfoldable pub written : List ℕ → List ℕ → Writing
 written b t =
-    pick (ltb (length t) (512 * block_count (length b))) (writing Short t)
-    (pick (ltb longest (length b)) (writing TooLong t)
-    (writing (Written (512 * block_count (length b))) (front (blocks_of b) t)))
+    pick (ltb (length t) (512 * block_count (length b))) (writing (Err Short) t)
+    (pick (ltb longest (length b)) (writing (Err TooLong) t)
+    (writing (Ok (512 * block_count (length b))) (front (blocks_of b) t)))

@@ -5,27 +5,23 @@ ghost use Rattle.std.specs.Prelude.{◌≡◌, ◌+◌, ◌-◌, ◌*◌, ◌/�
 ghost use Rattle.std.proofs.Math.Seq.{paste};
 ghost use Rattle.archive.specs.Block.{length_field, head_of, checked, block, same, right_check, is_last_block, used, right_length, all_zero, right_form, fault_of, longest};
 ghost use Rattle.archive.specs.Writing.{block_count, blocks_of, front, wrote_number, written, writing};
-ghost use Rattle.archive.specs.Reading.{fault_in, sound_in, body_of, body_number, refused_for, reading, read_into};
+ghost use Rattle.archive.specs.Reading.{fault_for, fault_in, sound_in, body_of, body_in, error_number, body_number, reading, read_into};
 
-use base::{be16_at, copy_into};
+use base::{be16_at, copy_into, wide};
 use digest::md5::digest;
 
-// What `write` answers; `wrote_number` gives the number of each.
-#[derive(Clone, Copy)]
-pub enum Wrote {
-    // The blocks stand at the front of the target; they are so many bytes.
-    Written(usize),
+// Why `write` refuses.
+#[derive(Clone, Copy, PartialEq, Eq)]
+pub enum WriteError {
     // The target is shorter than the blocks.
     Short,
     // The body is longer than 4,294,967,295 bytes.
     TooLong,
 }
 
-// What `read` answers; `body_number` gives the number of each.
-#[derive(Clone, Copy)]
-pub enum Body {
-    // The body stands at the front of the target; it has so many bytes.
-    Bytes(usize),
+// Why `read` refuses.
+#[derive(Clone, Copy, PartialEq, Eq)]
+pub enum BodyError {
     // The target is shorter than 490 bytes for each whole block.
     Short,
     // The check of a block is wrong.
@@ -36,27 +32,40 @@ pub enum Body {
     Malformed,
 }
 
+impl BodyError {
+    // Returns the number of a refusal.
+    // Stays a number for each: `archive_read` answers C by them, and a line of an audit tells them (docs/AUDIT.md).
+    pub fn number(self) -> u8
+        ensures { result ≡ error_number self }
+    {
+        match self {
+            BodyError::Short => 10,
+            BodyError::Damaged => 11,
+            BodyError::Misplaced => 12,
+            BodyError::Malformed => 13,
+        }
+    }
+}
+
 // Returns the number of an answer of `write`.
-pub fn wrote_number(answer: Wrote) -> usize
+// Stays a number for each: `archive_write` answers C by them.
+pub fn wrote_number(answer: Result<usize, WriteError>) -> usize
     ensures { result ≡ wrote_number answer }
 {
     match answer {
-        Wrote::Written(_) => 0,
-        Wrote::Short => 10,
-        Wrote::TooLong => 13,
+        Ok(_) => 0,
+        Err(WriteError::Short) => 10,
+        Err(WriteError::TooLong) => 13,
     }
 }
 
 // Returns the number of an answer of `read`.
-pub fn body_number(answer: Body) -> usize
+pub fn body_number(answer: Result<usize, BodyError>) -> usize
     ensures { result ≡ body_number answer }
 {
     match answer {
-        Body::Bytes(_) => 0,
-        Body::Short => 10,
-        Body::Damaged => 11,
-        Body::Misplaced => 12,
-        Body::Malformed => 13,
+        Ok(_) => 0,
+        Err(error) => wide(error.number()),
     }
 }
 
@@ -77,18 +86,6 @@ const LAST: usize = 32768;
 
 // The longest body.
 const LONGEST: usize = 4294967295;
-
-// The number of a block without a fault.
-const SOUND: u8 = 0;
-
-// The number of a wrong check.
-const WRONG_CHECK: u8 = 11;
-
-// The number of a block number that is not the next.
-const WRONG_NUMBER: u8 = 12;
-
-// The number of a length, a padding or an end mark that breaks the rules.
-const WRONG_FORM: u8 = 13;
 
 // ---- writing
 
@@ -164,29 +161,27 @@ fn write_blocks(body: &[u8], blocks: &mut [u8], count: usize)
     requires { (count ≡ block_count (length body.now)) × (512 * count ≤ length blocks.old) }
     ensures { blocks.new ≡ front (blocks_of body.now) blocks.old }
 {
-    let mut k = 0;
-    while k + 1 < count {
+    let last = count - 1;
+    for k in 0..last {
         let from = PAYLOAD * k;
         write_block(blocks, false, k, &body[from..from + PAYLOAD]);
-        k += 1;
     }
-    let from = PAYLOAD * k;
-    write_block(blocks, true, k, &body[from..]);
+    write_block(blocks, true, last, &body[PAYLOAD * last..]);
 }
 
 // Writes the blocks of `body` at the front of `blocks`. A target short of them all is told before a body that is too long.
-pub fn write(body: &[u8], blocks: &mut [u8]) -> Wrote
+pub fn write(body: &[u8], blocks: &mut [u8]) -> Result<usize, WriteError>
     ensures { writing result blocks.new ≡ written body.now blocks.old }
 {
     let count = block_count(body.len());
     if blocks.len() / BLOCK < count {
-        return Wrote::Short;
+        return Err(WriteError::Short);
     }
     if LONGEST < body.len() {
-        return Wrote::TooLong;
+        return Err(WriteError::TooLong);
     }
     write_blocks(body, blocks, count);
-    Wrote::Written(BLOCK * count)
+    Ok(BLOCK * count)
 }
 
 // ---- one block
@@ -196,28 +191,14 @@ pub fn is_same(a: &[u8], b: &[u8]) -> bool
     requires { length a.now ≡ length b.now }
     ensures { result ≡ same a.now b.now }
 {
-    let mut i = 0;
-    while i < a.len() {
-        if a[i] != b[i] {
-            return false;
-        }
-        i += 1;
-    }
-    true
+    a == b
 }
 
 // Tells whether all bytes of `s` are zero.
 pub fn is_zero(s: &[u8]) -> bool
     ensures { result ≡ all_zero s.now }
 {
-    let mut i = 0;
-    while i < s.len() {
-        if s[i] != 0 {
-            return false;
-        }
-        i += 1;
-    }
-    true
+    s.iter().all(|b| *b == 0)
 }
 
 // Tells whether the length field of a block marks it as the last.
@@ -238,19 +219,14 @@ fn used_in(block: &[u8]) -> usize
 
 // Tells whether block `k` may have this length field: every block but the last carries 490 bytes, and a last block of length 0 occurs only
 // as block 0.
+#[tactic(auto, unfolding(crate::specs::Block::right_length))]
 fn is_length_right(k: usize, is_last: bool, used: usize) -> bool
     ensures { result ≡ right_length k is_last used }
 {
     if !is_last {
         return used == PAYLOAD;
     }
-    if PAYLOAD < used {
-        return false;
-    }
-    if 0 < used {
-        return true;
-    }
-    k == 0
+    used <= PAYLOAD && (0 < used || k == 0)
 }
 
 // Tells whether the check of a block is right.
@@ -281,78 +257,63 @@ fn is_form_right(block: &[u8], k: usize, is_ended: bool, before: usize) -> bool
     used <= LONGEST - before
 }
 
-// Returns the fault of block `k`: the lowest number that fits the block.
-fn fault_of(block: &[u8], k: usize, is_ended: bool, before: usize) -> u8
+// Returns the fault of block `k`, if it has one: that with the lowest number of those that fit the block.
+#[tactic(auto, unfolding(crate::specs::Block::fault_of, crate::specs::Reading::fault_for, crate::specs::Reading::refused_for))]
+fn fault_of(block: &[u8], k: usize, is_ended: bool, before: usize) -> Option<BodyError>
     requires { (length block.now ≡ 512) × (before ≤ longest) }
-    ensures { result ≡ fault_of k is_ended before block.now }
+    ensures { result ≡ fault_for (fault_of k is_ended before block.now) }
 {
     if !is_check_right(block) {
-        return WRONG_CHECK;
+        return Some(BodyError::Damaged);
     }
     if be16_at(block, 2) * 65536 + be16_at(block, 4) != k {
-        return WRONG_NUMBER;
+        return Some(BodyError::Misplaced);
     }
     if !is_form_right(block, k, is_ended, before) {
-        return WRONG_FORM;
+        return Some(BodyError::Malformed);
     }
-    SOUND
+    None
 }
 
 // ---- reading
 
-// What the blocks are found to be: the number of their fault, how many blocks stand before the first faulty one, and, if there is no fault, the
-// length of the body.
+// What the blocks are found to be: how many stand before the first faulty one, and the length of the body, or the fault.
 #[derive(Clone, Copy)]
 pub struct Judgement {
-    pub fault: u8,
     pub sound: usize,
-    pub total: usize,
+    pub body: Result<usize, BodyError>,
 }
 
 // Judges the blocks one after the other, and then whether bytes are left over and whether the last block came. The first faulty block
 // decides.
 pub fn judge(blocks: &[u8]) -> Judgement
-    ensures { (result.fault ≡ fault_in blocks.now)
-        × (result.sound ≡ sound_in blocks.now)
-        × (result.fault ≡ 0 → result.total ≡ length (body_of blocks.now)) }
+    ensures fault { body_number result.body ≡ fault_in blocks.now }
+    ensures sound { result.sound ≡ sound_in blocks.now }
+    ensures body { result.body ≡ body_in blocks.now }
 {
     let count = blocks.len() / BLOCK;
-    let mut k = 0;
     let mut is_ended = false;
     let mut total = 0;
-    while k < count {
-        let at = BLOCK * k;
-        let block = &blocks[at..at + BLOCK];
-        let fault = fault_of(block, k, is_ended, total);
-        if fault != SOUND {
+    for k in 0..count {
+        let block = &blocks[BLOCK * k..BLOCK * k + BLOCK];
+        if let Some(error) = fault_of(block, k, is_ended, total) {
             return Judgement {
-                fault,
                 sound: k,
-                total: 0,
+                body: Err(error),
             };
         }
         is_ended = is_last_block(block);
         total += used_in(block);
-        k += 1;
     }
-    if blocks.len() % BLOCK != 0 {
+    if blocks.len() % BLOCK != 0 || !is_ended {
         return Judgement {
-            fault: WRONG_FORM,
-            sound: k,
-            total: 0,
-        };
-    }
-    if !is_ended {
-        return Judgement {
-            fault: WRONG_FORM,
-            sound: k,
-            total: 0,
+            sound: count,
+            body: Err(BodyError::Malformed),
         };
     }
     Judgement {
-        fault: SOUND,
-        sound: k,
-        total,
+        sound: count,
+        body: Ok(total),
     }
 }
 
@@ -362,44 +323,25 @@ fn copy_body(blocks: &[u8], body: &mut [u8])
     ensures { body.new ≡ front (body_of blocks.now) body.old }
 {
     let count = blocks.len() / BLOCK;
-    let mut k = 0;
     let mut to = 0;
-    while k < count {
-        let at = BLOCK * k;
-        let block = &blocks[at..at + BLOCK];
+    for k in 0..count {
+        let block = &blocks[BLOCK * k..BLOCK * k + BLOCK];
         let used = used_in(block);
         copy_into(body, to, &block[HEAD..HEAD + used]);
         to += used;
-        k += 1;
     }
-}
-
-// Returns the answer for blocks with a fault.
-fn refused_for(fault: u8) -> Body
-    ensures { result ≡ refused_for fault }
-{
-    if fault == WRONG_CHECK {
-        return Body::Damaged;
-    }
-    if fault == WRONG_NUMBER {
-        return Body::Misplaced;
-    }
-    Body::Malformed
 }
 
 // Reads the body of `blocks` to the front of `body`. There are two passes, since blocks with a fault leave the target as it was: all are
 // judged before a byte is copied.
-pub fn read(blocks: &[u8], body: &mut [u8]) -> Body
+pub fn read(blocks: &[u8], body: &mut [u8]) -> Result<usize, BodyError>
     ensures { reading result body.new ≡ read_into blocks.now body.old }
 {
     if body.len() / PAYLOAD < blocks.len() / BLOCK {
-        return Body::Short;
+        return Err(BodyError::Short);
     }
     let judgement = judge(blocks);
-    let fault = judgement.fault;
-    if fault != SOUND {
-        return refused_for(fault);
-    }
+    let total = judgement.body?;
     copy_body(blocks, body);
-    Body::Bytes(judgement.total)
+    Ok(total)
 }

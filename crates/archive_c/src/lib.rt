@@ -8,6 +8,7 @@ ghost use Rattle.archive.specs.Writing.{written};
 ghost use Rattle.archive_c.specs.Told.{told, told_reading, told_writing};
 
 // Writes the body `source` as blocks to the front of `target`.
+// Stays beside `archive_read`: C calls each by its name.
 #[unsafe(no_mangle)]
 pub extern "C" fn archive_write(source: &[u8], target: &mut [u8]) -> usize
     ensures { told result target.new ≡ told_writing (written source.now target.old) }

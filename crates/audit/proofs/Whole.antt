@@ -20,8 +20,7 @@ use Rattle.filing.specs.ReadBack.{kind_read, entry_read, entry_with}
 use Rattle.filing.specs.Entries.{LogEntry, received, sent, answered, object, checked, nonce, closed, ended, Handed}
 use Rattle.filing.specs.declared.frame.Kind.{Kind}
 use Rattle.filing.specs.declared.frame.Kind.TheVariants as kind
-use Rattle.filing.specs.declared.entry.KindRead.{KindRead}
-use Rattle.filing.specs.declared.entry.KindRead.TheVariants.{Known, Unknown}
+use Rattle.std.specs.Prelude.{Option, Some, None}
 use Rattle.filing.specs.declared.entry.EntryRead.{EntryRead}
 use Rattle.filing.specs.declared.entry.EntryRead.TheVariants as says
 use Rattle.filing.proofs.Told.{entry-reads}
@@ -67,17 +66,17 @@ letters-back (a ∷ b ∷ c ∷ []) h o = absurd (omega arith)
 letters-back (a ∷ b ∷ c ∷ d ∷ e ∷ l) h o = absurd (omega arith)
 
 -- letters that are read as a kind are its own
-abbrev LettersAre : ℕ → KindRead → Type 0
-LettersAre l (Known k) = l ≡ kind_number k
-LettersAre l Unknown = Unit {0}
+abbrev LettersAre : ℕ → Option Kind → Type 0
+LettersAre l (Some k) = l ≡ kind_number k
+LettersAre l None = Unit {0}
 
-record Letters (l : ℕ) (r : KindRead) : Type 0 where
+record Letters (l : ℕ) (r : Option Kind) : Type 0 where
   are : LettersAre l r
 
-ask : (l : ℕ) (k : Kind) {r : KindRead} → Letters l r → Letters l (pick (eqb l (kind_number k)) (Known k) r)
+ask : (l : ℕ) (k : Kind) {r : Option Kind} → Letters l r → Letters l (pick (eqb l (kind_number k)) (Some k) r)
 ask l k {r} o = go (eqb l (kind_number k)) refl
   where
-    go : (t : Bool) → eqb l (kind_number k) ≡ t → Letters l (pick t (Known k) r)
+    go : (t : Bool) → eqb l (kind_number k) ≡ t → Letters l (pick t (Some k) r)
     go true e = record { are = eqb-true l (kind_number k) e }
     go false e = o
 
@@ -121,9 +120,9 @@ module _ (c : Content) where
         ∙ ap (λ (l : List ℕ). entry_in (record { kind = l; clock = c.clock; payload = c.payload }))
         (sym (ap bytes32 e) ∙ letters-back c.kind four o)
 
-    read-does : (r : KindRead) → LettersAre (letters_in c) r → Does c (later_act (letters_in c) r c.payload)
-    read-does (Known k) e = subst (λ (l : ℕ). Does c (known_act l k c.payload)) (sym e) (kind-does k (kind_is k e))
-    read-does Unknown u = λ z. omega (arith, z)
+    read-does : (r : Option Kind) → LettersAre (letters_in c) r → Does c (later_act (letters_in c) r c.payload)
+    read-does (Some k) e = subst (λ (l : ℕ). Does c (known_act l k c.payload)) (sym e) (kind-does k (kind_is k e))
+    read-does None u = λ z. omega (arith, z)
 
     later-does : (n : ℕ) → (n ≡ 0 → ⊥) → Does c (act_for 0 n (letters_in c) c.payload)
     unfolding act_for
@@ -187,9 +186,9 @@ module _ (s : State) where
   reply_calm : (l : Last) (code : ℕ) (hs t : List ℕ) → (reply_step l s code hs t).state.handed ≡ false
   unfolding connected_step state_with
   reply_calm last_as.Other code hs t = refl
-  reply_calm (last_as.Connect enable has g) code hs t =
+  reply_calm (last_as.Connect enable w) code hs t =
       pick-tabled (is_success code)
-      (stands_answered s (answer_by s.peer t (asks_in s enable) (id_in (first header_id.connection_id (headers_from hs 0))) has g))
+      (stands_answered s (answer_by s.peer t (asks_in s enable) (id_in (first header_id.connection_id (headers_from hs 0))) w))
       (tabled (quiet s) t) refl refl
   reply_calm (last_as.Disconnect i) code hs t = refl
 

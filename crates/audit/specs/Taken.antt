@@ -1,7 +1,7 @@
 -- What a frame of the log does (docs/ARCHIVE.md, "The log"): the first tells the settings and the session's name, each later one is fed to the
 -- journal, and what it says of the last record is kept. A frame that no receiver writes is told by a number, and those behind it are passed over: 1
 -- no `open`, 2 a Put limit over 1,048,576, 3 letters that do not belong there, 4 a packet of another length than it says.
-use Rattle.std.specs.Prelude.{ℕ, ◌+◌, ◌%◌, ◌^◌, Bool, ◌&&◌, List, length, take, drop, replicate, ◌==◌, nat_le, nat_lt, slice_index}
+use Rattle.std.specs.Prelude.{ℕ, ◌+◌, ◌%◌, ◌^◌, Bool, ◌&&◌, List, length, take, drop, replicate, ◌==◌, nat_le, nat_lt, slice_index, Option, Some, None}
 use Rattle.std.proofs.Math.Seq.{paste}
 use Rattle.base.specs.Pick.{pick}
 use Rattle.base.specs.Bytes.{be16}
@@ -9,8 +9,6 @@ use Rattle.filing.specs.Kinds.{kind_number}
 use Rattle.filing.specs.ReadBack.{kind_read, entry_read, entry_with}
 use Rattle.filing.specs.declared.frame.Kind.{Kind}
 use Rattle.filing.specs.declared.frame.Kind.TheVariants.{Open, Recv, Done}
-use Rattle.filing.specs.declared.entry.KindRead.{KindRead}
-use Rattle.filing.specs.declared.entry.KindRead.TheVariants.{Known, Unknown}
 use Rattle.filing.specs.declared.entry.EntryRead.{EntryRead}
 use Rattle.filing.specs.declared.entry.EntryRead.TheVariants.{Packet}
 use Rattle.journal_code.specs.declared.state.State.{State}
@@ -49,9 +47,9 @@ abbrev pub known_act : ℕ → Kind → List ℕ → Act
 known_act l k p = pick (l == kind_number Open) (Wrong 3) (pick (l == kind_number Recv) (packet_act p) (Feed (entry_read k p)))
 
 -- A frame behind the first, by what its letters are.
-abbrev pub later_act : ℕ → KindRead → List ℕ → Act
-later_act l (Known k) p = known_act l k p
-later_act l Unknown p = Wrong 3
+abbrev pub later_act : ℕ → Option Kind → List ℕ → Act
+later_act l (Some k) p = known_act l k p
+later_act l None p = Wrong 3
 
 -- Frame `n`, behind a wrong frame with the number `fault`, or 0.
 unfoldable pub act_for : ℕ → ℕ → ℕ → List ℕ → Act

@@ -6,7 +6,7 @@ ghost use Rattle.audit.specs.Compare.{differ_at, is_held, headers_what, fault_wh
 
 use crate::place::from_place;
 use crate::waiting::{FileFrame, KEPT};
-use archive::block::{Body, Wrote, is_same, judge, read};
+use archive::block::{is_same, judge, read};
 use digest::md5::octets;
 use files::path::front;
 use filing::file::{RecordMarks, file_row};
@@ -114,10 +114,10 @@ fn damaged_what(blocks: &[u8]) -> What
     ensures { result ≡ damaged_what blocks.now }
 {
     let j = judge(blocks);
-    if j.fault == 0 {
-        return What::Long;
+    match j.body {
+        Ok(_) => What::Long,
+        Err(error) => fault_what(error.number(), j.sound, blocks.len() / BLOCK),
     }
-    fault_what(j.fault, j.sound, blocks.len() / BLOCK)
 }
 
 // Compares the body that was filed with the one that came.
@@ -133,11 +133,8 @@ fn same_body(filed: &[u8], body: &[u8]) -> What
 // Compares the body that some blocks hold with the one that came. It is read to `had`.
 pub(crate) fn body_what(blocks: &[u8], body: &[u8], had: &mut [u8; ROOM]) -> What {
     match read(blocks, had) {
-        Body::Bytes(n) => same_body(front(had, n), body),
-        Body::Short => damaged_what(blocks),
-        Body::Damaged => damaged_what(blocks),
-        Body::Misplaced => damaged_what(blocks),
-        Body::Malformed => damaged_what(blocks),
+        Ok(n) => same_body(front(had, n), body),
+        Err(_) => damaged_what(blocks),
     }
 }
 
@@ -254,8 +251,7 @@ pub(crate) fn note_what(file: FileFrame, name: [u8; 33], sum: [u8; 16], filed: &
         &check,
         &sum,
     ) {
-        Wrote::Written(n) => text_what(filed, front(&text, n)),
-        Wrote::Short => What::Note,
-        Wrote::TooLong => What::Note,
+        Ok(n) => text_what(filed, front(&text, n)),
+        Err(_) => What::Note,
     }
 }

@@ -9,7 +9,7 @@ ghost use Rattle.audit.specs.Taken.{is_packet, open_act, first_act, packet_act, 
 use crate::place::{Here, number_at};
 use crate::waiting::{Phase, Waiting, after, is_handed, nothing_waiting, with_phase};
 use base::{be16_at, copy_into, wide};
-use filing::entry::{EntryRead, KindRead, entry_in, kind_in, settings_in};
+use filing::entry::{EntryRead, entry_in, kind_in, settings_in};
 use filing::frame::{Kind, kind_number};
 use journal_code::answer::{answered, checked, closed, nonce, object, sent, stream_ended};
 use journal_code::receive::received;
@@ -203,8 +203,8 @@ fn later_act(letters: u32, payload: &[u8]) -> Act
     ensures { result ≡ later_act letters (kind_read letters) payload.now }
 {
     match kind_in(letters) {
-        KindRead::Known(kind) => known_act(letters, kind, payload),
-        KindRead::Unknown => Act::Wrong(KIND),
+        Some(kind) => known_act(letters, kind, payload),
+        None => Act::Wrong(KIND),
     }
 }
 

@@ -1,6 +1,4 @@
 // What is filed of a record, read from its folder and compared with the log's.
-ghost use Rattle.std.specs.Prelude.{◌≤◌, length};
-
 use crate::compare::{
     ROOM, What, body_what, file_what, headers_what, note_what, there_what, unfiled_what,
 };
@@ -21,36 +19,15 @@ use std::io::Write;
 // How many bytes the store of a filed file holds: one block more than the longest body takes.
 pub(crate) const FILED: usize = 1096192;
 
-// A file that was to be read: whether it is there, and how many bytes of the store it fills.
-#[derive(Clone, Copy)]
-struct Held {
-    is_there: bool,
-    length: usize,
-}
-
 // Tells whether a file or a folder is there and can be opened.
 fn is_there<R: Files>(rt: &R, path: &[u8]) -> bool {
-    match system::open(rt, path) {
-        Ok(_) => true,
-        Err(_) => false,
-    }
+    system::open(rt, path).is_ok()
 }
 
-// Reads a file to the front of `store`, as much of it as there is room for.
-fn read_file<R: Files>(rt: &R, path: &[u8], store: &mut [u8]) -> Held {
-    match system::open(rt, path) {
-        Ok(file) => {
-            let mut file = file;
-            Held {
-                is_there: true,
-                length: read_full(&mut file, store),
-            }
-        }
-        Err(_) => Held {
-            is_there: false,
-            length: 0,
-        },
-    }
+// Reads a file to the front of `store`, as much of it as there is room for, and returns how many bytes that are; none if it is not there.
+fn read_file<R: Files>(rt: &R, path: &[u8], store: &mut [u8]) -> Option<usize> {
+    let mut file = system::open(rt, path).ok()?;
+    Some(read_full(&mut file, store))
 }
 
 // Reads a file of a record.
@@ -60,7 +37,7 @@ fn read_record<R: Env + Files>(
     number: u32,
     file: &[u8],
     store: &mut [u8],
-) -> Held {
+) -> Option<usize> {
     let mut path = [0u8; PATH];
     let n = record_file(rt, task.session, number, file, &mut path);
     read_file(rt, &path[0..n], store)
@@ -77,31 +54,31 @@ fn headers_filed<R: Env + Files>(
     filed: &mut [u8; FILED],
 ) -> What {
     let held = read_record(rt, task, number, b"headers", filed);
-    headers_what(held.is_there, front(filed, held.length), kept)
+    headers_what(held.is_some(), front(filed, held.unwrap_or(0)), kept)
 }
 
 // Compares the body with what was read of its file. A file that fills the store may go on behind it.
 fn body_held(
-    held: Held,
+    held: Option<usize>,
     came: bool,
     body: &[u8],
     filed: &[u8; FILED],
     had: &mut [u8; ROOM],
 ) -> What {
-    if !held.is_there {
+    let Some(n) = held else {
         return unfiled_what(came);
-    }
+    };
     if !came {
         return What::BodyThere;
     }
-    if FILED <= held.length {
+    if FILED <= n {
         return What::Long;
     }
-    body_what(front(filed, held.length), body, had)
+    body_what(front(filed, n), body, had)
 }
 
 // Compares the body.
-fn body_filed(held: Held, came: bool, body: &[u8], filed: &[u8; FILED]) -> What {
+fn body_filed(held: Option<usize>, came: bool, body: &[u8], filed: &[u8; FILED]) -> What {
     let mut had = [0u8; ROOM];
     body_held(held, came, body, filed, &mut had)
 }
@@ -117,12 +94,11 @@ fn note_filed<R: Env + Files>(
 ) -> What {
     let mut text = [0u8; 1025];
     let held = read_record(rt, task, number, b"note", &mut text);
-    let what = there_what(held.is_there);
+    let what = there_what(held.is_some());
     if !is_same(what) {
         return what;
     }
-    let file = w.file;
-    note_what(file, name, sum, front(&text, held.length))
+    note_what(w.file, name, sum, front(&text, held.unwrap_or(0)))
 }
 
 // Compares the frame `file`, and then the note.
@@ -136,9 +112,7 @@ fn rest_filed<R: Env + Files>(
     body: &[u8],
     blocks: &[u8],
 ) -> What {
-    let file = w.file;
-    let target = w.target;
-    let what = file_what(file, number, w.came, target, kept, body);
+    let what = file_what(w.file, number, w.came, w.target, kept, body);
     if !is_same(what) {
         return what;
     }
@@ -173,7 +147,7 @@ fn compared<R: Env + Files>(
         name,
         kept,
         body,
-        front(filed, held.length),
+        front(filed, held.unwrap_or(0)),
     )
 }
 
@@ -188,12 +162,9 @@ fn has_part<R: Env + Files>(rt: &R, task: Task, number: u32) -> bool {
 
 // Tells whether the folder of a record is there.
 fn has_folder<R: Env + Files>(rt: &R, task: Task, number: u32) -> bool {
-    if MOST < number {
-        return false;
-    }
     let mut path = [0u8; PATH];
     let n = record_file(rt, task.session, number, b".", &mut path);
-    is_there(rt, &path[0..n])
+    number <= MOST && is_there(rt, &path[0..n])
 }
 
 // Returns what is found of record `number`, which the log has with these headers and this body.
@@ -244,10 +215,7 @@ fn is_extract_written<R: Env + Files>(
     let mut path = [0u8; PATH];
     let n = extract_file(rt, task, number, end, &mut path);
     match system::open_overwrite(rt, &path[0..n]) {
-        Ok(file) => {
-            let mut file = file;
-            file.write_all(bytes).is_ok()
-        }
+        Ok(mut file) => file.write_all(bytes).is_ok(),
         Err(_) => false,
     }
 }

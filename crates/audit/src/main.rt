@@ -16,7 +16,7 @@ use crate::entry::BODY;
 use crate::filed::FILED;
 use crate::path::{FOLDER, Task};
 use crate::place::STORE;
-use crate::session::audit_session;
+use crate::session::{Stores, audit_session};
 use crate::shown::{OUT, print_totals};
 use crate::verdict::{Counts, added};
 use check::same;
@@ -52,33 +52,18 @@ fn audit_all<R: Env + Files + Print>(
     rt: &R,
     err: &impl Print,
     first: Task,
-    store: &mut [u8; STORE],
-    packet: &mut [u8; 65535],
-    headers: &mut [u8; 65535],
-    body: &mut [u8; BODY],
-    tables: &mut [u64; 320],
-    filed: &mut [u8; FILED],
-    out: &mut [u8; OUT],
+    stores: &mut Stores<'_>,
 ) {
-    let count = argument_count(rt);
     let mut counts = Counts {
         records: 0,
         same: 0,
         grave: 0,
     };
-    let mut i = first.session;
     let mut sessions = 0;
-    while i < count {
-        let task = Task {
-            session: i,
-            extract: first.extract,
-        };
-        let found = audit_session(
-            rt, err, task, store, packet, headers, body, tables, filed, out,
-        );
-        counts = added(counts, found);
+    for session in first.session..argument_count(rt) {
+        let task = Task { session, ..first };
+        counts = added(counts, audit_session(rt, err, task, stores));
         sessions = wrapping_add_usize(sessions, 1);
-        i += 1;
     }
     print_totals(rt, sessions, counts);
 }
@@ -89,23 +74,21 @@ fn main(rt: HostRuntime) {
         print(&rt.stderr(), b"usage: audit [--extract DIR] SESSION ..\n");
         return;
     }
-    let mut store = [0u8; STORE];
+    let mut log = [0u8; STORE];
     let mut packet = [0u8; 65535];
     let mut headers = [0u8; 65535];
     let mut body = [0u8; BODY];
     let mut tables = [0u64; 320];
     let mut filed = [0u8; FILED];
     let mut out = [0u8; OUT];
-    audit_all(
-        &rt,
-        &rt.stderr(),
-        task,
-        &mut store,
-        &mut packet,
-        &mut headers,
-        &mut body,
-        &mut tables,
-        &mut filed,
-        &mut out,
-    );
+    let mut stores = Stores {
+        log: &mut log,
+        packet: &mut packet,
+        headers: &mut headers,
+        body: &mut body,
+        tables: &mut tables,
+        filed: &mut filed,
+        out: &mut out,
+    };
+    audit_all(&rt, &rt.stderr(), task, &mut stores);
 }

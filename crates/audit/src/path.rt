@@ -58,33 +58,16 @@ pub(crate) fn part_folder(rt: &impl Env, i: usize, number: u32, path: &mut [u8])
     below(rt, i, front(&inner, n), path)
 }
 
-// Returns `s` without the slashes at its end.
-fn trimmed(s: &[u8]) -> &[u8] {
-    let mut n = s.len();
-    while n > 0 {
-        if s[n - 1] != b'/' {
-            return &s[0..n];
-        }
-        n -= 1;
-    }
-    s
-}
-
-// Returns what stands behind the last slash of `s`.
-fn behind_slash(s: &[u8]) -> &[u8] {
-    let mut n = s.len();
-    while n > 0 {
-        if s[n - 1] == b'/' {
-            return &s[n..];
-        }
-        n -= 1;
-    }
-    s
-}
-
-// Returns the last name of a path.
+// Returns the last name of a path, without the slashes behind it.
 pub(crate) fn base_of(path: &[u8]) -> &[u8] {
-    behind_slash(trimmed(path))
+    let end = match path.iter().rposition(|b| *b != b'/') {
+        Some(last) => last + 1,
+        None => path.len(),
+    };
+    match path[..end].iter().rposition(|b| *b == b'/') {
+        Some(slash) => &path[slash + 1..end],
+        None => &path[..end],
+    }
 }
 
 // Puts the path of a file of an extracted record at the front of `path`, and returns how long it is: the session's folder and the record's number are

@@ -1,11 +1,10 @@
 // Where the program stands in the log, of which a store holds some bytes, and the frame that stands there.
-ghost use Rattle.std.specs.Prelude.{◌≡◌, ◌≤◌, drop};
+ghost use Rattle.std.specs.Prelude.{◌≡◌, drop};
 ghost use Rattle.audit.specs.Place.{four_at, payload_at};
 
 use digest::md5::{Octets16, octets16_at};
 use files::path::front;
-use lines::input::{keep, read};
-use lines::output::least;
+use lines::input::{NoMore, read_behind};
 use packet::header::be32_at;
 use std::io::Read;
 use std::num::{wrapping_add_u32, wrapping_add_usize};
@@ -16,17 +15,21 @@ pub(crate) const STORE: usize = 131072;
 // The bytes of a row.
 const ROW: usize = 16;
 
-// How the reading ends, beside the numbers 11 to 13 of a frame that is wrong: the log is whole, breaks off, has a frame that is longer than the
-// store, or is not there; or the session's folder is not there.
-pub(crate) const WHOLE: u8 = 1;
-
-pub(crate) const CUT: u8 = 2;
-
-pub(crate) const LONG: u8 = 3;
-
-pub(crate) const NO_LOG: u8 = 4;
-
-pub(crate) const NO_FOLDER: u8 = 5;
+// How the reading of a log ends.
+#[derive(Clone, Copy, PartialEq, Eq)]
+pub(crate) enum End {
+    // The log is whole; it breaks off; it has a frame that is longer than the store; it is not there.
+    Whole,
+    Cut,
+    Long,
+    NoLog,
+    // The session's folder is not there.
+    NoFolder,
+    // A frame is wrong: its check, its number, its filling.
+    Damaged,
+    Misplaced,
+    Malformed,
+}
 
 // Where the program stands in the log.
 #[derive(Clone, Copy)]
@@ -38,8 +41,8 @@ pub(crate) struct Place {
     pub passed: usize,
     // The number of the next frame.
     pub number: u32,
-    // How the reading ended, or 0.
-    pub end: u8,
+    // How the reading ended, if it did.
+    pub end: Option<End>,
 }
 
 // A frame as it stands in the log, except for its payload.
@@ -61,18 +64,15 @@ pub(crate) fn at_start() -> Place {
         have: 0,
         passed: 0,
         number: 0,
-        end: 0,
+        end: None,
     }
 }
 
 // Returns the place at which the reading ends.
-pub(crate) fn over(place: Place, end: u8) -> Place {
+pub(crate) fn over(place: Place, end: End) -> Place {
     Place {
-        at: place.at,
-        have: place.have,
-        passed: place.passed,
-        number: place.number,
-        end,
+        end: Some(end),
+        ..place
     }
 }
 
@@ -86,10 +86,8 @@ fn frame_end(at: usize, n: usize) -> usize {
 pub(crate) fn behind(place: Place, n: usize) -> Place {
     Place {
         at: frame_end(place.at, n),
-        have: place.have,
-        passed: place.passed,
         number: wrapping_add_u32(place.number, 1),
-        end: 0,
+        ..place
     }
 }
 
@@ -108,7 +106,7 @@ pub(crate) fn number_at(log: &[u8], at: usize) -> u32
 
 // Returns the sixteen bytes before `end`; zeros if they are not there.
 fn check_before(log: &[u8], end: usize) -> Octets16 {
-    let to = least(end, log.len());
+    let to = end.min(log.len());
     if to < ROW {
         return Octets16 {
             first: 0,
@@ -148,36 +146,19 @@ pub(crate) fn frame_here(log: &[u8], place: Place, n: usize) -> Here {
     }
 }
 
-// Returns where the bytes begin that are still needed: at the check before the next frame.
-fn needed_from(at: usize) -> usize
-    ensures { result ≤ at }
-{
-    if at < ROW { 0 } else { at - ROW }
-}
-
-// Returns how the log ends where the file does: with a frame, or inside one.
-fn end_at(at: usize, to: usize) -> u8 {
-    if at == to { WHOLE } else { CUT }
-}
-
-// Reads on in the log's file, behind what of the store is still needed, which is moved to its front.
+// Reads on in the log's file, behind what of the store is still needed: from the check before the next frame on.
 pub(crate) fn read_more(file: &mut impl Read, store: &mut [u8], place: Place) -> Place {
-    let to = least(place.have, store.len());
-    let at = least(place.at, to);
-    let from = needed_from(at);
-    let kept = keep(store, from, to);
-    if kept == store.len() {
-        return over(place, LONG);
-    }
-    let n = read(file, &mut store[kept..]);
-    if n == 0 {
-        return over(place, end_at(at, to));
-    }
-    Place {
-        at: at - from,
-        have: kept + n,
-        passed: wrapping_add_usize(place.passed, from),
-        number: place.number,
-        end: 0,
+    let to = place.have.min(store.len());
+    let at = place.at.min(to);
+    let from = at.saturating_sub(ROW);
+    match read_behind(file, store, from, to) {
+        Ok(have) => Place {
+            at: at - from,
+            have,
+            passed: wrapping_add_usize(place.passed, from),
+            ..place
+        },
+        Err(NoMore::Full) => over(place, End::Long),
+        Err(NoMore::End) => over(place, if at == to { End::Whole } else { End::Cut }),
     }
 }

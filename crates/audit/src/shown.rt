@@ -3,14 +3,14 @@
 use crate::compare::What;
 use crate::entry::{Audit, KIND, LIMIT, NO_END, NO_OPEN};
 use crate::path::{FOLDER, base_of};
-use crate::place::{CUT, LONG, NO_FOLDER, NO_LOG, Place, WHOLE};
+use crate::place::{End, Place};
 use crate::verdict::{Counts, Word};
 use crate::waiting::{NO_CODE, Waiting};
 use digest::md5::octets;
 use files::path::front;
 use filing::names::record_name;
 use lines::arguments::argument;
-use lines::output::{flush, print, put, put_byte, put_hex, put_line_at, put_number};
+use lines::output::{flush, print, put, put_byte, put_hex, put_number};
 use std::env::Env;
 use std::num::wrapping_add_usize;
 use table::targets::{Target, is_named};
@@ -63,39 +63,6 @@ fn put_answer(out: &mut [u8], n: usize, code: usize, is_told: bool) -> usize {
     b
 }
 
-// Returns which of the words on files that have no number stands for `what`.
-fn plain_of(what: What) -> usize {
-    match what {
-        What::Same => 0,
-        What::Headers(_) => 0,
-        What::BodyMissing => 1,
-        What::BodyThere => 2,
-        What::Block {
-            number: _,
-            fault: _,
-        } => 0,
-        What::End => 3,
-        What::Body(_) => 0,
-        What::Long => 4,
-        What::NoFile => 5,
-        What::OtherFile => 6,
-        What::Note => 7,
-        What::Files => 8,
-    }
-}
-
-// Puts a word on files that has no number.
-fn put_plain(out: &mut [u8], n: usize, what: What) -> usize {
-    let k = plain_of(what);
-    if k < 5 {
-        let words =
-            b"same\nbody is missing\nbody is there, and none came\nend: 13\nbody is longer than this program reads\n";
-        return put_line_at(out, n, words, k);
-    }
-    let words = b"no frame `file`\nframe `file` says something else\nnote differs\nother files\n";
-    put_line_at(out, n, words, k - 5)
-}
-
 // Puts some words, and a number.
 fn put_at(out: &mut [u8], n: usize, words: &[u8], number: usize) -> usize {
     let a = put(out, n, words);
@@ -111,10 +78,18 @@ fn put_block(out: &mut [u8], n: usize, number: usize, fault: u8) -> usize {
 // Puts what differs.
 fn put_what(out: &mut [u8], n: usize, what: What) -> usize {
     match what {
+        What::Same => put(out, n, b"same"),
         What::Headers(at) => put_at(out, n, b"headers differ at byte ", at),
-        What::Body(at) => put_at(out, n, b"body differs at byte ", at),
+        What::BodyMissing => put(out, n, b"body is missing"),
+        What::BodyThere => put(out, n, b"body is there, and none came"),
         What::Block { number, fault } => put_block(out, n, number, fault),
-        _ => put_plain(out, n, what),
+        What::End => put(out, n, b"end: 13"),
+        What::Body(at) => put_at(out, n, b"body differs at byte ", at),
+        What::Long => put(out, n, b"body is longer than this program reads"),
+        What::NoFile => put(out, n, b"no frame `file`"),
+        What::OtherFile => put(out, n, b"frame `file` says something else"),
+        What::Note => put(out, n, b"note differs"),
+        What::Files => put(out, n, b"other files"),
     }
 }
 
@@ -192,37 +167,36 @@ fn print_whole(rt: &impl Print, done: usize) {
     }
 }
 
-// Prints what is wrong with the frame at which the reading ended.
-fn print_fault(rt: &impl Print, end: u8) {
-    if end == LONG {
-        print_text(rt, b"longer than this program reads");
-    } else {
-        print_number(rt, end as usize);
-    }
-}
-
 // Prints the frame at which the reading ended, and what is wrong with it.
-fn print_frame(rt: &impl Print, place: Place) {
+fn print_frame(rt: &impl Print, place: Place, wrong: &[u8]) {
     print_text(rt, b"frame ");
     print_number(rt, place.number as usize);
     print_text(rt, b" at byte ");
     print_number(rt, wrapping_add_usize(place.passed, place.at));
     print_text(rt, b": ");
-    print_fault(rt, place.end);
+    print_text(rt, wrong);
+}
+
+// Returns what is wrong with the frame at which the reading ended.
+fn wrong_of(end: End) -> &'static [u8] {
+    match end {
+        End::Damaged => b"11",
+        End::Misplaced => b"12",
+        End::Malformed => b"13",
+        _ => b"longer than this program reads",
+    }
 }
 
 // Prints how the reading ended.
-fn print_end(rt: &impl Print, place: Place, done: usize) {
-    if place.end == WHOLE {
-        print_whole(rt, done);
-        return;
+fn print_end(rt: &impl Print, place: Place, end: End, done: usize) {
+    match end {
+        End::Whole => print_whole(rt, done),
+        End::Cut => {
+            print_text(rt, b"breaks off at byte ");
+            print_number(rt, wrapping_add_usize(place.passed, place.at));
+        }
+        _ => print_frame(rt, place, wrong_of(end)),
     }
-    if place.end == CUT {
-        print_text(rt, b"breaks off at byte ");
-        print_number(rt, wrapping_add_usize(place.passed, place.at));
-        return;
-    }
-    print_frame(rt, place);
 }
 
 // Prints what is wrong with frame `number`, whose check is right.
@@ -246,10 +220,10 @@ fn print_frames(rt: &impl Print, place: Place, audit: Audit) {
     print_text(rt, b"log ");
     print_number(rt, place.number as usize);
     print_text(rt, b" frames, ");
-    if audit.fault == 0 {
-        print_end(rt, place, audit.done);
-    } else {
+    if audit.fault != 0 {
         print_wrong(rt, audit.fault, audit.fault_at);
+    } else if let Some(end) = place.end {
+        print_end(rt, place, end, audit.done);
     }
     print_text(rt, b"\n");
 }
@@ -260,43 +234,22 @@ pub(crate) fn print_log(rt: &impl Print, place: Place, audit: Audit) {
         print_text(rt, b"the log does not begin with `open`\n");
         return;
     }
-    if place.end == NO_LOG {
-        print_text(rt, b"no log\n");
-        return;
+    match place.end {
+        Some(End::NoLog) => print_text(rt, b"no log\n"),
+        Some(End::NoFolder) => print_text(rt, b"no such folder\n"),
+        Some(End::Whole) if place.number == 0 => print_text(rt, b"log is empty\n"),
+        Some(end) if place.number == 0 && end != End::Cut => {
+            print_text(rt, b"log ");
+            print_frame(rt, place, wrong_of(end));
+            print_text(rt, b"\n");
+        }
+        _ => print_frames(rt, place, audit),
     }
-    if place.end == NO_FOLDER {
-        print_text(rt, b"no such folder\n");
-        return;
-    }
-    if place.number != 0 {
-        print_frames(rt, place, audit);
-        return;
-    }
-    if place.end == WHOLE {
-        print_text(rt, b"log is empty\n");
-        return;
-    }
-    if place.end == CUT {
-        print_frames(rt, place, audit);
-        return;
-    }
-    print_text(rt, b"log ");
-    print_frame(rt, place);
-    print_text(rt, b"\n");
 }
 
 // Tells whether the end `done` is not the journal's, which is 0 if it knows none. A receiver's own numbers are 128 and more.
 pub(crate) fn is_other_end(done: usize, number: u8) -> bool {
-    if number == 0 {
-        return false;
-    }
-    if done == number as usize {
-        return false;
-    }
-    if number == HEADERS_TOO_LARGE {
-        return true;
-    }
-    done < 128
+    number != 0 && done != number as usize && (number == HEADERS_TOO_LARGE || done < 128)
 }
 
 // Prints which end is due.

@@ -45,23 +45,7 @@ pub(crate) struct Counts {
 pub(crate) fn is_same(what: What) -> bool
     ensures { result ≡ is_same what }
 {
-    match what {
-        What::Same => true,
-        What::Headers(_) => false,
-        What::BodyMissing => false,
-        What::BodyThere => false,
-        What::Block {
-            number: _,
-            fault: _,
-        } => false,
-        What::End => false,
-        What::Body(_) => false,
-        What::Long => false,
-        What::NoFile => false,
-        What::OtherFile => false,
-        What::Files => false,
-        What::Note => false,
-    }
+    matches!(what, What::Same)
 }
 
 // Returns the verdict on a record that has no folder of its name.
@@ -105,28 +89,14 @@ pub(crate) fn word_of(code: usize, found: Found) -> Word
 pub(crate) fn is_grave(word: Word) -> bool
     ensures { result ≡ is_grave word }
 {
-    match word {
-        Word::Missing => true,
-        Word::NotFiled => false,
-        Word::NotFiledPart => false,
-        Word::Same => false,
-        Word::SameFiled => false,
-        Word::Differs(_) => true,
-    }
+    matches!(word, Word::Missing | Word::Differs(_))
 }
 
 // Tells whether a record is filed as the log has it.
 fn is_kept(word: Word) -> bool
     ensures { result ≡ is_kept word }
 {
-    match word {
-        Word::Missing => false,
-        Word::NotFiled => false,
-        Word::NotFiledPart => false,
-        Word::Same => true,
-        Word::SameFiled => true,
-        Word::Differs(_) => false,
-    }
+    matches!(word, Word::Same | Word::SameFiled)
 }
 
 // Returns `n`, and one more if `b`.
@@ -155,9 +125,8 @@ pub(crate) fn with_grave(c: Counts, b: bool) -> Counts
     ensures { result ≡ with_grave c b }
 {
     Counts {
-        records: c.records,
-        same: c.same,
         grave: plus(c.grave, b),
+        ..c
     }
 }
 

@@ -95,14 +95,12 @@ pub(crate) fn nothing_waiting() -> Waiting
 fn handed_over(s: State) -> Waiting
     ensures { result ≡ handed_over s }
 {
-    let gathered = s.gathered;
-    let target = s.target;
     Waiting {
         phase: Phase::Waiting,
-        kept: gathered.kept,
-        body: gathered.body,
-        came: gathered.came,
-        target,
+        kept: s.gathered.kept,
+        body: s.gathered.body,
+        came: s.gathered.came,
+        target: s.target,
         code: NO_CODE,
         is_told: false,
         file: no_file(),
@@ -113,9 +111,10 @@ fn handed_over(s: State) -> Waiting
 fn with_code(w: Waiting, code: u8) -> Waiting
     ensures { result ≡ with_code w code }
 {
-    let mut r = w;
-    r.code = code as usize;
-    r
+    Waiting {
+        code: code as usize,
+        ..w
+    }
 }
 
 // Returns the code `code` with its top bit set, as it stands in a reply.
@@ -129,17 +128,10 @@ fn topped(code: usize) -> usize
 fn with_reply(w: Waiting, first: u8) -> Waiting
     ensures { result ≡ with_reply w first }
 {
-    let target = w.target;
-    let file = w.file;
     Waiting {
         phase: Phase::Over,
-        kept: w.kept,
-        body: w.body,
-        came: w.came,
-        target,
-        code: w.code,
         is_told: topped(w.code) == first as usize,
-        file,
+        ..w
     }
 }
 
@@ -168,17 +160,9 @@ fn file_at(here: Here, payload: &[u8]) -> FileFrame
 fn with_file(w: Waiting, here: Here, payload: &[u8]) -> Waiting
     ensures { result ≡ with_file w here payload.now }
 {
-    let phase = w.phase;
-    let target = w.target;
     Waiting {
-        phase,
-        kept: w.kept,
-        body: w.body,
-        came: w.came,
-        target,
-        code: w.code,
-        is_told: w.is_told,
         file: file_at(here, payload),
+        ..w
     }
 }
 
@@ -197,93 +181,59 @@ fn noted(w: Waiting, entry: EntryRead, here: Here, payload: &[u8]) -> Waiting
     ensures { result ≡ noted w entry here payload.now }
 {
     match entry {
-        EntryRead::Packet => beside(w, here, payload),
         EntryRead::Reply(first) => with_reply(w, first),
         EntryRead::Answer(code) => with_code(w, code),
-        EntryRead::Object => beside(w, here, payload),
-        EntryRead::Check(_) => beside(w, here, payload),
-        EntryRead::Nonce => beside(w, here, payload),
-        EntryRead::Ids => beside(w, here, payload),
-        EntryRead::End => beside(w, here, payload),
-        EntryRead::Nothing => beside(w, here, payload),
+        EntryRead::Packet
+        | EntryRead::Object
+        | EntryRead::Check(_)
+        | EntryRead::Nonce
+        | EntryRead::Ids
+        | EntryRead::End
+        | EntryRead::Nothing => beside(w, here, payload),
     }
 }
 
 // Tells whether a record waits.
+// Stays beside `is_over`: one line each, for the two definitions that the contracts of this file cite.
 pub(crate) fn is_waiting(phase: Phase) -> bool
     ensures { result ≡ is_waiting phase }
 {
-    match phase {
-        Phase::Nothing => false,
-        Phase::Waiting => true,
-        Phase::Over => false,
-    }
+    matches!(phase, Phase::Waiting)
 }
 
 // Tells whether a record is to be judged.
 pub(crate) fn is_over(phase: Phase) -> bool
     ensures { result ≡ is_over phase }
 {
-    match phase {
-        Phase::Nothing => false,
-        Phase::Waiting => false,
-        Phase::Over => true,
-    }
+    matches!(phase, Phase::Over)
 }
 
 // Tells whether a frame with these letters brings bytes of the client.
 fn has_bytes(letters: u32) -> bool
     ensures { result ≡ has_bytes letters }
 {
-    if letters == kind_number(Kind::Recv) {
-        return true;
-    }
-    letters == kind_number(Kind::Part)
+    letters == kind_number(Kind::Recv) || letters == kind_number(Kind::Part)
 }
 
 // Tells whether a record is to be judged before a frame with these letters is taken: its bytes stand in the stores up to the next packet.
 pub(crate) fn must_settle(phase: Phase, letters: u32) -> bool
     ensures { result ≡ must_settle phase letters }
 {
-    if is_waiting(phase) {
-        return has_bytes(letters);
-    }
-    false
+    is_waiting(phase) && has_bytes(letters)
 }
 
 // Returns the record once no frame speaks of it any more, or once it was judged.
 pub(crate) fn with_phase(w: Waiting, phase: Phase) -> Waiting
     ensures { result ≡ with_phase w phase }
 {
-    let target = w.target;
-    let file = w.file;
-    Waiting {
-        phase,
-        kept: w.kept,
-        body: w.body,
-        came: w.came,
-        target,
-        code: w.code,
-        is_told: w.is_told,
-        file,
-    }
+    Waiting { phase, ..w }
 }
 
 // Tells whether a frame handed a record over, by the mark of the state after it.
 pub(crate) fn is_handed(entry: EntryRead, handed: bool) -> bool
     ensures { result ≡ is_handed entry handed }
 {
-    match entry {
-        EntryRead::Packet => handed,
-        EntryRead::Reply(_) => false,
-        EntryRead::Answer(_) => false,
-        EntryRead::Object => false,
-        EntryRead::Check(_) => false,
-        EntryRead::Nonce => false,
-        EntryRead::Ids => false,
-        EntryRead::End => false,
-        EntryRead::Nothing => false,
-    }
+    matches!(entry, EntryRead::Packet) && handed
 }
 
 // Returns the record that waits after a frame, if one does: the one that the frame hands over, else the one before with what the frame says of it.
@@ -293,8 +243,7 @@ pub(crate) fn after(w: Waiting, s: State, entry: EntryRead, here: Here, payload:
     if is_handed(entry, s.handed) {
         return handed_over(s);
     }
-    let phase = w.phase;
-    if is_waiting(phase) {
+    if is_waiting(w.phase) {
         return noted(w, entry, here, payload);
     }
     w

@@ -1,3 +1,5 @@
--- The definitions that every layer shares: choosing by a test, and numbers as bytes.
+-- The definitions that every layer shares: choosing by a test, numbers as bytes, a part of a list, and the store that is too short.
 pub mod Pick
 pub mod Bytes
+pub mod Place
+pub mod Store

@@ -1,13 +1,13 @@
 // The lines that the program prints.
 use host::names::put_name;
 use lines::output;
-use server::{Body, HostRequest};
+use server::HostRequest;
 
 // Puts the length of `body`, or a dash if it is missing.
-fn put_body(out: &mut [u8], n: usize, body: Body) -> usize {
+fn put_body(out: &mut [u8], n: usize, body: Option<usize>) -> usize {
     match body {
-        Body::Bytes(length) => output::put_number(out, n, length),
-        Body::Missing => output::put(out, n, b"-"),
+        Some(length) => output::put_number(out, n, length),
+        None => output::put(out, n, b"-"),
     }
 }
 

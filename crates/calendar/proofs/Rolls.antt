@@ -7,21 +7,29 @@ use lib.Dec.{ltb}
 use borrow.Author.Tests.{ltb-true, ltb-false, eq-eqb}
 use Rattle.base.specs.Pick.{pick}
 use Rattle.calendar.specs.Day.{date, days_in, is_date, is_last, days_before_month, day_number, next_day}
-use Rattle.calendar.specs.Day.{rolled_number, rolled_date, rolling, rolled_by}
+use Rattle.calendar.specs.Day.{rolled, roll_number, rolled_number, rolled_date}
+use Rattle.calendar.specs.declared.date.RollError.TheVariants.{Nonexistent, Outside}
+use Rattle.std.proofs.Common.{Ok, Err}
 use Rattle.calendar.specs.Claims.{Later, Counts}
 use Rattle.calendar.specs.declared.date.Date.{Date}
 use Rattle.calendar.proofs.Months.{first_month, january, december, month_size, twelve_months, Existing, existing, exists_day}
 use Rattle.calendar.proofs.Count.{month_after, year_after}
 
--- a date that is rolled exists and is not the last
-pub accepted : (d : Date) → rolled_number d ≡ 0 → (is_date d ≡ true) × (is_last d ≡ false)
-unfolding rolled_number
-accepted d = go (is_date d) (is_last d)
+-- a date that is rolled exists, is not the last, and becomes the next day
+pub record Rolls (d : Date) : Type 0 where
+  pub there : is_date d ≡ true
+  pub not_last : is_last d ≡ false
+  pub becomes : rolled_date d ≡ next_day d
+
+pub rolls : (d : Date) → rolled_number d ≡ 0 → Rolls d
+unfolding rolled
+rolls d = go (is_date d) (is_last d) refl refl
   where
-    go : (a b : Bool) → ◌≡◌ {A = ℕ} (pick a (pick b 18 0) 17) 0 → (a ≡ true) × (b ≡ false)
-    go true true h = absurd (omega arith)
-    go true false h = (refl, refl)
-    go false b h = absurd (omega arith)
+    go : (a b : Bool) → is_date d ≡ a → is_last d ≡ b
+        → roll_number (pick a (pick b (Err Outside) (Ok (next_day d))) (Err Nonexistent)) ≡ 0 → Rolls d
+    go true true e f h = absurd (omega arith)
+    go true false e f h = record { there = e; not_last = f; becomes = rw (e, f) }
+    go false b e f h = absurd (omega arith)
 
 pub last_day : (d : Date) → d.year ≡ 9999 → d.month ≡ 12 → d.day ≡ 31 → is_last d ≡ true
 unfolding is_last
@@ -87,12 +95,6 @@ next-later d p q = go (ltb d.day (days_in d.year d.month)) (ltb d.month 12) (ltb
         absurd (omega arith)
 
 pub counts : Counts
-unfolding rolled_date
 counts d h =
-    let a = accepted d h in
-    rw (eq-eqb (rolled_number d) 0 h) (next-later d a.0 a.1)
-
--- the number and the date of a rolled date are what rolling it gives
-pub rolled_both : (h r : Date) (n : ℕ) → n ≡ rolled_number h → r ≡ rolled_date h → rolling n r ≡ rolled_by h
-unfolding rolled_by
-rolled_both h r n e f = cc
+    let r = rolls d h in
+    rw r.becomes (next-later d r.there r.not_last)

@@ -1,14 +1,15 @@
 -- Texts of the form YYYYMMDDTHHMMSSZ: an instant is read back from its text, and a text of the form is the text of what it names. Assumes nothing.
-use mathlib.Core.Path.{◌≡◌, sym, ap, ◌∙◌}
+use mathlib.Core.Path.{◌≡◌, refl, sym, ap, ◌∙◌}
 use mathlib.Core.List.{List, [], ◌∷◌}
-use mathlib.Core.Bool.{true, ◌&&◌}
+use mathlib.Core.Bool.{Bool, true, ◌&&◌}
 use Prim.Native.Nat.{ℕ, zero, suc, ◌+◌, ◌-◌, ◌*◌, ◌/◌, ◌%◌, ◌≤◌, ◌<◌}
 use native.Mathlib.Omega.{arith}
-use native.Mathlib.Numerals.{add-one}
 use native.Mathlib.Nat.{div-div-eq-div-mul}
 use lib.Dec.{eqb, leb}
 use lib.ListN.{length, get_or, take, drop, length-drop}
 use lib.Seq.{drop-cons, drop-length, length-take-le, get_or-take, get_or-drop}
+use Rattle.std.specs.List.{list_all}
+use Rattle.std.specs.Char.{is_ascii_digit}
 use borrow.Author.Tests.{eqb-true, leb-true, le-leb}
 use Rattle.calendar.specs.Time.{decimal, text_of, is_digit_of, all_digits, is_form, number_at, Digit, DigitsAt, read_instant}
 use Rattle.calendar.specs.declared.time.Instant.{Instant}
@@ -30,14 +31,11 @@ digit_in [] k e h = absurd (omega arith)
 digit_in (b ∷ l) zero e h = is_digit b (both (is_digit_of b) (all_digits l) e).0
 digit_in (b ∷ l) (suc k) e h = digit_in l k (both (is_digit_of b) (all_digits l) e).1 (omega arith)
 
--- the digits from a place on
-pub digits_from : (s : List ℕ) (i : ℕ) → i < length s → all_digits (drop i s) ≡ (is_digit_of (get_or s i 0) && all_digits (drop (i + 1) s))
+-- the library's word for the same test
+pub digits_all : (s : List ℕ) → list_all is_ascii_digit s ≡ all_digits s
 unfolding all_digits
-digits_from s i h = rw (drop-cons s i 0 h, add-one i)
-
-pub no_digits_left : (s : List ℕ) (i : ℕ) → i ≡ length s → true ≡ all_digits (drop i s)
-unfolding all_digits
-no_digits_left s i e = rw (e, drop-length s)
+digits_all [] = refl
+digits_all (b ∷ l) = ap (λ (t : Bool). is_digit_of b && t) (digits_all l)
 
 -- ---- the form
 

@@ -16,8 +16,8 @@ use Rattle.calendar.specs.Time.{legacy_for, legacy_at, legacy_of, instant_of, ti
 use Rattle.calendar.specs.Claims.{ComesBack, OneText, last_text, LastTime}
 use Rattle.calendar.specs.declared.date.Date.{Date}
 use Rattle.calendar.specs.declared.time.Instant.{Instant}
-use Rattle.calendar.specs.declared.time.Legacy.TheVariants.{Seconds, Malformed, Nonexistent, Outside}
-use Rattle.calendar.specs.declared.time.Wrote.TheVariants.{Written}
+use Rattle.calendar.specs.declared.time.LegacyError.TheVariants.{Malformed, Nonexistent, Outside}
+use Rattle.std.proofs.Common.{Ok, Err}
 use Rattle.calendar.proofs.Months.{both, month_most, existing}
 use Rattle.calendar.proofs.Count.{one_day, closed-form}
 use Rattle.calendar.proofs.Place.{Reached, reach}
@@ -114,15 +114,15 @@ module _ (n : ℕ) (h : n < 2 ^ 32) where
       omega arith
 
 -- the text of a LegacyTime at the front of a target
-pub written : (n : ℕ) (m t t' : List ℕ) → 16 ≤ length t → m ≡ time_of n → t' ≡ paste t 0 m (length m) → writing Written t' ≡ write_time n t
+pub written : (n : ℕ) (m t t' : List ℕ) → 16 ≤ length t → m ≡ time_of n → t' ≡ paste t 0 m (length m) → writing (Ok tt) t' ≡ write_time n t
 unfolding write_time time_of
 written n m t t' h made e =
     let size : length m ≡ 16 = ap length made ∙ text-size (instant_of n) in
-    rw (le-ltb (length t) 16 h, ← made) (ap (writing Written) (e ∙ rw (take-length m, size)))
+    rw (le-ltb (length t) 16 h, ← made) (ap (writing (Ok tt)) (e ∙ rw (take-length m, size)))
 
 -- ---- the claims
 
-seconds_of : (i : Instant) (n : ℕ) → is_instant i ≡ true → moment i ≡ epoch + n → n < 2 ^ 32 → legacy_at i ≡ Seconds n
+seconds_of : (i : Instant) (n : ℕ) → is_instant i ≡ true → moment i ≡ epoch + n → n < 2 ^ 32 → legacy_at i ≡ Ok n
 unfolding legacy_for
 seconds_of i n t m h =
     let exact : (epoch + n) - epoch ≡ n = omega arith in
@@ -142,7 +142,7 @@ record Converts (t : List ℕ) (n : ℕ) : Type 0 where
   counted : moment (read_instant t) ≡ epoch + n
   small : n < 2 ^ 32
 
-converts : (t : List ℕ) (n : ℕ) → legacy_of t ≡ Seconds n → Converts t n
+converts : (t : List ℕ) (n : ℕ) → legacy_of t ≡ Ok n → Converts t n
 unfolding legacy_of legacy_for
 converts t n = go (is_form t) (is_instant i) (ltb (moment i) epoch) (ltb (moment i) (epoch + 2 ^ 32)) refl refl refl refl
   where
@@ -150,7 +150,7 @@ converts t n = go (is_form t) (is_instant i) (ltb (moment i) epoch) (ltb (moment
     i = read_instant t
 
     go : (f g a b : Bool) → is_form t ≡ f → is_instant i ≡ g → ltb (moment i) epoch ≡ a → ltb (moment i) (epoch + 2 ^ 32) ≡ b
-        → pick f (pick g (pick (not a && b) (Seconds (moment i - epoch)) Outside) Nonexistent) Malformed ≡ Seconds n → Converts t n
+        → pick f (pick g (pick (not a && b) (Ok (moment i - epoch)) (Err Outside)) (Err Nonexistent)) (Err Malformed) ≡ Ok n → Converts t n
     go false g a b p q r s e =
         let z : ◌≡◌ {A = ℕ} 0 1 = cc in
         absurd (omega arith)
@@ -188,7 +188,7 @@ last-moment : moment last ≡ epoch + (2 ^ 32 - 1)
 unfolding moment day_number days_before_month days_in
 last-moment = rw (← closed-form 2106)
 
-last_legacy : legacy_of last_text ≡ Seconds (2 ^ 32 - 1)
+last_legacy : legacy_of last_text ≡ Ok (2 ^ 32 - 1)
 unfolding legacy_of is_form all_digits read_instant number_at
 last_legacy = seconds_of last (2 ^ 32 - 1) last-there last-moment (omega arith)
 

@@ -1,18 +1,17 @@
 -- What is proved of the definitions: every LegacyTime comes back; a text that reads as a LegacyTime is its text; rolling a date counts the
 -- days; and the count tells days apart.
-use Rattle.std.specs.Prelude.{ℕ, ◌+◌, ◌-◌, ◌^◌, ◌<◌, ◌≡◌, List, [], ◌∷◌, true}
+use Rattle.std.specs.Prelude.{ℕ, ◌+◌, ◌-◌, ◌^◌, ◌<◌, ◌≡◌, List, [], ◌∷◌, true, Ok}
 use Rattle.calendar.specs.Day.{is_date, day_number, rolled_number, rolled_date}
 use Rattle.calendar.specs.Time.{legacy_of, time_of}
 use Rattle.calendar.specs.declared.date.Date.{Date}
-use Rattle.calendar.specs.declared.time.Legacy.TheVariants.{Seconds}
 
 -- Every LegacyTime converts and comes back equal.
 abbrev pub ComesBack : Type 0
-ComesBack = (n : ℕ) → n < 2 ^ 32 → legacy_of (time_of n) ≡ Seconds n
+ComesBack = (n : ℕ) → n < 2 ^ 32 → legacy_of (time_of n) ≡ Ok n
 
 -- A text that reads as n is n's text.
 abbrev pub OneText : Type 0
-OneText = (t : List ℕ) (n : ℕ) → legacy_of t ≡ Seconds n → time_of n ≡ t
+OneText = (t : List ℕ) (n : ℕ) → legacy_of t ≡ Ok n → time_of n ≡ t
 
 -- The text 21060207T062815Z.
 abbrev pub last_text : List ℕ

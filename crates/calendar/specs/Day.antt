@@ -1,9 +1,11 @@
 -- The Gregorian calendar in the years 0 to 9999, its leap years carried back to year 0 (request (f)): which days exist, the count of days,
 -- the date so many days after a first of January, and a date rolled forward one day.
-use Rattle.std.specs.Prelude.{ℕ, zero, suc, ◌+◌, ◌-◌, ◌%◌, List, [], ◌∷◌, Bool, ◌&&◌, ◌||◌, not, get_or, eqb, leb, ltb}
+use Rattle.std.specs.Prelude.{ℕ, zero, suc, ◌+◌, ◌-◌, ◌%◌, List, [], ◌∷◌, Bool, ◌&&◌, ◌||◌, not, get_or, eqb, leb, ltb, Result, Ok, Err}
 use Rattle.base.specs.Pick.{pick}
 use Rattle.calendar.specs.declared.date.Date.{Date}
 use Rattle.calendar.specs.declared.date.Rolling.{Rolling}
+use Rattle.calendar.specs.declared.date.RollError.{RollError}
+use Rattle.calendar.specs.declared.date.RollError.TheVariants.{Nonexistent, Outside}
 
 -- A date by its numbers. There may be no such day.
 abbrev pub date : ℕ → ℕ → ℕ → Date
@@ -71,18 +73,37 @@ next_day d =
     pick (ltb d.day (days_in d.year d.month)) (date d.year d.month (d.day + 1))
     (pick (ltb d.month 12) (date d.year (d.month + 1) 1) (date (d.year + 1) 1 1))
 
--- The number that rolling a date answers (docs/DECISIONS.md, part B): 17 if the day does not exist, 18 if it is the last.
-unfoldable pub rolled_number : Date → ℕ
-rolled_number d = pick (is_date d) (pick (is_last d) 18 0) 17
+-- What rolling a date answers: the day behind it, or why there is none, that the day does not exist before that it is the last.
+unfoldable pub rolled : Date → Result Date RollError
+rolled d = pick (is_date d) (pick (is_last d) (Err Outside) (Ok (next_day d))) (Err Nonexistent)
+
+-- The number of an answer (docs/DECISIONS.md, part B): 17 if the day does not exist, 18 if it is the last.
+abbrev pub roll_number : {A : Type 0} → Result A RollError → ℕ
+roll_number (Ok a) = 0
+roll_number (Err Nonexistent) = 17
+roll_number (Err Outside) = 18
+
+-- The number that rolling a date answers.
+abbrev pub rolled_number : Date → ℕ
+rolled_number d = roll_number (rolled d)
+
+-- The answer alone.
+abbrev pub answer_of : Result Date RollError → Result (Unit {0}) RollError
+answer_of (Ok e) = Ok tt
+answer_of (Err r) = Err r
 
 -- The date afterwards. A refusal changes nothing.
-unfoldable pub rolled_date : Date → Date
-rolled_date d = pick (eqb (rolled_number d) 0) (next_day d) d
+abbrev pub date_after : Date → Result Date RollError → Date
+date_after d (Ok e) = e
+date_after d (Err r) = d
 
--- The number of an answer, and the date afterwards.
-abbrev pub rolling : ℕ → Date → Rolling
-rolling n d = record { number = n; date = d }
+abbrev pub rolled_date : Date → Date
+rolled_date d = date_after d (rolled d)
+
+-- The answer, and the date afterwards.
+abbrev pub rolling : Result (Unit {0}) RollError → Date → Rolling
+rolling a d = record { answer = a; date = d }
 
 -- What rolling a date forward gives.
-unfoldable pub rolled_by : Date → Rolling
-rolled_by d = rolling (rolled_number d) (rolled_date d)
+abbrev pub rolled_by : Date → Rolling
+rolled_by d = rolling (answer_of (rolled d)) (rolled_date d)

@@ -1,14 +1,14 @@
 -- LegacyTime, the seconds since 1970-01-01 00:00:00 UTC in 32 bits, and Time, the text YYYYMMDDTHHMMSSZ (headers 0xC4 and 0x44,
 -- docs/PROTOCOL.md#headers; request (f)): each converted to the other.
-use Rattle.std.specs.Prelude.{ℕ, zero, suc, ◌+◌, ◌-◌, ◌*◌, ◌/◌, ◌%◌, ◌^◌, ◌≤◌, List, [], ◌∷◌, ◌++◌, Bool, true, ◌&&◌, not, length, get_or, take, drop, eqb, leb, ltb}
+use Rattle.std.specs.Prelude.{ℕ, zero, suc, ◌+◌, ◌-◌, ◌*◌, ◌/◌, ◌%◌, ◌^◌, ◌≤◌, List, [], ◌∷◌, ◌++◌, Bool, true, ◌&&◌, not, length, get_or, take, drop, eqb, leb, ltb, Result, Ok, Err}
 use Rattle.base.specs.Pick.{pick}
 use Rattle.calendar.specs.Day.{date, is_date, day_number, date_from}
 use Rattle.calendar.specs.declared.date.Date.{Date}
 use Rattle.calendar.specs.declared.time.Instant.{Instant}
-use Rattle.calendar.specs.declared.time.Legacy.{Legacy}
-use Rattle.calendar.specs.declared.time.Legacy.TheVariants.{Seconds, Malformed, Nonexistent, Outside}
-use Rattle.calendar.specs.declared.time.Wrote.{Wrote}
-use Rattle.calendar.specs.declared.time.Wrote.TheVariants.{Written, Short}
+use Rattle.base.specs.declared.Short.{Short}
+use Rattle.base.specs.Store.{short}
+use Rattle.calendar.specs.declared.time.LegacyError.{LegacyError}
+use Rattle.calendar.specs.declared.time.LegacyError.TheVariants.{Malformed, Nonexistent, Outside}
 
 -- A date and a time of day, by their numbers. There may be no such time.
 abbrev pub instant : Date → ℕ → ℕ → ℕ → Instant
@@ -78,24 +78,24 @@ read_instant t =
 -- ---- from text to seconds
 
 -- The LegacyTime of a moment, by whether there is such a time: 17 if there is none, then 18 if it lies outside the 32 bits.
-unfoldable pub legacy_for : Bool → ℕ → Legacy
+unfoldable pub legacy_for : Bool → ℕ → Result ℕ LegacyError
 legacy_for exists m =
-    pick exists (pick (not (ltb m epoch) && ltb m (epoch + 2 ^ 32)) (Seconds (m - epoch)) Outside) Nonexistent
+    pick exists (pick (not (ltb m epoch) && ltb m (epoch + 2 ^ 32)) (Ok (m - epoch)) (Err Outside)) (Err Nonexistent)
 
 -- The LegacyTime of an instant.
-abbrev pub legacy_at : Instant → Legacy
+abbrev pub legacy_at : Instant → Result ℕ LegacyError
 legacy_at i = legacy_for (is_instant i) (moment i)
 
 -- The LegacyTime of a text: 16, before both, if the text lacks the form.
-unfoldable pub legacy_of : List ℕ → Legacy
-legacy_of t = pick (is_form t) (legacy_at (read_instant t)) Malformed
+unfoldable pub legacy_of : List ℕ → Result ℕ LegacyError
+legacy_of t = pick (is_form t) (legacy_at (read_instant t)) (Err Malformed)
 
 -- The number of an answer (docs/DECISIONS.md, part B).
-abbrev pub legacy_number : Legacy → ℕ
-legacy_number (Seconds n) = 0
-legacy_number Malformed = 16
-legacy_number Nonexistent = 17
-legacy_number Outside = 18
+abbrev pub legacy_number : Result ℕ LegacyError → ℕ
+legacy_number (Ok n) = 0
+legacy_number (Err Malformed) = 16
+legacy_number (Err Nonexistent) = 17
+legacy_number (Err Outside) = 18
 
 -- ---- from seconds to text
 
@@ -108,9 +108,9 @@ unfoldable pub time_of : ℕ → List ℕ
 time_of n = text_of (instant_of n)
 
 -- The number of an answer.
-abbrev pub wrote_number : Wrote → ℕ
-wrote_number Written = 0
-wrote_number Short = 10
+abbrev pub wrote_number : Result (Unit {0}) Short → ℕ
+wrote_number (Ok u) = 0
+wrote_number (Err e) = 10
 
 -- What writing gives: the number of its answer, and the target afterwards.
 pub record Writing : Type 0 where
@@ -118,9 +118,9 @@ pub record Writing : Type 0 where
   pub target : List ℕ
 
 -- Makes a `Writing`, with the number of the answer `r`.
-abbrev pub writing : Wrote → List ℕ → Writing
+abbrev pub writing : Result (Unit {0}) Short → List ℕ → Writing
 writing r t = record { number = wrote_number r; target = t }
 
 -- The text stands at the target's front, and places past the text stay. A target under 16 bytes stays whole.
 unfoldable pub write_time : ℕ → List ℕ → Writing
-write_time n t = pick (ltb (length t) 16) (writing Short t) (writing Written (time_of n ++ drop 16 t))
+write_time n t = pick (ltb (length t) 16) (writing (Err short) t) (writing (Ok tt) (time_of n ++ drop 16 t))

@@ -1,29 +1,31 @@
 // Dates of the Gregorian calendar in the years 0 to 9999, the count of their days, and a date rolled forward one day.
 ghost use Rattle.std.specs.Prelude.{◌≡◌, ◌-◌, ◌*◌, ◌≤◌, ◌<◌};
 ghost use Rattle.calendar.specs.Day.{leap, days_in, year_days, is_date, is_last, days_before_year, days_before_month, day_number};
-ghost use Rattle.calendar.specs.Day.{next_day, rolled_date, rolled_number, rolling, rolled_by, month_from, date_from};
+ghost use Rattle.calendar.specs.Day.{next_day, rolled, roll_number, rolling, rolled_by, month_from, date_from};
 
 // A date by its numbers. There may be no such day.
-#[derive(Clone, Copy)]
+#[derive(Clone, Copy, PartialEq, Eq)]
 pub struct Date {
     pub year: u16,
     pub month: u8,
     pub day: u8,
 }
 
-// What rolling a date forward gives: the number of its answer, and the date afterwards.
-#[derive(Clone, Copy)]
-pub struct Rolling {
-    pub number: u8,
-    pub date: Date,
+// Why a date is not rolled forward; `roll_number` gives the number of each.
+#[derive(Clone, Copy, PartialEq, Eq)]
+pub enum RollError {
+    // There is no such day.
+    Nonexistent,
+    // The day after it, the first of the year 10000, lies outside the calendar.
+    Outside,
 }
 
-// The numbers that `roll` answers (docs/DECISIONS.md, part B).
-pub const ROLLED: u8 = 0;
-
-pub const NONEXISTENT: u8 = 17;
-
-pub const OUTSIDE: u8 = 18;
+// What rolling a copy of a date forward gives: the answer, and the date afterwards.
+#[derive(Clone, Copy)]
+pub struct Rolling {
+    pub answer: Result<(), RollError>,
+    pub date: Date,
+}
 
 // The last year that a text of four digits names.
 const LAST_YEAR: u16 = 9999;
@@ -35,31 +37,23 @@ const EPOCH_YEAR: u16 = 1970;
 const MONTHS: [u8; 13] = [0, 31, 28, 31, 30, 31, 30, 31, 31, 30, 31, 30, 31];
 
 // Whether `year` has 366 days. Year 0 has.
+#[tactic(auto, unfolding(crate::specs::Day::leap))]
 fn is_leap(year: u16) -> bool
     ensures { result ≡ leap year }
 {
-    if year % 4 != 0 {
-        return false;
-    }
-    if year % 100 != 0 {
-        return true;
-    }
-    year % 400 == 0
+    year % 4 == 0 && (year % 100 != 0 || year % 400 == 0)
 }
 
 // Returns how many days `month` has in `year`, 0 if there is no such month.
+#[tactic(auto, unfolding(crate::specs::Day::days_in))]
 fn days_in(year: u16, month: u8) -> u8
     ensures { result ≡ days_in year month }
 {
-    if 12 < month {
-        return 0;
+    match month {
+        2 if is_leap(year) => 29,
+        0..=12 => MONTHS[usize::from(month)],
+        _ => 0,
     }
-    if month == 2 {
-        if is_leap(year) {
-            return 29;
-        }
-    }
-    MONTHS[month as usize]
 }
 
 // Returns how many days `year` has.
@@ -70,29 +64,19 @@ fn days_in_year(year: u16) -> u32
 }
 
 // Whether the day exists.
+#[tactic(auto, unfolding(crate::specs::Day::is_date))]
 pub(crate) fn is_date(date: Date) -> bool
     ensures { result ≡ is_date date }
 {
-    if LAST_YEAR < date.year {
-        return false;
-    }
-    if date.day < 1 {
-        return false;
-    }
-    date.day <= days_in(date.year, date.month)
+    date.year <= LAST_YEAR && 1 <= date.day && date.day <= days_in(date.year, date.month)
 }
 
 // Whether the day is 9999-12-31.
+#[tactic(auto, unfolding(crate::specs::Day::is_last))]
 fn is_last(date: Date) -> bool
     ensures { result ≡ is_last date }
 {
-    if date.year != LAST_YEAR {
-        return false;
-    }
-    if date.month != 12 {
-        return false;
-    }
-    date.day == 31
+    date.year == LAST_YEAR && date.month == 12 && date.day == 31
 }
 
 // Returns how many days lie before `year`, from year 0 on: a leap day more for each year before it that four divides, less those that a
@@ -101,7 +85,7 @@ fn days_before_year(year: u16) -> u32
     ensures value { result ≡ days_before_year year }
     ensures small { result < 24000000 }
 {
-    let y = year as u32;
+    let y = u32::from(year);
     365 * y + (y + 3) / 4 + (y + 399) / 400 - (y + 99) / 100
 }
 
@@ -110,33 +94,23 @@ fn days_before_month(year: u16, month: u8) -> u32
     ensures value { result ≡ days_before_month year month }
     ensures small { result < 8000 }
 {
-    let mut days: u32 = 0;
-    let mut m: u8 = 0;
-    while m < month {
-        days += days_in(year, m) as u32;
-        m += 1;
+    let mut days = 0;
+    for m in 0..month {
+        days += u32::from(days_in(year, m));
     }
     days
 }
 
-// Returns how many days of a month lie before its day `day`. None lies before day 0, which no month has.
-fn days_before_day(day: u8) -> u8
-    ensures { result ≡ day - 1 }
-{
-    if day < 1 {
-        return 0;
-    }
-    day - 1
-}
-
-// Returns the number of a day, where 0000-01-01 is day 0. Of a day that does not exist the number says nothing.
+// Returns the number of a day, where 0000-01-01 is day 0. Of a day that does not exist the number says nothing; none lies before day 0,
+// which no month has.
+#[tactic(auto, unfolding(crate::specs::Day::day_number))]
 pub(crate) fn day_number(date: Date) -> u32
     ensures { result ≡ day_number date }
 {
     let year = days_before_year(date.year);
     let month = days_before_month(date.year, date.month);
-    let day = days_before_day(date.day);
-    year + month + day as u32
+    let day = date.day.saturating_sub(1);
+    year + month + u32::from(day)
 }
 
 // Returns the date that lies `days` days after the first of January of `year`.
@@ -144,13 +118,14 @@ fn date_in_year(year: u16, days: u32) -> Date
     requires { days < year_days year }
     ensures { result ≡ month_from 12 year 1 days }
 {
-    let mut month: u8 = 1;
+    let mut month = 1;
     let mut left = days;
-    let mut size = days_in(year, month) as u32;
+    let mut size = u32::from(days_in(year, month));
+    // Stays `while`: how many turns there are lies in the days that are left, and a `for` over the months would need an end that is never met.
     while size <= left {
         left -= size;
         month += 1;
-        size = days_in(year, month) as u32;
+        size = u32::from(days_in(year, month));
     }
     Date {
         year,
@@ -167,6 +142,7 @@ pub(crate) fn date_after_epoch(days: u32) -> Date
     let mut year = EPOCH_YEAR;
     let mut left = days;
     let mut size = days_in_year(year);
+    // Stays `while`, as in `date_in_year`.
     while size <= left {
         left -= size;
         year += 1;
@@ -201,43 +177,38 @@ fn next_date(date: Date) -> Date
     }
 }
 
-// Returns the number that rolling `date` forward answers.
-fn rolled_number(date: Date) -> u8
-    ensures { result ≡ rolled_number date }
+// Returns the day after `date`.
+#[tactic(auto, unfolding(crate::specs::Day::rolled))]
+fn rolled(date: Date) -> Result<Date, RollError>
+    ensures { result ≡ rolled date }
 {
     if !is_date(date) {
-        return NONEXISTENT;
+        return Err(RollError::Nonexistent);
     }
     if is_last(date) {
-        return OUTSIDE;
+        return Err(RollError::Outside);
     }
-    ROLLED
+    Ok(next_date(date))
 }
 
-// Returns the day after `date`, or `date` itself if rolling it forward is refused.
-fn rolled(date: Date) -> Date
-    ensures { result ≡ rolled_date date }
+// Returns the number of an answer of `roll`.
+// Stays a function: the numbers are those of docs/DECISIONS.md, part B, and an answer has one too that is no error.
+pub fn roll_number(answer: Result<(), RollError>) -> usize
+    ensures { result ≡ roll_number answer }
 {
-    if rolled_number(date) != ROLLED {
-        return date;
+    match answer {
+        Ok(()) => 0,
+        Err(RollError::Nonexistent) => 17,
+        Err(RollError::Outside) => 18,
     }
-    next_date(date)
 }
 
 // Rolls the lent date forward one day. A day that does not exist, and 9999-12-31, stay.
-pub fn roll(date: &mut Date) -> u8
+pub fn roll(date: &mut Date) -> Result<(), RollError>
     ensures { rolling result date.new ≡ rolled_by date.old }
 {
-    let before = *date;
-    *date = rolled(before);
-    rolled_number(before)
-}
-
-// Returns a number and a date together.
-fn rolling_of(number: u8, date: Date) -> Rolling
-    ensures { result ≡ rolling number date }
-{
-    Rolling { number, date }
+    *date = rolled(*date)?;
+    Ok(())
 }
 
 // Rolls a copy of `date` forward: for a caller that has no date to lend.
@@ -245,6 +216,6 @@ pub fn roll_copy(date: Date) -> Rolling
     ensures { result ≡ rolled_by date }
 {
     let mut lent = date;
-    let number = roll(&mut lent);
-    rolling_of(number, lent)
+    let answer = roll(&mut lent);
+    Rolling { answer, date: lent }
 }

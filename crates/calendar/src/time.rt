@@ -4,7 +4,7 @@ ghost use Rattle.calendar.specs.Time.{is_instant, moment, text_of, all_digits, i
 ghost use Rattle.calendar.specs.Time.{DigitsAt, legacy_for, legacy_of, writing, write_time, legacy_number, wrote_number};
 
 use crate::date::{Date, date_after_epoch, day_number, is_date};
-use base::copy_into;
+use base::{Short, copy_into};
 
 // A date and a time of day, by their numbers. There may be no such time.
 #[derive(Clone, Copy)]
@@ -15,24 +15,15 @@ struct Instant {
     second: u8,
 }
 
-// What a text converts to; `legacy_number` gives the number of each.
-#[derive(Clone, Copy)]
-pub enum Legacy {
-    Seconds(u32),
+// Why a text does not convert; `legacy_number` gives the number of each.
+#[derive(Clone, Copy, PartialEq, Eq)]
+pub enum LegacyError {
     // The text has not the form YYYYMMDDTHHMMSSZ.
     Malformed,
     // There is no such date or no such time of day.
     Nonexistent,
     // The time lies outside the 32 bits.
     Outside,
-}
-
-// What `write_time` answers; `wrote_number` gives the number of each.
-#[derive(Clone, Copy)]
-pub enum Wrote {
-    Written,
-    // The target is shorter than a text.
-    Short,
 }
 
 // The length of a text.
@@ -47,28 +38,30 @@ const FIRST: u64 = 62167219200;
 const END: u64 = 66462186496;
 
 // Returns the number of an answer of `write_time`.
-pub fn wrote_number(answer: Wrote) -> usize
+pub fn wrote_number(answer: Result<(), Short>) -> usize
     ensures { result ≡ wrote_number answer }
 {
     match answer {
-        Wrote::Written => 0,
-        Wrote::Short => 10,
+        Ok(()) => 0,
+        Err(Short) => 10,
     }
 }
 
 // Returns the number of an answer of `read_time`.
-pub fn legacy_number(answer: Legacy) -> usize
+// Stays a function, as does `wrote_number`: the numbers are those of docs/DECISIONS.md, part B, and an answer has one too that is no error.
+pub fn legacy_number(answer: Result<u32, LegacyError>) -> usize
     ensures { result ≡ legacy_number answer }
 {
     match answer {
-        Legacy::Seconds(_) => 0,
-        Legacy::Malformed => 16,
-        Legacy::Nonexistent => 17,
-        Legacy::Outside => 18,
+        Ok(_) => 0,
+        Err(LegacyError::Malformed) => 16,
+        Err(LegacyError::Nonexistent) => 17,
+        Err(LegacyError::Outside) => 18,
     }
 }
 
 // Returns the last decimal digit of `n`, as a byte of text.
+// Stays beside `write!`: a text has sixteen places, and the contract says the byte at each.
 fn digit(n: u16) -> u8
     ensures { result ≡ 0x30 + n % 10 }
 {
@@ -80,11 +73,11 @@ fn text_of(at: Instant) -> [u8; 16]
     ensures { result ≡ text_of at }
 {
     let year = at.date.year;
-    let month = at.date.month as u16;
-    let day = at.date.day as u16;
-    let hour = at.hour as u16;
-    let minute = at.minute as u16;
-    let second = at.second as u16;
+    let month = u16::from(at.date.month);
+    let day = u16::from(at.date.day);
+    let hour = u16::from(at.hour);
+    let minute = u16::from(at.minute);
+    let second = u16::from(at.second);
     [
         digit(year / 1000),
         digit(year / 100),
@@ -118,51 +111,35 @@ fn instant_of(seconds: u32) -> Instant
 }
 
 // Writes the Time of a LegacyTime to the front of `text`.
-pub fn write_time(seconds: u32, text: &mut [u8]) -> Wrote
+#[tactic(auto, unfolding(crate::specs::Time::write_time))]
+pub fn write_time(seconds: u32, text: &mut [u8]) -> Result<(), Short>
     ensures { writing result text.new ≡ write_time seconds text.old }
 {
     if text.len() < TEXT {
-        return Wrote::Short;
+        return Err(Short);
     }
     let made = text_of(instant_of(seconds));
     copy_into(text, 0, &made);
-    Wrote::Written
+    Ok(())
 }
 
 // Whether each byte of `s` is a decimal digit.
 fn is_digits(s: &[u8]) -> bool
     ensures { result ≡ all_digits s.now }
 {
-    let mut i = 0;
-    while i < s.len() {
-        if s[i] < b'0' {
-            return false;
-        }
-        if b'9' < s[i] {
-            return false;
-        }
-        i += 1;
-    }
-    true
+    s.iter().all(|b| b.is_ascii_digit())
 }
 
 // Whether `text` has the form YYYYMMDDTHHMMSSZ.
+#[tactic(auto, unfolding(crate::specs::Time::is_form))]
 fn is_form(text: &[u8]) -> bool
     ensures { result ≡ is_form text.now }
 {
-    if text.len() != TEXT {
-        return false;
-    }
-    if !is_digits(&text[0..8]) {
-        return false;
-    }
-    if text[8] != b'T' {
-        return false;
-    }
-    if !is_digits(&text[9..15]) {
-        return false;
-    }
-    text[15] == b'Z'
+    text.len() == TEXT
+        && is_digits(&text[0..8])
+        && text[8] == b'T'
+        && is_digits(&text[9..15])
+        && text[15] == b'Z'
 }
 
 // Returns the number of the two digits at `at`.
@@ -178,8 +155,8 @@ fn instant_in(text: &[u8]) -> Instant
     requires { is_form text.now ≡ true }
     ensures { result ≡ read_instant text.now }
 {
-    let century = number_at(text, 0) as u16;
-    let year = number_at(text, 2) as u16;
+    let century = u16::from(number_at(text, 0));
+    let year = u16::from(number_at(text, 2));
     Instant {
         date: Date {
             year: century * 100 + year,
@@ -193,55 +170,48 @@ fn instant_in(text: &[u8]) -> Instant
 }
 
 // Whether the date and the time of day exist. There is no second 60.
+#[tactic(auto, unfolding(crate::specs::Time::is_instant))]
 fn is_instant(at: Instant) -> bool
     ensures { result ≡ is_instant at }
 {
-    if !is_date(at.date) {
-        return false;
-    }
-    if 24 <= at.hour {
-        return false;
-    }
-    if 60 <= at.minute {
-        return false;
-    }
-    at.second < 60
+    is_date(at.date) && at.hour < 24 && at.minute < 60 && at.second < 60
 }
 
 // Returns how many seconds lie between the first second of year 0 and an instant. Of a time that does not exist the number says nothing.
+#[tactic(auto, unfolding(crate::specs::Time::moment))]
 fn seconds_to(at: Instant) -> u64
     ensures { result ≡ moment at }
 {
-    let days = day_number(at.date) as u64;
-    days * (DAY as u64) + (at.hour as u64) * 3600 + (at.minute as u64) * 60 + (at.second as u64)
+    let days = u64::from(day_number(at.date));
+    days * u64::from(DAY)
+        + u64::from(at.hour) * 3600
+        + u64::from(at.minute) * 60
+        + u64::from(at.second)
 }
 
 // Returns the LegacyTime of a time that lies `seconds` behind the first second of year 0. That the time does not exist (17) comes before
 // that it lies outside the 32 bits (18).
 #[tactic(auto, unfolding(crate::specs::Time::legacy_for))]
-fn judge(exists: bool, seconds: u64) -> Legacy
+fn judge(exists: bool, seconds: u64) -> Result<u32, LegacyError>
     ensures { result ≡ legacy_for exists seconds }
 {
     if !exists {
-        return Legacy::Nonexistent;
+        return Err(LegacyError::Nonexistent);
     }
-    if seconds < FIRST {
-        return Legacy::Outside;
+    if seconds < FIRST || END <= seconds {
+        return Err(LegacyError::Outside);
     }
-    if seconds < END {
-        Legacy::Seconds((seconds - FIRST) as u32)
-    } else {
-        Legacy::Outside
-    }
+    Ok((seconds - FIRST) as u32)
 }
 
 // Reads a text as a LegacyTime. A text without the form (16) comes before a time that does not exist (17), and that before a time outside
 // the 32 bits (18).
-pub fn read_time(text: &[u8]) -> Legacy
+#[tactic(auto, unfolding(crate::specs::Time::legacy_of))]
+pub fn read_time(text: &[u8]) -> Result<u32, LegacyError>
     ensures { result ≡ legacy_of text.now }
 {
     if !is_form(text) {
-        return Legacy::Malformed;
+        return Err(LegacyError::Malformed);
     }
     let at = instant_in(text);
     judge(is_instant(at), seconds_to(at))

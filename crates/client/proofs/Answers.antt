@@ -7,6 +7,7 @@ use Prim.Native.Nat.{ℕ, ◌≤◌}
 use native.Mathlib.Omega.{arith}
 use lib.ListN.{take}
 use lib.Dec.{eqb}
+use Rattle.std.specs.Prelude.{Some, None}
 use Rattle.base.specs.Pick.{pick}
 use Rattle.packet.specs.HeaderIds as header_id
 use Rattle.packet.specs.Header.{Header, first, read_headers}
@@ -15,8 +16,8 @@ use Rattle.packet.specs.Packet.{connect_limit}
 use Rattle.packet.specs.Codes.{is_success}
 use Rattle.packet.specs.ResponsePacket.{ResponsePacket, response_packet}
 use Rattle.packet.specs.PacketRead.{parse_response}
-use Rattle.packet.specs.declared.packet.ParsedResponse.{ParsedResponse}
-use Rattle.packet.specs.declared.packet.ParsedResponse.TheVariants as answer
+use Rattle.std.specs.Prelude.{Option as Maybe, Some, None}
+use Rattle.packet.specs.declared.packet.Response.{Response}
 use Rattle.packet.proofs.PacketLaws.{answer_with, response_head, Answers, response-head, response-readable}
 use Rattle.journal.specs.Journal.{is_enable, list_of}
 use Rattle.incoming.specs.Gather.{Gathering, gathering}
@@ -28,9 +29,7 @@ use Rattle.incoming.specs.declared.frame.Frame.{Frame}
 use Rattle.incoming.specs.declared.frame.Frame.TheVariants as frame
 use Rattle.incoming.specs.declared.frame.Framed.{Framed}
 use Rattle.outgoing.specs.declared.object.Outgoing.{Outgoing}
-use Rattle.connection.specs.Peer.{at_least255, id_in}
-use Rattle.connection.specs.declared.peer.ConnectionId.{ConnectionId}
-use Rattle.connection.specs.declared.peer.ConnectionId.TheVariants.{Id, Missing}
+use Rattle.connection.specs.Peer.{at_least255, id_in, ConnectionId}
 use Rattle.client_model.specs.declared.Kind.{Kind}
 use Rattle.client_model.specs.declared.Kind.TheVariants as kind
 use Rattle.client_model.specs.declared.Operation.{Operation}
@@ -54,7 +53,7 @@ use Rattle.client.proofs.Guards.{Goes, request-fits}
 
 -- ---- the heading
 
-id_first : (x : Option (List ℕ)) → pick (present x) (Id (id_of x)) Missing ≡ id_in x
+id_first : (x : Option (List ℕ)) → pick (present x) (Some (id_of x)) None ≡ id_in x
 id_first none = refl
 id_first (some v) = refl
 
@@ -226,26 +225,35 @@ listed : (code : ℕ) (f : Bool) (p : List ℕ) (x : Option (List Header)) → i
 listed code f p none e = absurd (let z : ◌≡◌ {A = ℕ} 0 1 = cc in omega arith)
 listed code f p (some hs) e = refl
 
-module _ (c : Client) (n : ℕ) (s : Stores) (t : Bool) (is : t ≡ is_connecting c.operation) (x : ParsedResponse)
+module _ (c : Client) (n : ℕ) (s : Stores) (t : Bool) (is : t ≡ is_connecting c.operation) (x : Maybe Response)
     (read : x ≡ parse_response t (take n s.packet)) (a : Client) (at : a ≡ arrived c n) where
   abbrev p : List ℕ
   p = take n s.packet
 
   packet-is : response_packet (is_connecting c.operation) p ≡ response_head x p
   packet-is =
-      ap (λ (u : Bool). response_packet u p) (sym is) ∙ response-head t p ∙ ap (λ (y : ParsedResponse). response_head y p) (sym read)
+      ap (λ (u : Bool). response_packet u p) (sym is) ∙ response-head t p ∙ ap (λ (y : Maybe Response). response_head y p) (sym read)
 
-  pub unreadable : (r : CallResult) → x ≡ answer.Unreadable → r ≡ took_by (goes a Nothing await.Nothing false) (outcome.End end.Unreadable)
+  pub unreadable : (r : CallResult) → x ≡ None → r ≡ took_by (goes a Nothing await.Nothing false) (outcome.End end.Unreadable)
       → stepped r s ≡ after 0 (response_done c n s)
   unfolding response_done
   unreadable r e h =
       ap (λ (y : CallResult). stepped y s) h
       ∙ ap (λ (z : Client). stepped (took_by (goes z Nothing await.Nothing false) (outcome.End end.Unreadable)) s) at
-      ∙ ap (λ (y : Option ResponsePacket). after 0 (read_as y (arrived c n) s)) (sym (packet-is ∙ ap (λ (y : ParsedResponse). response_head y p) e))
+      ∙ ap (λ (y : Option ResponsePacket). after 0 (read_as y (arrived c n) s)) (sym (packet-is ∙ ap (λ (y : Maybe Response). response_head y p) e))
 
-  module _ (code : ℕ) (f : Bool) (from m : ℕ) (e : x ≡ answer.Response code f from m) where
+  module _ (d : Response) (e : x ≡ Some d) where
+    abbrev code : ℕ
+    code = d.code
+
+    abbrev f : Bool
+    f = d.is_final
+
+    abbrev from : ℕ
+    from = d.headers
+
     pub reads : readable_from p from ≡ true
-    reads = (subst (λ (y : ParsedResponse). Answers y t p) (sym read ∙ e) (response-readable t p)).0
+    reads = (subst (λ (y : Maybe Response). Answers y t p) (sym read ∙ e) (response-readable t p)).0
 
     abbrev told : ResponsePacket
     told = record { code = code; final = f; bytes = p; headers = list_of (read_headers p from) }
@@ -259,7 +267,7 @@ module _ (c : Client) (n : ℕ) (s : Stores) (t : Bool) (is : t ≡ is_connectin
         ∙ ways a told s a.operation
         ∙ ap (λ (z : Client). after 0 (responded z.operation z told s)) at
         ∙ ap (λ (y : Option ResponsePacket). after 0 (read_as y (arrived c n) s))
-        (sym (packet-is ∙ ap (λ (y : ParsedResponse). response_head y p) e ∙ listed code f p (read_headers p from) reads))
+        (sym (packet-is ∙ ap (λ (y : Maybe Response). response_head y p) e ∙ listed code f p (read_headers p from) reads))
 
 -- ---- bytes that are offered
 

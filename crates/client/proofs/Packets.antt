@@ -8,6 +8,7 @@ use denote.Enum.Declared.{tag_of}
 use types.Run.{OneOf, miss}
 use lib.ListN.{length, take, length-append}
 use lib.Seq.{paste}
+use Rattle.std.specs.Prelude.{Some, None}
 use Rattle.base.specs.Pick.{pick}
 use Rattle.base.specs.Bytes.{bytes16}
 use Rattle.packet.specs.Header.{all_bytes, bytes_of, encoding_of}
@@ -22,8 +23,7 @@ use Rattle.outgoing.specs.declared.object.NextPacket.{NextPacket}
 use Rattle.outgoing.specs.declared.object.Next.{Next}
 use Rattle.outgoing.specs.declared.object.Next.TheVariants as next
 use Rattle.connection.specs.Reply.{front, start_bytes, fields_of}
-use Rattle.connection.specs.declared.peer.ConnectionId.{ConnectionId}
-use Rattle.connection.specs.declared.peer.ConnectionId.TheVariants.{Id, Missing}
+use Rattle.connection.specs.Peer.{ConnectionId}
 use Rattle.connection.proofs.Front.{front-paste}
 use Rattle.client_model.specs.declared.Kind.{Kind}
 use Rattle.client_model.specs.declared.Operation.{Operation}
@@ -41,9 +41,9 @@ use Rattle.outgoing.specs.contracts.object.Next.{the_type as next-type}
 use Rattle.client_model.specs.Guard.{sound_operation}
 use Rattle.client.proofs.Guards.{request-fits}
 use Rattle.client.specs.Step.{took_by}
-use Rattle.client.specs.Request.{requested_by, first_put, turn_of}
+use Rattle.client.specs.Request.{requested_by, first_put, goes_next, turn_of}
 use Rattle.client.specs.declared.request.Turn.{Turn}
-use Rattle.client.specs.declared.request.Turn.TheVariants as turn
+use Rattle.std.specs.Prelude.{Option, None, Some}
 
 -- ---- the headers that lead
 
@@ -51,21 +51,21 @@ abbrev pub IsLead : ConnectionId → Bool → List ℕ → ℕ → Type 0
 IsLead id srm b n = (take n b ≡ leading id srm) × (n ≡ length (leading id srm)) × (n ≤ 7) × (length b ≡ 7)
 
 module _ (id : ConnectionId) (srm : Bool) where
-  pub leads-both : (i : ℕ) → id ≡ Id i → srm ≡ true
+  pub leads-both : (i : ℕ) → id ≡ Some i → srm ≡ true
       → IsLead id srm (0xCB ∷ i / 16777216 % 256 ∷ i / 65536 % 256 ∷ i / 256 % 256 ∷ i % 256 ∷ 0x97 ∷ 0x01 ∷ []) 7
   unfolding leading leading_headers insert_early must_lead all_bytes bytes_of encoding_of
   leads-both i e k = rw (e, k) (refl, refl, omega arith, refl)
 
-  pub leads_id : (i : ℕ) → id ≡ Id i → srm ≡ false
+  pub leads_id : (i : ℕ) → id ≡ Some i → srm ≡ false
       → IsLead id srm (0xCB ∷ i / 16777216 % 256 ∷ i / 65536 % 256 ∷ i / 256 % 256 ∷ i % 256 ∷ 0x97 ∷ 0x01 ∷ []) 5
   unfolding leading leading_headers insert_early must_lead all_bytes bytes_of encoding_of
   leads_id i e k = rw (e, k) (refl, refl, omega arith, refl)
 
-  pub leads-mode : id ≡ Missing → srm ≡ true → IsLead id srm (0x97 ∷ 0x01 ∷ 0 ∷ 0 ∷ 0 ∷ 0 ∷ 0 ∷ []) 2
+  pub leads-mode : id ≡ None → srm ≡ true → IsLead id srm (0x97 ∷ 0x01 ∷ 0 ∷ 0 ∷ 0 ∷ 0 ∷ 0 ∷ []) 2
   unfolding leading leading_headers insert_early must_lead all_bytes bytes_of encoding_of
   leads-mode e k = rw (e, k) (refl, refl, omega arith, refl)
 
-  pub leads-none : id ≡ Missing → srm ≡ false → IsLead id srm (0x97 ∷ 0x01 ∷ 0 ∷ 0 ∷ 0 ∷ 0 ∷ 0 ∷ []) 0
+  pub leads-none : id ≡ None → srm ≡ false → IsLead id srm (0x97 ∷ 0x01 ∷ 0 ∷ 0 ∷ 0 ∷ 0 ∷ 0 ∷ []) 0
   unfolding leading leading_headers insert_early must_lead all_bytes bytes_of encoding_of
   leads-none e k = rw (e, k) (refl, refl, omega arith, refl)
 
@@ -203,7 +203,7 @@ module _ (c : Client) (k : Kind) (hs : List ℕ) (has : Bool) (p h b y : List �
 
 -- ---- a packet was sent
 
-pub sent-other : (o : Operation) → OneOf (0 ∷ 1 ∷ 2 ∷ 4 ∷ 5 ∷ []) (tag_of the_type o) → turn.Wait ≡ turn_of o
+pub sent-other : (o : Operation) → OneOf (0 ∷ 1 ∷ 2 ∷ 4 ∷ 5 ∷ []) (tag_of the_type o) → None ≡ turn_of o
 sent-other Nothing k = refl
 sent-other Connecting k = refl
 sent-other Disconnecting k = refl
@@ -212,14 +212,14 @@ sent-other Aborting k = refl
 sent-other (Requesting kd o h srm first last) k = absurd (miss (0 ∷ 1 ∷ 2 ∷ 4 ∷ 5 ∷ []) 3 tt k)
 
 -- what the client does at a turn
-abbrev pub turned : Turn → Client → Stores → Done
-turned (turn.Next k o srm first) c s = requests_next c k srm first o s
-turned turn.Wait c s = wants c c.operation false s
+abbrev pub turned : Option Turn → Client → Stores → Done
+turned (Some t) c s = requests_next c t.kind t.srm t.first t.outgoing s
+turned None c s = wants c c.operation false s
 
 pub turn-sent : (o : Operation) (c : Client) (s : Stores) → turned (turn_of o) c s ≡ sent_for o c s
 turn-sent (Requesting k o h srm first last) c s = go (srm && not last)
   where
-    go : (t : Bool) → turned (pick t (turn.Next k o srm first) turn.Wait) c s ≡ pick t (requests_next c k srm first o s)
+    go : (t : Bool) → turned (pick t (goes_next k o srm first) None) c s ≡ pick t (requests_next c k srm first o s)
         (wants c c.operation false s)
     go true = refl
     go false = refl
@@ -229,21 +229,23 @@ turn-sent Disconnecting c s = refl
 turn-sent (Receiving srm last code) c s = refl
 turn-sent Aborting c s = refl
 
-pub goes-turn : (o : Operation) (c : Client) (s : Stores) (t u : Turn) (x : Stepped) → t ≡ turn_of o → t ≡ u → x ≡ after 0 (turned u c s)
+pub goes-turn : (o : Operation) (c : Client) (s : Stores) (t u : Option Turn) (x : Stepped) → t ≡ turn_of o → t ≡ u → x ≡ after 0 (turned u c s)
     → x ≡ after 0 (sent_for o c s)
 goes-turn o c s t u x e i h =
-    h ∙ ap (λ (v : Turn). after 0 (turned v c s)) (sym i ∙ e) ∙ ap (λ (d : Done). after 0 d) (turn-sent o c s)
+    h ∙ ap (λ (v : Option Turn). after 0 (turned v c s)) (sym i ∙ e) ∙ ap (λ (d : Done). after 0 d) (turn-sent o c s)
 
 -- the headers of a request that goes on lie in the header store
-pub turn-total : (p : Operation) (t : Turn) (k : Kind) (o : Outgoing) (srm first : Bool) → t ≡ turn_of p → t ≡ turn.Next k o srm first
-    → sound_operation p ≡ true → o.total ≤ 65535
-turn-total (Requesting k' o' h' srm' first' last') t k o srm first e i s = go (srm' && not last') (sym e ∙ i)
+pub turn-total : (p : Operation) (t : Option Turn) (x : Turn) → t ≡ turn_of p → t ≡ Some x → sound_operation p ≡ true
+    → x.outgoing.total ≤ 65535
+turn-total (Requesting k' o' h' srm' first' last') t x e i s = go (srm' && not last') (sym e ∙ i)
   where
-    go : (b : Bool) → pick b (turn.Next k' o' srm' first') turn.Wait ≡ turn.Next k o srm first → o.total ≤ 65535
+    go : (b : Bool) → pick b (goes_next k' o' srm' first') None ≡ Some x → x.outgoing.total ≤ 65535
     go false q = let z : ◌≡◌ {A = ℕ} 0 1 = cc in absurd (omega arith)
-    go true q = let w : o' ≡ o = cc in subst (λ (x : Outgoing). x.total ≤ 65535) w (request-fits o' h' s).total
-turn-total Nothing t k o srm first e i s = let q = sym e ∙ i in let z : ◌≡◌ {A = ℕ} 0 1 = cc in absurd (omega arith)
-turn-total Connecting t k o srm first e i s = let q = sym e ∙ i in let z : ◌≡◌ {A = ℕ} 0 1 = cc in absurd (omega arith)
-turn-total Disconnecting t k o srm first e i s = let q = sym e ∙ i in let z : ◌≡◌ {A = ℕ} 0 1 = cc in absurd (omega arith)
-turn-total (Receiving srm' last' code) t k o srm first e i s = let q = sym e ∙ i in let z : ◌≡◌ {A = ℕ} 0 1 = cc in absurd (omega arith)
-turn-total Aborting t k o srm first e i s = let q = sym e ∙ i in let z : ◌≡◌ {A = ℕ} 0 1 = cc in absurd (omega arith)
+    go true q =
+        let w : record { kind = k'; outgoing = o'; srm = srm'; first = first' } ≡ x = cc in
+        subst (λ (y : Turn). y.outgoing.total ≤ 65535) w (request-fits o' h' s).total
+turn-total Nothing t x e i s = let q = sym e ∙ i in let z : ◌≡◌ {A = ℕ} 0 1 = cc in absurd (omega arith)
+turn-total Connecting t x e i s = let q = sym e ∙ i in let z : ◌≡◌ {A = ℕ} 0 1 = cc in absurd (omega arith)
+turn-total Disconnecting t x e i s = let q = sym e ∙ i in let z : ◌≡◌ {A = ℕ} 0 1 = cc in absurd (omega arith)
+turn-total (Receiving srm' last' code) t x e i s = let q = sym e ∙ i in let z : ◌≡◌ {A = ℕ} 0 1 = cc in absurd (omega arith)
+turn-total Aborting t x e i s = let q = sym e ∙ i in let z : ◌≡◌ {A = ℕ} 0 1 = cc in absurd (omega arith)

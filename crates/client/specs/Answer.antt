@@ -1,5 +1,5 @@
 -- What a response leads to, decided without the stores and then carried out.
-use Rattle.std.specs.Prelude.{ℕ, List, Bool, true, false, ◌&&◌, ◌||◌, not, eqb}
+use Rattle.std.specs.Prelude.{ℕ, List, Bool, true, false, ◌&&◌, ◌||◌, not, eqb, Some, None}
 use Rattle.base.specs.Pick.{pick}
 use Rattle.packet.specs.Limits.{max_packet}
 use Rattle.packet.specs.HeaderIds as header_id
@@ -13,9 +13,7 @@ use Rattle.incoming.specs.declared.gather.Gathered.{Gathered}
 use Rattle.incoming.specs.declared.gather.Keep.TheVariants as keep
 use Rattle.incoming.specs.declared.survey.Survey.{Survey}
 use Rattle.outgoing.specs.declared.object.Outgoing.{Outgoing}
-use Rattle.connection.specs.Peer.{at_least255, id_in}
-use Rattle.connection.specs.declared.peer.ConnectionId.{ConnectionId}
-use Rattle.connection.specs.declared.peer.ConnectionId.TheVariants.{Id, Missing}
+use Rattle.connection.specs.Peer.{at_least255, id_in, ConnectionId}
 use Rattle.client_model.specs.declared.Kind.{Kind}
 use Rattle.client_model.specs.declared.Kind.TheVariants as kind
 use Rattle.client_model.specs.declared.Operation.{Operation}
@@ -36,7 +34,7 @@ use Rattle.client.specs.declared.answer.Way.TheVariants as way
 
 -- The first ConnectionID that a survey found.
 abbrev pub id_found : Survey → ConnectionId
-id_found v = pick v.has_id (Id v.id) Missing
+id_found v = pick v.has_id (Some v.id) None
 
 -- The heading of a response with the headers `hs`.
 abbrev pub heading_of : ℕ → List ℕ → List Header → Heading

@@ -1,8 +1,9 @@
 -- The packets of a request, and what follows them, decided without the stores.
-use Rattle.std.specs.Prelude.{ℕ, List, Bool, false, ◌&&◌, not, set}
+use Rattle.std.specs.Prelude.{ℕ, List, Bool, false, ◌&&◌, not, set, Option, None, Some}
 use Rattle.base.specs.Pick.{pick}
 use Rattle.packet.specs.FirstByte.{byte_of}
 use Rattle.outgoing.specs.declared.object.NextPacket.{NextPacket}
+use Rattle.outgoing.specs.declared.object.Outgoing.{Outgoing}
 use Rattle.outgoing.specs.declared.object.Next.{Next}
 use Rattle.outgoing.specs.declared.object.Next.TheVariants as next
 use Rattle.client_model.specs.declared.Kind.{Kind}
@@ -17,7 +18,6 @@ use Rattle.client_model.specs.Step.{goes}
 use Rattle.client_model.specs.Request.{opcode_of}
 use Rattle.client.specs.Step.{took_by}
 use Rattle.client.specs.declared.request.Turn.{Turn}
-use Rattle.client.specs.declared.request.Turn.TheVariants as turn
 
 -- What follows a packet that was made or begun.
 abbrev pub requested_by : Next → Client → Kind → Bool → Bool → NextPacket → CallResult
@@ -33,11 +33,15 @@ first_put (next.Send n last) k y = set y 0 (byte_of (opcode_of k) last)
 first_put next.Read k y = y
 first_put next.TooLarge k y = y
 
+-- The next packet of a request follows.
+abbrev pub goes_next : Kind → Outgoing → Bool → Bool → Option Turn
+goes_next k o srm first = Some (record { kind = k; outgoing = o; srm = srm; first = first })
+
 -- What follows a packet that was sent, by the operation that is open.
-abbrev pub turn_of : Operation → Turn
-turn_of (Requesting k o h srm first last) = pick (srm && not last) (turn.Next k o srm first) turn.Wait
-turn_of Nothing = turn.Wait
-turn_of Connecting = turn.Wait
-turn_of Disconnecting = turn.Wait
-turn_of (Receiving srm last code) = turn.Wait
-turn_of Aborting = turn.Wait
+abbrev pub turn_of : Operation → Option Turn
+turn_of (Requesting k o h srm first last) = pick (srm && not last) (goes_next k o srm first) None
+turn_of Nothing = None
+turn_of Connecting = None
+turn_of Disconnecting = None
+turn_of (Receiving srm last code) = None
+turn_of Aborting = None

@@ -9,35 +9,32 @@ ghost use Rattle.client.specs.Calls.{fresh_with, taken_turn, abort_taken_turn, a
 
 use crate::answer::response_done;
 use crate::guard::{
-    Guarded, awaits_stream, check_connect, check_request, guard, is_abortable, is_short, refuse,
-    same_await,
+    awaits_stream, check_connect, check_request, guard, is_abortable, is_short, refuse, same_await,
 };
 use crate::request::{
     ask_part, capacity_of, goes_on, id_length, requests, requests_first, send_abort, send_connect,
     send_disconnect,
 };
-use crate::step::{
-    awaits_first, client_with, ends, over, stream_end, took, wants, with_begun, with_taken,
-};
+use crate::step::{awaits_first, ends, over, stream_end, took, wants, with_begun, with_taken};
 use client_model::{Await, CallResult, Client, End, Kind, Operation, Outcome, Refusal, Settings};
-use connection::peer::ConnectionId;
 use incoming::frame::{Frame, read_packet};
 use packet::limits::MIN_PACKET;
 
 // Returns a client at its start. `awaits` is an operation, or nothing if the start is refused.
+#[tactic(auto, unfolding(client_model::specs::Step::client_with))]
 fn fresh(settings: Settings, awaits: Await) -> Client
     ensures { result ≡ fresh_with settings awaits }
 {
-    client_with(
+    Client {
         settings,
-        MIN_PACKET,
-        ConnectionId::Missing,
-        Operation::Nothing,
+        remote_max_packet_length: MIN_PACKET,
+        connection_id: None,
+        operation: Operation::Nothing,
         awaits,
-        false,
-        0,
-        0,
-    )
+        aborting: false,
+        begun: 0,
+        length: 0,
+    }
 }
 
 // Starts a client. It is refused if a lent store is short; the state has then ended.
@@ -59,6 +56,7 @@ pub fn start(
 
 // Connects to the server, with header bytes in canonical form. The client tells its own limit, and takes the server's limit and
 // ConnectionID from the response if that is a success.
+// Stays beside `disconnect` and `start_request`: the three share the guard, which is one call; what they check and send differs.
 pub fn connect(
     c: Client,
     header_bytes: &[u8],
@@ -71,9 +69,8 @@ pub fn connect(
         ≡ connect_step c header_bytes.now
         (stores packet.old headers.old body.old request.old) }
 {
-    let awaits = c.awaits;
-    let fits = same_await(awaits, Await::Call);
-    if let Guarded::Refuse(refusal) = guard(
+    let fits = same_await(c.awaits, Await::Call);
+    if let Err(refusal) = guard(
         c,
         fits,
         packet.len(),
@@ -83,7 +80,7 @@ pub fn connect(
     ) {
         return refuse(c, refusal);
     }
-    if let Guarded::Refuse(refusal) = check_connect(0, header_bytes) {
+    if let Err(refusal) = check_connect(0, header_bytes) {
         return refuse(c, refusal);
     }
     send_connect(c, header_bytes, request)
@@ -102,9 +99,8 @@ pub fn disconnect(
         ≡ disconnect_step c header_bytes.now
         (stores packet.old headers.old body.old request.old) }
 {
-    let awaits = c.awaits;
-    let fits = same_await(awaits, Await::Call);
-    if let Guarded::Refuse(refusal) = guard(
+    let fits = same_await(c.awaits, Await::Call);
+    if let Err(refusal) = guard(
         c,
         fits,
         packet.len(),
@@ -114,8 +110,7 @@ pub fn disconnect(
     ) {
         return refuse(c, refusal);
     }
-    let id = c.connection_id;
-    if let Guarded::Refuse(refusal) = check_connect(id_length(id), header_bytes) {
+    if let Err(refusal) = check_connect(id_length(c.connection_id), header_bytes) {
         return refuse(c, refusal);
     }
     send_disconnect(c, header_bytes, request)
@@ -136,9 +131,8 @@ fn start_request(
         ≡ request_step c kind header_bytes.now has_body
         (stores packet.old headers.old body.old request.old) }
 {
-    let awaits = c.awaits;
-    let fits = same_await(awaits, Await::Call);
-    if let Guarded::Refuse(refusal) = guard(
+    let fits = same_await(c.awaits, Await::Call);
+    if let Err(refusal) = guard(
         c,
         fits,
         packet.len(),
@@ -148,13 +142,14 @@ fn start_request(
     ) {
         return refuse(c, refusal);
     }
-    if let Guarded::Refuse(refusal) = check_request(capacity_of(c), header_bytes) {
+    if let Err(refusal) = check_request(capacity_of(c), header_bytes) {
         return refuse(c, refusal);
     }
     requests_first(c, kind, header_bytes, has_body, headers, request)
 }
 
 // Puts an object: its header bytes, in canonical form, and whether it has a body. The client asks for the body's bytes when it needs them.
+// Stays beside `get`: the C interface names both, and each is one call of `start_request`.
 pub fn put(
     c: Client,
     header_bytes: &[u8],
@@ -208,6 +203,7 @@ pub fn get(
 
 // Tells the client that the user has sent the packet. Under Single Response Mode (SRM) the next packet of a request may follow at once,
 // else the client wants bytes.
+// Stays beside `stream_ended`: the two share the guard, which is one call, and no step after it.
 pub fn request_sent(
     c: Client,
     packet: &mut [u8],
@@ -218,9 +214,8 @@ pub fn request_sent(
     ensures { stepped result (stores packet.new headers.new body.new request.new)
         ≡ request_sent_step c (stores packet.old headers.old body.old request.old) }
 {
-    let awaits = c.awaits;
-    let fits = same_await(awaits, Await::Sent);
-    if let Guarded::Refuse(refusal) = guard(
+    let fits = same_await(c.awaits, Await::Sent);
+    if let Err(refusal) = guard(
         c,
         fits,
         packet.len(),
@@ -230,7 +225,7 @@ pub fn request_sent(
     ) {
         return refuse(c, refusal);
     }
-    goes_on(c, &headers[..], request)
+    goes_on(c, headers, request)
 }
 
 // Gives bytes of the body that is put: at most as many as the client asked for, and none at the body's end. More are refused with
@@ -247,9 +242,8 @@ pub fn body_given(
         ≡ body_given_step c bytes.now
         (stores packet.old headers.old body.old request.old) }
 {
-    let awaits = c.awaits;
-    let fits = same_await(awaits, Await::Body);
-    if let Guarded::Refuse(refusal) = guard(
+    let fits = same_await(c.awaits, Await::Body);
+    if let Err(refusal) = guard(
         c,
         fits,
         packet.len(),
@@ -259,15 +253,14 @@ pub fn body_given(
     ) {
         return refuse(c, refusal);
     }
-    let operation = c.operation;
     let Operation::Requesting {
         kind,
         outgoing,
         chunk,
         srm,
         first,
-        last: _,
-    } = operation
+        ..
+    } = c.operation
     else {
         return refuse(c, Refusal::WrongMoment);
     };
@@ -279,6 +272,7 @@ pub fn body_given(
 }
 
 // What the client does once the user has taken a part.
+// Stays an enum of its own: four things may follow, and each has a name here.
 #[derive(Clone, Copy)]
 enum TakenTurn {
     // The part was the last one, and this is the server's code.
@@ -301,10 +295,7 @@ fn after_part(operation: Operation) -> TakenTurn
     if last {
         return TakenTurn::Over { code };
     }
-    if srm {
-        return TakenTurn::Wait;
-    }
-    TakenTurn::Ask
+    if srm { TakenTurn::Wait } else { TakenTurn::Ask }
 }
 
 // Tells the client that the user has taken a part of an object.
@@ -318,9 +309,8 @@ pub fn part_taken(
     ensures { stepped result (stores packet.new headers.new body.new request.new)
         ≡ part_taken_step c (stores packet.old headers.old body.old request.old) }
 {
-    let awaits = c.awaits;
-    let fits = same_await(awaits, Await::Taken);
-    if let Guarded::Refuse(refusal) = guard(
+    let fits = same_await(c.awaits, Await::Taken);
+    if let Err(refusal) = guard(
         c,
         fits,
         packet.len(),
@@ -330,8 +320,7 @@ pub fn part_taken(
     ) {
         return refuse(c, refusal);
     }
-    let operation = c.operation;
-    match after_part(operation) {
+    match after_part(c.operation) {
         TakenTurn::Over { code } => over(
             c,
             Outcome::Done {
@@ -339,7 +328,7 @@ pub fn part_taken(
                 length: c.length,
             },
         ),
-        TakenTurn::Wait => wants(c, operation, false),
+        TakenTurn::Wait => wants(c, c.operation, false),
         TakenTurn::Ask => ask_part(c, request),
         TakenTurn::Wrong => refuse(c, Refusal::WrongMoment),
     }
@@ -360,18 +349,10 @@ enum AbortTurn {
 fn after_part_aborted(operation: Operation) -> AbortTurn
     ensures { result ≡ abort_taken_turn operation }
 {
-    let Operation::Receiving {
-        srm,
-        last: _,
-        code: _,
-    } = operation
-    else {
-        return AbortTurn::Send;
-    };
-    if srm {
-        return AbortTurn::Drain;
+    match operation {
+        Operation::Receiving { srm: true, .. } => AbortTurn::Drain,
+        _ => AbortTurn::Send,
     }
-    AbortTurn::Send
 }
 
 // Returns what follows an Abort, by what the client waits for and the operation that is open.
@@ -381,10 +362,7 @@ fn after_abort(awaits: Await, operation: Operation) -> AbortTurn
     match awaits {
         Await::Bytes => AbortTurn::First,
         Await::Taken => after_part_aborted(operation),
-        Await::Call => AbortTurn::Send,
-        Await::Sent => AbortTurn::Send,
-        Await::Body => AbortTurn::Send,
-        Await::Nothing => AbortTurn::Send,
+        Await::Call | Await::Sent | Await::Body | Await::Nothing => AbortTurn::Send,
     }
 }
 
@@ -401,7 +379,7 @@ pub fn abort(
         ≡ abort_step c (stores packet.old headers.old body.old request.old) }
 {
     let fits = is_abortable(c);
-    if let Guarded::Refuse(refusal) = guard(
+    if let Err(refusal) = guard(
         c,
         fits,
         packet.len(),
@@ -411,11 +389,9 @@ pub fn abort(
     ) {
         return refuse(c, refusal);
     }
-    let awaits = c.awaits;
-    let operation = c.operation;
-    match after_abort(awaits, operation) {
+    match after_abort(c.awaits, c.operation) {
         AbortTurn::First => awaits_first(c),
-        AbortTurn::Drain => wants(c, operation, true),
+        AbortTurn::Drain => wants(c, c.operation, true),
         AbortTurn::Send => send_abort(c, request),
     }
 }
@@ -437,9 +413,8 @@ pub fn bytes_offered(
         (stores packet.old headers.old body.old request.old) }
     ensures octets { Octets (coming packet.old c.begun placed input.now) }
 {
-    let awaits = c.awaits;
-    let fits = same_await(awaits, Await::Bytes);
-    if let Guarded::Refuse(refusal) = guard(
+    let fits = same_await(c.awaits, Await::Bytes);
+    if let Err(refusal) = guard(
         c,
         fits,
         packet.len(),
@@ -450,8 +425,7 @@ pub fn bytes_offered(
         return refuse(c, refusal);
     }
     let f = read_packet(c.begun, placed, input, packet);
-    let frame = f.frame;
-    match frame {
+    match f.frame {
         Frame::More => with_taken(took(with_begun(c, f.begun), Outcome::WantsBytes), f.taken),
         Frame::Short => with_taken(ends(c, End::LengthTooSmall), f.taken),
         Frame::Whole => with_taken(
@@ -472,9 +446,8 @@ pub fn stream_ended(
     ensures { stepped result (stores packet.new headers.new body.new request.new)
         ≡ stream_ended_step c (stores packet.old headers.old body.old request.old) }
 {
-    let awaits = c.awaits;
-    let fits = awaits_stream(awaits);
-    if let Guarded::Refuse(refusal) = guard(
+    let fits = awaits_stream(c.awaits);
+    if let Err(refusal) = guard(
         c,
         fits,
         packet.len(),

@@ -4,6 +4,7 @@ use mathlib.Core.Path.{◌≡◌, refl, ap, ◌∙◌}
 use mathlib.Core.List.{List}
 use mathlib.Core.Bool.{Bool, true, false}
 use Prim.Native.Nat.{ℕ, ◌%◌, ◌^◌}
+use Rattle.std.specs.Prelude.{Some, None}
 use Rattle.outgoing.specs.declared.object.Outgoing.{Outgoing}
 use Rattle.outgoing.specs.declared.object.Chunk.{Chunk}
 use Rattle.client_model.specs.declared.Kind.{Kind}
@@ -11,7 +12,6 @@ use Rattle.client_model.specs.declared.Kind.TheVariants as kind_of
 use Rattle.client_model.specs.declared.Operation.TheVariants as operation
 use Rattle.client_model.specs.declared.Await.{Await}
 use Rattle.client_model.specs.declared.Await.TheVariants as await
-use Rattle.client_model.specs.declared.Body.TheVariants as body
 use Rattle.client_model.specs.declared.End.{End}
 use Rattle.client_model.specs.declared.End.TheVariants as end
 use Rattle.client_model.specs.declared.Refusal.{Refusal}
@@ -70,8 +70,8 @@ outcome-back outcome.Ready = refl
 outcome-back (outcome.Send n) = refl
 outcome-back outcome.WantsBytes = refl
 outcome-back (outcome.Read n) = refl
-outcome-back (outcome.Part kept (body.Bytes n)) = refl
-outcome-back (outcome.Part kept body.Missing) = refl
+outcome-back (outcome.Part kept (Some n)) = refl
+outcome-back (outcome.Part kept None) = refl
 outcome-back (outcome.Done code n) = refl
 outcome-back (outcome.Stopped code n) = refl
 outcome-back (outcome.Aborted code n) = refl

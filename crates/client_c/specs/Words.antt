@@ -1,13 +1,13 @@
 -- How the client's state and the result of a call stand in the 32 numbers that a user outside Rattle keeps (bindings/c/obex_client.h names their
 -- places). `result_of` reads the numbers: every list is read as some state, a kind that nothing has as the last kind, and a field keeps the bits
 -- that its type has. `words_of` is what a call leaves, all 32 of them. `start_on` is the start, which refuses numbers that are no settings.
-use Rattle.std.specs.Prelude.{ℕ, ◌%◌, ◌^◌, List, [], ◌∷◌, Bool, true, false, ◌&&◌, ◌||◌, not, get_or, eqb, ltb}
+use Rattle.std.specs.Prelude.{ℕ, ◌%◌, ◌^◌, List, [], ◌∷◌, Bool, true, false, ◌&&◌, ◌||◌, not, get_or, eqb, ltb, Some, None}
+use Rattle.incoming.specs.Gather.{Body}
 use Rattle.base.specs.Pick.{pick}
 use Rattle.packet.specs.Limits.{min_packet}
 use Rattle.outgoing.specs.declared.object.Outgoing.{Outgoing}
 use Rattle.outgoing.specs.declared.object.Chunk.{Chunk}
-use Rattle.connection.specs.declared.peer.ConnectionId.{ConnectionId}
-use Rattle.connection.specs.declared.peer.ConnectionId.TheVariants as server_id
+use Rattle.connection.specs.Peer.{ConnectionId}
 use Rattle.client_model.specs.declared.Settings.{Settings}
 use Rattle.client_model.specs.declared.Kind.{Kind}
 use Rattle.client_model.specs.declared.Kind.TheVariants as kind_of
@@ -16,8 +16,6 @@ use Rattle.client_model.specs.declared.Operation.TheVariants as operation
 use Rattle.client_model.specs.declared.Await.{Await}
 use Rattle.client_model.specs.declared.Await.TheVariants as await
 use Rattle.client_model.specs.declared.Client.{Client}
-use Rattle.client_model.specs.declared.Body.{Body}
-use Rattle.client_model.specs.declared.Body.TheVariants as body
 use Rattle.client_model.specs.declared.End.{End}
 use Rattle.client_model.specs.declared.End.TheVariants as end
 use Rattle.client_model.specs.declared.Refusal.{Refusal}
@@ -72,12 +70,12 @@ settings_fit w = ltb (at w 0) (2 ^ 16) && (ltb (at w 1) 2 && eqb (at w 2) versio
 
 -- The ConnectionID `x` if `n` is 1, else none.
 abbrev pub id_from : ℕ → ℕ → ConnectionId
-id_from n x = pick (eqb n 1) (server_id.Id (x % 2 ^ 32)) server_id.Missing
+id_from n x = pick (eqb n 1) (Some (x % 2 ^ 32)) None
 
 -- The numbers of a ConnectionID.
 abbrev pub id_numbers : ConnectionId → Four
-id_numbers (server_id.Id x) = four 1 x 0 0
-id_numbers server_id.Missing = four 0 0 0 0
+id_numbers (Some x) = four 1 x 0 0
+id_numbers None = four 0 0 0 0
 
 -- ---- the open operation: numbers 7 to 19
 
@@ -198,7 +196,7 @@ refusal_of n =
 
 -- A body of `a` bytes if `n` is 1, else none.
 abbrev pub body_of : ℕ → ℕ → Body
-body_of n a = pick (eqb n 1) (body.Bytes a) body.Missing
+body_of n a = pick (eqb n 1) (Some a) None
 
 -- The outcome, by its kind. Any kind over 8 is an operation that was aborted.
 unfoldable pub outcome_of : Four → Outcome
@@ -215,8 +213,8 @@ outcome_of n =
 
 -- The numbers of a part.
 abbrev pub part_numbers : ℕ → Body → Four
-part_numbers kept (body.Bytes n) = four 6 kept 1 n
-part_numbers kept body.Missing = four 6 kept 0 0
+part_numbers kept (Some n) = four 6 kept 1 n
+part_numbers kept None = four 6 kept 0 0
 
 -- The numbers of an outcome.
 abbrev pub outcome_numbers : Outcome → Four
@@ -290,7 +288,7 @@ words_of r =
 
 -- The state after a start that was refused: it has ended.
 abbrev pub ended_with : Settings → Client
-ended_with st = client_with st min_packet server_id.Missing operation.Nothing await.Nothing false 0 0
+ended_with st = client_with st min_packet None operation.Nothing await.Nothing false 0 0
 
 -- What a start with these settings gives: its result `r` if the numbers are settings, and else a refusal, unless `r` is one.
 abbrev pub judged_start : Bool → Settings → CallResult → CallResult

@@ -12,7 +12,6 @@ ghost use Rattle.client_c.specs.Words.{version, client_of, result_of, words_of, 
 
 use crate::words::{VERSION, client_of, is_ready, is_settings, settings_of, store};
 use client_model::{Await, CallResult, Client, Operation, Outcome, Refusal, Settings};
-use connection::peer::ConnectionId;
 use packet::limits::MIN_PACKET;
 
 pub mod words;
@@ -40,7 +39,7 @@ fn admit(fit: bool, settings: Settings, r: CallResult) -> CallResult
         client: Client {
             settings,
             remote_max_packet_length: MIN_PACKET,
-            connection_id: ConnectionId::Missing,
+            connection_id: None,
             operation: Operation::Nothing,
             awaits: Await::Nothing,
             aborting: false,
@@ -74,6 +73,7 @@ pub extern "C" fn obex_client_start(
 }
 
 // Connects to the server, with header bytes in canonical form.
+// Stays beside those that follow: the C interface names each of the calls.
 #[unsafe(no_mangle)]
 pub extern "C" fn obex_client_connect(
     words: &mut [u64; 32],

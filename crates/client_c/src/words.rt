@@ -7,10 +7,9 @@ ghost use Rattle.client_c.specs.Words.{outgoing_of, chunk_of, await_of, client_o
 ghost use Rattle.client_model.specs.Numbers.{await_number};
 
 use client_model::{
-    Await, Body, CallResult, Client, Kind, Operation, Outcome, Settings, await_number, end_number,
+    Await, CallResult, Client, Kind, Operation, Outcome, Settings, await_number, end_number,
     refusal_number,
 };
-use connection::peer::ConnectionId;
 use outgoing::object::{Chunk, Outgoing};
 
 // The version of the layout.
@@ -128,13 +127,13 @@ fn few_of(kind: u64, a: u64, b: u64, c: u64) -> Numbers
 }
 
 // Returns the numbers of a ConnectionID.
-fn id_numbers(id: ConnectionId) -> Four
+fn id_numbers(id: Option<u32>) -> Four
     ensures numbers { result ≡ id_numbers id }
     ensures back { id_from (id_numbers id).kind (id_numbers id).a ≡ id }
 {
     match id {
-        ConnectionId::Id(x) => four_of(1, wide32(x), 0, 0),
-        ConnectionId::Missing => four_of(0, 0, 0, 0),
+        Some(x) => four_of(1, wide32(x), 0, 0),
+        None => four_of(0, 0, 0, 0),
     }
 }
 
@@ -205,12 +204,12 @@ fn operation_numbers(o: Operation) -> Numbers
 }
 
 // Returns the numbers of a part.
-fn part_numbers(kept: usize, body: Body) -> Four
+fn part_numbers(kept: usize, body: Option<usize>) -> Four
     ensures { result ≡ part_numbers kept body }
 {
     match body {
-        Body::Bytes(n) => four_of(6, wide(kept), 1, wide(n)),
-        Body::Missing => four_of(6, wide(kept), 0, 0),
+        Some(n) => four_of(6, wide(kept), 1, wide(n)),
+        None => four_of(6, wide(kept), 0, 0),
     }
 }
 
@@ -292,13 +291,13 @@ pub fn store(r: CallResult, words: &mut [u64; 32])
 // ---- and back
 
 // Returns the ConnectionID `x` if `n` is 1, or that there is none.
-fn id_of(n: u64, x: u64) -> ConnectionId
+fn id_of(n: u64, x: u64) -> Option<u32>
     ensures { result ≡ id_from n x }
 {
     if n == 1 {
-        return ConnectionId::Id((x % 4294967296) as u32);
+        return Some((x % 4294967296) as u32);
     }
-    ConnectionId::Missing
+    None
 }
 
 // Returns a request that goes out, from the numbers of an operation.
@@ -347,6 +346,7 @@ fn operation_of(n: Numbers) -> Operation
 }
 
 // Returns what the client waits for.
+// Stays a match on numbers: they are the C interface's.
 fn await_of(n: u64) -> Await
     ensures { result ≡ await_of n }
 {

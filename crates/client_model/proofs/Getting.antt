@@ -10,17 +10,17 @@ use lib.ListN.{length, get_or, take, drop, set, length-append, length-set}
 use lib.Seq.{paste, take-append_seam}
 use lib.Dec.{ltb, eqb}
 use borrow.Author.Tests.{ltb-false, le-leb, lt-ltb, le-ltb}
+use Rattle.std.specs.Prelude.{Some, None}
 use Rattle.base.specs.Pick.{pick}
 use Rattle.base.specs.Bytes.{be32, bytes16, bytes32}
 use Rattle.text.specs.Unicode.{Octets}
 use Rattle.packet.specs.HeaderIds as header_id
 use Rattle.packet.specs.Header.{Header, encoding_of, length_field, bytes_of, all_bytes, first, present}
-use Rattle.packet.specs.FirstByte.{named, first_byte, byte_of}
+use Rattle.packet.specs.FirstByte.{known_byte, named, first_byte, byte_of}
 use Rattle.packet.specs.Packet.{request_of, packet_bytes}
 use Rattle.packet.specs.ResponsePacket.{ResponsePacket}
 use Rattle.packet.specs.declared.opcode.Opcode.{Opcode}
 use Rattle.packet.specs.declared.opcode.Opcode.TheVariants as op
-use Rattle.packet.specs.declared.opcode.FirstByte.TheVariants.{Known}
 use Rattle.packet.proofs.HeaderBytes.{header-bytes}
 use Rattle.packet.proofs.HeaderWrites.{AllShaped, read_shaped}
 use Rattle.journal.specs.Record.{Record, bare, join_body, size_of, is_body, is_srm, carried_one, carried_by, kept_by_get}
@@ -41,8 +41,7 @@ use Rattle.outgoing.proofs.Sent.{next-after-sends}
 use Rattle.outgoing.proofs.Sized.{AllSized, packets-sized}
 use Rattle.connection.specs.Reply.{front}
 use Rattle.outgoing.specs.Queue.{must_lead, insert_early}
-use Rattle.connection.specs.declared.peer.ConnectionId.{ConnectionId}
-use Rattle.connection.specs.declared.peer.ConnectionId.TheVariants.{Id, Missing}
+use Rattle.connection.specs.Peer.{ConnectionId}
 use Rattle.client_model.specs.Leading.{leading_headers, leading}
 use Rattle.client_model.specs.Step.{Stores, stores, with_request, client_with, goes, capacity_of, Done}
 use Rattle.client_model.specs.Request.{request_of as requestBegins, requests_by, requests, requests_next, requests_first, id_bytes}
@@ -290,7 +289,7 @@ pub record Up (q : List ℕ) (o : Opcode) (last : Bool) (x : List Header) : Type
   pub whole : IsWhole q
   pub reads : request_of q ≡ some (record { opcode = o; final = last; bytes = q; headers = x })
 
-first_get_lem : (last : Bool) → first_byte (byte_of op.Get last) ≡ Known op.Get last
+first_get_lem : (last : Bool) → first_byte (byte_of op.Get last) ≡ known_byte op.Get last
 unfolding first_byte named byte_of
 first_get_lem true = refl
 first_get_lem false = refl
@@ -482,7 +481,7 @@ next_up =
 abbrev pub abort_bytes : ConnectionId → List ℕ
 abort_bytes id = packet_bytes (byte_of op.Abort true) [] (id_bytes id)
 
-first_abort : first_byte (byte_of op.Abort true) ≡ Known op.Abort true
+first_abort : first_byte (byte_of op.Abort true) ≡ known_byte op.Abort true
 unfolding first_byte named byte_of
 first_abort = refl
 
@@ -680,12 +679,12 @@ get_begun j p rest e =
 
 -- its first ConnectionID is the client's own
 abbrev pub has_id : ConnectionId → Bool
-has_id Missing = false
-has_id (Id i) = true
+has_id None = false
+has_id (Some i) = true
 
 abbrev pub id_sent : ConnectionId → ℕ
-id_sent Missing = 0
-id_sent (Id i) = be32 (bytes32 i) 0
+id_sent None = 0
+id_sent (Some i) = be32 (bytes32 i) 0
 
 own_first : (hs : List Header) → any_of is_reserved hs ≡ false → first header_id.connection_id hs ≡ none
 unfolding any_of first
@@ -702,10 +701,10 @@ id_first : (id : ConnectionId) (srm : Bool) (front : List Header) → any_of is_
     → (present (first header_id.connection_id (leading_headers id srm ++ front)) ≡ has_id id) ×
     (id_of (first header_id.connection_id (leading_headers id srm ++ front)) ≡ id_sent id)
 unfolding leading_headers insert_early must_lead first
-id_first Missing false front w = let e = own_first front w in (ap present e, ap id_of e)
-id_first Missing true front w = let e = own_first front w in (ap present e, ap id_of e)
-id_first (Id i) false front w = (refl, refl)
-id_first (Id i) true front w = (refl, refl)
+id_first None false front w = let e = own_first front w in (ap present e, ap id_of e)
+id_first None true front w = let e = own_first front w in (ap present e, ap id_of e)
+id_first (Some i) false front w = (refl, refl)
+id_first (Some i) true front w = (refl, refl)
 
 -- so is that of the headers that the server reads
 pub first_id : (id : ConnectionId) (srm : Bool) (p : List ℕ) (x : List Header) → Begun id srm p → drop 3 p ≡ all_bytes x → AllShaped x
@@ -806,10 +805,10 @@ mode-octets = octets-cons 0x97 (0x01 ∷ []) (omega arith) (octets-cons 0x01 [] 
 
 lead-octets : (id : ConnectionId) (srm : Bool) → Octets (leading id srm)
 unfolding leading leading_headers insert_early must_lead all_bytes bytes_of encoding_of
-lead-octets Missing false = octets-none
-lead-octets Missing true = mode-octets
-lead-octets (Id i) false = id_octets i [] octets-none
-lead-octets (Id i) true = id_octets i (0x97 ∷ 0x01 ∷ []) mode-octets
+lead-octets None false = octets-none
+lead-octets None true = mode-octets
+lead-octets (Some i) false = id_octets i [] octets-none
+lead-octets (Some i) true = id_octets i (0x97 ∷ 0x01 ∷ []) mode-octets
 
 byte_small : (last : Bool) → byte_of op.Get last < 256
 unfolding byte_of

@@ -6,6 +6,7 @@ use mathlib.Core.Option.{Option, none, some}
 use mathlib.Core.List.{List, [], ◌∷◌, ◌++◌}
 use Prim.Native.Nat.{ℕ, ◌+◌, ◌≤◌}
 use lib.ListN.{length, take}
+use Rattle.std.specs.Prelude.{Some, None}
 use Rattle.base.specs.Pick.{pick}
 use Rattle.base.specs.Bytes.{bytes32}
 use Rattle.packet.specs.HeaderIds as header_id
@@ -18,8 +19,7 @@ use Rattle.packet.proofs.HeaderWrites.{AllShaped}
 use Rattle.journal.specs.Record.{is_body, is_srm, carried_one, carried_by}
 use Rattle.outgoing.specs.Queue.{must_lead, insert_early, Pending, Queue, is_chunk, put_back, rewind, headers_back, body_back, back_bytes, rewound}
 use Rattle.outgoing.proofs.QueueLaws.{rewound-read}
-use Rattle.connection.specs.declared.peer.ConnectionId.{ConnectionId}
-use Rattle.connection.specs.declared.peer.ConnectionId.TheVariants.{Id, Missing}
+use Rattle.connection.specs.Peer.{ConnectionId}
 use Rattle.client_model.specs.Leading.{leading_headers, leading}
 
 -- ---- a header that is put in early
@@ -62,29 +62,29 @@ id_header i = header header_id.connection_id (bytes32 i)
 abbrev srm_header : Header
 srm_header = header header_id.single_response_mode (modes.enable ∷ [])
 
-pub leads-both : (i : ℕ) → leading_headers (Id i) true ≡ id_header i ∷ srm_header ∷ []
+pub leads-both : (i : ℕ) → leading_headers (Some i) true ≡ id_header i ∷ srm_header ∷ []
 unfolding leading_headers insert_early must_lead
 leads-both i = refl
 
-pub leads_id : (i : ℕ) → leading_headers (Id i) false ≡ id_header i ∷ []
+pub leads_id : (i : ℕ) → leading_headers (Some i) false ≡ id_header i ∷ []
 unfolding leading_headers insert_early
 leads_id i = refl
 
 -- these read back
 pub lead_shaped : (id : ConnectionId) (srm : Bool) → AllShaped (leading_headers id srm)
 unfolding leading_headers insert_early must_lead encoding_of allowed tagged is_mode
-lead_shaped Missing false = tt
-lead_shaped Missing true = (record { sized = refl; is_allowed = refl }, tt)
-lead_shaped (Id i) false = (record { sized = refl; is_allowed = refl }, tt)
-lead_shaped (Id i) true = (record { sized = refl; is_allowed = refl }, (record { sized = refl; is_allowed = refl }, tt))
+lead_shaped None false = tt
+lead_shaped None true = (record { sized = refl; is_allowed = refl }, tt)
+lead_shaped (Some i) false = (record { sized = refl; is_allowed = refl }, tt)
+lead_shaped (Some i) true = (record { sized = refl; is_allowed = refl }, (record { sized = refl; is_allowed = refl }, tt))
 
 -- and carry the ConnectionID alone
 pub lead-carried : (id : ConnectionId) (srm : Bool) → carried_by (leading_headers id srm) ≡ record { headers = leading id false; body = none }
 unfolding leading leading_headers insert_early must_lead carried_by carried_one is_body is_srm all_bytes
-lead-carried Missing false = refl
-lead-carried Missing true = refl
-lead-carried (Id i) false = refl
-lead-carried (Id i) true = refl
+lead-carried None false = refl
+lead-carried None true = refl
+lead-carried (Some i) false = refl
+lead-carried (Some i) true = refl
 
 -- ---- a packet that is put back
 

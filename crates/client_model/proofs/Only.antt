@@ -7,6 +7,7 @@ use mathlib.Core.List.{List, [], ◌∷◌, ◌++◌, append-nil, append_assoc}
 use Prim.Native.Nat.{ℕ, ◌+◌, ◌-◌}
 use lib.ListN.{length, drop}
 use lib.Dec.{ltb, eqb}
+use Rattle.std.specs.Prelude.{Some, None}
 use Rattle.base.specs.Pick.{pick}
 use Rattle.packet.specs.HeaderIds as header_id
 use Rattle.packet.specs.Header.{Header, encoding_of, tagged, allowed, bytes_of, all_bytes, first}
@@ -15,8 +16,7 @@ use Rattle.journal.specs.Record.{is_body, is_srm}
 use Rattle.journal.specs.Journal.{is_enable}
 use Rattle.outgoing.specs.Packets.{packet, chunks, chunk_packets, body_packets, cannot_go, before, packets_from}
 use Rattle.outgoing.specs.Queue.{must_lead, insert_early}
-use Rattle.connection.specs.declared.peer.ConnectionId.{ConnectionId}
-use Rattle.connection.specs.declared.peer.ConnectionId.TheVariants.{Id, Missing}
+use Rattle.connection.specs.Peer.{ConnectionId}
 use Rattle.client_model.specs.Leading.{leading_headers, leading}
 use Rattle.client_model.specs.Guard.{any_of, is_reserved}
 use Rattle.client_model.proofs.Conveyed.{Holding, bytes-append, bytes_one, shaped_append}
@@ -181,8 +181,8 @@ only-from capacity body hs v m lead w n content e = led-only lead (packets_from 
 
 lead_plain : (id : ConnectionId) → NoSrm (leading_headers id false)
 unfolding leading_headers insert_early must_lead is_srm
-lead_plain Missing = tt
-lead_plain (Id i) = (refl, tt)
+lead_plain None = tt
+lead_plain (Some i) = (refl, tt)
 
 -- of a client that does not ask for it
 pub put_only : (capacity : ℕ) (id : ConnectionId) (hs : List ℕ) (body : Option (List ℕ)) (g : Given capacity hs)
@@ -216,7 +216,7 @@ pub lead-asks : (id : ConnectionId) (srm : Bool) (y : List Header) → NoSrm y
     → (is_enable (first header_id.single_response_mode (leading_headers id srm ++ y)) ≡ srm)
     × (first header_id.single_response_mode_parameters (leading_headers id srm ++ y) ≡ none)
 unfolding leading_headers insert_early must_lead first
-lead-asks Missing false y n = (ap is_enable (none_first y n), no_parameter y n)
-lead-asks Missing true y n = (refl, no_parameter y n)
-lead-asks (Id i) false y n = (ap is_enable (none_first y n), no_parameter y n)
-lead-asks (Id i) true y n = (refl, no_parameter y n)
+lead-asks None false y n = (ap is_enable (none_first y n), no_parameter y n)
+lead-asks None true y n = (refl, no_parameter y n)
+lead-asks (Some i) false y n = (ap is_enable (none_first y n), no_parameter y n)
+lead-asks (Some i) true y n = (refl, no_parameter y n)

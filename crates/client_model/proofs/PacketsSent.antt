@@ -17,13 +17,13 @@ use Rattle.text.specs.Unicode.{Octets}
 use Rattle.packet.specs.HeaderIds as header_id
 use Rattle.packet.specs.Header.{Header, first, all_bytes}
 use Rattle.packet.specs.Codes.{is_success}
-use Rattle.packet.specs.FirstByte.{named, first_byte, byte_of}
+use Rattle.packet.specs.FirstByte.{known_byte, named, first_byte, byte_of}
 use Rattle.packet.specs.Packet.{request_by, request_of, prefix_of, packet_bytes, connect_limit}
 use Rattle.packet.specs.ResponsePacket.{ResponsePacket, response_packet}
 use Rattle.packet.specs.declared.opcode.Opcode.{Opcode}
 use Rattle.packet.specs.declared.opcode.Opcode.TheVariants as op
 use Rattle.packet.specs.declared.opcode.FirstByte.{FirstByte}
-use Rattle.packet.specs.declared.opcode.FirstByte.TheVariants.{Known as KnownByte}
+use Rattle.std.specs.Prelude.{Option as Maybe}
 use Rattle.packet.proofs.HeaderBytes.{header-bytes}
 use Rattle.packet.proofs.HeaderWrites.{AllShaped, read-written, read_shaped}
 use Rattle.incoming.specs.Frame.{Frames, framed}
@@ -41,9 +41,8 @@ use Rattle.outgoing.specs.declared.object.Next.{Next}
 use Rattle.outgoing.specs.declared.object.Next.TheVariants as next
 use Rattle.outgoing.proofs.Sender.{Left, packets_left, ending, At, Reading, Makes, Making, given_making, next_making}
 use Rattle.outgoing.proofs.Sized.{Sized, AllSized, packets-sized}
-use Rattle.connection.specs.Peer.{at_least255, id_in}
+use Rattle.connection.specs.Peer.{at_least255, id_in, ConnectionId}
 use Rattle.connection.specs.Reply.{fields_of, front}
-use Rattle.connection.specs.declared.peer.ConnectionId.{ConnectionId}
 use Rattle.client_model.specs.declared.Kind.{Kind}
 use Rattle.client_model.specs.declared.Kind.TheVariants as kind
 use Rattle.client_model.specs.declared.Operation.{Operation}
@@ -85,7 +84,7 @@ own_headers hs o b =
 
 -- the first bytes of the client's packets
 abbrev SaysOpcode : Opcode → Type 0
-SaysOpcode o = first_byte (byte_of o true) ≡ KnownByte o true
+SaysOpcode o = first_byte (byte_of o true) ≡ known_byte o true
 
 connect_says : SaysOpcode op.Connect
 unfolding first_byte named byte_of
@@ -99,7 +98,7 @@ abort_says : SaysOpcode op.Abort
 unfolding first_byte named byte_of
 abort_says = refl
 
-request-says : (k : Kind) (last : Bool) → first_byte (byte_of (opcode_of k) last) ≡ KnownByte (opcode_of k) last
+request-says : (k : Kind) (last : Bool) → first_byte (byte_of (opcode_of k) last) ≡ known_byte (opcode_of k) last
 unfolding first_byte named byte_of
 request-says kind.Put true = refl
 request-says kind.Put false = refl
@@ -107,7 +106,7 @@ request-says kind.Get true = refl
 request-says kind.Get false = refl
 
 -- behind the first three bytes stand headers
-plain_sendable : (limit t : ℕ) (o : Opcode) (f : Bool) (q content : List ℕ) (x : List Header) → first_byte t ≡ KnownByte o f → prefix_of o ≡ 3
+plain_sendable : (limit t : ℕ) (o : Opcode) (f : Bool) (q content : List ℕ) (x : List Header) → first_byte t ≡ known_byte o f → prefix_of o ≡ 3
     → q ≡ t ∷ (bytes16 (3 + length content) ++ content) → content ≡ all_bytes x → AllShaped x → 3 + length content ≤ limit → limit ≤ 65535
     → Sendable limit o q
 plain_sendable limit t o f q content x e k i h w l m =
@@ -142,7 +141,7 @@ connect_sendable limit n h x i w l m =
       within = omega arith;
       field = omega arith;
       request = record { opcode = op.Connect; final = true; bytes = p; headers = x };
-      reads = ap (λ (b : FirstByte). request_by b p) connect_says ∙ rw (le-ltb (length p) 7 (omega arith), r);
+      reads = ap (λ (b : Maybe FirstByte). request_by b p) connect_says ∙ rw (le-ltb (length p) 7 (omega arith), r);
       opcode = refl;
     }
 

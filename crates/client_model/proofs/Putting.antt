@@ -16,11 +16,10 @@ use Rattle.text.specs.Unicode.{Octets}
 use Rattle.packet.specs.HeaderIds as header_id
 use Rattle.packet.specs.Header.{Header, all_bytes, first}
 use Rattle.journal.specs.Journal.{is_enable}
-use Rattle.packet.specs.FirstByte.{named, first_byte, byte_of}
+use Rattle.packet.specs.FirstByte.{known_byte, named, first_byte, byte_of}
 use Rattle.packet.specs.Packet.{request_of}
 use Rattle.packet.specs.ResponsePacket.{ResponsePacket}
 use Rattle.packet.specs.declared.opcode.Opcode.TheVariants as op
-use Rattle.packet.specs.declared.opcode.FirstByte.TheVariants.{Known}
 use Rattle.packet.proofs.HeaderWrites.{AllShaped}
 use Rattle.incoming.proofs.Queued.{IsWhole}
 use Rattle.outgoing.specs.Object.{Made, next_after, body_given_of}
@@ -35,7 +34,7 @@ use Rattle.outgoing.proofs.Sender.{Left, headers_left, ahead_left, packets_left,
 use Rattle.outgoing.proofs.Sent.{SendsFrom, next-after-sends, body-sends}
 use Rattle.outgoing.proofs.Sized.{Sized, AllSized, packets-sized}
 use Rattle.connection.specs.Reply.{front}
-use Rattle.connection.specs.declared.peer.ConnectionId.{ConnectionId}
+use Rattle.connection.specs.Peer.{ConnectionId}
 use Rattle.client_model.specs.Leading.{leading_headers, leading}
 use Rattle.client_model.specs.Step.{Stores, stores, with_request, client_with, goes, capacity_of, Done}
 use Rattle.client_model.specs.Request.{request_of as requestBegins, requests_by, requests, requests_next, requests_first, sends_abort}
@@ -448,7 +447,7 @@ first-set zero b x y rest e = let z : ◌≡◌ {A = ℕ} 0 1 = cc in absurd (om
 first-set (suc n) b x [] rest e = let z : ◌≡◌ {A = ℕ} 0 1 = cc in absurd (omega arith)
 first-set (suc n) b x (a ∷ y) rest e = ap (λ (l : List ℕ). b ∷ drop 1 l) e
 
-first-put : (last : Bool) → first_byte (byte_of op.Put last) ≡ Known op.Put last
+first-put : (last : Bool) → first_byte (byte_of op.Put last) ≡ known_byte op.Put last
 unfolding first_byte named byte_of
 first-put true = refl
 first-put false = refl

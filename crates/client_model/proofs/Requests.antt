@@ -13,20 +13,20 @@ use Rattle.base.specs.Pick.{pick}
 use Rattle.text.specs.Unicode.{Octets}
 use Rattle.packet.specs.HeaderIds as header_id
 use Rattle.packet.specs.Codes.{is_code}
-use Rattle.packet.specs.FirstByte.{first_byte}
+use Rattle.packet.specs.FirstByte.{known_byte, first_byte}
 use Rattle.packet.specs.Header.{Header, read_headers, bytes_of, all_bytes}
 use Rattle.packet.specs.Canonical.{canonical_as, canonical}
 use Rattle.packet.specs.Packet.{prefix_of, request_by, request_of}
 use Rattle.packet.specs.ResponsePacket.{response_packet}
 use Rattle.packet.specs.declared.opcode.Opcode.{Opcode}
 use Rattle.packet.specs.declared.opcode.FirstByte.{FirstByte}
-use Rattle.packet.specs.declared.opcode.FirstByte.TheVariants.{Known}
+use Rattle.std.specs.Prelude.{Option as Maybe}
 use Rattle.packet.proofs.HeaderBytes.{header-bytes}
 use Rattle.packet.proofs.HeaderWrites.{read_shaped}
 use Rattle.journal.specs.Record.{Record, joined, is_body, is_srm, carried_one, carried_by}
 use Rattle.journal.specs.Journal.{list_of}
 use Rattle.outgoing.specs.Packets.{packet, before, packets_from}
-use Rattle.connection.specs.declared.peer.ConnectionId.{ConnectionId}
+use Rattle.connection.specs.Peer.{ConnectionId}
 use Rattle.client_model.specs.Leading.{leading_headers, leading}
 use Rattle.client_model.specs.Guard.{any_of, is_reserved, bad_headers, too_long_of}
 use Rattle.client_model.proofs.Conveyed.{Conveyed, body_record, conveyed, conveyed_as}
@@ -124,11 +124,11 @@ put_conveyed capacity id srm hs body oct g =
 -- ---- read at the other end
 
 -- a packet of a request, whose headers stand behind its first three bytes
-pub request-read : (p : List ℕ) (o : Opcode) (f : Bool) (x : List Header) → first_byte (get_or p 0 0) ≡ Known o f → prefix_of o ≡ 3 → 3 ≤ length p
+pub request-read : (p : List ℕ) (o : Opcode) (f : Bool) (x : List Header) → first_byte (get_or p 0 0) ≡ known_byte o f → prefix_of o ≡ 3 → 3 ≤ length p
     → read_headers p 3 ≡ some x → request_of p ≡ some (record { opcode = o; final = f; bytes = p; headers = x })
 unfolding request_of
 request-read p o f x e k l r =
-    ap (λ (b : FirstByte). request_by b p) e ∙ rw (k, le-ltb (length p) 3 l, r)
+    ap (λ (b : Maybe FirstByte). request_by b p) e ∙ rw (k, le-ltb (length p) 3 l, r)
 
 -- a response without fields
 pub response-read : (p : List ℕ) (x : List Header) → is_code (get_or p 0 0 % 128) ≡ true → 3 ≤ length p → read_headers p 3 ≡ some x

@@ -2,7 +2,7 @@
 -- (docs/PROTOCOL.md#client). A call is due to be refused by the lengths of the stores that it is lent (10), by what waits since the last call
 -- that was not refused (9), by the user's headers (8), and by the server's limit and ConnectionID as the responses told them (24). The client's
 -- state is in the type of nothing here.
-use Rattle.std.specs.Prelude.{ℕ, ◌-◌, ◌≡◌, List, [], ◌∷◌, ◌++◌, map, Bool, true, false, ◌&&◌, ◌||◌, not, length, get_or, take, eqb, ltb, leb}
+use Rattle.std.specs.Prelude.{ℕ, ◌-◌, ◌≡◌, List, [], ◌∷◌, ◌++◌, map, Bool, true, false, ◌&&◌, ◌||◌, not, length, get_or, take, eqb, ltb, leb, None}
 use Rattle.std.proofs.Math.Option.{Option, none, some}
 use Rattle.base.specs.Pick.{pick}
 use Rattle.text.specs.Unicode.{Octets}
@@ -16,9 +16,7 @@ use Rattle.packet.specs.Packet.{connect_limit}
 use Rattle.packet.specs.ResponsePacket.{ResponsePacket, code_in, response_packet}
 use Rattle.packet.specs.declared.opcode.Opcode.TheVariants as op
 use Rattle.journal.specs.Calls.{Verdict, goes, refused}
-use Rattle.connection.specs.Peer.{at_least255, id_in}
-use Rattle.connection.specs.declared.peer.ConnectionId.{ConnectionId}
-use Rattle.connection.specs.declared.peer.ConnectionId.TheVariants.{Missing}
+use Rattle.connection.specs.Peer.{at_least255, id_in, ConnectionId}
 use Rattle.client_model.specs.declared.Settings.{Settings}
 use Rattle.client_model.specs.declared.Client.{Client}
 use Rattle.client_model.specs.declared.Refusal.TheVariants as refusal
@@ -101,7 +99,7 @@ known w o a l n i = record { waits = w; opened = o; aborted = a; last = l; limit
 
 -- At an accepted start.
 abbrev pub at_start : Known
-at_start = known operation closed false false min_packet Missing
+at_start = known operation closed false false min_packet None
 
 -- The operation that a call opens, or the one that was open.
 abbrev pub opens : ClientCall → Open → Open
@@ -143,7 +141,7 @@ told (some r) k =
 -- What is known once an operation is over, by the response.
 abbrev pub over_as : Open → List ℕ → Known → Known
 over_as connecting p k = told (response_packet true p) k
-over_as disconnecting p k = known operation closed false false min_packet Missing
+over_as disconnecting p k = known operation closed false false min_packet None
 over_as closed p k = k
 over_as putting p k = k
 over_as getting p k = k

@@ -1,180 +1,143 @@
 // Questions on challenges, on the responses to them, and on their digests.
-use crate::headers::piece_at;
-use crate::show::{put, put_byte, put_done, put_flag, put_hex, put_octets};
+use crate::show::{Sixteen, hex, put_done};
+use base::Span;
 use digest::md5;
 use lines::word::{after, byte_at};
 use packet::auth;
-use packet::auth::{DigestChallenge, DigestResponse, Named};
-use packet::tlv::Found;
+use packet::auth::{DigestChallenge, DigestResponse};
+use std::io;
+use std::io::Write;
 
-// Puts a value of the tag list `v`, if it is there.
-fn put_found(rt: &impl Print, v: &[u8], f: Found) {
-    match f {
-        Found::At { start, end } => {
-            let p = piece_at(v.len(), 0, start, end);
-            let from = p.start;
-            let to = p.end;
-            put_hex(rt, &v[from..to]);
-        }
-        Found::Missing => put(rt, b"none"),
-    }
+// Returns the value of the list `v` at `place`, if there is one.
+fn value_at(v: &[u8], place: Option<Span>) -> Option<&[u8]> {
+    let Span { start, end } = place?;
+    v.get(start..end)
 }
 
-// Puts a realm, whose first byte is its charset.
-fn put_realm(rt: &impl Print, v: &[u8], f: Found) {
-    match f {
-        Found::At { start, end } => {
-            put_byte(rt, byte_at(v, start));
-            put(rt, b":");
-            let p = piece_at(v.len(), 0, start, end);
-            let from = p.start;
-            let to = p.end;
-            if from < to {
-                put_hex(rt, &v[from + 1..to]);
-            }
-        }
-        Found::Missing => put(rt, b"none"),
-    }
-}
-
-// Puts the nonce that a response names, if it names one.
-fn put_named_nonce(rt: &impl Print, n: Named) {
-    match n {
-        Named::Nonce(o) => put_octets(rt, o),
-        Named::Missing => put(rt, b"none"),
-    }
-}
-
-// Answers with the parts of a challenge.
-pub(crate) fn challenge(rt: &impl Print, v: &[u8]) {
-    let DigestChallenge::Challenge {
-        nonce,
-        user_id_required,
-        read_only,
-        realm,
-    } = auth::read_challenge(v)
+// Answers with the parts of a challenge. The first byte of a realm is its charset.
+pub(crate) fn challenge(out: &mut impl Write, v: &[u8]) -> io::Result<()> {
+    let Some(
+        DigestChallenge {
+            nonce,
+            user_id_required,
+            read_only,
+            realm,
+        },
+    ) = auth::read_challenge(v)
     else {
-        put(rt, b"unreadable");
-        return;
+        return write!(out, "unreadable");
     };
-    put(rt, b"nonce=");
-    put_octets(rt, nonce);
-    put(rt, b" user_id_required=");
-    put_flag(rt, user_id_required);
-    put(rt, b" read_only=");
-    put_flag(rt, read_only);
-    put(rt, b" realm=");
-    put_realm(rt, v, realm);
+    write!(
+        out,
+        "nonce={} user_id_required={} read_only={} realm=",
+        Sixteen(nonce),
+        u8::from(user_id_required),
+        u8::from(read_only),
+    )?;
+    let Some(place) = realm else {
+        return write!(out, "none");
+    };
+    write!(out, "{:02x}:", byte_at(v, place.start))?;
+    match value_at(v, realm) {
+        Some([_, name @ ..]) => write!(out, "{}", hex(name)),
+        _ => Ok(()),
+    }
 }
 
 // Answers with the parts of the response to a challenge.
-pub(crate) fn response_list(rt: &impl Print, v: &[u8]) {
-    let DigestResponse::Response {
-        digest,
-        user,
-        nonce,
-    } = auth::read_response(v)
+pub(crate) fn response_list(out: &mut impl Write, v: &[u8]) -> io::Result<()> {
+    let Some(
+        DigestResponse {
+            digest,
+            user,
+            nonce,
+        },
+    ) = auth::read_response(v)
     else {
-        put(rt, b"unreadable");
-        return;
+        return write!(out, "unreadable");
     };
-    put(rt, b"digest=");
-    put_octets(rt, digest);
-    put(rt, b" user=");
-    put_found(rt, v, user);
-    put(rt, b" nonce=");
-    put_named_nonce(rt, nonce);
+    write!(out, "digest={} user=", Sixteen(digest))?;
+    match value_at(v, user) {
+        Some(name) => write!(out, "{}", hex(name))?,
+        None => write!(out, "none")?,
+    }
+    match nonce {
+        Some(named) => write!(out, " nonce={}", Sixteen(named)),
+        None => write!(out, " nonce=none"),
+    }
 }
 
 // Answers whether the response to a challenge is right for a password.
-pub(crate) fn verify(rt: &impl Print, challenge: &[u8], response: &[u8], password: &[u8]) {
-    let DigestChallenge::Challenge {
-        nonce,
-        user_id_required: _,
-        read_only: _,
-        realm: _,
-    } = auth::read_challenge(challenge)
-    else {
-        put(rt, b"unreadable");
-        return;
+pub(crate) fn verify(
+    out: &mut impl Write,
+    challenge: &[u8],
+    response: &[u8],
+    password: &[u8],
+) -> io::Result<()> {
+    let Some(DigestChallenge { nonce, .. }) = auth::read_challenge(challenge) else {
+        return write!(out, "unreadable");
     };
-    let DigestResponse::Response {
-        digest,
-        user,
-        nonce: named,
-    } = auth::read_response(response)
+    let Some(
+        DigestResponse {
+            digest,
+            user,
+            nonce: named,
+        },
+    ) = auth::read_response(response)
     else {
-        put(rt, b"unreadable");
-        return;
+        return write!(out, "unreadable");
     };
-    if auth::verify(nonce, digest, user, named, false, password) {
-        put(rt, b"true");
-    } else {
-        put(rt, b"false");
-    }
+    let is_right = auth::verify(nonce, digest, user, named, false, password);
+    write!(out, "{is_right}")
 }
 
 // Answers with the response to a challenge.
 pub(crate) fn respond(
-    rt: &impl Print,
+    out: &mut impl Write,
     challenge: &[u8],
-    has_user: bool,
-    user: &[u8],
+    user: Option<&[u8]>,
     password: &[u8],
-) {
-    let DigestChallenge::Challenge {
-        nonce,
-        user_id_required: _,
-        read_only: _,
-        realm: _,
-    } = auth::read_challenge(challenge)
-    else {
-        put(rt, b"unreadable");
-        return;
+) -> io::Result<()> {
+    let Some(DigestChallenge { nonce, .. }) = auth::read_challenge(challenge) else {
+        return write!(out, "unreadable");
     };
     let mut store = [0u8; 4096];
-    let done = auth::respond(&mut store, 0, nonce, has_user, user, password);
-    put_done(rt, done, &store, b"error ValueTooLarge ", user.len());
+    let name = user.unwrap_or(b"");
+    let done = auth::respond(&mut store, 0, nonce, user.is_some(), name, password);
+    put_done(out, done, &store, "ValueTooLarge", name.len())
 }
 
 // Answers with the bytes of a challenge. The first byte of `realm` is its charset.
 pub(crate) fn write_challenge(
-    rt: &impl Print,
+    out: &mut impl Write,
     nonce: &[u8],
     user_id_required: bool,
     read_only: bool,
-    has_realm: bool,
-    realm: &[u8],
-) {
+    realm: Option<&[u8]>,
+) -> io::Result<()> {
     if nonce.len() != 16 {
-        put(rt, b"bad nonce");
-        return;
+        return write!(out, "bad nonce");
     }
     let mut store = [0u8; 4096];
-    let n = md5::octets16_at(nonce, 0);
-    let from = after(realm, 0);
-    let charset = byte_at(realm, 0);
+    let name = realm.unwrap_or(b"");
     let done = auth::write_challenge(
         &mut store,
         0,
-        n,
+        md5::octets16_at(nonce, 0),
         user_id_required,
         read_only,
-        has_realm,
-        charset,
-        &realm[from..],
+        realm.is_some(),
+        byte_at(name, 0),
+        &name[after(name, 0)..],
     );
-    put_done(rt, done, &store, b"error ValueTooLarge ", realm.len());
+    put_done(out, done, &store, "ValueTooLarge", name.len())
 }
 
 // Answers with the digest of a nonce and a password.
-pub(crate) fn digest(rt: &impl Print, nonce: &[u8], password: &[u8]) {
+pub(crate) fn digest(out: &mut impl Write, nonce: &[u8], password: &[u8]) -> io::Result<()> {
     if nonce.len() != 16 {
-        put(rt, b"bad nonce");
-        return;
+        return write!(out, "bad nonce");
     }
-    put_octets(
-        rt,
-        md5::request_digest(md5::octets16_at(nonce, 0), password),
-    );
+    let digest = md5::request_digest(md5::octets16_at(nonce, 0), password);
+    write!(out, "{}", Sixteen(digest))
 }

@@ -1,20 +1,21 @@
 // Answers stored questions on the records below the engine, a line each, in the words of the original's `oracle leaf`.
 #![tactic(auto)]
 
+ghost use Rattle.std.specs.Prelude.{◌<◌};
+
 mod digests;
 mod headers;
 mod packets;
 mod show;
 mod unsent;
 
-use check::same;
 use digests::{challenge, digest, respond, response_list, verify, write_challenge};
 use headers::{put_headers, tags};
-use lines::input::{before_first, bytes_of, next_line};
-use lines::word::{byte_at, find, line_number, number, unhex, word_of};
+use lines::input::lines_of;
+use lines::word::{byte_at, number, unhex, word_of};
 use packets::{answered, code, fields_of, first, packet_length, parsed, reply, request};
-use show::put;
-use std::io::Read;
+use std::io;
+use std::io::{BufWriter, Write};
 use unsent::queue;
 
 // What a line asks about.
@@ -37,164 +38,129 @@ enum Question {
     Answer,
     ConnectAnswer,
     Queue,
-    Unknown,
 }
 
-// Returns the question that the word `w` names.
-fn question_of(w: &[u8]) -> Question {
-    let names = b"first\n\
-        code\n\
-        length\n\
-        tags\n\
-        headers\n\
-        packet\n\
-        challenge\n\
-        response-list\n\
-        verify\n\
-        write-challenge\n\
-        respond\n\
-        request\n\
-        response\n\
-        digest\n\
-        answer\n\
-        connect-answer\n\
-        queue\n";
-    match line_number(names, w) {
-        0 => Question::First,
-        1 => Question::Code,
-        2 => Question::Length,
-        3 => Question::Tags,
-        4 => Question::Headers,
-        5 => Question::Packet,
-        6 => Question::Challenge,
-        7 => Question::ResponseList,
-        8 => Question::Verify,
-        9 => Question::WriteChallenge,
-        10 => Question::Respond,
-        11 => Question::Request,
-        12 => Question::Response,
-        13 => Question::Digest,
-        14 => Question::Answer,
-        15 => Question::ConnectAnswer,
-        16 => Question::Queue,
-        _ => Question::Unknown,
+// A word that names no question.
+#[derive(Clone, Copy)]
+struct UnknownQuestion;
+
+impl TryFrom<&[u8]> for Question {
+    type Error = UnknownQuestion;
+
+    fn try_from(word: &[u8]) -> Result<Self, UnknownQuestion> {
+        Ok(match word {
+            b"first" => Question::First,
+            b"code" => Question::Code,
+            b"length" => Question::Length,
+            b"tags" => Question::Tags,
+            b"headers" => Question::Headers,
+            b"packet" => Question::Packet,
+            b"challenge" => Question::Challenge,
+            b"response-list" => Question::ResponseList,
+            b"verify" => Question::Verify,
+            b"write-challenge" => Question::WriteChallenge,
+            b"respond" => Question::Respond,
+            b"request" => Question::Request,
+            b"response" => Question::Response,
+            b"digest" => Question::Digest,
+            b"answer" => Question::Answer,
+            b"connect-answer" => Question::ConnectAnswer,
+            b"queue" => Question::Queue,
+            _ => return Err(UnknownQuestion),
+        })
     }
 }
 
-// Answers a question on a byte or a list.
-fn answer_one(rt: &impl Print, q: Question, a: &[u8]) {
-    match q {
-        Question::First => first(rt, byte_at(a, 0)),
-        Question::Code => code(rt, byte_at(a, 0)),
-        Question::Length => packet_length(rt, a),
-        Question::Tags => tags(rt, a),
-        Question::Headers => put_headers(rt, a),
-        Question::Packet => parsed(rt, a),
-        Question::Challenge => challenge(rt, a),
-        Question::ResponseList => response_list(rt, a),
-        Question::Answer => answered(rt, a, false),
-        Question::ConnectAnswer => answered(rt, a, true),
-        _ => put(rt, b"bad question"),
-    }
+// Returns `value`, or nothing if `word` is the one that says that there is none.
+fn unless<'a>(word: &[u8], none: &[u8], value: &'a [u8]) -> Option<&'a [u8]> {
+    if word == none { None } else { Some(value) }
 }
 
 // Answers the line `s`, of which `a` to `d` are the words 1 to 4 as bytes.
-fn answer(rt: &impl Print, s: &[u8], a: &[u8], b: &[u8], c: &[u8], d: &[u8]) {
-    let q = question_of(word_of(s, 0));
-    match q {
-        Question::Verify => verify(rt, a, b, c),
-        Question::Respond => respond(rt, a, !same(word_of(s, 2), b"nouser"), b, c),
+fn answer(
+    out: &mut impl Write,
+    s: &[u8],
+    a: &[u8],
+    b: &[u8],
+    c: &[u8],
+    d: &[u8],
+) -> io::Result<()> {
+    let Ok(question) = Question::try_from(word_of(s, 0)) else {
+        return write!(out, "bad question");
+    };
+    match question {
+        Question::First => first(out, byte_at(a, 0)),
+        Question::Code => code(out, byte_at(a, 0)),
+        Question::Length => packet_length(out, a),
+        Question::Tags => tags(out, a),
+        Question::Headers => put_headers(out, a),
+        Question::Packet => parsed(out, a),
+        Question::Challenge => challenge(out, a),
+        Question::ResponseList => response_list(out, a),
+        Question::Verify => verify(out, a, b, c),
         Question::WriteChallenge => write_challenge(
-            rt,
+            out,
             a,
-            same(word_of(s, 2), b"1"),
-            same(word_of(s, 3), b"1"),
-            !same(word_of(s, 4), b"none"),
-            d,
+            word_of(s, 2) == b"1".as_slice(),
+            word_of(s, 3) == b"1".as_slice(),
+            unless(word_of(s, 4), b"none", d),
         ),
-        Question::Digest => digest(rt, a, b),
+        Question::Respond => respond(out, a, unless(word_of(s, 2), b"nouser", b), c),
         Question::Request => request(
-            rt,
+            out,
             byte_at(a, 0),
-            same(word_of(s, 2), b"final"),
-            fields_of(c, same(word_of(s, 3), b"default")),
+            word_of(s, 2) == b"final".as_slice(),
+            fields_of(unless(word_of(s, 3), b"default", c)),
             d,
         ),
-        Question::Response => reply(rt, byte_at(a, 0), same(word_of(s, 3), b"none"), c, d),
+        Question::Response => reply(out, byte_at(a, 0), unless(word_of(s, 3), b"none", c), d),
+        Question::Digest => digest(out, a, b),
+        Question::Answer => answered(out, a, false),
+        Question::ConnectAnswer => answered(out, a, true),
         Question::Queue => queue(
-            rt,
+            out,
             number(word_of(s, 1)),
             b,
-            !same(word_of(s, 3), b"none"),
-            c,
+            unless(word_of(s, 3), b"none", c),
             word_of(s, 4),
         ),
-        _ => answer_one(rt, q, a),
     }
-    put(rt, b"\n");
 }
 
-// Answers the line `s`; the stores take the bytes of its words 1 to 4.
-fn words(rt: &impl Print, s: &[u8], a: &mut [u8], b: &mut [u8], c: &mut [u8], d: &mut [u8]) {
-    let na = unhex(word_of(s, 1), a);
-    let nb = unhex(word_of(s, 2), b);
-    let nc = unhex(word_of(s, 3), c);
-    let nd = unhex(word_of(s, 4), d);
-    answer(rt, s, &a[0..na], &b[0..nb], &c[0..nc], &d[0..nd]);
+// Answers the line `s`, whose words 1 to 4 stand for at most `N` bytes each.
+fn line_within<const N: usize>(out: &mut impl Write, s: &[u8]) -> io::Result<()>
+    requires { N < 1000000 }
+{
+    let mut a = [0u8; N];
+    let mut b = [0u8; N];
+    let mut c = [0u8; N];
+    let mut d = [0u8; N];
+    let na = unhex(word_of(s, 1), &mut a);
+    let nb = unhex(word_of(s, 2), &mut b);
+    let nc = unhex(word_of(s, 3), &mut c);
+    let nd = unhex(word_of(s, 4), &mut d);
+    answer(out, s, &a[..na], &b[..nb], &c[..nc], &d[..nd])
 }
 
-// Answers a line of less than 2000 bytes without a group.
-fn line_short(rt: &impl Print, s: &[u8]) {
-    let mut a = [0u8; 1024];
-    let mut b = [0u8; 1024];
-    let mut c = [0u8; 1024];
-    let mut d = [0u8; 1024];
-    words(rt, s, &mut a, &mut b, &mut c, &mut d);
-}
-
-// Answers a line of any length.
-fn line_long(rt: &impl Print, s: &[u8]) {
-    let mut a = [0u8; 140000];
-    let mut b = [0u8; 140000];
-    let mut c = [0u8; 140000];
-    let mut d = [0u8; 140000];
-    words(rt, s, &mut a, &mut b, &mut c, &mut d);
-}
-
-// Answers one line.
-fn line(rt: &impl Print, s: &[u8], is_cut: bool) {
+// Answers one line. A line of less than 2000 bytes without a group has short words.
+fn line(out: &mut impl Write, s: &[u8], is_cut: bool) -> io::Result<()> {
     if is_cut {
-        put(rt, b"bad question\n");
-        return;
+        write!(out, "bad question")?;
+    } else if s.len() < 2000 && !s.contains(&b'*') {
+        line_within::<1024>(out, s)?;
+    } else {
+        line_within::<140000>(out, s)?;
     }
-    let group = find(s, 0, b'*');
-    if s.len() < 2000 {
-        if group == s.len() {
-            line_short(rt, s);
-            return;
-        }
-    }
-    line_long(rt, s);
+    writeln!(out)?;
+    out.flush()
 }
 
-// Answers the lines of standard input, which is read into `s`. A line that is longer than the store is no question.
-fn lines_of(rt: &impl Print, input: &mut impl Read, s: &mut [u8]) {
-    let mut steps = u64::MAX;
-    let mut at = before_first();
-    while steps > 0 {
-        at = next_line(input, s, at);
-        if at.is_over {
-            return;
-        }
-        if at.is_there {
-            line(rt, bytes_of(s, at), at.is_cut);
-        }
-        steps -= 1;
-    }
-}
-
-// Answers standard input on standard output.
-fn main(rt: HostRuntime) {
+// Answers the lines of standard input. A line that is longer than the store is no question. What the system does not take is left out.
+fn main(rt: HostRuntime) -> io::Result<()> {
     let mut input = [0u8; 300000];
-    lines_of(&rt, &mut rt.stdin(), &mut input);
+    let mut out = BufWriter::new(rt.alloc(), io::writer(&rt))?;
+    lines_of(&mut rt.stdin(), &mut input, |s, is_cut| {
+        let _ = line(&mut out, s, is_cut);
+    });
+    Ok(())
 }

@@ -1,258 +1,209 @@
 // Questions on first bytes, response codes and packets: what is read, and what the writers give.
-ghost use Rattle.std.specs.Prelude.{◌≤◌, ◌<◌, length};
-
-use crate::headers::{piece_at, put_headers, sum};
-use crate::show::{put, put_byte, put_done, put_final, put_name, put_number};
+use crate::headers::put_headers;
+use crate::show::{final_word, put_done};
 use base::wide;
 use lines::word::byte_at;
 use packet::flags::flag_bits;
 use packet::opcode::{FirstByte, Opcode};
-use packet::packet::{ConnectParameters, Fields, Length, Parsed, ParsedResponse};
+use packet::packet::{ConnectParameters, Fields, PACKET_PREFIX_LENGTH, SetPathFlags};
 use packet::{header, opcode, packet as packets, response};
+use std::io;
+use std::io::Write;
 
 // ---- bytes that name things
 
-// Answers a question on the first byte of a request: opcode, Final bit, and the byte that the two make again.
-pub(crate) fn first(rt: &impl Print, byte: u8) {
-    let FirstByte::Known {
-        opcode: op,
-        is_final,
-    } = opcode::from_byte(byte)
-    else {
-        put(rt, b"unknown");
-        return;
-    };
-    put_name(rt, op);
-    put(rt, b" ");
-    put_byte(rt, opcode::value(op));
-    put(rt, b" ");
-    put_final(rt, is_final);
-    put(rt, b" ");
-    put_byte(rt, opcode::to_byte(op, is_final));
+// Returns the opcode whose own value is `byte`.
+fn opcode_of(byte: u8) -> Option<Opcode> {
+    let op = opcode::from_byte(byte)?.opcode;
+    if opcode::value(op) == byte {
+        Some(op)
+    } else {
+        None
+    }
 }
 
-// Answers a question on a response code. The Final bit of `byte` is taken away first, as the original does.
-pub(crate) fn code(rt: &impl Print, byte: u8) {
-    let b = byte & 0x7F;
-    if !response::is_code(b) {
-        put(rt, b"unknown");
-        return;
-    }
-    put_byte(rt, b);
-    if response::is_success(b) {
-        put(rt, b" success ");
+// Returns the code of `byte` without its Final bit, which is taken away first, as the original does.
+fn code_of(byte: u8) -> Option<u8> {
+    let code = byte & 0x7F;
+    if response::is_code(code) {
+        Some(code)
     } else {
-        put(rt, b" other ");
+        None
     }
-    put_byte(rt, response::to_byte(b));
+}
+
+// Answers a question on the first byte of a request: opcode, Final bit, and the byte that the two make again.
+pub(crate) fn first(out: &mut impl Write, byte: u8) -> io::Result<()> {
+    let Some(FirstByte { opcode, is_final }) = opcode::from_byte(byte) else {
+        return write!(out, "unknown");
+    };
+    write!(
+        out,
+        "{} {:02x} {} {:02x}",
+        opcode,
+        opcode::value(opcode),
+        final_word(is_final),
+        opcode::to_byte(opcode, is_final),
+    )
+}
+
+// Answers a question on a response code.
+pub(crate) fn code(out: &mut impl Write, byte: u8) -> io::Result<()> {
+    let Some(code) = code_of(byte) else {
+        return write!(out, "unknown");
+    };
+    let class = if response::is_success(code) {
+        "success"
+    } else {
+        "other"
+    };
+    let sent = response::to_byte(code);
+    write!(out, "{code:02x} {class} {sent:02x}")
 }
 
 // Answers with the length that the front of a packet states.
-pub(crate) fn packet_length(rt: &impl Print, s: &[u8]) {
+pub(crate) fn packet_length(out: &mut impl Write, s: &[u8]) -> io::Result<()> {
     match packets::packet_length(s) {
-        Length::Known(n) => put_number(rt, n),
-        Length::Missing => put(rt, b"none"),
+        Some(n) => write!(out, "{n}"),
+        None => write!(out, "none"),
     }
 }
 
 // ---- packets that are read
 
-// Puts version, flags and packet length of a Connect, the length as it limits what is sent.
-fn put_connect(rt: &impl Print, is_connect: bool, p: &[u8]) {
+// Writes version, flags and packet length of a Connect, the length as it limits what is sent.
+fn put_connect(out: &mut impl Write, is_connect: bool, p: &[u8]) -> io::Result<()> {
     if !is_connect {
-        put(rt, b"none");
-        return;
+        return write!(out, "none");
     }
-    let n = packets::connect_limit(p);
-    put_byte(rt, byte_at(p, 3));
-    put_byte(rt, byte_at(p, 4));
-    put_byte(rt, (n / 256 % 256) as u8);
-    put_byte(rt, (n % 256) as u8);
+    write!(
+        out,
+        "{:02x}{:02x}{:04x}",
+        byte_at(p, 3),
+        byte_at(p, 4),
+        packets::connect_limit(p),
+    )
 }
 
-// Puts the flags of a SetPath.
-fn put_set_path(rt: &impl Print, op: Opcode, p: &[u8]) {
-    if opcode::value(op) != 5 {
-        put(rt, b"none");
-        return;
+// Writes the flags of a SetPath.
+fn put_set_path(out: &mut impl Write, op: Opcode, p: &[u8]) -> io::Result<()> {
+    if !matches!(op, Opcode::SetPath) {
+        return write!(out, "none");
     }
     let flags = packets::set_path_flags(p);
-    put_byte(rt, flag_bits(flags.backup, flags.no_create));
+    write!(out, "{:02x}", flag_bits(flags.backup, flags.no_create))
 }
 
-// Puts a request: its opcode, the fields of its prefix, how many bytes are left behind it, and its headers.
-fn put_request(rt: &impl Print, op: Opcode, is_final: bool, p: &[u8], left: usize, headers: &[u8]) {
-    put_name(rt, op);
-    put(rt, b" ");
-    put_byte(rt, opcode::value(op));
-    put(rt, b" ");
-    put_final(rt, is_final);
-    put(rt, b" connect=");
-    put_connect(rt, opcode::value(op) == 0, p);
-    put(rt, b" set_path=");
-    put_set_path(rt, op, p);
-    put(rt, b" left=");
-    put_number(rt, left);
-    put(rt, b" ");
-    put_headers(rt, headers);
-}
-
-// Answers with the request at the front of `s`.
-pub(crate) fn parsed(rt: &impl Print, s: &[u8]) {
-    let Parsed::Request {
-        opcode,
-        is_final,
-        headers,
-        length,
-    } = packets::parse(s)
-    else {
-        put(rt, b"unreadable");
-        return;
+// Answers with the request at the front of `s`: its opcode, the fields of its prefix, how many bytes are left behind it, and its headers.
+pub(crate) fn parsed(out: &mut impl Write, s: &[u8]) -> io::Result<()> {
+    let Some(request) = packets::parse(s) else {
+        return write!(out, "unreadable");
     };
-    let p = piece_at(s.len(), 0, headers, length);
-    let start = p.start;
-    let end = p.end;
-    put_request(
-        rt,
-        opcode,
-        is_final,
-        &s[0..end],
-        s.len() - end,
-        &s[start..end],
-    );
+    let (p, rest) = split(s, request.length);
+    write!(
+        out,
+        "{} {:02x} {} connect=",
+        request.opcode,
+        opcode::value(request.opcode),
+        final_word(request.is_final),
+    )?;
+    put_connect(out, matches!(request.opcode, Opcode::Connect), p)?;
+    write!(out, " set_path=")?;
+    put_set_path(out, request.opcode, p)?;
+    write!(out, " left={} ", rest.len())?;
+    put_headers(out, p.get(request.headers..).unwrap_or(b""))
 }
 
-// Returns the length of the packet at the front of `s`, or 0 if it is not whole.
-fn front_len(s: &[u8]) -> usize
-    ensures { result ≤ length s.now }
-{
-    match packets::packet_length(s) {
-        Length::Known(n) => { if n <= s.len() { n } else { 0 } }
-        Length::Missing => 0,
-    }
+// Returns the packet of `n` bytes at the front of `s` and what stands behind it, or no packet if it is not whole.
+fn split(s: &[u8], n: usize) -> (&[u8], &[u8]) {
+    s.split_at_checked(n).unwrap_or((b"", s))
 }
 
 // Answers a question on a response, to a Connect or to another request.
-pub(crate) fn answered(rt: &impl Print, s: &[u8], connect: bool) {
-    let n = front_len(s);
-    let ParsedResponse::Response {
-        code,
-        is_final,
-        headers,
-        length,
-    } = packets::parse_response(&s[0..n], connect)
-    else {
-        put(rt, b"unreadable");
-        return;
+pub(crate) fn answered(out: &mut impl Write, s: &[u8], connect: bool) -> io::Result<()> {
+    let (p, rest) = split(s, packets::packet_length(s).unwrap_or(0));
+    let Some(response) = packets::parse_response(p, connect) else {
+        return write!(out, "unreadable");
     };
-    put_byte(rt, code);
-    put(rt, b" ");
-    put_final(rt, is_final);
-    put(rt, b" connect=");
-    put_connect(rt, connect, s);
-    put(rt, b" left=");
-    put_number(rt, s.len() - n);
-    put(rt, b" ");
-    let p = piece_at(n, 0, headers, length);
-    let start = p.start;
-    let end = p.end;
-    put_headers(rt, &s[start..end]);
+    write!(
+        out,
+        "{:02x} {} connect=",
+        response.code,
+        final_word(response.is_final),
+    )?;
+    put_connect(out, connect, s)?;
+    write!(out, " left={} ", rest.len())?;
+    put_headers(out, p.get(response.headers..).unwrap_or(b""))
 }
 
 // ---- packets that are written
 
-// Returns the number of two bytes at `at`, the higher first. A missing byte is 0.
-fn u16_at(s: &[u8], at: usize) -> u16
-    requires { at < 8 }
-{
-    let n = wide(byte_at(s, at)) * 256 + wide(byte_at(s, at + 1));
-    n as u16
-}
-
-// Returns the fields that a word names: four bytes are a Connect's, one is a SetPath's, and `is_default` asks for the defaults.
-pub(crate) fn fields_of(b: &[u8], is_default: bool) -> Fields {
-    if is_default {
-        return Fields::Default;
-    }
-    if b.len() == 4 {
-        return Fields::Connect {
-            version: byte_at(b, 0),
-            flags: byte_at(b, 1),
-            max_packet_length: u16_at(b, 2),
-        };
-    }
-    let flags = byte_at(b, 0);
-    Fields::SetPath {
-        backup: flags & 0x01 != 0,
-        no_create: flags & 0x02 != 0,
-    }
-}
-
-// Returns the Connect parameters of a response, from its bytes.
-fn parameters_of(b: &[u8], is_none: bool) -> ConnectParameters {
-    if is_none {
-        return ConnectParameters::Missing;
-    }
-    ConnectParameters::Parameters {
+// Returns the Connect parameters of four bytes. A missing byte is 0.
+fn parameters_of(b: &[u8]) -> ConnectParameters {
+    let n = wide(byte_at(b, 2)) * 256 + wide(byte_at(b, 3));
+    ConnectParameters {
         version: byte_at(b, 0),
         flags: byte_at(b, 1),
-        max_packet_length: u16_at(b, 2),
+        max_packet_length: n as u16,
     }
+}
+
+// Returns the fields that some bytes name: four are a Connect's, one is a SetPath's. Without bytes they are the defaults.
+pub(crate) fn fields_of(bytes: Option<&[u8]>) -> Fields {
+    let Some(b) = bytes else {
+        return Fields::Default;
+    };
+    if b.len() == 4 {
+        return Fields::Connect(parameters_of(b));
+    }
+    let flags = byte_at(b, 0);
+    Fields::SetPath(SetPathFlags {
+        backup: flags & 0x01 != 0,
+        no_create: flags & 0x02 != 0,
+    })
 }
 
 // Answers with the bytes of a request. `byte` names an opcode only if it is the opcode's own value.
-pub(crate) fn request(rt: &impl Print, byte: u8, is_final: bool, fields: Fields, headers: &[u8]) {
-    let FirstByte::Known {
-        opcode: op,
-        is_final: _,
-    } = opcode::from_byte(byte)
-    else {
-        put(rt, b"unknown");
-        return;
+pub(crate) fn request(
+    out: &mut impl Write,
+    byte: u8,
+    is_final: bool,
+    fields: Fields,
+    headers: &[u8],
+) -> io::Result<()> {
+    let Some(op) = opcode_of(byte) else {
+        return write!(out, "unknown");
     };
-    if opcode::value(op) != byte {
-        put(rt, b"unknown");
-        return;
-    }
     if !header::is_readable(headers, 0) {
-        put(rt, b"unreadable");
-        return;
+        return write!(out, "unreadable");
     }
     let mut store = [0u8; 150000];
     let done = packets::write_request(&mut store, op, is_final, fields, headers);
-    put_done(
-        rt,
-        done,
-        &store,
-        b"error PacketTooLarge ",
-        sum(packets::prefix_len(op), headers.len()),
-    );
+    let size = packets::prefix_len(op).saturating_add(headers.len());
+    put_done(out, done, &store, "PacketTooLarge", size)
 }
 
-// Returns how many bytes stand before the headers of a response, without Connect parameters or with them.
-fn prefix(is_none: bool) -> usize {
-    if is_none { 3 } else { 7 }
-}
-
-// Answers with the bytes of a response. `is_none` says that the response has no Connect parameters; otherwise `parameters` are their bytes.
-pub(crate) fn reply(rt: &impl Print, byte: u8, is_none: bool, parameters: &[u8], headers: &[u8]) {
-    let code = byte & 0x7F;
-    if !response::is_code(code) {
-        put(rt, b"unknown");
-        return;
-    }
+// Answers with the bytes of a response. `parameters` are the bytes of its Connect parameters, if it has any.
+pub(crate) fn reply(
+    out: &mut impl Write,
+    byte: u8,
+    parameters: Option<&[u8]>,
+    headers: &[u8],
+) -> io::Result<()> {
+    let Some(code) = code_of(byte) else {
+        return write!(out, "unknown");
+    };
     if !header::is_readable(headers, 0) {
-        put(rt, b"unreadable");
-        return;
+        return write!(out, "unreadable");
     }
     let mut store = [0u8; 150000];
-    let connect = parameters_of(parameters, is_none);
+    let connect = parameters.map(parameters_of);
     let done = packets::write_response(&mut store, code, connect, headers);
-    put_done(
-        rt,
-        done,
-        &store,
-        b"error PacketTooLarge ",
-        sum(prefix(is_none), headers.len()),
-    );
+    let prefix = if parameters.is_some() {
+        PACKET_PREFIX_LENGTH + 4
+    } else {
+        PACKET_PREFIX_LENGTH
+    };
+    let size = headers.len().saturating_add(prefix);
+    put_done(out, done, &store, "PacketTooLarge", size)
 }

@@ -1,308 +1,208 @@
 // Questions on what is still to be sent of an object: packets that are made, put back and made again.
-ghost use Rattle.std.specs.Prelude.{◌≤◌, length};
+ghost use Rattle.std.specs.Prelude.{◌≤◌};
 ghost use Rattle.packet.specs.Limits.{max_capacity};
 
-use crate::headers::{piece_at, sum};
-use crate::show::{put, put_hex};
-use base::copy_into;
-use lines::word::{after, byte_at, find, unhex};
-use outgoing::object::{Chunk, Next, NextPacket, Outgoing, body_given, next_after};
+use crate::show::hex;
+use lines::word::unhex;
+use outgoing::object::{Next, NextPacket, Outgoing, body_given, next_after};
 use outgoing::queue as queues;
-use outgoing::queue::Rewound;
 use packet::header;
 use packet::limits::{MAX_CAPACITY, MAX_PACKET};
 use packet::packet::PACKET_PREFIX_LENGTH;
 use packet::tlv::Wrote;
+use std::io;
+use std::io::Write;
 
-// What is still to be sent of an object: the headers from `sent` up to `total` of one store, and the body from `given` up to `end` of
-// another. The packet that was made last and not put back is `made` bytes long.
-#[derive(Clone, Copy)]
+// What is still to be sent of an object: the headers of one store that `outgoing` names, and the body from `given` up to `end` of another. The
+// packet that was made last and not put back is the first `made` bytes of the third. No packet is longer than `limit`.
+// Stays stores with places beside them: what goes out is passed over and not moved, and what is put back is written in front of the rest.
+#[derive(Drop)]
 struct Unsent {
-    sent: usize,
-    total: usize,
+    limit: usize,
+    outgoing: Outgoing,
+    headers: [u8; 20000],
+    body: [u8; 20000],
     given: usize,
     end: usize,
-    has_body: bool,
+    packet: [u8; 65535],
     made: usize,
-}
-
-// Returns a packet that cannot go on.
-fn stopped(o: Outgoing) -> NextPacket {
-    NextPacket {
-        outgoing: o,
-        chunk: Chunk {
-            at: 0,
-            got: 0,
-            room: 0,
-        },
-        next: Next::TooLarge,
-    }
-}
-
-// Gives body bytes to a packet if it waits for so many.
-fn give(p: NextPacket, d: &[u8], reply: &mut [u8]) -> NextPacket {
-    let c = p.chunk;
-    let o = p.outgoing;
-    let next = p.next;
-    let Next::Read = next else {
-        return p;
-    };
-    if reply.len() < MAX_PACKET {
-        return stopped(o);
-    }
-    if c.room < d.len() {
-        return stopped(o);
-    }
-    if MAX_CAPACITY < c.at {
-        return stopped(o);
-    }
-    if MAX_CAPACITY - c.at < c.got {
-        return stopped(o);
-    }
-    if MAX_CAPACITY + 1 - c.at - c.got < c.room {
-        return stopped(o);
-    }
-    body_given(o, c, d, reply)
-}
-
-// Returns how many of `len` body bytes a packet waits for.
-fn awaited(p: NextPacket, len: usize) -> usize
-    ensures { result ≤ len }
-{
-    let next = p.next;
-    let c = p.chunk;
-    let Next::Read = next else {
-        return 0;
-    };
-    if c.room < len { c.room } else { len }
 }
 
 // Returns how many bytes stand behind the first three of a packet of `limit` bytes.
 fn capacity_of(limit: usize) -> usize
     ensures { result ≤ max_capacity }
 {
-    if limit < PACKET_PREFIX_LENGTH {
-        return 0;
-    }
-    if MAX_PACKET < limit {
-        return MAX_CAPACITY;
-    }
-    limit - PACKET_PREFIX_LENGTH
+    limit.min(MAX_PACKET).saturating_sub(PACKET_PREFIX_LENGTH)
 }
 
-// Begins the next packet of at most `limit` bytes.
-fn begin(limit: usize, o: Outgoing, headers: &[u8], reply: &mut [u8]) -> NextPacket {
-    if headers.len() < o.total {
-        return stopped(o);
-    }
-    if reply.len() < MAX_PACKET {
-        return stopped(o);
-    }
-    next_after(3, capacity_of(limit), o, headers, reply)
-}
-
-// Puts a packet, and returns its length, or 3 if none was made.
-fn put_packet(rt: &impl Print, p: NextPacket, reply: &[u8]) -> usize {
-    let next = p.next;
-    let Next::Send { length, last } = next else {
-        put(rt, b"large");
-        return 3;
+// Gives body bytes to a packet if it waits for so many.
+fn give(p: NextPacket, d: &[u8], packet: &mut [u8; 65535]) -> NextPacket {
+    let Next::Read = p.next else {
+        return p;
     };
-    if last {
-        put(rt, b"last:");
-    } else {
-        put(rt, b"more:");
+    let c = p.chunk;
+    let fits = d.len() <= c.room
+        && c.at <= MAX_CAPACITY
+        && c.got <= MAX_CAPACITY - c.at
+        && c.room <= MAX_CAPACITY + 1 - c.at - c.got;
+    if !fits {
+        return NextPacket {
+            next: Next::TooLarge,
+            ..p
+        };
     }
-    let x = piece_at(reply.len(), 0, 3, length);
-    let start = x.start;
-    let end = x.end;
-    put_hex(rt, &reply[start..end]);
-    length
+    body_given(p.outgoing, c, d, packet)
 }
 
-// Makes the next packet. A byte that was read ahead is given again with the next.
-fn make(
-    rt: &impl Print,
-    q: Unsent,
-    limit: usize,
-    headers: &[u8],
-    body: &[u8],
-    reply: &mut [u8],
-) -> Unsent {
-    let o = Outgoing {
-        total: q.total,
-        sent: q.sent,
-        lead: false,
-        has_body: q.has_body,
-        has_pending: false,
-        pending: 0,
-    };
-    let p = piece_at(body.len(), 0, q.given, q.end);
-    let from = p.start;
-    let end = p.end;
-    let first = begin(limit, o, headers, reply);
-    let n = awaited(first, end - from);
-    let to = from + n;
-    let second = give(first, &body[from..to], reply);
-    let third = give(second, &body[to..end], reply);
-    let done = third.outgoing;
-    Unsent {
-        sent: done.sent,
-        total: q.total,
-        given: if done.has_pending { less_one(to) } else { to },
-        end: q.end,
-        has_body: q.has_body,
-        made: put_packet(rt, third, reply),
+// Returns how many of `len` body bytes a packet waits for.
+fn awaited(p: NextPacket, len: usize) -> usize
+    ensures { result ≤ len }
+{
+    match p.next {
+        Next::Read => p.chunk.room.min(len),
+        _ => 0,
     }
 }
 
-// Returns one less than `n`, or 0.
-fn less_one(n: usize) -> usize {
-    if n == 0 { 0 } else { n - 1 }
-}
+impl Unsent {
+    // Begins the next packet.
+    fn begin(&mut self) -> NextPacket {
+        let outgoing = Outgoing {
+            total: self.outgoing.total.min(self.headers.len()),
+            ..self.outgoing
+        };
+        next_after(
+            PACKET_PREFIX_LENGTH,
+            capacity_of(self.limit),
+            outgoing,
+            &self.headers,
+            &mut self.packet,
+        )
+    }
 
-// Puts the packet back that was made last.
-fn put_again(
-    rt: &impl Print,
-    q: Unsent,
-    headers: &mut [u8],
-    body: &mut [u8],
-    reply: &[u8],
-) -> Unsent {
-    put(rt, b"r");
-    let p = piece_at(reply.len(), 0, 3, q.made);
-    let from = p.start;
-    let to = p.end;
-    let h = piece_at(headers.len(), 0, q.sent, q.total);
-    let sent = h.start;
-    let b = piece_at(body.len(), 0, q.given, q.end);
-    let given = b.start;
-    let done = queues::rewind(
-        &reply[from..to],
-        q.has_body,
-        &mut headers[sent..],
-        h.end - sent,
-        &mut body[given..],
-        b.end - given,
-    );
-    put_back(rt, q, done)
-}
+    // Makes the next packet. A byte that was read ahead is given again with the next.
+    fn make(&mut self, out: &mut impl Write) -> io::Result<()> {
+        let first = self.begin();
+        let body = self.body.get(self.given..self.end).unwrap_or(b"");
+        let n = awaited(first, body.len());
+        let second = give(first, &body[..n], &mut self.packet);
+        let third = give(second, &body[n..], &mut self.packet);
+        self.outgoing = third.outgoing;
+        self.given = self.given.saturating_add(n);
+        if self.outgoing.has_pending {
+            self.outgoing.has_pending = false;
+            self.given = self.given.saturating_sub(1);
+        }
+        let Next::Send { length, last } = third.next else {
+            self.made = PACKET_PREFIX_LENGTH;
+            return write!(out, "large");
+        };
+        self.made = length;
+        write!(
+            out,
+            "{}:{}",
+            if last { "last" } else { "more" },
+            hex(self.headers_made()),
+        )
+    }
 
-// Returns what is still to be sent once a packet was put back.
-fn put_back(rt: &impl Print, q: Unsent, done: Rewound) -> Unsent {
-    let Rewound::Back {
-        headers: n,
-        pending: m,
-    } = done
-    else {
-        put(rt, b" short");
-        return q;
-    };
-    Unsent {
-        sent: q.sent,
-        total: sum(q.sent, n),
-        given: q.given,
-        end: sum(q.given, m),
-        has_body: q.has_body,
-        made: 3,
+    // Returns the packet that was made last, without what stands before its headers.
+    fn headers_made(&self) -> &[u8] {
+        self.packet
+            .get(PACKET_PREFIX_LENGTH..self.made)
+            .unwrap_or(b"")
+    }
+
+    // Puts the packet back that was made last.
+    fn put_back(&mut self, out: &mut impl Write) -> io::Result<()> {
+        write!(out, "r")?;
+        let sent = self.outgoing.sent.min(self.headers.len());
+        let given = self.given.min(self.body.len());
+        let done = queues::rewind(
+            self.packet
+                .get(PACKET_PREFIX_LENGTH..self.made)
+                .unwrap_or(b""),
+            self.outgoing.has_body,
+            &mut self.headers[sent..],
+            self.outgoing.total.saturating_sub(sent),
+            &mut self.body[given..],
+            self.end.saturating_sub(given),
+        );
+        let Some(rewound) = done else {
+            return write!(out, " short");
+        };
+        self.outgoing.total = sent.saturating_add(rewound.headers);
+        self.end = given.saturating_add(rewound.pending);
+        self.made = PACKET_PREFIX_LENGTH;
+        Ok(())
+    }
+
+    // Puts the header in early whose digits are `w`.
+    fn put_early(&mut self, out: &mut impl Write, w: &[u8]) -> io::Result<()> {
+        let mut header = [0u8; 1024];
+        let n = unhex(w, &mut header);
+        write!(out, "i")?;
+        let sent = self.outgoing.sent.min(self.headers.len());
+        let done = queues::insert_early(
+            &mut self.headers[sent..],
+            self.outgoing.total.saturating_sub(sent),
+            &header[..n],
+        );
+        let Wrote::Written(n) = done else {
+            return write!(out, " short");
+        };
+        self.outgoing.total = sent.saturating_add(n);
+        Ok(())
+    }
+
+    // Does the step that the word `w` names: `n` makes the next packet, `r` puts it back, `i:` and a header puts that in early.
+    fn step(&mut self, out: &mut impl Write, w: &[u8]) -> io::Result<()> {
+        match w.first() {
+            Some(b'n') => self.make(out),
+            Some(b'r') => self.put_back(out),
+            _ => self.put_early(out, w.get(2..).unwrap_or(b"")),
+        }
     }
 }
 
-// Puts a header in early.
-fn put_early(rt: &impl Print, q: Unsent, header: &[u8], headers: &mut [u8]) -> Unsent {
-    put(rt, b"i");
-    let h = piece_at(headers.len(), 0, q.sent, q.total);
-    let sent = h.start;
-    let done = queues::insert_early(&mut headers[sent..], h.end - sent, header);
-    let Wrote::Written(n) = done else {
-        put(rt, b" short");
-        return q;
-    };
-    let mut r = q;
-    r.total = sum(sent, n);
-    r
-}
-
-// Puts the header in early whose digits are `w`.
-fn early(rt: &impl Print, q: Unsent, w: &[u8], headers: &mut [u8]) -> Unsent {
-    let mut header = [0u8; 1024];
-    let n = unhex(w, &mut header);
-    put_early(rt, q, &header[0..n], headers)
-}
-
-// Does the step that the word `w` names: `n` makes the next packet, `r` puts it back, `i:` and a header puts that in early.
-fn step(
-    rt: &impl Print,
-    q: Unsent,
-    limit: usize,
-    w: &[u8],
-    headers: &mut [u8],
-    body: &mut [u8],
-    reply: &mut [u8],
-) -> Unsent {
-    put(rt, b" ");
-    let c = byte_at(w, 0);
-    if c == b'n' {
-        return make(rt, q, limit, headers, body, reply);
-    }
-    if c == b'r' {
-        return put_again(rt, q, headers, body, reply);
-    }
-    let from = after(w, after(w, 0));
-    early(rt, q, &w[from..], headers)
-}
-
-// Does the steps of `text`, which are separated by commas.
-fn steps(
-    rt: &impl Print,
-    q: Unsent,
-    limit: usize,
-    text: &[u8],
-    headers: &mut [u8],
-    body: &mut [u8],
-    reply: &mut [u8],
-) {
-    let mut now = q;
-    let mut at = 0;
-    while at < text.len() {
-        let end = find(text, at, b',');
-        now = step(rt, now, limit, &text[at..end], headers, body, reply);
-        at = end + 1;
-    }
-}
-
-// Answers with a word for each step on what is still to be sent of `headers` and a body.
+// Answers with a word for each step on what is still to be sent of `headers` and a body. The steps of `text` are separated by commas.
 pub(crate) fn queue(
-    rt: &impl Print,
+    out: &mut impl Write,
     limit: usize,
     headers: &[u8],
-    has_body: bool,
-    body: &[u8],
+    body: Option<&[u8]>,
     text: &[u8],
-) {
+) -> io::Result<()> {
     if !header::is_readable(headers, 0) {
-        put(rt, b"unreadable");
-        return;
+        return write!(out, "unreadable");
     }
-    let mut hs = [0u8; 20000];
-    let mut bs = [0u8; 20000];
-    let mut reply = [0u8; 65535];
-    if hs.len() < headers.len() {
-        return;
-    }
-    if bs.len() < body.len() {
-        return;
-    }
-    copy_into(&mut hs, 0, headers);
-    copy_into(&mut bs, 0, body);
-    let q = Unsent {
-        sent: 0,
-        total: headers.len(),
+    let bytes = body.unwrap_or(b"");
+    let mut q = Unsent {
+        limit,
+        outgoing: Outgoing {
+            total: headers.len(),
+            sent: 0,
+            lead: false,
+            has_body: body.is_some(),
+            has_pending: false,
+            pending: 0,
+        },
+        headers: [0; 20000],
+        body: [0; 20000],
         given: 0,
-        end: body.len(),
-        has_body,
-        made: 3,
+        end: bytes.len(),
+        packet: [0; 65535],
+        made: PACKET_PREFIX_LENGTH,
     };
-    put(rt, b"steps");
-    steps(rt, q, limit, text, &mut hs, &mut bs, &mut reply);
+    if q.headers.len() < headers.len() || q.body.len() < bytes.len() {
+        return Ok(());
+    }
+    q.headers[..headers.len()].copy_from_slice(headers);
+    q.body[..bytes.len()].copy_from_slice(bytes);
+    write!(out, "steps")?;
+    for piece in text.split_inclusive(|byte| *byte == b',') {
+        write!(out, " ")?;
+        q.step(out, piece.strip_suffix(b",").unwrap_or(piece))?;
+    }
+    Ok(())
 }

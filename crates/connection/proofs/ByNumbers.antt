@@ -1,6 +1,7 @@
 -- For the engine: what the code says by numbers is what the definitions say by bytes. Assumes nothing.
 use Rattle.std.proofs.Common.{◌≡◌, ℕ, Bool, true, false, eqb, List, [], ◌∷◌, length, refl, ap, arith, eqb-true}
 use mathlib.Core.Option.{Option, none, some}
+use Rattle.std.specs.Prelude.{Some, None}
 use Rattle.base.specs.Pick.{pick}
 use Rattle.digest.specs.Md5.{octets16, numbers16}
 use Rattle.digest.proofs.Octets.{are_bytes, octets-numbers}
@@ -10,18 +11,17 @@ use Rattle.packet.specs.AuthRead.{named_of, bytes_named, response_read, read_res
 use Rattle.packet.proofs.HeaderBytes.{Octets}
 use Rattle.packet.proofs.TagWrites.{read_write}
 use Rattle.packet.proofs.AuthLaws.{filled-user}
-use Rattle.connection.specs.declared.peer.Challenge.{Challenge}
-use Rattle.connection.specs.declared.peer.Challenge.TheVariants.{Stored, Absent}
 use Rattle.connection.specs.declared.peer.Peer.{Peer}
-use Rattle.connection.specs.Peer.{target_given, opened_for, opened_by, id_in, isGiven, disconnected_peer, disconnected_by}
+use Rattle.connection.specs.Peer.{target_asked, opened_for, opened_by, id_in, disconnected_peer, disconnected_by, Challenge}
 use Rattle.connection.specs.Pieces.{check_of}
 use Rattle.connection.proofs.Nonces.{AllOctets, all-octets, Sixteen, Good}
 
 -- ---- ids
 
 pub opened_by_lem : (p : Peer) (t : List ℕ) (srm : Bool) (v target : Option (List ℕ))
-    → opened_for p t srm v target ≡ opened_by p t srm (id_in v) (isGiven target) (target_given target)
-opened_by_lem p t srm (some v) target = refl
+    → opened_for p t srm v target ≡ opened_by p t srm (id_in v) (target_asked target)
+opened_by_lem p t srm (some v) none = refl
+opened_by_lem p t srm (some v) (some target) = refl
 opened_by_lem p t srm none (some target) = refl
 opened_by_lem p t srm none none = refl
 
@@ -78,18 +78,18 @@ same-named (some l) g = ap some (same_bytes l g)
 -- ---- the check of a password, by the response's bytes
 
 abbrev pub check_by : Challenge → Option Response → Bool → Option (List ℕ) → Bool
-check_by Absent r d p = false
-check_by (Stored n) none d p = false
-check_by (Stored n) (some r) d none = false
-check_by (Stored n) (some r) d (some p) = verified d (octets16 n) r p
+check_by None r d p = false
+check_by (Some n) none d p = false
+check_by (Some n) (some r) d none = false
+check_by (Some n) (some r) d (some p) = verified d (octets16 n) r p
 
 pub check_by_lem : (ch : Challenge) (v : List ℕ) (d : Bool) (p : Option (List ℕ)) → Octets v → check_of ch (read_response v) d p ≡ check_by ch (response_of v) d p
 unfolding read_response verified matches
-check_by_lem Absent v d p o = refl
-check_by_lem (Stored n) v d p o = go p (response_of v) refl
+check_by_lem None v d p o = refl
+check_by_lem (Some n) v d p o = go p (response_of v) refl
   where
     go : (p : Option (List ℕ)) (r : Option Response) → response_of v ≡ r
-        → check_of (Stored n) (response_read r (last_value v 1)) d p ≡ check_by (Stored n) r d p
+        → check_of (Some n) (response_read r (last_value v 1)) d p ≡ check_by (Some n) r d p
     go none none e = refl
     go (some p) none e = refl
     go none (some r) e = refl

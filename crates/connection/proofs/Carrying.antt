@@ -27,6 +27,25 @@ placed x (y ∷ l) m = go (eqb x y) m (placed x l)
     go true m f = omega arith
     go false m f = let h = f m in omega arith
 
+-- a number that has a place is in the list
+pub found-open : (x : ℕ) (l : List ℕ) → place_of x l < length l → member x l ≡ true
+unfolding place_of
+found-open x [] h = absurd (omega arith)
+found-open x (y ∷ l) h = go (eqb x y) h (found-open x l)
+  where
+    go : (b : Bool) → pick b 0 (suc (place_of x l)) < suc (length l) → (place_of x l < length l → member x l ≡ true) → (b || member x l) ≡ true
+    go true h f = refl
+    go false h f = f (omega arith)
+
+pub none-open : (x : ℕ) (l : List ℕ) → place_of x l ≡ length l → member x l ≡ false
+unfolding place_of
+none-open x [] e = refl
+none-open x (y ∷ l) e = go (eqb x y) e (none-open x l)
+  where
+    go : (b : Bool) → pick b 0 (suc (place_of x l)) ≡ suc (length l) → (place_of x l ≡ length l → member x l ≡ false) → (b || member x l) ≡ false
+    go true e f = absurd (omega arith)
+    go false e f = f (omega arith)
+
 -- two ids have two places
 places_apart : (x y : ℕ) (l : List ℕ) → (x ≡ y → ⊥) → member x l ≡ true → place_of x l ≡ place_of y l → ⊥
 unfolding place_of

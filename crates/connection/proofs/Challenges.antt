@@ -2,15 +2,14 @@
 use Rattle.std.proofs.Common.{◌≡◌, ℕ, Bool, true, false, eqb, List, [], ◌∷◌, sym, refl, ap, ◌∙◌, arith}
 use mathlib.Core.Option.{Option, none, some}
 use Rattle.base.specs.Pick.{pick}
+use Rattle.std.specs.Prelude.{Option as Maybe, None}
+use Rattle.base.specs.Place.{Place}
 use Rattle.packet.specs.Header.{Header, push, read_headers, first, first_place}
 use Rattle.packet.specs.HeaderList.{is_read}
 use Rattle.packet.specs.Tags.{bytes_at}
 use Rattle.packet.specs.Auth.{Challenge, challenge_of, realm_place}
 use Rattle.packet.specs.AuthRead.{challenge_read, read_challenge}
-use Rattle.packet.specs.declared.tlv.Found.{Found}
-use Rattle.packet.specs.declared.tlv.Found.TheVariants as place
 use Rattle.packet.specs.declared.auth.DigestChallenge.{DigestChallenge}
-use Rattle.packet.specs.declared.auth.DigestChallenge.TheVariants as challenge
 use Rattle.packet.proofs.HeaderLaws.{first-agrees}
 use Rattle.journal.specs.Journal.{list_of}
 use Rattle.connection.specs.ConnectReply.{push_challenge, challenges, first_of, answered_challenge}
@@ -18,7 +17,7 @@ use Rattle.connection.specs.Pieces.{headers_from, first_in, is_known, known_in, 
 
 -- ---- all can be read
 
-known_on : (b : Bool) (o : Option Challenge) (cs : Option (List Challenge)) (r : Found)
+known_on : (b : Bool) (o : Option Challenge) (cs : Option (List Challenge)) (r : Place)
     → is_known (pick b (push_challenge o cs) cs) ≡ pick (pick b (is_challenge (challenge_read o r)) true) (is_known cs) false
 known_on true none cs r = refl
 known_on true (some c) none r = refl
@@ -38,8 +37,8 @@ known_step id v (some hs) = known_on (eqb id 0x4D) (challenge_of v) (challenges 
 -- ---- the one answered
 
 -- the first challenge, read from its tag list
-abbrev pub read_first : Option (List ℕ) → DigestChallenge
-read_first none = challenge.Unreadable
+abbrev pub read_first : Option (List ℕ) → Maybe DigestChallenge
+read_first none = None
 read_first (some v) = read_challenge v
 
 answered-first : (h : Header) (hs : List Header) (b : Bool) (o : Option Challenge) (cs : Option (List Challenge)) → challenge_of h.value ≡ o
@@ -58,20 +57,20 @@ unfolding answered_in answered_challenge challenges first
 answered-known [] k = refl
 answered-known (h ∷ hs) k = answered-first h hs (eqb h.id 0x4D) (challenge_of h.value) (challenges hs) refl k (answered-known hs)
 
-pub not-answered : (r : Option (List Header)) → known_in r ≡ false → answered_in (list_of r) ≡ challenge.Unreadable
+pub not-answered : (r : Option (List Header)) → known_in r ≡ false → answered_in (list_of r) ≡ None
 unfolding answered_in answered_challenge challenges first
 not-answered none k = refl
 not-answered (some hs) k = go (challenges hs) k
   where
-    go : (cs : Option (List Challenge)) → is_known cs ≡ false → challenge_read (first_of cs) (realm_of (first 0x4D hs)) ≡ challenge.Unreadable
+    go : (cs : Option (List Challenge)) → is_known cs ≡ false → challenge_read (first_of cs) (realm_of (first 0x4D hs)) ≡ None
     go none e = refl
     go (some cs) e = let z : ◌≡◌ {A = ℕ} 0 1 = cc in absurd (omega arith)
 
 -- without a challenge none is answered
-pub none-answered : (hs : List Header) → first 0x4D hs ≡ none → challenge.Unreadable ≡ answered_in hs
+pub none-answered : (hs : List Header) → first 0x4D hs ≡ none → None ≡ answered_in hs
 none-answered hs e = go (is_known (challenges hs)) refl
   where
-    go : (b : Bool) → is_known (challenges hs) ≡ b → challenge.Unreadable ≡ answered_in hs
+    go : (b : Bool) → is_known (challenges hs) ≡ b → None ≡ answered_in hs
     go true k = sym (answered-known hs k ∙ ap read_first e)
     go false k = sym (not-answered (some hs) k)
 
@@ -89,6 +88,6 @@ pub first_in_bytes : (id : ℕ) (s : List ℕ) (from : ℕ) → bytes_at s (firs
 unfolding first_in first
 first_in_bytes id s from = go (read_headers s from) refl
   where
-    go : (r : Option (List Header)) → read_headers s from ≡ r → bytes_at s (pick (is_read r) (first_place id s from) place.Missing) ≡ first id (list_of r)
+    go : (r : Option (List Header)) → read_headers s from ≡ r → bytes_at s (pick (is_read r) (first_place id s from) None) ≡ first id (list_of r)
     go none e = refl
     go (some hs) e = first-agrees id s from hs e

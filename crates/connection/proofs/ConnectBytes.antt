@@ -2,25 +2,22 @@
 use Rattle.std.proofs.Common.{◌≡◌, ℕ, ◌-◌, Bool, true, false, List, [], ◌∷◌, ◌++◌, length, take, drop, sym, refl, ap, ◌∙◌, ap₂, append_assoc, append-nil, arith, length-drop, take-append-drop, take_all}
 use mathlib.Core.Option.{Option, none, some}
 use lib.Seq.{take-length}
+use Rattle.std.specs.Prelude.{Some, None}
 use Rattle.base.specs.Pick.{pick}
 use Rattle.base.specs.Bytes.{bytes32}
+use Rattle.base.specs.Place.{Place, span}
 use Rattle.packet.specs.HeaderWriter.{header}
 use Rattle.packet.specs.Header.{Header, header_at_of, part, push, read_headers, walk, first, first_place, bytes_of, all_bytes}
 use Rattle.packet.specs.HeaderList.{is_read, readable_from}
 use Rattle.packet.specs.Tags.{bytes_at, write_tags}
 use Rattle.packet.specs.Auth.{Challenge, response_tags}
-use Rattle.packet.specs.AuthRead.{challenge_read}
+use Rattle.packet.specs.AuthRead.{Named, challenge_read}
 use Rattle.packet.specs.declared.header.HeaderAt.{HeaderAt}
 use Rattle.packet.specs.declared.header.HeaderAt.TheVariants.{At, Unreadable, End}
-use Rattle.packet.specs.declared.auth.Named.{Named}
-use Rattle.packet.specs.declared.auth.Named.TheVariants as nonce
-use Rattle.packet.specs.declared.tlv.Found.{Found}
-use Rattle.packet.specs.declared.tlv.Found.TheVariants as place
 use Rattle.packet.proofs.HeaderBytes.{Octets, header-bytes, header_at_bytes}
 use Rattle.packet.proofs.HeaderLaws.{by_cursor_lem, first_found}
 use Rattle.journal.specs.Journal.{list_of}
-use Rattle.connection.specs.declared.peer.ConnectionId.{ConnectionId}
-use Rattle.connection.specs.declared.peer.ConnectionId.TheVariants.{Id, Missing}
+use Rattle.connection.specs.Peer.{ConnectionId}
 use Rattle.connection.specs.ConnectReply.{second, with_id, who_for, answer_with, grant, answered_challenge, connect_headers}
 use Rattle.connection.specs.Pieces.{headers_from, first_in, answered_in, realm_of, nonce_of, nonce_for, who_place, end_of, readable}
 use Rattle.connection.specs.Pieces.{who_bytes, answer_bytes, grant_bytes, named_bytes, added_bytes, Inside, credentials_of, id_given}
@@ -71,9 +68,9 @@ who-placing none (some w) hs = refl
 who-placing (some t) none hs = refl
 who-placing (some t) (some w) hs = refl
 
-who-bytes : (p q : List ℕ) (t w : Found) → bytes_at p (who_place t w) ≡ who_of (bytes_at p t) (bytes_at q w)
-who-bytes p q t place.Missing = refl
-who-bytes p q t (place.At a b) = refl
+who-bytes : (p q : List ℕ) (t w : Place) → bytes_at p (who_place t w) ≡ who_of (bytes_at p t) (bytes_at q w)
+who-bytes p q t None = refl
+who-bytes p q t (Some w) = refl
 
 -- the first header ends at the cut
 second-bytes : (s : List ℕ) (t : List ℕ) (hs : List Header) → Octets s → read_headers s 0 ≡ some hs
@@ -100,14 +97,14 @@ second-bytes s t hs o e = go (header_at_of s 0) refl hs e
 named-bytes : (f : ConnectionId) (who : Option (List ℕ)) (s : List ℕ) (hs : List Header) → Octets s → read_headers s 0 ≡ some hs
     → all_bytes (placing who (with_id (id_given f) hs)) ≡ named_bytes f who s
 unfolding named_bytes all_bytes
-named-bytes (Id i) none s hs o e =
+named-bytes (Some i) none s hs o e =
     let b : bytes_of (header 0xCB (bytes32 i)) ++ [] ++ [] ≡ bytes_of (header 0xCB (bytes32 i)) = simp append-nil in
     rw (header-bytes s 0 hs o e, rest_part s 0, first_part s 0, b)
-named-bytes (Id i) (some t) s hs o e =
+named-bytes (Some i) (some t) s hs o e =
     rw (header-bytes s 0 hs o e, rest_part s 0, first_part s 0, append-nil, append_assoc)
-named-bytes Missing none s hs o e =
+named-bytes None none s hs o e =
     rw (header-bytes s 0 hs o e, rest_part s (end_of (header_at_of s 0)), first_part s (end_of (header_at_of s 0)), append-nil, take-append-drop)
-named-bytes Missing (some t) s hs o e =
+named-bytes None (some t) s hs o e =
     rw (rest_part s (end_of (header_at_of s 0)), first_part s (end_of (header_at_of s 0))) (second-bytes s t hs o e)
 
 -- ---- the answer to the challenge, and SRM
@@ -119,7 +116,7 @@ answer-part s from has user password o = go has (answered_challenge (headers_fro
   where
     go : (b : Bool) (c : Option Challenge) → answered_challenge (headers_from s from) ≡ c
         → all_bytes (answer_with c (credentials_of b user password))
-        ≡ answer_bytes (pick b (nonce_of (challenge_read c (realm_of (first 0x4D (headers_from s from))))) nonce.Missing) user password
+        ≡ answer_bytes (pick b (nonce_of (challenge_read c (realm_of (first 0x4D (headers_from s from))))) None) user password
     go false none e = refl
     go false (some c) e = refl
     go true none e = refl
@@ -168,7 +165,7 @@ connect_bytes_lem f s headers from has user password srm o p =
     ∙ append_assoc (named_bytes f (bytes_at s who) hs) (answer_bytes (nonce_for has request) user password) (grant_bytes srm))
 
 -- as the code has them
-pub connect_as : (f : ConnectionId) (s headers hs : List ℕ) (from : ℕ) (has : Bool) (user : Option (List ℕ)) (password : List ℕ) (srm : Bool) (who : Found) (m : Named)
+pub connect_as : (f : ConnectionId) (s headers hs : List ℕ) (from : ℕ) (has : Bool) (user : Option (List ℕ)) (password : List ℕ) (srm : Bool) (who : Place) (m : Named)
     → hs ≡ readable headers → who ≡ who_place (first_in 0x46 s from) (first_in 0x4A hs 0) → m ≡ nonce_for has (headers_from s from) → Octets s → Octets headers
     → named_bytes f (bytes_at s who) hs ++ added_bytes m user password srm
     ≡ all_bytes (connect_headers (id_given f) (headers_from s from) (headers_from headers 0) (credentials_of has user password) srm)
@@ -179,14 +176,14 @@ first-inside : (id : ℕ) (s : List ℕ) (from : ℕ) → Inside s (first_in id 
 unfolding first_in
 first-inside id s from = go (readable_from s from) (first_place id s from) refl
   where
-    go : (b : Bool) (f : Found) → first_place id s from ≡ f → Inside s (pick b f place.Missing)
+    go : (b : Bool) (f : Place) → first_place id s from ≡ f → Inside s (pick b f None)
     go false f e = tt
-    go true place.Missing e = tt
-    go true (place.At a b) e = let w = first_found id s from a b e in (w.stands.past, w.stands.fits)
+    go true None e = tt
+    go true (Some p) e = let w = first_found id s from p.start p.end e in (w.stands.past, w.stands.fits)
 
-pub who-inside : (s : List ℕ) (from : ℕ) (v w : Found) → w ≡ who_place (first_in 0x46 s from) v → Inside s w
+pub who-inside : (s : List ℕ) (from : ℕ) (v w : Place) → w ≡ who_place (first_in 0x46 s from) v → Inside s w
 who-inside s from v w e = rw e (go v)
   where
-    go : (v : Found) → Inside s (who_place (first_in 0x46 s from) v)
-    go place.Missing = first-inside 0x46 s from
-    go (place.At a b) = tt
+    go : (v : Place) → Inside s (who_place (first_in 0x46 s from) v)
+    go None = first-inside 0x46 s from
+    go (Some p) = tt

@@ -2,13 +2,12 @@
 use Rattle.std.proofs.Common.{◌≡◌, ℕ, zero, suc, ◌+◌, ◌-◌, Bool, true, false, eqb, List, [], ◌∷◌, ◌++◌, length, get_or, take, drop, refl, ◌∙◌, arith, get_or-drop, eqb-true}
 use mathlib.Core.Option.{Option, none, some}
 use Rattle.base.specs.Pick.{pick}
+use Rattle.base.specs.Place.{Place, Some, None}
 use Rattle.digest.specs.Md5.{octets16, numbers16}
 use Rattle.digest.proofs.Octets.{are_bytes, octets-numbers}
 use Rattle.packet.specs.Header.{Header, read_headers, first, first_place}
 use Rattle.packet.specs.Tags.{Tag, Tags, unreadable, tag_list, tags, write_tags, bytes_at}
 use Rattle.packet.specs.Auth.{Challenge, challenge_from, challenge_in, challenge_of}
-use Rattle.packet.specs.declared.tlv.Found.{Found}
-use Rattle.packet.specs.declared.tlv.Found.TheVariants as place
 use Rattle.packet.proofs.HeaderBytes.{Octets}
 use Rattle.packet.proofs.HeaderLaws.{first-agrees}
 use Rattle.packet.proofs.TextForms.{octets-take}
@@ -111,11 +110,11 @@ answered-nonce s from c o e =
     nothing : (v : List ℕ) → first 0x4D [] ≡ some v → ⊥
     nothing v p = let z : ◌≡◌ {A = ℕ} 0 1 = cc in omega arith
 
-    placed : (f : Found) (v : List ℕ) → bytes_at s f ≡ some v → Octets v
-    placed place.Missing v q = absurd (let z : ◌≡◌ {A = ℕ} 0 1 = cc in omega arith)
-    placed (place.At a b) v q =
-        let k : take (b - a) (drop a s) ≡ v = cc in
-        rw (← k) (octets-take (drop a s) (b - a) (octets-drop a s o))
+    placed : (f : Place) (v : List ℕ) → bytes_at s f ≡ some v → Octets v
+    placed None v q = absurd (let z : ◌≡◌ {A = ℕ} 0 1 = cc in omega arith)
+    placed (Some p) v q =
+        let k : take (p.end - p.start) (drop p.start s) ≡ v = cc in
+        rw (← k) (octets-take (drop p.start s) (p.end - p.start) (octets-drop p.start s o))
 
     go : (r : Option (List Header)) → read_headers s from ≡ r → answered_challenge (list_of r) ≡ some c → Sixteen c.nonce
     go none q d = answered-value [] c (λ (v : List ℕ). Octets v) (λ v p. absurd (nothing v p)) d (λ v p m. challenge-nonce v c p m)

@@ -1,17 +1,13 @@
--- Membership in the first n of a list, place by place, and at most 65 candidates are passed over. Assumes nothing.
-use Rattle.std.proofs.Common.{◌≡◌, ℕ, zero, suc, ◌+◌, ◌%◌, ◌^◌, ◌<◌, ◌≤◌, Bool, true, false, ◌||◌, eqb, List, [], ◌∷◌, length, get_or, take, drop, sym, refl, ap, ◌∙◌, suc-le-suc, zero-le, le_trans, le_refl, add-one, arith, drop_of_length-le, length-take-le, drop-cons, get_or-take, below_more, ne_eqb, eqb-true}
+-- Membership in a list as the library tests it, and at most 65 candidates are passed over. Assumes nothing.
+use Rattle.std.proofs.Common.{◌≡◌, ℕ, zero, suc, ◌+◌, ◌-◌, ◌%◌, ◌^◌, ◌<◌, ◌≤◌, Bool, true, false, ◌||◌, eqb, List, [], ◌∷◌, length, get_or, take, drop, sym, refl, ap, ◌∙◌, suc-le-suc, zero-le, le_trans, le_refl, add-one, arith, drop_of_length-le, length-take-le, drop-cons, get_or-take, below_more, ne_eqb, eqb-true}
+use Rattle.std.specs.List.{list_any}
 use Rattle.base.specs.Pick.{pick}
+use Rattle.table.proofs.Columns.{eqb-turned}
 use Rattle.journal.specs.Ids.{member, taken, first_free, new_id}
 
-pub turn : (x : ℕ) (xs : List ℕ) (n i : ℕ) → i < n → n ≤ length xs
-    → member x (drop i (take n xs)) ≡ eqb x (get_or xs i 0) || member x (drop (i + 1) (take n xs))
-turn x xs n i h l =
-    let b : i < length (take n xs) = omega (arith, length-take-le n xs l) in
-    ap (member x) (drop-cons (take n xs) i 0 b)
-    ∙ rw (add-one i, get_or-take n xs i 0 h)
-
-pub at_end : (x : ℕ) (xs : List ℕ) (n i : ℕ) → n ≤ i → n ≤ length xs → member x (drop i (take n xs)) ≡ false
-at_end x xs n i h l = ap (member x) (drop_of_length-le (take n xs) {i = i} (omega (arith, length-take-le n xs l)))
+pub any_member : (x : ℕ) (l : List ℕ) → list_any (λ (y : ℕ). eqb y x) l ≡ member x l
+any_member x [] = refl
+any_member x (y ∷ l) = rw (eqb-turned y x) (ap (λ (b : Bool). eqb x y || b) (any_member x l))
 
 -- ---- a list has no more different members than places
 
@@ -60,6 +56,16 @@ pigeonhole (suc k) f xs ne all =
     (λ i j l h. ne i j l (omega arith))
     (λ i h. stays (f k) (f i) xs (λ (q : f k ≡ f i). ne i k h (le_refl (suc k)) (sym q)) (all i (omega arith)))))
     (shorter (f k) xs (all k (le_refl (suc k))))
+
+-- how many candidates from c on stand in front of x, wrapping
+abbrev pub looked : ℕ → ℕ → ℕ
+looked c x = (x + 2 ^ 32 - c) % 2 ^ 32
+
+pub none-looked : (c : ℕ) → looked c c ≡ 0
+none-looked c = omega arith
+
+pub one-looked : (c k x y : ℕ) → c < 2 ^ 32 → k ≤ 65 → x ≡ (c + k) % 2 ^ 32 → y ≡ (x + 1) % 2 ^ 32 → looked c y ≡ k + 1
+one-looked c k x y h l e f = omega arith
 
 -- candidates from c on, wrapping
 pub apart : (c i j : ℕ) → i < j → j < 67 → (c + i) % 2 ^ 32 ≡ (c + j) % 2 ^ 32 → ⊥

@@ -1,8 +1,11 @@
 -- Pieces of a reply: one behind the other in the store, and their lengths. Assumes nothing.
 use Rattle.std.proofs.Common.{◌≡◌, ℕ, ◌+◌, ◌-◌, ◌≤◌, Bool, true, false, ltb, List, [], ◌∷◌, ◌++◌, length, sym, refl, ap, ◌∙◌, append-nil, arith, length-append, ltb-false, le-ltb}
 use mathlib.Core.Option.{Option}
+use Rattle.std.specs.Prelude.{Some, None}
 use Rattle.base.specs.Pick.{pick}
 use Rattle.base.specs.Bytes.{bytes32}
+use Rattle.packet.specs.AuthRead.{Named}
+use Rattle.base.specs.Place.{Place, span}
 use Rattle.digest.specs.Md5.{octets16}
 use Rattle.digest.specs.declared.md5.Octets16.{Octets16}
 use Rattle.digest.proofs.Octets.{length-octets16}
@@ -15,10 +18,6 @@ use Rattle.packet.specs.Placed.{Putting, putting, laid, placed}
 use Rattle.packet.specs.declared.tlv.Wrote.{Wrote}
 use Rattle.packet.specs.declared.store.LengthField.{LengthField}
 use Rattle.packet.specs.declared.store.LengthField.TheVariants.{OneByte, TwoBytes}
-use Rattle.packet.specs.declared.tlv.Found.{Found}
-use Rattle.packet.specs.declared.tlv.Found.TheVariants as place
-use Rattle.packet.specs.declared.auth.Named.{Named}
-use Rattle.packet.specs.declared.auth.Named.TheVariants as nonce
 use Rattle.packet.specs.declared.header.HeaderEncoding.TheVariants.{Bytes}
 use Rattle.packet.proofs.Laid.{length-laid, laid-nothing, laid-append}
 use Rattle.packet.proofs.AuthLaws.{length-request}
@@ -27,8 +26,7 @@ use Rattle.connection.specs.ConnectReply.{challenge_header}
 use Rattle.packet.specs.declared.header.HeaderAt.{HeaderAt}
 use Rattle.packet.specs.declared.header.HeaderAt.TheVariants.{At, Unreadable, End}
 use Rattle.packet.proofs.HeaderBytes.{header_at_within, part_length}
-use Rattle.connection.specs.declared.peer.ConnectionId.{ConnectionId}
-use Rattle.connection.specs.declared.peer.ConnectionId.TheVariants.{Id, Missing}
+use Rattle.connection.specs.Peer.{ConnectionId}
 use Rattle.connection.specs.Pieces.{id_bytes, who_bytes, answer_bytes, grant_bytes, end_of, cut_at, named_bytes, added_bytes, Room, Puts}
 use Rattle.connection.specs.Pieces.{id_size, who_size, answer_size, size_of, Inside, Ordered}
 
@@ -89,17 +87,17 @@ bytes-short id n a b h = rw (a, b) (le-ltb 65535 (3 + n) (omega arith))
 
 id_length : (f : ConnectionId) → length (id_bytes f) ≡ id_size f
 unfolding bytes_of encoding_of
-id_length (Id i) = refl
-id_length Missing = refl
+id_length (Some i) = refl
+id_length None = refl
 
 grant-length : (srm : Bool) → length (grant_bytes srm) ≡ pick srm 2 0
 unfolding bytes_of encoding_of
 grant-length true = refl
 grant-length false = refl
 
-pub who-length : (s : List ℕ) (who : Found) → Inside s who → length (who_bytes (bytes_at s who)) ≡ who_size who
-who-length s place.Missing w = refl
-who-length s (place.At a b) w = bytes-length 0x4A (part s a b) refl refl ∙ ap (λ (n : ℕ). 3 + n) (part_length s a b w.1)
+pub who-length : (s : List ℕ) (who : Place) → Inside s who → length (who_bytes (bytes_at s who)) ≡ who_size who
+who-length s None w = refl
+who-length s (Some p) w = bytes-length 0x4A (part s p.start p.end) refl refl ∙ ap (λ (n : ℕ). 3 + n) (part_length s p.start p.end w.1)
 
 pub response-length : (n : Octets16) (has : Bool) (user password : List ℕ)
     → length (write_tags (response_tags (octets16 n) (given has user) password)) ≡ 36 + pick has (2 + length user) 0
@@ -108,8 +106,8 @@ response-length n has user password =
     answer-length _ (octets16 n) (given has user) (length-request (octets16 n) password) (length-octets16 n) ∙ ap (λ (k : ℕ). 36 + k) (user-length has user)
 
 pub answer-bytes-length : (m : Named) (has : Bool) (user password : List ℕ) → length (answer_bytes m (given has user) password) ≡ answer_size m has (length user)
-answer-bytes-length nonce.Missing has user password = refl
-answer-bytes-length (nonce.Nonce n) has user password =
+answer-bytes-length None has user password = refl
+answer-bytes-length (Some n) has user password =
     let v = write_tags (response_tags (octets16 n) (given has user) password) in
     let e = response-length n has user password in
     bytes-length 0x4E v refl refl ∙ omega (arith, e)
@@ -129,20 +127,20 @@ tags-laid y z w v at id size r f forbidden a b l h s o p =
 
 -- ---- each piece
 
-pub id_puts : (y z : List ℕ) (at i : ℕ) (f : ConnectionId) (r : Wrote) → f ≡ Id i → Room y at (id_bytes f) → putting r z ≡ put_header y at (header 0xCB (bytes32 i))
+pub id_puts : (y z : List ℕ) (at i : ℕ) (f : ConnectionId) (r : Wrote) → f ≡ Some i → Room y at (id_bytes f) → putting r z ≡ put_header y at (header 0xCB (bytes32 i))
     → Puts y at (id_bytes f) (at + 5) z
 unfolding bytes_of encoding_of
 id_puts y z at i f r e m p =
-    let room : Room y at (id_bytes (Id i)) = rw e at m in
+    let room : Room y at (id_bytes (Some i)) = rw e at m in
     rw e (record { next_is = refl; store = header-laid y z at (header 0xCB (bytes32 i)) r refl (omega (arith, room.small, room.store)) p })
 
-pub who-puts : (y z s : List ℕ) (at a b : ℕ) (w : Found) (r : Wrote) → w ≡ place.At a b → Room y at (who_bytes (bytes_at s w)) → Inside s w
+pub who-puts : (y z s : List ℕ) (at a b : ℕ) (w : Place) (r : Wrote) → w ≡ span a b → Room y at (who_bytes (bytes_at s w)) → Inside s w
     → putting r z ≡ put_header y at (header 0x4A (part s a b)) → Puts y at (who_bytes (bytes_at s w)) (at + 3 + (b - a)) z
 who-puts y z s at a b w r e m i p =
-    let room : Room y at (who_bytes (bytes_at s (place.At a b))) = rw e at m in
-    let inside : Inside s (place.At a b) = rw e at i in
+    let room : Room y at (who_bytes (bytes_at s (span a b))) = rw e at m in
+    let inside : Inside s (span a b) = rw e at i in
     let l : length (part s a b) ≡ b - a = part_length s a b inside.1 in
-    let n : length (who_bytes (bytes_at s (place.At a b))) ≡ 3 + (b - a) = who-length s (place.At a b) inside in
+    let n : length (who_bytes (bytes_at s (span a b))) ≡ 3 + (b - a) = who-length s (span a b) inside in
     rw e
     (record {
       next_is = omega (arith, n);
@@ -156,7 +154,7 @@ pub user-small : (has : Bool) (user : List ℕ) → overlong (given has user) �
 user-small true user e = ltb-false 255 (length user) e
 user-small false user e = omega arith
 
-module _ (y user password : List ℕ) (at : ℕ) (n : Octets16) (has : Bool) (m : Named) (e : m ≡ nonce.Nonce n)
+module _ (y user password : List ℕ) (at : ℕ) (n : Octets16) (has : Bool) (m : Named) (e : m ≡ Some n)
     (room : Room y at (answer_bytes m (given has user) password)) (size : ℕ) (q : size ≡ 39 + pick has (2 + length user) 0) where
   bytes : length (answer_bytes m (given has user) password) ≡ size
   bytes = answer-bytes-length m has user password ∙ ap (λ (k : Named). answer_size k has (length user)) e ∙ sym q
@@ -194,8 +192,8 @@ no_grant y z a at next srm t p = rw (t, append-nil a) p.store
 -- ---- the headers with the id and Who
 
 pub cut-within : (f : ConnectionId) (hs : List ℕ) → cut_at f hs ≤ length hs
-cut-within (Id i) hs = omega arith
-cut-within Missing hs = go (header_at_of hs 0) refl
+cut-within (Some i) hs = omega arith
+cut-within None hs = go (header_at_of hs 0) refl
   where
     go : (a : HeaderAt) → header_at_of hs 0 ≡ a → end_of a ≤ length hs
     go End e = omega arith
@@ -245,29 +243,29 @@ module _ (y hs : List ℕ) (at cut : ℕ) (f : ConnectionId) (who : Option (List
 -- ---- bounds of their lengths
 
 pub id_at_most : (f : ConnectionId) → id_size f ≤ 5
-id_at_most (Id i) = omega arith
-id_at_most Missing = omega arith
+id_at_most (Some i) = omega arith
+id_at_most None = omega arith
 
-pub who_at_most : (w : Found) → Ordered w → who_size w ≤ 65538
-who_at_most place.Missing o = omega arith
-who_at_most (place.At a b) o = omega (arith, o.0, o.1)
+pub who_at_most : (w : Place) → Ordered w → who_size w ≤ 65538
+who_at_most None o = omega arith
+who_at_most (Some p) o = omega (arith, o.0, o.1)
 
 pub answer_at_most : (m : Named) (has : Bool) (n : ℕ) → pick has n 0 ≤ 255 → answer_size m has n ≤ 296
-answer_at_most nonce.Missing has n h = omega arith
-answer_at_most (nonce.Nonce m) true n h = omega arith
-answer_at_most (nonce.Nonce m) false n h = omega arith
+answer_at_most None has n h = omega arith
+answer_at_most (Some m) true n h = omega arith
+answer_at_most (Some m) false n h = omega arith
 
 pub grant_at_most : (srm : Bool) → pick srm 2 0 ≤ 2
 grant_at_most true = omega arith
 grant_at_most false = omega arith
 
-pub inside-ordered : (s : List ℕ) (w : Found) → Inside s w → length s ≤ 65535 → Ordered w
-inside-ordered s place.Missing i h = tt
-inside-ordered s (place.At a b) i h = (i.0, omega (arith, i.1))
+pub inside-ordered : (s : List ℕ) (w : Place) → Inside s w → length s ≤ 65535 → Ordered w
+inside-ordered s None i h = tt
+inside-ordered s (Some p) i h = (i.0, omega (arith, i.1))
 
 -- ---- all of them
 
-pub pieces-length : (s hs user password : List ℕ) (f : ConnectionId) (w : Found) (m : Named) (has srm : Bool) → Inside s w
+pub pieces-length : (s hs user password : List ℕ) (f : ConnectionId) (w : Place) (m : Named) (has srm : Bool) → Inside s w
     → size_of f w (length hs) m has (length user) srm ≡ length (named_bytes f (bytes_at s w) hs ++ added_bytes m (given has user) password srm)
 unfolding named_bytes added_bytes
 pieces-length s hs user password f w m has srm i =

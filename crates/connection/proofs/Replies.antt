@@ -2,6 +2,7 @@
 use Rattle.std.proofs.Common.{◌≡◌, ℕ, ◌+◌, ◌<◌, ◌≤◌, Bool, true, false, ltb, List, [], ◌∷◌, length, set, sym, refl, ap, ◌∙◌, true≢false, arith, ltb-false, le-ltb, lt-ltb}
 use mathlib.Core.Option.{Option, none, some}
 use lib.Seq.{paste, sets}
+use Rattle.std.specs.Prelude.{Some, None}
 use Rattle.base.specs.Pick.{pick}
 use Rattle.base.specs.Bytes.{bytes16}
 use Rattle.packet.specs.Codes.{sent_code}
@@ -10,7 +11,6 @@ use Rattle.packet.proofs.PacketWrites.{packet-length}
 use Rattle.connection.specs.declared.reply.Begun.{Begun}
 use Rattle.connection.specs.declared.reply.Fit.{Fit}
 use Rattle.connection.specs.declared.reply.Fit.TheVariants.{Whole, Replaced, TooLarge}
-use Rattle.connection.specs.declared.reply.Sent.TheVariants as sent
 use Rattle.connection.specs.Reply.{fields_of, start_bytes, send_bytes, fit_of_of, front, sending, sent_into, Beginning, beginning, begins_by}
 use Rattle.connection.proofs.Front.{front_length, front-sets, front-paste}
 use Rattle.packet.specs.Placed.{laid}
@@ -62,20 +62,20 @@ whole remote n h k = rw (le-ltb 65535 n h, le-ltb remote n k)
 -- ---- the code's answer and the store, by the same
 
 module _ (y : List ℕ) (remote code : ℕ) (fields hs : List ℕ) (f : Fit) (e : f ≡ fit_of_of remote (3 + length fields + length hs)) where
-  sends : (n : ℕ) (z q : List ℕ) → n ≡ length q → z ≡ front q y → sending (sent.Reply n) z ≡ sending (sent.Reply (length q)) (front q y)
+  sends : (n : ℕ) (z q : List ℕ) → n ≡ length q → z ≡ front q y → sending (Some n) z ≡ sending (Some (length q)) (front q y)
   sends n z q a b = rw (a, b)
 
-  pub sent-none : f ≡ TooLarge → sending sent.TooLarge y ≡ sent_into (send_bytes remote code fields hs) y
+  pub sent-none : f ≡ TooLarge → sending None y ≡ sent_into (send_bytes remote code fields hs) y
   sent-none k = rw (sends_by remote code fields hs f e, k)
 
   pub sent_replaced : f ≡ Replaced → (n : ℕ) (z : List ℕ) → n ≡ 3 + length fields → z ≡ front (packet_bytes (sent_code 0x50) fields []) y
-      → sending (sent.Reply n) z ≡ sent_into (send_bytes remote code fields hs) y
+      → sending (Some n) z ≡ sent_into (send_bytes remote code fields hs) y
   sent_replaced k n z a b =
       let q = packet_bytes (sent_code 0x50) fields [] in
       rw (sends_by remote code fields hs f e, k) (sends n z q (omega (arith, a, packet-length (sent_code 0x50) fields [])) b)
 
   pub sent-whole : f ≡ Whole → (n : ℕ) (z : List ℕ) → n ≡ 3 + length fields + length hs → z ≡ front (packet_bytes (sent_code code) fields hs) y
-      → sending (sent.Reply n) z ≡ sent_into (send_bytes remote code fields hs) y
+      → sending (Some n) z ≡ sent_into (send_bytes remote code fields hs) y
   sent-whole k n z a b =
       let q = packet_bytes (sent_code code) fields hs in
       rw (sends_by remote code fields hs f e, k) (sends n z q (a ∙ sym (packet-length (sent_code code) fields hs)) b)

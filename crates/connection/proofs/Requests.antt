@@ -2,12 +2,11 @@
 use Rattle.std.proofs.Common.{◌≡◌, ℕ, ◌≤◌, Bool, true, false, eqb, List, [], length, sym, refl, ap, ◌∙◌, arith, le-leb}
 use mathlib.Core.Option.{Option, none, some}
 use Rattle.base.specs.Pick.{pick}
+use Rattle.base.specs.Place.{Place, span, Some, None}
 use Rattle.packet.specs.Header.{Header, header_at_of, read_headers, first_place}
 use Rattle.packet.specs.HeaderList.{is_read, readable_from}
 use Rattle.packet.specs.declared.header.HeaderEncoding.{HeaderEncoding}
 use Rattle.packet.specs.declared.header.HeaderAt.TheVariants.{At, Unreadable, End}
-use Rattle.packet.specs.declared.tlv.Found.{Found}
-use Rattle.packet.specs.declared.tlv.Found.TheVariants as place
 use Rattle.packet.proofs.HeaderLaws.{by_cursor_lem, first_step, push-read}
 use Rattle.connection.specs.declared.request.ConnectRequest.{ConnectRequest}
 use Rattle.journal.specs.Journal.{list_of}
@@ -15,7 +14,7 @@ use Rattle.connection.specs.Pieces.{first_in, headers_from}
 use Rattle.connection.specs.Request.{connect_request, headerless, noted_found, noted_request, or_found}
 
 -- the place of the first header with an id, if `f` was found before `at`
-abbrev Left : ℕ → List ℕ → ℕ → ℕ → Found → Type 0
+abbrev Left : ℕ → List ℕ → ℕ → ℕ → Place → Type 0
 Left id s from at f = first_place id s from ≡ or_found f (first_place id s at)
 
 -- what was noted before `at`
@@ -27,8 +26,8 @@ pub record Walked (s : List ℕ) (from at : ℕ) (c : ConnectRequest) : Type 0 w
   pub response : Left 0x4E s from at c.response
   pub mode : Left 0x97 s from at c.mode
 
-begins-one : (id : ℕ) (s : List ℕ) (from : ℕ) (f : Found) → f ≡ place.Missing → Left id s from from f
-begins-one id s from f e = sym (ap (λ (f : Found). or_found f (first_place id s from)) e)
+begins-one : (id : ℕ) (s : List ℕ) (from : ℕ) (f : Place) → f ≡ None → Left id s from from f
+begins-one id s from f e = sym (ap (λ (f : Place). or_found f (first_place id s from)) e)
 
 -- nothing is noted before the first header
 pub begins : (s : List ℕ) (from : ℕ) (c : ConnectRequest) → c ≡ headerless from → Walked s from from c
@@ -42,17 +41,17 @@ begins s from c e =
       mode = begins-one 0x97 s from c.mode (ap (λ (c : ConnectRequest). c.mode) e);
     }
 
-found_on : (f rest : Found) (t : Bool) (a b : ℕ) → or_found f (pick t (place.At a b) rest) ≡ or_found (pick t (or_found f (place.At a b)) f) rest
-found_on (place.At x y) rest true a b = refl
-found_on (place.At x y) rest false a b = refl
-found_on place.Missing rest true a b = refl
-found_on place.Missing rest false a b = refl
+found_on : (f rest : Place) (t : Bool) (a b : ℕ) → or_found f (pick t (span a b) rest) ≡ or_found (pick t (or_found f (span a b)) f) rest
+found_on (Some p) rest true a b = refl
+found_on (Some p) rest false a b = refl
+found_on None rest true a b = refl
+found_on None rest false a b = refl
 
-goes_one : (id i : ℕ) (s : List ℕ) (from at a b : ℕ) (e : HeaderEncoding) (f g : Found) → header_at_of s at ≡ At i e a b → Left id s from at f
+goes_one : (id i : ℕ) (s : List ℕ) (from at a b : ℕ) (e : HeaderEncoding) (f g : Place) → header_at_of s at ≡ At i e a b → Left id s from at f
     → g ≡ noted_found f id i a b → Left id s from b g
 goes_one id i s from at a b e f g h l n =
     l ∙ ap (or_found f) (first_step id s at (At i e a b) h) ∙ found_on f (first_place id s b) (eqb i id) a b
-    ∙ sym (ap (λ (f : Found). or_found f (first_place id s b)) n)
+    ∙ sym (ap (λ (f : Place). or_found f (first_place id s b)) n)
 
 -- a header is noted
 pub goes_on : (s : List ℕ) (from at i : ℕ) (e : HeaderEncoding) (a b : ℕ) (c d : ConnectRequest) → header_at_of s at ≡ At i e a b → Walked s from at c
@@ -68,14 +67,14 @@ goes_on s from at i e a b c d h w n =
       mode = goes_one 0x97 i s from at a b e c.mode d.mode h w.mode (ap (λ (c : ConnectRequest). c.mode) n);
     }
 
-found_all : (f : Found) → or_found f place.Missing ≡ f
-found_all (place.At a b) = refl
-found_all place.Missing = refl
+found_all : (f : Place) → or_found f None ≡ f
+found_all (Some p) = refl
+found_all None = refl
 
-ends-one : (id : ℕ) (s : List ℕ) (from at : ℕ) (f : Found) → header_at_of s at ≡ End → readable_from s from ≡ true → Left id s from at f → f ≡ first_in id s from
+ends-one : (id : ℕ) (s : List ℕ) (from at : ℕ) (f : Place) → header_at_of s at ≡ End → readable_from s from ≡ true → Left id s from at f → f ≡ first_in id s from
 unfolding first_in
 ends-one id s from at f h r l =
-    sym (ap (λ (t : Bool). pick t (first_place id s from) place.Missing) r ∙ l ∙ ap (or_found f) (first_step id s at End h) ∙ found_all f)
+    sym (ap (λ (t : Bool). pick t (first_place id s from) None) r ∙ l ∙ ap (or_found f) (first_step id s at End h) ∙ found_all f)
 
 -- all headers are read
 pub ends : (s : List ℕ) (from at : ℕ) (c : ConnectRequest) → header_at_of s at ≡ End → Walked s from at c → c ≡ connect_request s from
@@ -117,12 +116,12 @@ unfolding first_in header_at_of
 first-same id s from = go (read_headers s from) refl
   where
     go : (r : Option (List Header)) → read_headers s from ≡ r
-        → pick (is_read r) (first_place id s from) place.Missing ≡ first_in id s (pick (is_read r) from (length s))
+        → pick (is_read r) (first_place id s from) None ≡ first_in id s (pick (is_read r) from (length s))
     go none e =
         let n : length s ≤ length s = omega arith in
         let h = first_step id s (length s) End (simp (le-leb _ _ n)) in
-        sym (ap (λ (t : Bool). pick t (first_place id s (length s)) place.Missing) (ap is_read (at_end s)) ∙ h)
-    go (some hs) e = sym (ap (λ (t : Bool). pick t (first_place id s from) place.Missing) (ap is_read e))
+        sym (ap (λ (t : Bool). pick t (first_place id s (length s)) None) (ap is_read (at_end s)) ∙ h)
+    go (some hs) e = sym (ap (λ (t : Bool). pick t (first_place id s from) None) (ap is_read e))
 
 -- a Connect's headers as they were read in one walk
 pub record Finds (s : List ℕ) (from : ℕ) (c : ConnectRequest) : Type 0 where

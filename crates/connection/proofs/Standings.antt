@@ -3,6 +3,7 @@
 use Rattle.std.proofs.Common.{◌≡◌, ℕ, ◌+◌, ◌%◌, ◌^◌, ◌<◌, ◌≤◌, Bool, true, false, eqb, ltb, leb, List, [], ◌∷◌, ◌++◌, length, take, set, refl, ap, ◌∙◌, add-one, arith, length-set, length-take, length-take-le, take-suc-set, drop-set-lt, ltb-false, ne_eqb, leb-false}
 use mathlib.Core.Option.{Option, none, some}
 use lib.Count.{ones}
+use Rattle.std.specs.Prelude.{Some, None}
 use Rattle.base.specs.Pick.{pick}
 use Rattle.base.specs.Bytes.{be32}
 use Rattle.digest.specs.Md5.{octets16}
@@ -10,10 +11,8 @@ use Rattle.digest.specs.declared.md5.Octets16.{Octets16}
 use Rattle.journal.specs.Ids.{member, without}
 use Rattle.journal.specs.Checks.{Check, right, wrong, stop, is_wrong, most_wrong, too_many_of, shifted, window_of}
 use Rattle.journal.specs.Journal.{Standing, with_check, open_id, opens_for, leaves, disconnected, password_checked, challenged}
-use Rattle.connection.specs.declared.peer.Challenge.{Challenge}
-use Rattle.connection.specs.declared.peer.Challenge.TheVariants.{Stored, Absent}
 use Rattle.connection.specs.declared.peer.Peer.{Peer}
-use Rattle.connection.specs.Peer.{peer_with, ids_of, Linked, fresh_peer, at_least255, limited, checked_peer, verified_peer, challenged_peer, opened, searched, target_given, opened_for, cleared_peer, left_peer, closed_tables, disconnected_peer}
+use Rattle.connection.specs.Peer.{peer_with, ids_of, Linked, fresh_peer, at_least255, limited, checked_peer, verified_peer, challenged_peer, opened, searched, target_given, opened_for, cleared_peer, left_peer, closed_tables, disconnected_peer, Challenge}
 use Rattle.table.specs.Nonces.{counted}
 use Rattle.table.specs.Targets.{target_by, place_of, target_set}
 use Rattle.table.specs.declared.targets.Target.{Target}
@@ -23,8 +22,8 @@ use Rattle.table.proofs.Naming.{length-target-set, target-set-front}
 use Rattle.connection.proofs.Closing.{without_shorter, closed-front, closed-length, closed-nonces, with_count}
 
 abbrev pub challenge_bytes : Challenge → Option (List ℕ)
-challenge_bytes Absent = none
-challenge_bytes (Stored n) = some (octets16 n)
+challenge_bytes None = none
+challenge_bytes (Some n) = some (octets16 n)
 
 -- the standing of a peer, whose open ids stand in the table store `t`, after the checks `h`; of these the peer has the window alone
 abbrev pub standing_of : Peer → List ℕ → List Check → Standing
@@ -168,7 +167,7 @@ checked-fits p b f =
     same-fits p p.next_connection_id p.srm_enabled p.authenticated p.challenge (shifted p.window b) f
 
 pub verified-fits : {m : ℕ} (p : Peer) → PeerFits m p → PeerFits m (verified_peer p)
-verified-fits p f = same-fits p p.next_connection_id p.srm_enabled true Absent p.window f
+verified-fits p f = same-fits p p.next_connection_id p.srm_enabled true None p.window f
 
 -- a challenge adds a nonce
 pub challenged-fits : {m : ℕ} (p : Peer) (n : Octets16) → PeerFits m p → PeerFits (counted m) (challenged_peer p n)

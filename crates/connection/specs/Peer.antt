@@ -1,5 +1,6 @@
 -- What Connect and Disconnect change (docs/PROTOCOL.md#connect, #connection-ids, #disconnect).
-use Rattle.std.specs.Prelude.{ℕ, ◌+◌, ◌%◌, ◌^◌, Bool, true, false, List, length, take, ◌==◌, nat_le, nat_lt, slice_set}
+use Rattle.std.specs.Prelude.{ℕ, ◌+◌, ◌%◌, ◌^◌, Bool, true, false, List, length, take, ◌==◌, nat_le, nat_lt, slice_set, Some, None}
+use Rattle.std.specs.Prelude.{Option as OrNone, option_map, unwrap_or}
 use Rattle.std.proofs.Math.Option.{Option, none, some}
 use Rattle.base.specs.Pick.{pick}
 use Rattle.base.specs.Bytes.{be32}
@@ -12,13 +13,16 @@ use Rattle.journal.specs.Ids.{member, without, new_id}
 use Rattle.journal.specs.Checks.{shifted}
 use Rattle.table.specs.Nonces.{counted}
 use Rattle.connection.specs.Reply.{front}
-use Rattle.connection.specs.declared.peer.Challenge.{Challenge}
-use Rattle.connection.specs.declared.peer.Challenge.TheVariants.{Stored, Absent}
 use Rattle.connection.specs.declared.peer.Peer.{Peer}
-use Rattle.connection.specs.declared.peer.ConnectionId.{ConnectionId}
-use Rattle.connection.specs.declared.peer.ConnectionId.TheVariants.{Id, Missing}
-use Rattle.connection.specs.declared.peer.Opening.{Opening}
 use Rattle.connection.specs.declared.peer.Answer.{Answer}
+
+-- The id that a header names, or that goes in front of an answer, if there is one, as the code has it.
+abbrev pub ConnectionId : Type 0
+ConnectionId = OrNone ℕ
+
+-- The nonce of the challenge that was sent and not yet answered, if there is one, as the code has it.
+abbrev pub Challenge : Type 0
+Challenge = OrNone Octets16
 
 -- The one definition that lists the fields; it is shut, so that proofs do not write them all out.
 unfoldable pub peer_with : ℕ → ℕ → ℕ → Bool → Bool → Challenge → ℕ → ℕ → Peer
@@ -49,7 +53,7 @@ linked p t = record { peer = p; tables = t }
 
 -- A fresh engine's peer: nothing is open or remembered, the counter is at 1, and the limit is the smallest.
 abbrev pub fresh_peer : Peer
-fresh_peer = peer_with 0 1 min_packet false false Absent 0 0
+fresh_peer = peer_with 0 1 min_packet false false None 0 0
 
 -- A limit that a Connect names, at least 255.
 abbrev pub at_least255 : ℕ → ℕ
@@ -73,13 +77,13 @@ checked_peer p wrong =
 
 -- The peer after a right password: the challenge is used up.
 abbrev pub verified_peer : Peer → Peer
-verified_peer p = authenticated_peer p true Absent
+verified_peer p = authenticated_peer p true None
 
 -- The peer once a challenge with the nonce `n` was sent: there is one more that the table store remembers, up to 32
 -- (docs/PROTOCOL.md#nonces).
 abbrev pub challenged_peer : Peer → Octets16 → Peer
 challenged_peer p n =
-    peer_with p.count p.next_connection_id p.remote_max_packet_length p.srm_enabled false (Stored n) p.window (counted p.nonces)
+    peer_with p.count p.next_connection_id p.remote_max_packet_length p.srm_enabled false (Some n) p.window (counted p.nonces)
 
 -- The peer with Single Response Mode (SRM) on or off.
 abbrev pub srm_peer : Peer → Bool → Peer
@@ -140,54 +144,66 @@ disconnected_peer p t (some v) = closed_linked p t (be32 v 0)
 
 -- The id that a header names, as the code has it.
 abbrev pub id_in : Option (List ℕ) → ConnectionId
-id_in none = Missing
-id_in (some v) = Id (be32 v 0)
+id_in none = None
+id_in (some v) = Some (be32 v 0)
 
--- What opening leads to, with the table store afterwards.
+-- The Target that an id takes, by the request's first Target header, if there is one, as the code has it.
+abbrev pub AskedTarget : Type 0
+AskedTarget = OrNone Target
+
+abbrev pub target_asked : Option (List ℕ) → AskedTarget
+target_asked none = None
+target_asked (some v) = Some (target_by v)
+
+-- What opening leads to, with the table store afterwards: the peer, or none.
 pub record Opens : Type 0 where
-  pub opening : Opening
+  pub peer : OrNone Peer
   pub tables : List ℕ
 
 -- Makes an `Opens`.
-abbrev pub opens : Opening → List ℕ → Opens
-opens r t = record { opening = r; tables = t }
+abbrev pub opens : OrNone Peer → List ℕ → Opens
+opens r t = record { peer = r; tables = t }
 
--- A 65th leaves the peer and the table store as they were.
-abbrev pub opening_of : Peer → List ℕ → Option Linked → Opens
-opening_of p t none = opens (record { full = true; peer = p }) t
-opening_of p t (some q) = opens (record { full = false; peer = q.peer }) q.tables
+-- A 65th is not opened, and leaves the table store as it was.
+abbrev pub opening_of : List ℕ → Option Linked → Opens
+opening_of t none = opens None t
+opening_of t (some q) = opens (Some q.peer) q.tables
 
--- A Connect succeeds, by numbers: the id that the answer names, whether there is a Target header, and the Target `g` that it gives.
-abbrev pub opened_by : Peer → List ℕ → Bool → ConnectionId → Bool → Target → Option Linked
-opened_by p t srm (Id i) has g = opened p t srm i p.next_connection_id g
-opened_by p t srm Missing true g = opened p t srm (searched p t) ((searched p t + 1) % 2 ^ 32) g
-opened_by p t srm Missing false g = some (linked (srm_peer p srm) t)
+-- A Connect succeeds, by numbers: the id that the answer names, and the Target `w` that the Target header gives, if there is one.
+abbrev pub opened_by : Peer → List ℕ → Bool → ConnectionId → AskedTarget → Option Linked
+opened_by p t srm (Some i) w = opened p t srm i p.next_connection_id (unwrap_or w unnamed)
+opened_by p t srm None (Some g) = opened p t srm (searched p t) ((searched p t + 1) % 2 ^ 32) g
+opened_by p t srm None None = some (linked (srm_peer p srm) t)
 
 -- The id that goes in front: for a Target, if the answer has none.
-abbrev pub front_by_of : Peer → List ℕ → ConnectionId → Bool → ConnectionId
-front_by_of p t (Id i) target = Missing
-front_by_of p t Missing true = Id (searched p t)
-front_by_of p t Missing false = Missing
+abbrev pub front_by_of : Peer → List ℕ → ConnectionId → AskedTarget → ConnectionId
+front_by_of p t (Some i) w = None
+front_by_of p t None (Some g) = Some (searched p t)
+front_by_of p t None None = None
 
--- What the host's answer to a Connect leads to, with the table store afterwards.
+-- What the host's answer to a Connect leads to, with the table store afterwards: nothing if its id is a 65th.
 pub record Answers : Type 0 where
-  pub answer : Answer
+  pub answer : OrNone Answer
   pub tables : List ℕ
 
 -- Makes an `Answers`.
-abbrev pub answers : Answer → List ℕ → Answers
+abbrev pub answers : OrNone Answer → List ℕ → Answers
 answers r t = record { answer = r; tables = t }
+
+-- The peer with the id `f` that goes in front of the host's answer.
+abbrev pub answer_with : ConnectionId → Peer → Answer
+answer_with f p = record { peer = p; front = f }
 
 -- What opening leads to, with the id `f` that goes in front of the host's answer.
 abbrev pub answer_from : Opens → ConnectionId → Answers
-answer_from o f = answers (record { opening = o.opening; front = f }) o.tables
+answer_from o f = answers (option_map (answer_with f) o.peer) o.tables
 
--- What the host's answer to a Connect leads to, by numbers: the id that it names, whether there is a Target header, and the Target `g` that
--- it gives.
-abbrev pub answer_by : Peer → List ℕ → Bool → ConnectionId → Bool → Target → Answers
-answer_by p t srm given has g = answer_from (opening_of p t (opened_by p t srm given has g)) (front_by_of p t given has)
+-- What the host's answer to a Connect leads to, by numbers: the id that it names, and the Target `w` that the Target header gives, if there
+-- is one.
+abbrev pub answer_by : Peer → List ℕ → Bool → ConnectionId → AskedTarget → Answers
+answer_by p t srm given w = answer_from (opening_of t (opened_by p t srm given w)) (front_by_of p t given w)
 
 -- A Disconnect, by the number that it names.
 abbrev pub disconnected_by : Peer → List ℕ → ConnectionId → Linked
-disconnected_by p t Missing = linked (cleared_peer p) t
-disconnected_by p t (Id i) = closed_linked p t i
+disconnected_by p t None = linked (cleared_peer p) t
+disconnected_by p t (Some i) = closed_linked p t i

@@ -1,9 +1,10 @@
 -- The reply to a Connect as the code has it: places in the packet, numbers, and bytes piece by piece. proofs/ConnectBytes says that the
 -- pieces are the bytes of `connect_headers`.
-use Rattle.std.specs.Prelude.{◌≡◌, ℕ, ◌+◌, ◌-◌, ◌≤◌, Bool, true, false, List, [], ◌∷◌, ◌++◌, length, ◌==◌}
+use Rattle.std.specs.Prelude.{◌≡◌, ℕ, ◌+◌, ◌-◌, ◌≤◌, Bool, true, false, List, [], ◌∷◌, ◌++◌, length, ◌==◌, Option as Maybe, Some, None}
 use Rattle.std.proofs.Math.Option.{Option, none, some}
 use Rattle.base.specs.Pick.{pick}
 use Rattle.base.specs.Bytes.{bytes32}
+use Rattle.base.specs.Place.{Place}
 use Rattle.digest.specs.Md5.{octets16}
 use Rattle.packet.specs.Limits.{max_packet}
 use Rattle.packet.specs.HeaderIds as header_id
@@ -14,23 +15,14 @@ use Rattle.packet.specs.HeaderWriter.{header}
 use Rattle.packet.specs.Tags.{write_tags}
 use Rattle.packet.specs.Placed.{laid}
 use Rattle.packet.specs.Auth.{Challenge as PeerChallenge, realm_place, response_tags}
-use Rattle.packet.specs.AuthRead.{challenge_read, read_challenge, verifies}
+use Rattle.packet.specs.AuthRead.{Named, challenge_read, read_challenge, verifies}
 use Rattle.packet.specs.declared.header.HeaderAt.{HeaderAt}
 use Rattle.packet.specs.declared.header.HeaderAt.TheVariants.{At, Unreadable, End}
-use Rattle.packet.specs.declared.tlv.Found.{Found}
-use Rattle.packet.specs.declared.tlv.Found.TheVariants as place
-use Rattle.packet.specs.declared.auth.Named.{Named}
-use Rattle.packet.specs.declared.auth.Named.TheVariants as nonce
 use Rattle.packet.specs.declared.auth.DigestChallenge.{DigestChallenge}
-use Rattle.packet.specs.declared.auth.DigestChallenge.TheVariants as challenge
 use Rattle.packet.specs.declared.auth.DigestResponse.{DigestResponse}
-use Rattle.packet.specs.declared.auth.DigestResponse.TheVariants as response
 use Rattle.journal.specs.Calls.{Credentials}
 use Rattle.journal.specs.Journal.{list_of}
-use Rattle.connection.specs.declared.peer.Challenge.{Challenge}
-use Rattle.connection.specs.declared.peer.Challenge.TheVariants.{Stored, Absent}
-use Rattle.connection.specs.declared.peer.ConnectionId.{ConnectionId}
-use Rattle.connection.specs.declared.peer.ConnectionId.TheVariants.{Id, Missing}
+use Rattle.connection.specs.Peer.{ConnectionId, Challenge}
 use Rattle.connection.specs.ConnectReply.{challenges, answered_challenge}
 
 -- ---- what is read
@@ -40,8 +32,8 @@ abbrev pub headers_from : List ℕ → ℕ → List Header
 headers_from s from = list_of (read_headers s from)
 
 -- Where the value of the first header with an id stands, among headers that can all be read.
-unfoldable pub first_in : ℕ → List ℕ → ℕ → Found
-first_in id s from = pick (readable_from s from) (first_place id s from) place.Missing
+unfoldable pub first_in : ℕ → List ℕ → ℕ → Place
+first_in id s from = pick (readable_from s from) (first_place id s from) None
 
 -- The challenges could all be read.
 abbrev pub is_known : Option (List PeerChallenge) → Bool
@@ -54,36 +46,36 @@ known_in none = false
 known_in (some hs) = is_known (challenges hs)
 
 -- A challenge could be read.
-abbrev pub is_challenge : DigestChallenge → Bool
-is_challenge challenge.Unreadable = false
-is_challenge (challenge.Challenge n u r p) = true
+abbrev pub is_challenge : Maybe DigestChallenge → Bool
+is_challenge None = false
+is_challenge (Some c) = true
 
 -- A header is no challenge, or one that can be read.
 abbrev pub known_header : ℕ → List ℕ → Bool
 known_header id v = pick (id == header_id.authenticate_challenge) (is_challenge (read_challenge v)) true
 
 -- Where the realm stands in the tag list of a challenge.
-abbrev pub realm_of : Option (List ℕ) → Found
-realm_of none = place.Missing
+abbrev pub realm_of : Option (List ℕ) → Place
+realm_of none = None
 realm_of (some v) = realm_place v
 
 -- The challenge that is answered, with its realm's place in its tag list.
-unfoldable pub answered_in : List Header → DigestChallenge
+unfoldable pub answered_in : List Header → Maybe DigestChallenge
 answered_in hs = challenge_read (answered_challenge hs) (realm_of (first header_id.authenticate_challenge hs))
 
 -- The nonce of a challenge.
-abbrev pub nonce_of : DigestChallenge → Named
-nonce_of challenge.Unreadable = nonce.Missing
-nonce_of (challenge.Challenge n u r p) = nonce.Nonce n
+abbrev pub nonce_of : Maybe DigestChallenge → Named
+nonce_of None = None
+nonce_of (Some c) = Some c.nonce
 
 -- The nonce of the challenge that is answered, if there are credentials to answer it.
 abbrev pub nonce_for : Bool → List Header → Named
-nonce_for has hs = pick has (nonce_of (answered_in hs)) nonce.Missing
+nonce_for has hs = pick has (nonce_of (answered_in hs)) None
 
 -- The Target that Who gives back, if the answer has no Who.
-abbrev pub who_place : Found → Found → Found
-who_place target place.Missing = target
-who_place target (place.At a b) = place.Missing
+abbrev pub who_place : Place → Place → Place
+who_place target None = target
+who_place target (Some p) = None
 
 -- Where a header ends.
 abbrev pub end_of : HeaderAt → ℕ
@@ -93,25 +85,25 @@ end_of End = 0
 
 -- Where Who goes: behind the id in front, or behind the first header.
 abbrev pub cut_at : ConnectionId → List ℕ → ℕ
-cut_at (Id i) s = 0
-cut_at Missing s = end_of (header_at_of s 0)
+cut_at (Some i) s = 0
+cut_at None s = end_of (header_at_of s 0)
 
 -- ---- the check of a password
 
 -- The check of a password (verify_client): without a stored challenge, a readable response or a password it fails, and without a user id if
 -- the server `demands` one.
-abbrev pub check_of : Challenge → DigestResponse → Bool → Option (List ℕ) → Bool
-check_of Absent r demands p = false
-check_of (Stored n) response.Unreadable demands p = false
-check_of (Stored n) (response.Response d u m) demands none = false
-check_of (Stored n) (response.Response d u m) demands (some p) = verifies n d u m demands p
+abbrev pub check_of : Challenge → Maybe DigestResponse → Bool → Option (List ℕ) → Bool
+check_of None r demands p = false
+check_of (Some n) None demands p = false
+check_of (Some n) (Some r) demands none = false
+check_of (Some n) (Some r) demands (some p) = verifies n r.digest r.user r.nonce demands p
 
 -- ---- the bytes
 
 -- The bytes of the ConnectionID in front.
 abbrev pub id_bytes : ConnectionId → List ℕ
-id_bytes Missing = []
-id_bytes (Id i) = bytes_of (header header_id.connection_id (bytes32 i))
+id_bytes None = []
+id_bytes (Some i) = bytes_of (header header_id.connection_id (bytes32 i))
 
 -- The bytes of Who.
 abbrev pub who_bytes : Option (List ℕ) → List ℕ
@@ -120,8 +112,8 @@ who_bytes (some t) = bytes_of (header header_id.who t)
 
 -- The bytes of the answer to the peer's challenge.
 abbrev pub answer_bytes : Named → Option (List ℕ) → List ℕ → List ℕ
-answer_bytes nonce.Missing user password = []
-answer_bytes (nonce.Nonce n) user password = bytes_of (header header_id.authenticate_response (write_tags (response_tags (octets16 n) user password)))
+answer_bytes None user password = []
+answer_bytes (Some n) user password = bytes_of (header header_id.authenticate_response (write_tags (response_tags (octets16 n) user password)))
 
 -- The bytes of the header that grants Single Response Mode (SRM).
 abbrev pub grant_bytes : Bool → List ℕ
@@ -154,32 +146,32 @@ readable s = pick (readable_from s 0) s []
 
 -- How many bytes the ConnectionID in front takes.
 abbrev pub id_size : ConnectionId → ℕ
-id_size Missing = 0
-id_size (Id i) = 5
+id_size None = 0
+id_size (Some i) = 5
 
 -- How many bytes Who takes.
-abbrev pub who_size : Found → ℕ
-who_size place.Missing = 0
-who_size (place.At a b) = 3 + (b - a)
+abbrev pub who_size : Place → ℕ
+who_size None = 0
+who_size (Some p) = 3 + (p.end - p.start)
 
 -- How many bytes the answer to the peer's challenge takes.
 abbrev pub answer_size : Named → Bool → ℕ → ℕ
-answer_size nonce.Missing has n = 0
-answer_size (nonce.Nonce m) has n = 39 + pick has (2 + n) 0
+answer_size None has n = 0
+answer_size (Some m) has n = 39 + pick has (2 + n) 0
 
 -- How many bytes all the headers take.
-abbrev pub size_of : ConnectionId → Found → ℕ → Named → Bool → ℕ → Bool → ℕ
+abbrev pub size_of : ConnectionId → Place → ℕ → Named → Bool → ℕ → Bool → ℕ
 size_of f who n m has u srm = id_size f + n + who_size who + answer_size m has u + pick srm 2 0
 
 -- A place that starts before it ends, within 65,535 bytes.
-abbrev pub Ordered : Found → Type 0
-Ordered place.Missing = Unit {0}
-Ordered (place.At a b) = (a ≤ b) × (b ≤ max_packet)
+abbrev pub Ordered : Place → Type 0
+Ordered None = Unit {0}
+Ordered (Some p) = (p.start ≤ p.end) × (p.end ≤ max_packet)
 
 -- A place that lies inside some bytes.
-abbrev pub Inside : List ℕ → Found → Type 0
-Inside s place.Missing = Unit {0}
-Inside s (place.At a b) = (a ≤ b) × (b ≤ length s)
+abbrev pub Inside : List ℕ → Place → Type 0
+Inside s None = Unit {0}
+Inside s (Some p) = (p.start ≤ p.end) × (p.end ≤ length s)
 
 -- The credentials that the host gives.
 abbrev pub credentials_of : Bool → Option (List ℕ) → List ℕ → Option Credentials
@@ -188,5 +180,5 @@ credentials_of true user password = some (record { user = user; password = passw
 
 -- The id that goes in front.
 abbrev pub id_given : ConnectionId → Option ℕ
-id_given Missing = none
-id_given (Id i) = some i
+id_given None = none
+id_given (Some i) = some i

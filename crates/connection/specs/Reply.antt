@@ -1,6 +1,7 @@
 -- Replies (docs/PROTOCOL.md#reply-limit; the source's send): a reply over 65,535 bytes ends the engine (7); one over the peer's limit
 -- becomes Internal Server Error, which keeps Connect's fields.
 use Rattle.std.specs.Prelude.{ℕ, ◌+◌, Bool, true, false, List, [], ◌∷◌, ◌++◌, length, drop, nat_lt}
+use Rattle.std.specs.Prelude.{Option as OrNone, Some, None}
 use Rattle.std.proofs.Math.Option.{Option, none, some}
 use Rattle.base.specs.Pick.{pick}
 use Rattle.base.specs.Bytes.{bytes16}
@@ -10,8 +11,6 @@ use Rattle.packet.specs.ResponseCodes as response
 use Rattle.packet.specs.Modes as modes
 use Rattle.packet.specs.Codes.{sent_code}
 use Rattle.packet.specs.Packet.{packet_bytes}
-use Rattle.connection.specs.declared.reply.Sent.{Sent}
-use Rattle.connection.specs.declared.reply.Sent.TheVariants.{Reply, TooLarge}
 use Rattle.connection.specs.declared.reply.Begun.{Begun}
 use Rattle.connection.specs.declared.reply.Fit.{Fit}
 use Rattle.connection.specs.declared.reply.Fit.TheVariants as fit
@@ -42,19 +41,19 @@ continue_bytes true = packet_bytes (sent_code response.continue) [] (header_id.s
 
 -- ---- the code's answer, with the reply store afterwards
 
--- The code's answer, with the reply store afterwards.
+-- The code's answer, how many bytes the reply takes or none, with the reply store afterwards.
 pub record Sending : Type 0 where
-  pub answer : Sent
+  pub answer : OrNone ℕ
   pub reply : List ℕ
 
 -- Makes a `Sending`.
-abbrev pub sending : Sent → List ℕ → Sending
+abbrev pub sending : OrNone ℕ → List ℕ → Sending
 sending r y = record { answer = r; reply = y }
 
 -- What sending leads to; a reply that is too large leaves the store as it was.
 abbrev pub sent_into : Option (List ℕ) → List ℕ → Sending
-sent_into none y = sending TooLarge y
-sent_into (some q) y = sending (Reply (length q)) (front q y)
+sent_into none y = sending None y
+sent_into (some q) y = sending (Some (length q)) (front q y)
 
 -- What becomes of a reply of `n` bytes, by the peer's limit.
 abbrev pub fit_of_of : ℕ → ℕ → Fit
@@ -73,6 +72,6 @@ beginning r y = record { answer = r; reply = y }
 
 -- A reply to a Connect begins: what stands before its headers of `n` bytes, or the reply in its place.
 abbrev pub begins_by : Fit → ℕ → ℕ → ℕ → List ℕ → Beginning
-begins_by fit.TooLarge code limit n y = beginning (record { whole = false; sent = TooLarge }) y
-begins_by fit.Replaced code limit n y = beginning (record { whole = false; sent = Reply 7 }) (front (start_bytes (sent_code response.internal_server_error) 7 limit) y)
-begins_by fit.Whole code limit n y = beginning (record { whole = true; sent = Reply (7 + n) }) (front (start_bytes (sent_code code) (7 + n) limit) y)
+begins_by fit.TooLarge code limit n y = beginning (record { whole = false; sent = None }) y
+begins_by fit.Replaced code limit n y = beginning (record { whole = false; sent = Some 7 }) (front (start_bytes (sent_code response.internal_server_error) 7 limit) y)
+begins_by fit.Whole code limit n y = beginning (record { whole = true; sent = Some (7 + n) }) (front (start_bytes (sent_code code) (7 + n) limit) y)

@@ -1,15 +1,14 @@
 -- The headers that the engine looks for in a Connect that it answers (docs/PROTOCOL.md#connect): of each the first, if all can be read.
 use Rattle.std.specs.Prelude.{ℕ, List, length, ◌==◌}
 use Rattle.base.specs.Pick.{pick}
+use Rattle.base.specs.Place.{Place, span, Some, None}
 use Rattle.packet.specs.HeaderIds as header_id
 use Rattle.packet.specs.HeaderList.{readable_from}
-use Rattle.packet.specs.declared.tlv.Found.{Found}
-use Rattle.packet.specs.declared.tlv.Found.TheVariants as place
 use Rattle.connection.specs.declared.request.ConnectRequest.{ConnectRequest}
 use Rattle.connection.specs.Pieces.{first_in}
 
 -- Makes a `ConnectRequest`.
-abbrev pub found_request : ℕ → Found → Found → Found → Found → ConnectRequest
+abbrev pub found_request : ℕ → Place → Place → Place → Place → ConnectRequest
 found_request from t c r m = record { from = from; target = t; challenge = c; response = r; mode = m }
 
 -- The headers of `s` from `from` on, read as those of a Connect. Headers that cannot be read start at the end, so that there are none.
@@ -20,18 +19,18 @@ connect_request s from =
 
 -- The request in which nothing is found, with headers that start at `from`.
 abbrev pub headerless : ℕ → ConnectRequest
-headerless from = found_request from place.Missing place.Missing place.Missing place.Missing
+headerless from = found_request from None None None None
 
 -- ---- as the walk has it
 
 -- The first of two places that was found.
-abbrev pub or_found : Found → Found → Found
-or_found (place.At a b) f = place.At a b
-or_found place.Missing f = f
+abbrev pub or_found : Place → Place → Place
+or_found (Some p) f = Some p
+or_found None f = f
 
 -- A header with `id` stands from `a` up to `b`, and it is the first of its id unless one was found before.
-abbrev pub noted_found : Found → ℕ → ℕ → ℕ → ℕ → Found
-noted_found f wanted id a b = pick (id == wanted) (or_found f (place.At a b)) f
+abbrev pub noted_found : Place → ℕ → ℕ → ℕ → ℕ → Place
+noted_found f wanted id a b = pick (id == wanted) (or_found f (span a b)) f
 
 -- The header is noted at each of the four places, by its id.
 unfoldable pub noted_request : ConnectRequest → ℕ → ℕ → ℕ → ConnectRequest

@@ -5,18 +5,18 @@ ghost use Rattle.packet.specs.Header.{read_headers};
 ghost use Rattle.packet.specs.AuthWrite.{given};
 ghost use Rattle.connection.specs.Pieces.{headers_from, first_in, known_header, known_in, answered_in, nonce_for, check_of};
 
-use crate::peer::Challenge;
-use packet::auth::{DigestChallenge, DigestResponse, Named, read_challenge, verify};
+use base::Span;
+use digest::md5::Octets16;
+use packet::auth::{DigestChallenge, DigestResponse, read_challenge, verify};
 use packet::header::{HeaderAt, first_header, header_at, is_readable};
 use packet::header_id::AUTHENTICATE_CHALLENGE;
-use packet::tlv::Found;
 
 // Finds the value of the first header with `id`. If not all headers can be read, nothing is found.
-pub fn first_in(s: &[u8], from: usize, id: u8) -> Found
+pub fn first_in(s: &[u8], from: usize, id: u8) -> Option<Span>
     ensures { result ≡ first_in id s.now from }
 {
     if !is_readable(s, from) {
-        return Found::Missing;
+        return None;
     }
     first_header(s, from, id)
 }
@@ -25,19 +25,7 @@ pub fn first_in(s: &[u8], from: usize, id: u8) -> Found
 fn is_known(id: u8, value: &[u8]) -> bool
     ensures { result ≡ known_header id value.now }
 {
-    if id != AUTHENTICATE_CHALLENGE {
-        return true;
-    }
-    let DigestChallenge::Challenge {
-        nonce: _,
-        user_id_required: _,
-        read_only: _,
-        realm: _,
-    } = read_challenge(value)
-    else {
-        return false;
-    };
-    true
+    id != AUTHENTICATE_CHALLENGE || read_challenge(value).is_some()
 }
 
 // Tells whether all headers can be read, and all challenges among them.
@@ -70,56 +58,51 @@ fn are_known(packet: &[u8], from: usize) -> bool
 
 // Reads the peer's first challenge, which is the one answered. If any challenge cannot be read, none is answered (the source's
 // DigestChallenge::find_all).
-pub fn answered_challenge(packet: &[u8], from: usize) -> DigestChallenge
+pub fn answered_challenge(packet: &[u8], from: usize) -> Option<DigestChallenge>
     ensures { result ≡ answered_in (headers_from packet.now from) }
 {
     if !are_known(packet, from) {
-        return DigestChallenge::Unreadable;
+        return None;
     }
-    let Found::At { start, end } = first_header(packet, from, AUTHENTICATE_CHALLENGE) else {
-        return DigestChallenge::Unreadable;
+    let Some(value) = first_header(packet, from, AUTHENTICATE_CHALLENGE) else {
+        return None;
     };
-    read_challenge(&packet[start..end])
+    read_challenge(value.of(packet))
 }
 
 // Returns the nonce of the peer's first challenge, if the host has credentials to answer it.
-pub fn nonce_for(packet: &[u8], from: usize, has_credentials: bool) -> Named
+pub fn nonce_for(packet: &[u8], from: usize, has_credentials: bool) -> Option<Octets16>
     ensures { result ≡ nonce_for has_credentials (headers_from packet.now from) }
 {
     if !has_credentials {
-        return Named::Missing;
+        return None;
     }
-    let DigestChallenge::Challenge {
-        nonce,
-        user_id_required: _,
-        read_only: _,
-        realm: _,
-    } = answered_challenge(packet, from)
-    else {
-        return Named::Missing;
-    };
-    Named::Nonce(nonce)
+    let challenge = answered_challenge(packet, from)?;
+    Some(challenge.nonce)
 }
 
 // Tells whether the password is right for the stored challenge and the client's response (the source's verify_client). If the server
 // `demands` a user id, a response without one fails (docs/PROTOCOL.md#digest).
 pub fn verify_client(
-    stored: Challenge,
-    found: DigestResponse,
+    stored: Option<Octets16>,
+    found: Option<DigestResponse>,
     demands: bool,
+    // Stays a flag beside the bytes: so a host hands the password over, from C too (`engine::calls::password_given`).
     has_password: bool,
     password: &[u8],
 ) -> bool
     ensures { result ≡ check_of stored found demands (given has_password password.now) }
 {
-    let Challenge::Stored(nonce) = stored else {
+    let Some(nonce) = stored else {
         return false;
     };
-    let DigestResponse::Response {
-        digest,
-        user,
-        nonce: named,
-    } = found
+    let Some(
+        DigestResponse {
+            digest,
+            user,
+            nonce: named,
+        },
+    ) = found
     else {
         return false;
     };

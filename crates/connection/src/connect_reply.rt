@@ -20,18 +20,16 @@ ghost use Rattle.connection.specs.Pieces.{id_bytes, who_bytes, answer_bytes, nam
 ghost use Rattle.connection.specs.Pieces.{id_size, who_size, answer_size, size_of, Inside, Ordered};
 
 use crate::challenge::{first_in, nonce_for};
-use crate::peer::ConnectionId;
-use crate::reply::{Sent, begin_connect};
-use base::copy_into;
+use crate::reply::begin_connect;
+use base::{Span, copy_into};
 use digest::md5::Octets16;
-use packet::auth::{Named, respond, write_challenge};
+use packet::auth::{respond, write_challenge};
 use packet::header::{HeaderAt, header_at, is_readable, put_bytes, put_u8, put_u32};
 use packet::header_id::{
     AUTHENTICATE_CHALLENGE, AUTHENTICATE_RESPONSE, CONNECTION_ID, SINGLE_RESPONSE_MODE, WHO,
 };
 use packet::response::UNAUTHORIZED;
 use packet::srm::ENABLE;
-use packet::tlv::Found;
 
 // ---- what goes into it
 
@@ -46,20 +44,20 @@ fn readable_len(headers: &[u8]) -> usize
 }
 
 // Returns the place that Who gives back: that of the packet's `target`, unless the host gave a Who itself.
-fn who_place(target: Found, headers: &[u8]) -> Found
+fn who_place(target: Option<Span>, headers: &[u8]) -> Option<Span>
     ensures { result ≡ who_place target (first_in header_id.who headers.now 0) }
 {
-    if let Found::At { start: _, end: _ } = first_in(headers, 0, WHO) {
-        return Found::Missing;
+    if first_in(headers, 0, WHO).is_some() {
+        return None;
     }
     target
 }
 
 // Returns how many of the host's header bytes go before Who, which is the second header.
-fn who_cut(front: ConnectionId, headers: &[u8]) -> usize
+fn who_cut(front: Option<u32>, headers: &[u8]) -> usize
     ensures { result ≡ cut_at front headers.now }
 {
-    if let ConnectionId::Id(_) = front {
+    if let Some(_) = front {
         return 0;
     }
     match header_at(headers, 0) {
@@ -77,40 +75,44 @@ fn who_cut(front: ConnectionId, headers: &[u8]) -> usize
 // ---- how long it is
 
 // Returns how many bytes the ConnectionID in front takes.
-fn id_size(front: ConnectionId) -> usize
+fn id_size(front: Option<u32>) -> usize
     ensures { result ≡ id_size front }
 {
     match front {
-        ConnectionId::Id(_) => 5,
-        ConnectionId::Missing => 0,
+        Some(_) => 5,
+        None => 0,
     }
 }
 
 // Returns how many bytes Who takes.
-fn who_size(who: Found) -> usize
+fn who_size(who: Option<Span>) -> usize
     requires { Ordered who }
     ensures { result ≡ who_size who }
 {
-    let Found::At { start, end } = who else {
-        return 0;
-    };
-    3 + (end - start)
+    match who {
+        Some(value) => 3 + value.size(),
+        None => 0,
+    }
 }
 
+// Stays a flag beside a length, as `connect_reply` has them.
+//
 // Returns how many bytes the answer to the peer's challenge takes.
-fn answer_size(nonce: Named, has_user: bool, user: usize) -> usize
+fn answer_size(nonce: Option<Octets16>, has_user: bool, user: usize) -> usize
     requires { pick has_user user 0 ≤ max_tag_value }
     ensures { result ≡ answer_size nonce has_user user }
 {
-    if let Named::Missing = nonce {
+    let Some(_) = nonce else {
         return 0;
-    }
+    };
     if !has_user {
         return 39;
     }
     39 + (2 + user)
 }
 
+// Stays a flag beside a length, as `challenge_reply` has them.
+//
 // Returns how many bytes the header with a challenge takes: 24 without a realm (IrOBEX 1.5, section 3.6.4).
 fn challenge_size(has_realm: bool, realm: usize) -> usize
     requires { pick has_realm realm 0 ≤ 254 }
@@ -134,10 +136,11 @@ fn grant_size(srm: bool) -> usize
 
 // Returns how many bytes the headers of the reply take.
 fn connect_size(
-    front: ConnectionId,
-    who: Found,
+    front: Option<u32>,
+    who: Option<Span>,
     headers: usize,
-    nonce: Named,
+    nonce: Option<Octets16>,
+    // Stays a flag beside a length, as `connect_reply` has them.
     has_user: bool,
     user: usize,
     srm: bool,
@@ -170,11 +173,11 @@ fn put_part(reply: &mut [u8], at: usize, s: &[u8], from: usize, to: usize) -> us
 }
 
 // Writes the ConnectionID in front, if there is one, and returns the place behind it.
-fn put_id(reply: &mut [u8], at: usize, front: ConnectionId) -> usize
+fn put_id(reply: &mut [u8], at: usize, front: Option<u32>) -> usize
     requires { Room reply.old at (id_bytes front) }
     ensures { Puts reply.old at (id_bytes front) result reply.new }
 {
-    let ConnectionId::Id(id) = front else {
+    let Some(id) = front else {
         return at;
     };
     put_u32(reply, at, CONNECTION_ID, id);
@@ -182,23 +185,23 @@ fn put_id(reply: &mut [u8], at: usize, front: ConnectionId) -> usize
 }
 
 // Writes Who, if there is one, and returns the place behind it.
-fn put_who(reply: &mut [u8], at: usize, who: Found, packet: &[u8]) -> usize
+fn put_who(reply: &mut [u8], at: usize, who: Option<Span>, packet: &[u8]) -> usize
     requires { Room reply.old at (who_bytes (bytes_at packet.now who)) × Inside packet.now who }
     ensures { Puts reply.old at (who_bytes (bytes_at packet.now who)) result reply.new }
 {
-    let Found::At { start, end } = who else {
+    let Some(value) = who else {
         return at;
     };
-    put_bytes(reply, at, WHO, &packet[start..end]);
-    at + 3 + (end - start)
+    put_bytes(reply, at, WHO, value.of(packet));
+    at + 3 + value.size()
 }
 
 // Writes the host's headers, with the id in front and Who in the second place, and returns the place behind them.
 fn put_named(
     reply: &mut [u8],
     at: usize,
-    front: ConnectionId,
-    who: Found,
+    front: Option<u32>,
+    who: Option<Span>,
     packet: &[u8],
     headers: &[u8],
 ) -> usize
@@ -217,7 +220,8 @@ fn put_named(
 fn put_answer(
     reply: &mut [u8],
     at: usize,
-    nonce: Named,
+    nonce: Option<Octets16>,
+    // Stays a flag beside the bytes, as `connect_reply` has them.
     has_user: bool,
     user: &[u8],
     password: &[u8],
@@ -227,7 +231,7 @@ fn put_answer(
     ensures { Puts reply.old at (answer_bytes nonce (given has_user user.now) password.now)
         result reply.new }
 {
-    let Named::Nonce(n) = nonce else {
+    let Some(n) = nonce else {
         return at;
     };
     let size = answer_size(nonce, has_user, user.len());
@@ -240,7 +244,8 @@ fn put_answer(
 fn put_added(
     reply: &mut [u8],
     at: usize,
-    nonce: Named,
+    nonce: Option<Octets16>,
+    // Stays a flag beside the bytes, as `connect_reply` has them.
     has_user: bool,
     user: &[u8],
     password: &[u8],
@@ -263,16 +268,17 @@ fn send_pieces(
     remote: usize,
     code: u8,
     limit: u16,
-    front: ConnectionId,
-    who: Found,
+    front: Option<u32>,
+    who: Option<Span>,
     packet: &[u8],
     headers: &[u8],
-    nonce: Named,
+    nonce: Option<Octets16>,
+    // Stays a flag beside the bytes, as `connect_reply` has them.
     has_user: bool,
     user: &[u8],
     password: &[u8],
     srm: bool,
-) -> Sent
+) -> Option<usize>
     requires { (max_packet ≤ length reply.old) × (length packet.now ≤ max_packet) × (length headers.now ≤ max_packet) × Inside packet.now who
         × (overlong (given has_user user.now) ≡ false) }
     ensures { sending result reply.new ≡ sent_into (send_bytes remote code (fields_of limit)
@@ -295,17 +301,18 @@ pub fn connect_reply(
     remote: usize,
     code: u8,
     limit: u16,
-    front: ConnectionId,
+    front: Option<u32>,
     packet: &[u8],
     from: usize,
-    target: Found,
+    target: Option<Span>,
     headers: &[u8],
     has_credentials: bool,
+    // Stays a flag beside the bytes: so a host hands a user id over, from C too (`engine::calls::credentials_given`).
     has_user: bool,
     user: &[u8],
     password: &[u8],
     srm: bool,
-) -> Sent
+) -> Option<usize>
     requires { (max_packet ≤ length reply.old) × (length packet.now ≤ max_packet) × (length headers.now ≤ max_packet)
         × (overlong (given has_user user.now) ≡ false) × (target ≡ first_in header_id.target packet.now from) }
     ensures { sending result reply.new ≡ sent_into (send_bytes remote code (fields_of limit) (all_bytes
@@ -332,10 +339,11 @@ pub fn challenge_reply(
     nonce: Octets16,
     user_id_required: bool,
     read_only: bool,
+    // Stays a flag beside the bytes: so the settings say whether there is a realm, from C too (`server::Settings`).
     has_realm: bool,
     charset: u8,
     realm: &[u8],
-) -> Sent
+) -> Option<usize>
     requires { (max_packet ≤ length reply.old) × (overlong (given has_realm (charset ∷ realm.now)) ≡ false) }
     ensures { sending result reply.new ≡ sent_into (send_bytes remote response.unauthorized (fields_of limit) (bytes_of
         (challenge_header (octets16 nonce) (flag_bits user_id_required read_only) (given has_realm (charset ∷ realm.now)))))

@@ -12,17 +12,10 @@ use crate::checks::pushed;
 use digest::md5::Octets16;
 use packet::limits::{MAX_CONNECTIONS, MIN_PACKET};
 use table::nonces::counted;
-use table::targets::{Target, close_targets, find_place, put_target};
+use table::targets::{Target, close_targets, find_place, put_target, unnamed};
 
 // The number that is reserved as an invalid connection id.
 const INVALID_ID: u32 = 0xFFFFFFFF;
-
-// The nonce of the challenge that was sent and not yet answered.
-#[derive(Clone, Copy)]
-pub enum Challenge {
-    Stored(Octets16),
-    Absent,
-}
 
 // What Connect and Disconnect change. The open ids are not here: they are the first `count` numbers of the table store, which the host
 // lends to the calls that look at them, so that a state of few bytes goes from call to call.
@@ -41,14 +34,8 @@ pub struct Peer {
     pub srm_enabled: bool,
     // The peer gave the right password.
     pub authenticated: bool,
-    pub challenge: Challenge,
-}
-
-// An id that a header names, or that goes in front of an answer.
-#[derive(Clone, Copy)]
-pub enum ConnectionId {
-    Id(u32),
-    Missing,
+    // The nonce of the challenge that was sent and not yet answered.
+    pub challenge: Option<Octets16>,
 }
 
 // An id that the search found.
@@ -59,18 +46,11 @@ pub struct NewId {
     pub next: u32,
 }
 
-// What opening an id leads to: with 64 ids open a further one is not opened, and the peer stays as it was.
-#[derive(Clone, Copy)]
-pub struct Opening {
-    pub full: bool,
-    pub peer: Peer,
-}
-
-// What the host's answer to a Connect leads to, with the id that goes in front of it.
+// What the host's answer to a Connect leads to: the peer, with the id that goes in front of the answer.
 #[derive(Clone, Copy)]
 pub struct Answer {
-    pub opening: Opening,
-    pub front: ConnectionId,
+    pub peer: Peer,
+    pub front: Option<u32>,
 }
 
 // ---- the open ids
@@ -80,15 +60,7 @@ pub fn is_open(ids: &[u64], count: usize, id: u32) -> bool
     requires { (count ≤ max_connections) × (count ≤ length ids.now) }
     ensures { result ≡ member id (take count ids.now) }
 {
-    let wanted = id as u64;
-    let mut i = 0;
-    while i < count {
-        if ids[i] == wanted {
-            return true;
-        }
-        i += 1;
-    }
-    false
+    ids[..count].contains(&u64::from(id))
 }
 
 // Tells whether the search passes `id` over: it is reserved or open.
@@ -96,10 +68,7 @@ fn is_taken(ids: &[u64], count: usize, id: u32) -> bool
     requires { (count ≤ max_connections) × (count ≤ length ids.now) }
     ensures { result ≡ taken (take count ids.now) id }
 {
-    if id == INVALID_ID {
-        return true;
-    }
-    is_open(ids, count, id)
+    id == INVALID_ID || is_open(ids, count, id)
 }
 
 // Finds the first number that is not open, counting up from the counter, and leaves the counter one past it.
@@ -108,18 +77,14 @@ pub fn allocate_connection_id(ids: &[u64], count: usize, counter: u32) -> NewId
     ensures id_value { (result.id ≡ new_id (take count ids.now) counter) × (result.next ≡ (result.id + 1) % 2 ^ 32) }
     ensures unused { taken (take count ids.now) result.id ≡ false }
 {
-    let mut at = counter;
-    let mut looked: u32 = 0;
-    let id = loop {
-        if !is_taken(ids, count, at) {
-            break at;
-        }
-        at = std::num::wrapping_add_u32(at, 1);
-        looked += 1;
-    };
+    let mut id = counter;
+    // Stays a loop: `find` would answer an Option, and this search always finds an id.
+    while is_taken(ids, count, id) {
+        id = id.wrapping_add(1);
+    }
     NewId {
         id,
-        next: std::num::wrapping_add_u32(id, 1),
+        next: id.wrapping_add(1),
     }
 }
 
@@ -129,16 +94,13 @@ fn close_id(ids: &mut [u64], count: usize, id: u32) -> usize
     ensures value { result ≡ length (without id (take count ids.old)) }
     ensures store { ids.new ≡ front (without id (take count ids.old)) ids.old }
 {
-    let closed = id as u64;
     let mut kept = 0;
-    let mut i = 0;
-    while i < count {
-        let x = ids[i];
-        if x != closed {
-            ids[kept] = x;
+    // Stays a loop over an index: it writes at or in front of the place that it reads, and slices have no `retain`.
+    for i in 0..count {
+        if ids[i] != u64::from(id) {
+            ids[kept] = ids[i];
             kept += 1;
         }
-        i += 1;
     }
     kept
 }
@@ -159,34 +121,27 @@ pub fn close_link(tables: &mut [u64], count: usize, id: u32) -> usize
 fn at_least_minimum(n: u16) -> u16
     ensures { result ≡ at_least255 n }
 {
-    if n < MIN_PACKET {
-        return MIN_PACKET;
-    }
-    n
+    n.max(MIN_PACKET)
 }
 
 // Sets the peer's limit, which its Connect names.
 pub fn limited(peer: Peer, max_packet_length: u16) -> Peer
     ensures { result ≡ limitedPeer peer max_packet_length }
 {
-    let mut r = peer;
-    r.remote_max_packet_length = at_least_minimum(max_packet_length);
-    r
+    Peer {
+        remote_max_packet_length: at_least_minimum(max_packet_length),
+        ..peer
+    }
 }
 
 // Returns the peer with this authentication; the rest stays.
-fn with_authentication(peer: Peer, authenticated: bool, challenge: Challenge) -> Peer
+fn with_authentication(peer: Peer, authenticated: bool, challenge: Option<Octets16>) -> Peer
     ensures { result ≡ authenticated_peer peer authenticated challenge }
 {
     Peer {
-        count: peer.count,
-        nonces: peer.nonces,
-        window: peer.window,
-        next_connection_id: peer.next_connection_id,
-        remote_max_packet_length: peer.remote_max_packet_length,
-        srm_enabled: peer.srm_enabled,
         authenticated,
         challenge,
+        ..peer
     }
 }
 
@@ -194,34 +149,37 @@ fn with_authentication(peer: Peer, authenticated: bool, challenge: Challenge) ->
 pub fn with_check(peer: Peer, wrong: bool) -> Peer
     ensures { result ≡ checked_peer peer wrong }
 {
-    let mut r = peer;
-    r.window = pushed(peer.window, wrong);
-    r
+    Peer {
+        window: pushed(peer.window, wrong),
+        ..peer
+    }
 }
 
 // Marks the peer as authenticated: the password was right, and the challenge is used up.
 pub fn verified(peer: Peer) -> Peer
     ensures { result ≡ verified_peer peer }
 {
-    with_authentication(peer, true, Challenge::Absent)
+    with_authentication(peer, true, None)
 }
 
 // Stores the nonce of a new challenge, which is one more that is remembered; the peer is no longer authenticated.
 pub fn challenged(peer: Peer, nonce: Octets16) -> Peer
     ensures { result ≡ challenged_peer peer nonce }
 {
-    let mut r = with_authentication(peer, false, Challenge::Stored(nonce));
-    r.nonces = counted(peer.nonces);
-    r
+    Peer {
+        nonces: counted(peer.nonces),
+        ..with_authentication(peer, false, Some(nonce))
+    }
 }
 
 // Returns the peer with Single Response Mode (SRM) on or off; the rest stays.
 fn with_srm(peer: Peer, srm: bool) -> Peer
     ensures { result ≡ srm_peer peer srm }
 {
-    let mut r = peer;
-    r.srm_enabled = srm;
-    r
+    Peer {
+        srm_enabled: srm,
+        ..peer
+    }
 }
 
 // Returns the peer with one id more, the counter `next`, and SRM.
@@ -229,14 +187,16 @@ fn with_id(peer: Peer, srm: bool, next: u32) -> Peer
     requires { peer.count < max_connections }
     ensures { result ≡ added_peer peer srm next }
 {
-    let mut r = peer;
-    r.count = peer.count + 1;
-    r.next_connection_id = next;
-    r.srm_enabled = srm;
-    r
+    Peer {
+        count: peer.count + 1,
+        next_connection_id: next,
+        srm_enabled: srm,
+        ..peer
+    }
 }
 
-// Opens `id` if it is not open yet, behind the ids of `tables` that are. A 65th is not opened. Open or not, it takes `target`.
+// Opens `id` if it is not open yet, behind the ids of `tables` that are. A 65th is not opened, and there is no peer with it. Open or not, it
+// takes `target`.
 pub fn opened(
     peer: Peer,
     srm: bool,
@@ -244,76 +204,69 @@ pub fn opened(
     next: u32,
     target: Target,
     tables: &mut [u64],
-) -> Opening
+) -> Option<Peer>
     requires { (peer.count ≤ max_connections) × (table_length ≤ length tables.old) }
     ensures { opens result tables.new
-        ≡ opening_of peer tables.old (openedPeer peer tables.old srm id next target) }
+        ≡ opening_of tables.old (openedPeer peer tables.old srm id next target) }
 {
     let count = peer.count;
-    if is_open(&tables[..], count, id) {
-        let place = find_place(&tables[..], count, id);
+    if let Some(place) = find_place(tables, count, id) {
         put_target(tables, place, target);
-        return Opening {
-            full: false,
-            peer: with_srm(peer, srm),
-        };
+        return Some(with_srm(peer, srm));
     }
     if count >= MAX_CONNECTIONS {
-        return Opening { full: true, peer };
+        return None;
     }
-    tables[count] = id as u64;
+    tables[count] = u64::from(id);
     put_target(tables, count, target);
-    Opening {
-        full: false,
-        peer: with_id(peer, srm, next),
-    }
+    Some(with_id(peer, srm, next))
 }
 
 // Opens the id of a Connect that succeeded: the one that the host's answer names, else, for a Target header, a new one. `target` is the
-// Target that the header gives.
+// Target that the header gives, if there is one. If the id is a 65th, there is no answer.
 pub fn opened_for(
     peer: Peer,
     srm: bool,
-    given: ConnectionId,
-    has_target: bool,
-    target: Target,
+    given: Option<u32>,
+    target: Option<Target>,
     tables: &mut [u64],
-) -> Answer
+) -> Option<Answer>
     requires { (peer.count ≤ max_connections) × (table_length ≤ length tables.old) }
-    ensures { answers result tables.new ≡ answer_by peer tables.old srm given has_target target }
+    ensures { answers result tables.new ≡ answer_by peer tables.old srm given target }
 {
-    if let ConnectionId::Id(id) = given {
-        return Answer {
-            opening: opened(peer, srm, id, peer.next_connection_id, target, tables),
-            front: ConnectionId::Missing,
-        };
+    if let Some(id) = given {
+        let asked = target.unwrap_or(unnamed());
+        let with = opened(peer, srm, id, peer.next_connection_id, asked, tables)?;
+        return Some(Answer {
+            peer: with,
+            front: None,
+        });
     }
-    if !has_target {
-        return Answer {
-            opening: Opening {
-                full: false,
-                peer: with_srm(peer, srm),
-            },
-            front: ConnectionId::Missing,
-        };
-    }
-    let found = allocate_connection_id(&tables[..], peer.count, peer.next_connection_id);
-    Answer {
-        opening: opened(peer, srm, found.id, found.next, target, tables),
-        front: ConnectionId::Id(found.id),
-    }
+    let Some(target) = target else {
+        return Some(Answer {
+            peer: with_srm(peer, srm),
+            front: None,
+        });
+    };
+    let found = allocate_connection_id(tables, peer.count, peer.next_connection_id);
+    let with = opened(peer, srm, found.id, found.next, target, tables)?;
+    Some(Answer {
+        peer: with,
+        front: Some(found.id),
+    })
 }
 
 // Clears all connections, SRM, authentication and the peer's limit; the counter, the challenge, the window and the nonces stay.
 fn cleared(peer: Peer) -> Peer
     ensures { result ≡ cleared_peer peer }
 {
-    let mut r = peer;
-    r.count = 0;
-    r.remote_max_packet_length = MIN_PACKET;
-    r.srm_enabled = false;
-    r.authenticated = false;
-    r
+    Peer {
+        count: 0,
+        remote_max_packet_length: MIN_PACKET,
+        srm_enabled: false,
+        authenticated: false,
+        ..peer
+    }
 }
 
 // Returns the peer with `count` ids left open; if none is left, all is cleared.
@@ -323,17 +276,15 @@ pub fn with_left(peer: Peer, count: usize) -> Peer
     if count == 0 {
         return cleared(peer);
     }
-    let mut r = peer;
-    r.count = count;
-    r
+    Peer { count, ..peer }
 }
 
 // Closes the id that a Disconnect names. If it names none, or the last closes, all is cleared.
-pub fn disconnected(peer: Peer, named: ConnectionId, tables: &mut [u64]) -> Peer
+pub fn disconnected(peer: Peer, named: Option<u32>, tables: &mut [u64]) -> Peer
     requires { (peer.count ≤ max_connections) × (table_length ≤ length tables.old) }
     ensures { linked result tables.new ≡ disconnected_by peer tables.old named }
 {
-    let ConnectionId::Id(id) = named else {
+    let Some(id) = named else {
         return cleared(peer);
     };
     let count = close_link(tables, peer.count, id);

@@ -13,20 +13,16 @@ use packet::packet::{OBEX_VERSION, put_prefix};
 use packet::response::{CONTINUE_BYTE, INTERNAL_SERVER_ERROR, to_byte};
 use packet::srm::ENABLE;
 
-// What sending leads to: a reply of that many bytes stands in the store, or the reply is too large (7).
-#[derive(Clone, Copy)]
-pub enum Sent {
-    Reply(usize),
-    TooLarge,
-}
-
-// A reply that was begun: whether its headers are to follow, and what sending then leads to.
+// A reply that was begun: whether its headers are to follow, and how many bytes of it then stand in the store; none if the reply is too
+// large (7).
 #[derive(Clone, Copy)]
 pub struct Begun {
     pub whole: bool,
-    pub sent: Sent,
+    pub sent: Option<usize>,
 }
 
+// Stays an enum of three answers: a reply that is replaced is sent, and one that is too large is not.
+//
 // What becomes of a reply by its length: it goes whole, it is replaced, or it is too large for any packet.
 #[derive(Clone, Copy)]
 pub enum Fit {
@@ -73,24 +69,22 @@ pub fn put_continue(reply: &mut [u8], grant: bool) -> usize
     5
 }
 
-// Writes a reply with headers and without Connect's fields.
-pub fn send(reply: &mut [u8], remote: usize, code: u8, headers: &[u8]) -> Sent
+// Writes a reply with headers and without Connect's fields, and returns how many bytes that takes; none if the reply is too large (7).
+pub fn send(reply: &mut [u8], remote: usize, code: u8, headers: &[u8]) -> Option<usize>
     requires { max_packet ≤ length reply.old }
     ensures { sending result reply.new ≡ sent_into (send_bytes remote code [] headers.now) reply.old }
 {
     let n = headers.len();
     match fits(remote, 3, n) {
-        Fit::TooLarge => {
-            return Sent::TooLarge;
-        }
+        Fit::TooLarge => None,
         Fit::Replaced => {
             put_prefix(reply, to_byte(INTERNAL_SERVER_ERROR), 3);
-            return Sent::Reply(3);
+            Some(3)
         }
         Fit::Whole => {
             put_prefix(reply, to_byte(code), 3 + n);
             copy_into(reply, 3, headers);
-            return Sent::Reply(3 + n);
+            Some(3 + n)
         }
     }
 }
@@ -115,27 +109,33 @@ pub fn begin_connect(reply: &mut [u8], remote: usize, code: u8, limit: u16, size
     match fits(remote, 7, size) {
         Fit::TooLarge => Begun {
             whole: false,
-            sent: Sent::TooLarge,
+            sent: None,
         },
         Fit::Replaced => {
             put_connect_prefix(reply, to_byte(INTERNAL_SERVER_ERROR), 7, limit);
             Begun {
                 whole: false,
-                sent: Sent::Reply(7),
+                sent: Some(7),
             }
         }
         Fit::Whole => {
             put_connect_prefix(reply, to_byte(code), 7 + size, limit);
             Begun {
                 whole: true,
-                sent: Sent::Reply(7 + size),
+                sent: Some(7 + size),
             }
         }
     }
 }
 
-// Writes a reply with Connect's fields and headers.
-pub fn send_connect(reply: &mut [u8], remote: usize, code: u8, limit: u16, headers: &[u8]) -> Sent
+// Writes a reply with Connect's fields and headers, and returns how many bytes that takes; none if the reply is too large (7).
+pub fn send_connect(
+    reply: &mut [u8],
+    remote: usize,
+    code: u8,
+    limit: u16,
+    headers: &[u8],
+) -> Option<usize>
     requires { max_packet ≤ length reply.old }
     ensures { sending result reply.new
         ≡ sent_into (send_bytes remote code (fields_of limit) headers.now) reply.old }

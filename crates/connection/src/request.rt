@@ -3,11 +3,11 @@
 ghost use Rattle.std.specs.Prelude.{◌≡◌};
 ghost use Rattle.connection.specs.Request.{connect_request, noted_found, noted_request, headerless};
 
+use base::Span;
 use packet::header::HeaderAt;
 use packet::header_id::{
     AUTHENTICATE_CHALLENGE, AUTHENTICATE_RESPONSE, SINGLE_RESPONSE_MODE, TARGET,
 };
-use packet::tlv::Found;
 use walk::step;
 
 // Where the headers start, and where the values of four of them stand, of each the first. If not all headers can be read, none is found,
@@ -15,24 +15,21 @@ use walk::step;
 #[derive(Clone, Copy)]
 pub struct ConnectRequest {
     pub from: usize,
-    pub target: Found,
-    pub challenge: Found,
-    pub response: Found,
-    pub mode: Found,
+    pub target: Option<Span>,
+    pub challenge: Option<Span>,
+    pub response: Option<Span>,
+    pub mode: Option<Span>,
 }
 
 // Returns the place that is found of the headers with the id `wanted` once the header with `id` is read, whose value stands from `start` up
 // to `end`. The first one counts.
-fn noted(found: Found, wanted: u8, id: u8, start: usize, end: usize) -> Found
+fn noted(found: Option<Span>, wanted: u8, id: u8, start: usize, end: usize) -> Option<Span>
     ensures { result ≡ noted_found found wanted id start end }
 {
     if id != wanted {
         return found;
     }
-    match found {
-        Found::At { start: _, end: _ } => found,
-        Found::Missing => Found::At { start, end },
-    }
+    found.or(Some(Span { start, end }))
 }
 
 // Notes the header with `id`, whose value stands from `start` up to `end`.
@@ -58,10 +55,10 @@ fn nothing_found(from: usize) -> ConnectRequest
 {
     ConnectRequest {
         from,
-        target: Found::Missing,
-        challenge: Found::Missing,
-        response: Found::Missing,
-        mode: Found::Missing,
+        target: None,
+        challenge: None,
+        response: None,
+        mode: None,
     }
 }
 

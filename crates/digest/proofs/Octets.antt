@@ -1,8 +1,9 @@
 -- Bytes and numbers: from one to the other and back. Assumes nothing.
 use Rattle.std.proofs.Common.{◌≡◌, ℕ, zero, suc, ◌+◌, ◌*◌, ◌/◌, ◌%◌, ◌^◌, ◌<◌, ◌≤◌, List, [], ◌∷◌, ◌++◌, reverse, length, get_or, take, drop, replicate, sym, refl, ap, ◌∙◌, subst, ap₂, pow-suc, arith, length-append, length-drop, take-append-drop, length-take-le, take_all, take-take, drop-drop, take_at, take-add, drop_at}
-use mathlib.Core.List.{reverse_aux, reverse-append, reverse-reverse}
+use mathlib.Core.List.{reverse_aux, reverse-reverse}
 use lib.ListN.{length-reverse}
 use lib.Seq.{paste}
+use Rattle.std.specs.Int.{w64, to_le_bytes, to_be_bytes, from_be_bytes}
 use Rattle.digest.specs.declared.md5.Regs.{Regs}
 use Rattle.digest.specs.declared.md5.Octets16.{Octets16}
 use Rattle.digest.specs.Md5.{le, le_value, be, be_value, octets16, numbers16, output_of, digest_of}
@@ -85,10 +86,35 @@ be_value_lem l h =
     ∙ ap reverse (le-value (reverse l) (bytes-reverse l [] h tt))
     ∙ reverse-reverse l
 
--- one byte more
-pub value_snoc : (l : List ℕ) (b : ℕ) → be_value (l ++ (b ∷ [])) ≡ be_value l * 256 + b
+-- ---- the library's bytes and numbers
+
+pub le-bytes : (x : ℕ) → to_le_bytes w64 x ≡ le 8 x
+unfolding le
+le-bytes x =
+    let h2 : x / 65536 ≡ x / 256 / 256 = omega arith in
+    let h3 : x / 16777216 ≡ x / 256 / 256 / 256 = omega arith in
+    let h4 : x / 4294967296 ≡ x / 256 / 256 / 256 / 256 = omega arith in
+    let h5 : x / 1099511627776 ≡ x / 256 / 256 / 256 / 256 / 256 = omega arith in
+    let h6 : x / 281474976710656 ≡ x / 256 / 256 / 256 / 256 / 256 / 256 = omega arith in
+    let h7 : x / 72057594037927936 ≡ x / 256 / 256 / 256 / 256 / 256 / 256 / 256 = omega arith in
+    rw (h2, h3, h4, h5, h6, h7)
+
+pub be-bytes : (x : ℕ) → to_be_bytes w64 x ≡ be 8 x
+unfolding be
+be-bytes x = ap reverse (le-bytes x)
+
+pub bytes-value : (l : List ℕ) → length l ≡ 8 → from_be_bytes w64 l ≡ be_value l
 unfolding be_value le_value
-value_snoc l b = ap le_value (reverse-append l (b ∷ [])) ∙ omega arith
+bytes-value [] e = absurd (omega (arith, e))
+bytes-value (b0 ∷ []) e = absurd (omega (arith, e))
+bytes-value (b0 ∷ b1 ∷ []) e = absurd (omega (arith, e))
+bytes-value (b0 ∷ b1 ∷ b2 ∷ []) e = absurd (omega (arith, e))
+bytes-value (b0 ∷ b1 ∷ b2 ∷ b3 ∷ []) e = absurd (omega (arith, e))
+bytes-value (b0 ∷ b1 ∷ b2 ∷ b3 ∷ b4 ∷ []) e = absurd (omega (arith, e))
+bytes-value (b0 ∷ b1 ∷ b2 ∷ b3 ∷ b4 ∷ b5 ∷ []) e = absurd (omega (arith, e))
+bytes-value (b0 ∷ b1 ∷ b2 ∷ b3 ∷ b4 ∷ b5 ∷ b6 ∷ []) e = absurd (omega (arith, e))
+bytes-value (b0 ∷ b1 ∷ b2 ∷ b3 ∷ b4 ∷ b5 ∷ b6 ∷ b7 ∷ []) e = omega arith
+bytes-value (b0 ∷ b1 ∷ b2 ∷ b3 ∷ b4 ∷ b5 ∷ b6 ∷ b7 ∷ b8 ∷ l) e = absurd (omega (arith, e))
 
 -- ---- sixteen bytes
 
@@ -130,14 +156,6 @@ output_bytes m =
 pub length-digest : (m : List ℕ) → length (digest_of m) ≡ 16
 unfolding digest_of output_of
 length-digest m = simp (length-append, length-le)
-
--- a word's bytes
-pub value-four : (a b c d : ℕ) → be_value (a ∷ b ∷ c ∷ d ∷ []) ≡ a * 16777216 + b * 65536 + c * 256 + d
-unfolding be_value le_value
-value-four a b c d = omega arith
-
-pub small-four : (a b c d : ℕ) → a < 256 → b < 256 → c < 256 → d < 256 → a * 16777216 + b * 65536 + c * 256 + d < 2 ^ 32
-small-four a b c d ha hb hc hd = omega arith
 
 -- two registers in a row
 pub value-words : (a b : ℕ) (l : List ℕ) → be_value (take 8 (le 4 a ++ (le 4 b ++ l))) ≡ be_value (le 4 a) * 4294967296 + be_value (le 4 b)

@@ -1,24 +1,7 @@
--- What md5.rt's own functions say of each other, beside the RFC's definitions in Md5: the numbers of one step, and the part of a message
--- that falls into a block.
-use Rattle.std.specs.Prelude.{◌≡◌, ℕ, ◌-◌, ◌/◌, ◌<◌, min, List, length, drop, slice_index}
+-- What md5.rt's own functions say of each other, beside the RFC's definitions in Md5: the part of a message that falls into a block.
+use Rattle.std.specs.Prelude.{ℕ, ◌-◌, min, List, length, drop}
 use Rattle.std.proofs.Math.Seq.{paste}
-use Rattle.digest.specs.declared.md5.Regs.{Regs}
 use Rattle.digest.specs.declared.md5.Span.{Span}
-use Rattle.digest.specs.Md5.{table, shifts, word_at, steps}
-
--- `t` is reached from `s` by `i` steps on the block `p`, with the constants `k`; step `i` belongs to round `r` and takes the word `w` and
--- the shift `n`.
-pub record Turn (p k : List ℕ) (s t : Regs) (r i w n : ℕ) : Type 0 where
-  pub whole : length p ≡ 64
-  pub before : t ≡ steps p i s
-  pub round : i / 16 ≡ r
-  pub takes : w ≡ word_at r i
-  pub inside : w < 16
-  pub constants : k ≡ table
-  pub known : i < 64
-  pub shift : n ≡ slice_index shifts i
-  pub some : 0 < n
-  pub short : n < 32
 
 -- Which of the `n` elements of a part at `from` fall into the block at `at`: the place of the first in the block, how many of the part
 -- stand before it, and how many fall in.

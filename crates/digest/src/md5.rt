@@ -1,9 +1,9 @@
 // MD5 (RFC 1321), and OBEX's request digest, which IrOBEX 1.5 mandates (section 3.6.3). MD5 is not collision resistant: beside what the
 // standard requires only a check that finds damage may use this module, as the archive's blocks do, and never a seal.
-ghost use Rattle.std.specs.Prelude.{◌≡◌, ◌+◌, ◌-◌, ◌*◌, ◌/◌, ◌%◌, ◌^◌, ◌<◌, ◌≤◌, min, max, ◌++◌, length, take, drop};
+ghost use Rattle.std.specs.Prelude.{◌≡◌, ◌+◌, ◌*◌, ◌/◌, ◌^◌, ◌<◌, ◌≤◌, max, ◌++◌, length, take, drop};
 ghost use Rattle.std.proofs.Math.Seq.{paste};
-ghost use Rattle.digest.specs.Md5.{mix_of, rotl, table, rfc_sum, hand_sum, word, steps, block_of, le, zeros, padded, blocks, digest_of, be_value, octets16, numbers16, output_of, request_digest};
-ghost use Rattle.digest.specs.Turn.{Turn, span_of, part_laid};
+ghost use Rattle.digest.specs.Md5.{mix_of, word_at, table, rfc_sum, hand_sum, word, step_of, steps, block_of, le, zeros, padded, blocks, digest_of, be_value, octets16, numbers16, output_of, request_digest};
+ghost use Rattle.digest.specs.Turn.{span_of, part_laid};
 
 // RFC 1321's table T (section 3.4).
 const CONSTANTS: [u32; 64] = [
@@ -15,6 +15,13 @@ const CONSTANTS: [u32; 64] = [
     0x289b7ec6, 0xeaa127fa, 0xd4ef3085, 0x04881d05, 0xd9d4d039, 0xe6db99e5, 0x1fa27cf8, 0xc4ac5665,
     0xf4292244, 0x432aff97, 0xab9423a7, 0xfc93a039, 0x655b59c3, 0x8f0ccc92, 0xffeff47d, 0x85845dd1,
     0x6fa87e4f, 0xfe2ce6e0, 0xa3014314, 0x4e0811a1, 0xf7537e82, 0xbd3af235, 0x2ad7d2bb, 0xeb86d391,
+];
+
+// The shifts of the 64 steps (section 3.4).
+const SHIFTS: [u32; 64] = [
+    7, 12, 17, 22, 7, 12, 17, 22, 7, 12, 17, 22, 7, 12, 17, 22, 5, 9, 14, 20, 5, 9, 14, 20, 5, 9,
+    14, 20, 5, 9, 14, 20, 4, 11, 16, 23, 4, 11, 16, 23, 4, 11, 16, 23, 4, 11, 16, 23, 6, 10, 15,
+    21, 6, 10, 15, 21, 6, 10, 15, 21, 6, 10, 15, 21,
 ];
 
 #[derive(Clone, Copy)]
@@ -32,20 +39,12 @@ pub struct Octets16 {
     pub second: u64,
 }
 
-// Returns `x` rotated left by `n` bits.
-fn rotate_left(x: u32, n: u32) -> u32
-    requires { (0 < n) × (n < 32) }
-    ensures { result ≡ rotl x n }
-{
-    (x << n) | (x >> (32 - n))
-}
-
-// Returns the constants of the 64 steps. They are lent to the steps and not written in them: a constant that the
-// compiler knows it adds last, behind the function's value, and each step then waits for one addition more.
-fn constants() -> [u32; 64]
-    ensures { (64 ≡ length result) × (result ≡ table) }
-{
-    CONSTANTS
+// The constants of the 64 steps, lent to the steps and not written in them: a constant that the compiler knows it adds last, behind the
+// function's value, and each step then waits for one addition more.
+#[derive(Clone, Copy)]
+struct Constants {
+    of: [u32; 64],
+    ghost is_table: { of ≡ table },
 }
 
 // Returns the sum of a step, wrapping, in the order in which the hardware group checks it by hand: the constant `k` and the message word
@@ -54,24 +53,48 @@ fn constants() -> [u32; 64]
 fn sum4(a: u32, f: u32, k: u32, w: u32) -> u32
     ensures { (result ≡ hand_sum a f w k) × (result ≡ rfc_sum a f w k) }
 {
-    let constant_and_word = std::num::wrapping_add_u32(k, w);
-    let with_value = std::num::wrapping_add_u32(constant_and_word, f);
-    std::num::wrapping_add_u32(with_value, a)
+    let constant_and_word = k.wrapping_add(w);
+    let with_value = constant_and_word.wrapping_add(f);
+    with_value.wrapping_add(a)
 }
 
 // Returns word `k` of the block `p`, the low-order byte first.
-fn word_at(p: &[u8], k: usize) -> u32
+// Stays a slice of 64 bytes, here and up to `block`: `whole_blocks` reads its blocks in place, and would have to try each as an array.
+fn word(p: &[u8], k: usize) -> u32
     requires { (k < 16) × (length p.now ≡ 64) }
     ensures { result ≡ word p.now k }
 {
-    base::wide32(p[4 * k])
-        + 256 * base::wide32(p[4 * k + 1])
-        + 65536 * base::wide32(p[4 * k + 2])
-        + 16777216 * base::wide32(p[4 * k + 3])
+    u32::from_le_bytes([p[4 * k], p[4 * k + 1], p[4 * k + 2], p[4 * k + 3]])
 }
 
-// Takes step `i`, of round `r`, if `t` has the registers after `i` steps from `s`. The caller gives the word's place `w`, the shift `n` and
-// the function's value `f`.
+// Mixes the registers in round `R`, counted from 0, by RFC 1321's F, G, H or I. F is: if a bit of `b` is set, the bit of `c`, else that of
+// `d`. The body takes it in three operations, while the RFC has four, because the code is faster so: `c ^ d` does not wait for `b`, the
+// newest register. proofs/Choice shows that both are equal.
+fn mix<const R: usize>(b: u32, c: u32, d: u32) -> u32
+    ensures { result ≡ mix_of R b c d }
+{
+    match R {
+        0 => d ^ (b & (c ^ d)),
+        1 => (b & d) | (c & !d),
+        2 => b ^ c ^ d,
+        _ => c ^ (b | !d),
+    }
+}
+
+// Returns which word of the block step `i`, of round `R`, takes.
+fn word_place<const R: usize>(i: usize) -> usize
+    requires { (i < 64) × (i / 16 ≡ R) }
+    ensures { (result ≡ word_at R i) × (result < 16) }
+{
+    match R {
+        0 => i,
+        1 => (5 * i + 1) % 16,
+        2 => (3 * i + 5) % 16,
+        _ => 7 * i % 16,
+    }
+}
+
+// Takes step `i`, of round `R`, on the block `p` from the registers `t`.
 //
 // A worked step, so that a reader can follow `sum4` by hand: the first step of a message that begins with the bytes 61 62 63 00. All
 // numbers are hexadecimal, and proofs/SumOrder has them as theorems.
@@ -83,332 +106,57 @@ fn word_at(p: &[u8], k: usize) -> u32
 //     + `t.a`         67452301, the sum is d7ce06d8
 //     rotated by 7    e7036c6b
 //     + `t.b`         efcdab89, the sum is d6d117f4, which is the new b
-fn step(
-    p: &[u8],
-    constants: &[u32],
-    s: Regs,
-    t: Regs,
-    r: usize,
-    i: usize,
-    w: usize,
-    n: u32,
-    f: u32,
-) -> Regs
-    requires { Turn p.now constants.now s t r i w n × (f ≡ mix_of r t.b t.c t.d) }
-    ensures { result ≡ steps p.now (i + 1) s }
+fn step<const R: usize>(p: &[u8], constants: &Constants, t: Regs, i: usize) -> Regs
+    requires { (length p.now ≡ 64) × (i < 64) × (i / 16 ≡ R) }
+    ensures { result ≡ step_of t i (word p.now (word_at R i)) }
 {
-    let x = word_at(p, w);
-    let k = constants[i];
-    let rotated = rotate_left(sum4(t.a, f, k, x), n);
+    let x = word(p, word_place::<R>(i));
+    let f = mix::<R>(t.b, t.c, t.d);
+    let k = constants.of[i];
+    let rotated = sum4(t.a, f, k, x).rotate_left(SHIFTS[i]);
     Regs {
         a: t.d,
-        b: std::num::wrapping_add_u32(t.b, rotated),
+        b: t.b.wrapping_add(rotated),
         c: t.b,
         d: t.c,
     }
 }
 
-// Mixes the registers in round 0. The function is RFC 1321's F: if a bit of `b` is set, the bit of `c`, else that of `d`. The body takes it
-// in three operations, while the RFC has four, because the code is faster so: `c ^ d` does not wait for `b`, the newest register.
-// proofs/Choice shows that both are equal.
-fn mix0(b: u32, c: u32, d: u32) -> u32
-    ensures { result ≡ mix_of 0 b c d }
+// Takes the 16 steps of round `R` on the block `p`, from the registers `t`.
+fn round<const R: usize>(p: &[u8], constants: &Constants, t: Regs) -> Regs
+    requires { (length p.now ≡ 64) × (R < 4) }
+    ensures { (s : Regs) → t ≡ steps p.now (16 * R) s → result ≡ steps p.now (16 * R + 16) s }
 {
-    d ^ (b & (c ^ d))
-}
-
-fn step0(p: &[u8], constants: &[u32], s: Regs, t: Regs, i: usize, w: usize, n: u32) -> Regs
-    requires { Turn p.now constants.now s t 0 i w n }
-    ensures { result ≡ steps p.now (i + 1) s }
-{
-    step(p, constants, s, t, 0, i, w, n, mix0(t.b, t.c, t.d))
-}
-
-fn quad00(p: &[u8], constants: &[u32], s: Regs, t: Regs) -> Regs
-    requires { (length p.now ≡ 64) × (constants.now ≡ table) × (t ≡ steps p.now 0 s) }
-    ensures { result ≡ steps p.now 4 s }
-{
-    let t1 = step0(p, constants, s, t, 0, 0, 7);
-    let t2 = step0(p, constants, s, t1, 1, 1, 12);
-    let t3 = step0(p, constants, s, t2, 2, 2, 17);
-    step0(p, constants, s, t3, 3, 3, 22)
-}
-
-fn quad01(p: &[u8], constants: &[u32], s: Regs, t: Regs) -> Regs
-    requires { (length p.now ≡ 64) × (constants.now ≡ table) × (t ≡ steps p.now 4 s) }
-    ensures { result ≡ steps p.now 8 s }
-{
-    let t1 = step0(p, constants, s, t, 4, 4, 7);
-    let t2 = step0(p, constants, s, t1, 5, 5, 12);
-    let t3 = step0(p, constants, s, t2, 6, 6, 17);
-    step0(p, constants, s, t3, 7, 7, 22)
-}
-
-fn quad02(p: &[u8], constants: &[u32], s: Regs, t: Regs) -> Regs
-    requires { (length p.now ≡ 64) × (constants.now ≡ table) × (t ≡ steps p.now 8 s) }
-    ensures { result ≡ steps p.now 12 s }
-{
-    let t1 = step0(p, constants, s, t, 8, 8, 7);
-    let t2 = step0(p, constants, s, t1, 9, 9, 12);
-    let t3 = step0(p, constants, s, t2, 10, 10, 17);
-    step0(p, constants, s, t3, 11, 11, 22)
-}
-
-fn quad03(p: &[u8], constants: &[u32], s: Regs, t: Regs) -> Regs
-    requires { (length p.now ≡ 64) × (constants.now ≡ table) × (t ≡ steps p.now 12 s) }
-    ensures { result ≡ steps p.now 16 s }
-{
-    let t1 = step0(p, constants, s, t, 12, 12, 7);
-    let t2 = step0(p, constants, s, t1, 13, 13, 12);
-    let t3 = step0(p, constants, s, t2, 14, 14, 17);
-    step0(p, constants, s, t3, 15, 15, 22)
-}
-
-// Takes the 16 steps of round 0 on the block `p`, from the registers `t`.
-fn round0(p: &[u8], constants: &[u32], s: Regs, t: Regs) -> Regs
-    requires { (length p.now ≡ 64) × (constants.now ≡ table) × (t ≡ steps p.now 0 s) }
-    ensures { result ≡ steps p.now 16 s }
-{
-    let a = quad00(p, constants, s, t);
-    let b = quad01(p, constants, s, a);
-    let c = quad02(p, constants, s, b);
-    quad03(p, constants, s, c)
-}
-
-// Mixes the registers in round 1. The function is RFC 1321's G.
-fn mix1(b: u32, c: u32, d: u32) -> u32
-    ensures { result ≡ mix_of 1 b c d }
-{
-    (b & d) | (c & !d)
-}
-
-fn step1(p: &[u8], constants: &[u32], s: Regs, t: Regs, i: usize, w: usize, n: u32) -> Regs
-    requires { Turn p.now constants.now s t 1 i w n }
-    ensures { result ≡ steps p.now (i + 1) s }
-{
-    step(p, constants, s, t, 1, i, w, n, mix1(t.b, t.c, t.d))
-}
-
-fn quad10(p: &[u8], constants: &[u32], s: Regs, t: Regs) -> Regs
-    requires { (length p.now ≡ 64) × (constants.now ≡ table) × (t ≡ steps p.now 16 s) }
-    ensures { result ≡ steps p.now 20 s }
-{
-    let t1 = step1(p, constants, s, t, 16, 1, 5);
-    let t2 = step1(p, constants, s, t1, 17, 6, 9);
-    let t3 = step1(p, constants, s, t2, 18, 11, 14);
-    step1(p, constants, s, t3, 19, 0, 20)
-}
-
-fn quad11(p: &[u8], constants: &[u32], s: Regs, t: Regs) -> Regs
-    requires { (length p.now ≡ 64) × (constants.now ≡ table) × (t ≡ steps p.now 20 s) }
-    ensures { result ≡ steps p.now 24 s }
-{
-    let t1 = step1(p, constants, s, t, 20, 5, 5);
-    let t2 = step1(p, constants, s, t1, 21, 10, 9);
-    let t3 = step1(p, constants, s, t2, 22, 15, 14);
-    step1(p, constants, s, t3, 23, 4, 20)
-}
-
-fn quad12(p: &[u8], constants: &[u32], s: Regs, t: Regs) -> Regs
-    requires { (length p.now ≡ 64) × (constants.now ≡ table) × (t ≡ steps p.now 24 s) }
-    ensures { result ≡ steps p.now 28 s }
-{
-    let t1 = step1(p, constants, s, t, 24, 9, 5);
-    let t2 = step1(p, constants, s, t1, 25, 14, 9);
-    let t3 = step1(p, constants, s, t2, 26, 3, 14);
-    step1(p, constants, s, t3, 27, 8, 20)
-}
-
-fn quad13(p: &[u8], constants: &[u32], s: Regs, t: Regs) -> Regs
-    requires { (length p.now ≡ 64) × (constants.now ≡ table) × (t ≡ steps p.now 28 s) }
-    ensures { result ≡ steps p.now 32 s }
-{
-    let t1 = step1(p, constants, s, t, 28, 13, 5);
-    let t2 = step1(p, constants, s, t1, 29, 2, 9);
-    let t3 = step1(p, constants, s, t2, 30, 7, 14);
-    step1(p, constants, s, t3, 31, 12, 20)
-}
-
-// Takes the 16 steps of round 1 on the block `p`, from the registers `t`.
-fn round1(p: &[u8], constants: &[u32], s: Regs, t: Regs) -> Regs
-    requires { (length p.now ≡ 64) × (constants.now ≡ table) × (t ≡ steps p.now 16 s) }
-    ensures { result ≡ steps p.now 32 s }
-{
-    let a = quad10(p, constants, s, t);
-    let b = quad11(p, constants, s, a);
-    let c = quad12(p, constants, s, b);
-    quad13(p, constants, s, c)
-}
-
-// Mixes the registers in round 2. The function is RFC 1321's H.
-fn mix2(b: u32, c: u32, d: u32) -> u32
-    ensures { result ≡ mix_of 2 b c d }
-{
-    b ^ c ^ d
-}
-
-fn step2(p: &[u8], constants: &[u32], s: Regs, t: Regs, i: usize, w: usize, n: u32) -> Regs
-    requires { Turn p.now constants.now s t 2 i w n }
-    ensures { result ≡ steps p.now (i + 1) s }
-{
-    step(p, constants, s, t, 2, i, w, n, mix2(t.b, t.c, t.d))
-}
-
-fn quad20(p: &[u8], constants: &[u32], s: Regs, t: Regs) -> Regs
-    requires { (length p.now ≡ 64) × (constants.now ≡ table) × (t ≡ steps p.now 32 s) }
-    ensures { result ≡ steps p.now 36 s }
-{
-    let t1 = step2(p, constants, s, t, 32, 5, 4);
-    let t2 = step2(p, constants, s, t1, 33, 8, 11);
-    let t3 = step2(p, constants, s, t2, 34, 11, 16);
-    step2(p, constants, s, t3, 35, 14, 23)
-}
-
-fn quad21(p: &[u8], constants: &[u32], s: Regs, t: Regs) -> Regs
-    requires { (length p.now ≡ 64) × (constants.now ≡ table) × (t ≡ steps p.now 36 s) }
-    ensures { result ≡ steps p.now 40 s }
-{
-    let t1 = step2(p, constants, s, t, 36, 1, 4);
-    let t2 = step2(p, constants, s, t1, 37, 4, 11);
-    let t3 = step2(p, constants, s, t2, 38, 7, 16);
-    step2(p, constants, s, t3, 39, 10, 23)
-}
-
-fn quad22(p: &[u8], constants: &[u32], s: Regs, t: Regs) -> Regs
-    requires { (length p.now ≡ 64) × (constants.now ≡ table) × (t ≡ steps p.now 40 s) }
-    ensures { result ≡ steps p.now 44 s }
-{
-    let t1 = step2(p, constants, s, t, 40, 13, 4);
-    let t2 = step2(p, constants, s, t1, 41, 0, 11);
-    let t3 = step2(p, constants, s, t2, 42, 3, 16);
-    step2(p, constants, s, t3, 43, 6, 23)
-}
-
-fn quad23(p: &[u8], constants: &[u32], s: Regs, t: Regs) -> Regs
-    requires { (length p.now ≡ 64) × (constants.now ≡ table) × (t ≡ steps p.now 44 s) }
-    ensures { result ≡ steps p.now 48 s }
-{
-    let t1 = step2(p, constants, s, t, 44, 9, 4);
-    let t2 = step2(p, constants, s, t1, 45, 12, 11);
-    let t3 = step2(p, constants, s, t2, 46, 15, 16);
-    step2(p, constants, s, t3, 47, 2, 23)
-}
-
-// Takes the 16 steps of round 2 on the block `p`, from the registers `t`.
-fn round2(p: &[u8], constants: &[u32], s: Regs, t: Regs) -> Regs
-    requires { (length p.now ≡ 64) × (constants.now ≡ table) × (t ≡ steps p.now 32 s) }
-    ensures { result ≡ steps p.now 48 s }
-{
-    let a = quad20(p, constants, s, t);
-    let b = quad21(p, constants, s, a);
-    let c = quad22(p, constants, s, b);
-    quad23(p, constants, s, c)
-}
-
-// Mixes the registers in round 3. The function is RFC 1321's I.
-fn mix3(b: u32, c: u32, d: u32) -> u32
-    ensures { result ≡ mix_of 3 b c d }
-{
-    c ^ (b | !d)
-}
-
-fn step3(p: &[u8], constants: &[u32], s: Regs, t: Regs, i: usize, w: usize, n: u32) -> Regs
-    requires { Turn p.now constants.now s t 3 i w n }
-    ensures { result ≡ steps p.now (i + 1) s }
-{
-    step(p, constants, s, t, 3, i, w, n, mix3(t.b, t.c, t.d))
-}
-
-fn quad30(p: &[u8], constants: &[u32], s: Regs, t: Regs) -> Regs
-    requires { (length p.now ≡ 64) × (constants.now ≡ table) × (t ≡ steps p.now 48 s) }
-    ensures { result ≡ steps p.now 52 s }
-{
-    let t1 = step3(p, constants, s, t, 48, 0, 6);
-    let t2 = step3(p, constants, s, t1, 49, 7, 10);
-    let t3 = step3(p, constants, s, t2, 50, 14, 15);
-    step3(p, constants, s, t3, 51, 5, 21)
-}
-
-fn quad31(p: &[u8], constants: &[u32], s: Regs, t: Regs) -> Regs
-    requires { (length p.now ≡ 64) × (constants.now ≡ table) × (t ≡ steps p.now 52 s) }
-    ensures { result ≡ steps p.now 56 s }
-{
-    let t1 = step3(p, constants, s, t, 52, 12, 6);
-    let t2 = step3(p, constants, s, t1, 53, 3, 10);
-    let t3 = step3(p, constants, s, t2, 54, 10, 15);
-    step3(p, constants, s, t3, 55, 1, 21)
-}
-
-fn quad32(p: &[u8], constants: &[u32], s: Regs, t: Regs) -> Regs
-    requires { (length p.now ≡ 64) × (constants.now ≡ table) × (t ≡ steps p.now 56 s) }
-    ensures { result ≡ steps p.now 60 s }
-{
-    let t1 = step3(p, constants, s, t, 56, 8, 6);
-    let t2 = step3(p, constants, s, t1, 57, 15, 10);
-    let t3 = step3(p, constants, s, t2, 58, 6, 15);
-    step3(p, constants, s, t3, 59, 13, 21)
-}
-
-fn quad33(p: &[u8], constants: &[u32], s: Regs, t: Regs) -> Regs
-    requires { (length p.now ≡ 64) × (constants.now ≡ table) × (t ≡ steps p.now 60 s) }
-    ensures { result ≡ steps p.now 64 s }
-{
-    let t1 = step3(p, constants, s, t, 60, 4, 6);
-    let t2 = step3(p, constants, s, t1, 61, 11, 10);
-    let t3 = step3(p, constants, s, t2, 62, 2, 15);
-    step3(p, constants, s, t3, 63, 9, 21)
-}
-
-// Takes the 16 steps of round 3 on the block `p`, from the registers `t`.
-fn round3(p: &[u8], constants: &[u32], s: Regs, t: Regs) -> Regs
-    requires { (length p.now ≡ 64) × (constants.now ≡ table) × (t ≡ steps p.now 48 s) }
-    ensures { result ≡ steps p.now 64 s }
-{
-    let a = quad30(p, constants, s, t);
-    let b = quad31(p, constants, s, a);
-    let c = quad32(p, constants, s, b);
-    quad33(p, constants, s, c)
+    let mut t = t;
+    for i in 16 * R..16 * R + 16 {
+        t = step::<R>(p, constants, t, i);
+    }
+    t
 }
 
 // Takes the 64 steps on the block `p` from the registers `s`.
-fn all_steps(p: &[u8], constants: &[u32], s: Regs) -> Regs
-    requires { (length p.now ≡ 64) × (constants.now ≡ table) }
+fn all_steps(p: &[u8], constants: &Constants, s: Regs) -> Regs
+    requires { length p.now ≡ 64 }
     ensures { result ≡ steps p.now 64 s }
 {
-    let a = round0(p, constants, s, s);
-    let b = round1(p, constants, s, a);
-    let c = round2(p, constants, s, b);
-    round3(p, constants, s, c)
+    let a = round::<0>(p, constants, s);
+    let b = round::<1>(p, constants, a);
+    let c = round::<2>(p, constants, b);
+    round::<3>(p, constants, c)
 }
 
 // Adds what the 64 steps on the block `p` give to the registers `s` from before.
-fn block(p: &[u8], constants: &[u32], s: Regs) -> Regs
-    requires { (length p.now ≡ 64) × (constants.now ≡ table) }
+fn block(p: &[u8], constants: &Constants, s: Regs) -> Regs
+    requires { length p.now ≡ 64 }
     ensures { result ≡ block_of p.now s }
 {
     let t = all_steps(p, constants, s);
     Regs {
-        a: std::num::wrapping_add_u32(s.a, t.a),
-        b: std::num::wrapping_add_u32(s.b, t.b),
-        c: std::num::wrapping_add_u32(s.c, t.c),
-        d: std::num::wrapping_add_u32(s.d, t.d),
+        a: s.a.wrapping_add(t.a),
+        b: s.b.wrapping_add(t.b),
+        c: s.c.wrapping_add(t.c),
+        d: s.d.wrapping_add(t.d),
     }
-}
-
-// Returns the eight bytes of `x`, the low-order one first.
-fn le_bytes8(x: u64) -> [u8; 8]
-    ensures { result ≡ le 8 x }
-{
-    [
-        (x % 256) as u8,
-        (x / 256 % 256) as u8,
-        (x / 65536 % 256) as u8,
-        (x / 16777216 % 256) as u8,
-        (x / 4294967296 % 256) as u8,
-        (x / 1099511627776 % 256) as u8,
-        (x / 281474976710656 % 256) as u8,
-        (x / 72057594037927936 % 256) as u8,
-    ]
 }
 
 // Returns where the length field of a padded message of `n` bytes stands.
@@ -417,27 +165,6 @@ fn field_at(n: usize) -> usize
     ensures { result ≡ n + 1 + zeros n }
 {
     n + 1 + (119 - n % 64) % 64
-}
-
-// Returns `x - y`, or 0 if `y` is the larger.
-fn less(x: usize, y: usize) -> usize
-    ensures { result ≡ x - y }
-{
-    if x < y { 0 } else { x - y }
-}
-
-// Returns the smaller of `x` and `y`.
-fn least(x: usize, y: usize) -> usize
-    ensures { result ≡ min x y }
-{
-    if x < y { x } else { y }
-}
-
-// Returns the larger of `x` and `y`.
-fn most(x: usize, y: usize) -> usize
-    ensures { result ≡ max x y }
-{
-    if x < y { y } else { x }
 }
 
 // The bytes of a part that fall into a block: `count` bytes go to `place` of the block, behind `skip` bytes of the part.
@@ -452,12 +179,12 @@ struct Span {
 fn span_in(at: usize, from: usize, n: usize) -> Span
     ensures { (result ≡ span_of at from n) × (result.place + result.count ≤ 64) × (result.skip + result.count ≤ n) }
 {
-    let place = least(less(from, at), 64);
-    let skip = least(less(at, from), n);
+    let place = from.saturating_sub(at).min(64);
+    let skip = at.saturating_sub(from).min(n);
     Span {
         place,
         skip,
-        count: least(64 - place, n - skip),
+        count: (64 - place).min(n - skip),
     }
 }
 
@@ -467,9 +194,7 @@ fn put_part(b: &mut [u8], at: usize, part: &[u8], from: usize)
     ensures { b.new ≡ part_laid b.old at part.now from }
 {
     let s = span_in(at, from, part.len());
-    let skip = s.skip;
-    let end = skip + s.count;
-    base::copy_into(b, s.place, &part[skip..end]);
+    base::copy_into(b, s.place, &part[s.skip..s.skip + s.count]);
 }
 
 // Lays out the block at `at` of the padded message of `prefix` and then `rest`.
@@ -478,7 +203,7 @@ fn fill(prefix: &[u8], rest: &[u8], at: usize) -> [u8; 64]
     ensures { (64 ≡ length result) × (result ≡ take 64 (drop at (padded (prefix.now ++ rest.now)))) }
 {
     let n = prefix.len() + rest.len();
-    let bits = le_bytes8(n as u64 % 2305843009213693952 * 8);
+    let bits = (n as u64).wrapping_mul(8).to_le_bytes();
     let mut b = [0u8; 64];
     put_part(&mut b, at, prefix, 0);
     put_part(&mut b, at, rest, prefix.len());
@@ -487,9 +212,11 @@ fn fill(prefix: &[u8], rest: &[u8], at: usize) -> [u8; 64]
     b
 }
 
-// Runs the blocks from `from` up to `to`, each laid out anew: such a block touches the prefix or the padding.
+// Runs the blocks from `from` up to `to`, each laid out anew: such a block touches the prefix or the padding. It is written into both
+// its calls, since a short message is one such block.
+#[inline(always)]
 fn filled_blocks(
-    constants: &[u32],
+    constants: &Constants,
     prefix: &[u8],
     rest: &[u8],
     from: usize,
@@ -497,22 +224,20 @@ fn filled_blocks(
     start: Regs,
 ) -> Regs
     requires { (length prefix.now < 64) × (from ≤ to) × (64 * to ≤ length (padded (prefix.now ++ rest.now)))
-        × (start ≡ blocks (padded (prefix.now ++ rest.now)) from) × (constants.now ≡ table) }
+        × (start ≡ blocks (padded (prefix.now ++ rest.now)) from) }
     ensures { result ≡ blocks (padded (prefix.now ++ rest.now)) to }
 {
     let mut s = start;
-    let mut k = from;
-    while k < to {
+    for k in from..to {
         let p = fill(prefix, rest, 64 * k);
         s = block(&p, constants, s);
-        k += 1;
     }
     s
 }
 
 // Runs the blocks from `from` up to `to`, which lie wholly in `rest` and are read there without a copy.
 fn whole_blocks(
-    constants: &[u32],
+    constants: &Constants,
     prefix: &[u8],
     rest: &[u8],
     from: usize,
@@ -520,15 +245,13 @@ fn whole_blocks(
     start: Regs,
 ) -> Regs
     requires { (length prefix.now ≤ 64 * from) × (64 * to ≤ length prefix.now + length rest.now) × (length prefix.now < 64)
-        × (start ≡ blocks (padded (prefix.now ++ rest.now)) from) × (constants.now ≡ table) }
+        × (start ≡ blocks (padded (prefix.now ++ rest.now)) from) }
     ensures { result ≡ blocks (padded (prefix.now ++ rest.now)) (max from to) }
 {
     let mut s = start;
-    let mut k = from;
-    while k < to {
+    for k in from..to {
         let at = 64 * k - prefix.len();
         s = block(&rest[at..at + 64], constants, s);
-        k += 1;
     }
     s
 }
@@ -540,7 +263,7 @@ fn all_blocks(prefix: &[u8], rest: &[u8]) -> Regs
         (length (padded (prefix.now ++ rest.now)) / 64) }
 {
     let n = prefix.len() + rest.len();
-    let head = (prefix.len() + 63) / 64;
+    let head = prefix.len().div_ceil(64);
     let whole = n / 64;
     let start = Regs {
         a: 0x67452301,
@@ -548,14 +271,14 @@ fn all_blocks(prefix: &[u8], rest: &[u8]) -> Regs
         c: 0x98badcfe,
         d: 0x10325476,
     };
-    let lent = constants();
+    let lent = Constants { of: CONSTANTS };
     let s = filled_blocks(&lent, prefix, rest, 0, head, start);
     let t = whole_blocks(&lent, prefix, rest, head, whole, s);
     filled_blocks(
         &lent,
         prefix,
         rest,
-        most(head, whole),
+        head.max(whole),
         (field_at(n) + 8) / 64,
         t,
     )
@@ -565,8 +288,7 @@ fn all_blocks(prefix: &[u8], rest: &[u8]) -> Regs
 fn swapped(x: u32) -> u64
     ensures { (result ≡ be_value (le 4 x)) × (result < 2 ^ 32) }
 {
-    let y = x as u64;
-    y % 256 * 16777216 + y / 256 % 256 * 65536 + y / 65536 % 256 * 256 + y / 16777216 % 256
+    u64::from(x.swap_bytes())
 }
 
 // Returns the digest that the registers hold in the end.
@@ -584,13 +306,9 @@ fn number_at(s: &[u8], at: usize) -> u64
     requires { at + 8 ≤ length s.now }
     ensures { result ≡ be_value (take 8 (drop at s.now)) }
 {
-    let mut x = 0;
-    let mut i = 0;
-    while i < 8 {
-        x = x * 256 + base::wide64(s[at + i]);
-        i += 1;
-    }
-    x
+    let mut bytes = [0u8; 8];
+    bytes.copy_from_slice(&s[at..at + 8]);
+    u64::from_be_bytes(bytes)
 }
 
 // Reads the 16 bytes at `at` as two numbers.
@@ -615,12 +333,10 @@ pub fn octets16_of(bytes: [u8; 16]) -> Octets16
 pub fn octets(n: Octets16) -> [u8; 16]
     ensures { result ≡ octets16 n }
 {
-    let a = le_bytes8(n.first);
-    let b = le_bytes8(n.second);
-    [
-        a[7], a[6], a[5], a[4], a[3], a[2], a[1], a[0], b[7], b[6], b[5], b[4], b[3], b[2], b[1],
-        b[0],
-    ]
+    let mut bytes = [0u8; 16];
+    bytes[..8].copy_from_slice(&n.first.to_be_bytes());
+    bytes[8..].copy_from_slice(&n.second.to_be_bytes());
+    bytes
 }
 
 // Stores the 16 bytes of `n` from `at` on.

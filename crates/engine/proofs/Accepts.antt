@@ -6,27 +6,28 @@ use mathlib.Core.Option.{Option, none, some}
 use Prim.Native.Nat.{ℕ, ◌≤◌}
 use denote.Enum.Declared.{tag_of}
 use types.Run.{OneOf, miss}
+use Rattle.std.specs.Prelude.{Some, None}
 use Rattle.digest.specs.declared.md5.Octets16.{Octets16}
 use borrow.Author.Tests.{leb-true}
 use lib.ListN.{length, take}
 use lib.Dec.{ltb}
 use Rattle.base.specs.Pick.{pick}
+use Rattle.std.specs.Prelude.{Option as Maybe, Some, None}
+use Rattle.base.specs.Place.{Place}
 use Rattle.packet.specs.Codes.{is_success}
 use Rattle.packet.specs.Header.{Header, read_headers, first, first_place, all_bytes}
 use Rattle.packet.specs.Auth.{Challenge as PeerChallenge}
 use Rattle.packet.specs.AuthRead.{challenge_read}
 use Rattle.packet.specs.AuthWrite.{given, overlong}
-use Rattle.packet.specs.declared.tlv.Found.{Found}
 use Rattle.packet.specs.declared.auth.DigestChallenge.{DigestChallenge}
-use Rattle.packet.specs.declared.auth.DigestChallenge.TheVariants as challenge
 use Rattle.journal.specs.Calls.{Credentials}
 use Rattle.incoming.specs.Survey.{survey_of}
 use Rattle.connection.specs.Reply.{Sending as Sent, fields_of, send_bytes, sent_into, front}
-use Rattle.connection.specs.Peer.{Linked, linked, id_in, isGiven, target_given, opened_for, opened_by as peerOpened, opening_of, front_by_of, Answers, answer_from, answer_by, disconnected_peer, disconnected_by}
+use Rattle.connection.specs.declared.peer.Answer.{Answer}
+use Rattle.connection.specs.Peer.{Linked, linked, id_in, target_asked, opened_for, opened_by as peerOpened, opening_of, front_by_of, Answers, answer_from, answer_by, disconnected_peer, disconnected_by, ConnectionId}
 use Rattle.connection.specs.ConnectReply.{answered_challenge, connect_headers}
 use Rattle.connection.specs.Pieces.{headers_from, realm_of, answered_in, id_given, credentials_of}
 use Rattle.connection.specs.declared.peer.Peer.{Peer}
-use Rattle.connection.specs.declared.peer.ConnectionId.{ConnectionId}
 use Rattle.connection.proofs.ByNumbers.{opened_by_lem, disconnected_by_lem}
 use Rattle.journal.specs.Journal.{list_of}
 use Rattle.model.specs.Step.{Stores, Stepped, stepped, Called, called, DoneTabled, done_tabled, after, sends, sends_connect}
@@ -55,7 +56,7 @@ use Rattle.engine.proofs.LastPacket.{last-headers}
 
 -- ---- the id in front
 
-front_by : (p : Peer) (t : List ℕ) (v target : Option (List ℕ)) → front_by_of p t (id_in v) (isGiven target) ≡ front_for p t v target
+front_by : (p : Peer) (t : List ℕ) (v target : Option (List ℕ)) → front_by_of p t (id_in v) (target_asked target) ≡ front_for p t v target
 front_by p t (some v) target = refl
 front_by p t none none = refl
 front_by p t none (some target) = refl
@@ -102,22 +103,22 @@ module _ (e : Engine) (p : Peer) (code : ℕ) (f : ConnectionId) (q hs y : List 
       sent-written e p code (fields_of e.settings.max_packet_length) (accepted_headers e f q hs c) y n z x r
       (h ∙ ap₂ (λ (r : List Header) (b : Bool). made c n r b) (j ∙ last-headers q) k) i l t
 
-  pub not-challenged : (h : List ℕ) (w : Written) → challenge.Unreadable ≡ answered_in (headers_of q)
+  pub not-challenged : (h : List ℕ) (w : Written) → None ≡ answered_in (headers_of q)
       → w ≡ connect_replies e p code (accepted_headers e f q hs none) y
       → leaving h w ≡ challenged_by (answered_in (headers_of q)) e p code f hs q h y
   not-challenged h w k i =
-      ap (λ (w : Written). leaving h w) i ∙ ap (λ (d : DigestChallenge). challenged_by d e p code f hs q h y) k
+      ap (λ (w : Written). leaving h w) i ∙ ap (λ (d : Maybe DigestChallenge). challenged_by d e p code f hs q h y) k
 
-  pub challenged : (h z : List ℕ) (n : Octets16) (u r : Bool) (a m : Found) (x : Plan) (t : CallResult)
-      → challenge.Challenge n u r a ≡ answered_in (headers_of q)
-      → t ≡ took_by x → x ≡ asks_plan e p (Connecting code f (length hs)) await.Credentials (request.Credentials n u r m)
+  pub challenged : (h z : List ℕ) (c : DigestChallenge) (m : Place) (x : Plan) (t : CallResult)
+      → Some c ≡ answered_in (headers_of q)
+      → t ≡ took_by x → x ≡ asks_plan e p (Connecting code f (length hs)) await.Credentials (request.Credentials c.nonce c.user_id_required c.read_only m)
       → m ≡ realm_in q (first_place 0x4D q 7) → z ≡ front hs h
       → answering t z y ≡ challenged_by (answered_in (headers_of q)) e p code f hs q h y
-  challenged h z n u r a m x t k i j l o =
+  challenged h z c m x t k i j l o =
       ap₂ (λ (t : CallResult) (z : List ℕ). answering t z y)
       (i ∙ ap (λ (x : Plan). took_by x)
-      (j ∙ ap (λ (m : Found). asks_plan e p (Connecting code f (length hs)) await.Credentials (request.Credentials n u r m)) l)) o
-      ∙ ap (λ (d : DigestChallenge). challenged_by d e p code f hs q h y) k
+      (j ∙ ap (λ (m : Place). asks_plan e p (Connecting code f (length hs)) await.Credentials (request.Credentials c.nonce c.user_id_required c.read_only m)) l)) o
+      ∙ ap (λ (d : Maybe DigestChallenge). challenged_by d e p code f hs q h y) k
 
 -- the ways of the answer
 module _ (e : Engine) (t : List ℕ) (code : ℕ) (hs q h y : List ℕ) (b : Bool) (success : b ≡ is_success code) where
@@ -131,16 +132,16 @@ module _ (e : Engine) (t : List ℕ) (code : ℕ) (hs q h y : List ℕ) (b : Boo
     unfolding accepted_by
     answer_by_lem x i = i ∙ ap (λ (a : Answers). opened_in a e code hs q h y) opens ∙ sym (simp (sym success ∙ k))
 
-    pub answer-full : a.answer.opening.full ≡ true → (w : Written) → w ≡ connect_replies e e.peer 0x53 [] y
+    pub answer-full : a.answer ≡ None → (w : Written) → w ≡ connect_replies e e.peer 0x53 [] y
         → accepting (leaving h w) a.tables ≡ accepted_by e t code hs q h y
     answer-full f w i =
         answer_by_lem (accepting (leaving h w) a.tables)
         (ap (λ (x : Answering). accepting x a.tables) (ap (λ (w : Written). leaving h w) i ∙ sym (simp f)))
 
-    pub answer-accepted : a.answer.opening.full ≡ false → (x : Answering)
-        → x ≡ challenged_by (answered_in (headers_of q)) e a.answer.opening.peer code a.answer.front hs q h y
+    pub answer-accepted : (r : Answer) → a.answer ≡ Some r → (x : Answering)
+        → x ≡ challenged_by (answered_in (headers_of q)) e r.peer code r.front hs q h y
         → accepting x a.tables ≡ accepted_by e t code hs q h y
-    answer-accepted f x i = answer_by_lem (accepting x a.tables) (ap (λ (x : Answering). accepting x a.tables) (i ∙ sym (simp f)))
+    answer-accepted r f x i = answer_by_lem (accepting x a.tables) (ap (λ (x : Answering). accepting x a.tables) (i ∙ sym (simp f)))
 
 module _ (e : Engine) (s : Stores) where
   -- ---- a reply
@@ -163,7 +164,7 @@ module _ (e : Engine) (s : Stores) where
   accepted-replies p code f hs c = replies_connect p code (accepted_headers e f (last_packet e s) hs c)
 
   module _ (code : ℕ) (hs : List ℕ) where
-    challenged_is : (p : Peer) (f : ConnectionId) (c : Option PeerChallenge) (x : Found)
+    challenged_is : (p : Peer) (f : ConnectionId) (c : Option PeerChallenge) (x : Place)
         → among (challenged_by (challenge_read c x) e p code f hs (last_packet e s) s.headers s.reply) s
         ≡ after 0 (connect_challenged e p code f hs c s)
     unfolding asks_plan
@@ -172,7 +173,7 @@ module _ (e : Engine) (s : Stores) where
 
     module _ (t : List ℕ) where
       opened_is : (o : Option Linked) (f : ConnectionId)
-          → among_in (opened_in (answer_from (opening_of e.peer t o) f) e code hs (last_packet e s) s.headers s.reply) s
+          → among_in (opened_in (answer_from (opening_of t o) f) e code hs (last_packet e s) s.headers s.reply) s
           ≡ after_tabled (connect_opened e t o code f hs s)
       unfolding answered_in last_headers
       opened_is none f = ap (λ (m : Stepped). called m t) (replies_connect e.peer 0x53 [])
@@ -181,11 +182,11 @@ module _ (e : Engine) (s : Stores) where
           (challenged_is l.peer f (answered_challenge (last_headers e s)) (realm_of (first 0x4D (last_headers e s))))
 
       answer-opened : (srm : Bool) (v target : Option (List ℕ))
-          → among_in (opened_in (answer_by e.peer t srm (id_in v) (isGiven target) (target_given target)) e code hs (last_packet e s) s.headers
+          → among_in (opened_in (answer_by e.peer t srm (id_in v) (target_asked target)) e code hs (last_packet e s) s.headers
           s.reply) s
           ≡ after_tabled (connect_opened e t (opened_for e.peer t srm v target) code (front_for e.peer t v target) hs s)
       answer-opened srm v target =
-          opened_is (peerOpened e.peer t srm (id_in v) (isGiven target) (target_given target)) (front_by_of e.peer t (id_in v) (isGiven target))
+          opened_is (peerOpened e.peer t srm (id_in v) (target_asked target)) (front_by_of e.peer t (id_in v) (target_asked target))
           ∙ ap₂ (λ (o : Option Linked) (f : ConnectionId). after_tabled (connect_opened e t o code f hs s)) (sym (opened_by_lem e.peer t srm v target))
           (front_by e.peer t v target)
 

@@ -8,16 +8,15 @@ use native.Mathlib.Omega.{arith}
 use lib.ListN.{length, get_or, take}
 use lib.Dec.{ltb}
 use Rattle.base.specs.Pick.{pick}
+use Rattle.std.specs.Prelude.{is_none}
+use Rattle.base.specs.Place.{Place, Some, None}
 use Rattle.packet.specs.FirstByte.{first_byte, same_opcode}
 use Rattle.packet.specs.Header.{Header, read_headers, first, present, first_place}
 use Rattle.packet.specs.Tags.{bytes_at}
 use Rattle.packet.specs.Packet.{Request as Packet, request_with, request_of, prefix_of, backup, no_create_of}
-use Rattle.packet.specs.PacketRead.{head_by, packet_head}
-use Rattle.packet.specs.declared.opcode.FirstByte.{FirstByte}
-use Rattle.packet.specs.declared.opcode.FirstByte.TheVariants.{Known, Unknown}
+use Rattle.packet.specs.PacketRead.{packet_head}
+use Rattle.std.specs.Prelude.{Option as Maybe}
 use Rattle.packet.specs.declared.opcode.Opcode.TheVariants as op
-use Rattle.packet.specs.declared.tlv.Found.{Found}
-use Rattle.packet.specs.declared.tlv.Found.TheVariants as place
 use Rattle.packet.proofs.OpcodeLaws.{same-equal}
 use Rattle.packet.proofs.HeaderLaws.{first-agrees}
 use denote.Enum.Declared.{tag_of}
@@ -25,10 +24,9 @@ use types.Run.{OneOf, miss}
 use Rattle.server.specs.contracts.Operation.{the_type}
 use Rattle.server.specs.declared.Operation.{Operation}
 use Rattle.server.specs.declared.Operation.TheVariants.{Nothing, Trailing, Putting, Getting, Sending, Gathering as GatheringOp, Connecting, Draining}
-use Rattle.packet.proofs.PacketLaws.{request_head, request-head}
+use Rattle.packet.proofs.PacketLaws.{request_head, request-head, head-place}
 use Rattle.packet.specs.declared.opcode.Opcode.{Opcode}
 use Rattle.packet.specs.declared.packet.Head.{Head}
-use Rattle.packet.specs.declared.packet.Head.TheVariants as head
 use Rattle.incoming.specs.Frame.{Frames, frames, framed}
 use Rattle.incoming.specs.Survey.{survey_of}
 use Rattle.incoming.specs.declared.frame.Frame.{Frame}
@@ -44,7 +42,7 @@ use Rattle.model.specs.Calls.{framed_as, with_packet, offers, bytes_offered_step
 use Rattle.model.specs.Operation.{gathers}
 use Rattle.model.specs.Guard.{sound_operation}
 use Rattle.engine.specs.Step.{planned, ends_plan, Written, carried, took_by}
-use Rattle.engine.specs.Dispatch.{is_trailing, is_missing, trailed_by, unreadable_route, heading_route, route_as, packet_route, routed, target_under, targeted, acts, with_taken, open_route, inside_route}
+use Rattle.engine.specs.Dispatch.{is_trailing, trailed_by, unreadable_route, heading_route, route_as, packet_route, routed, target_under, targeted, acts, with_taken, open_route, inside_route}
 use Rattle.engine.specs.Operation.{keep_of, from_of, kind_plan, acts_gathered}
 use Rattle.server.specs.declared.CallKind.TheVariants as kind
 use Rattle.server.specs.declared.End.TheVariants as end
@@ -97,25 +95,26 @@ no_request : (e : Engine) (q t : List ℕ) → request_of q ≡ none → packet_
 unfolding packet_route packet_target
 no_request e q t h = ap (λ (x : Option Packet). routed_as x e q t) h
 
-pub headless_way : (e : Engine) (q t : List ℕ) → packet_head q ≡ head.Unreadable → packet_routed e q t ≡ unreadable_routed e q
-headless_way e q t h = no_request e q t (request-head q ∙ ap (λ (x : Head). request_head x q) h)
+pub headless_way : (e : Engine) (q t : List ℕ) → packet_head q ≡ None → packet_routed e q t ≡ unreadable_routed e q
+headless_way e q t h = no_request e q t (request-head q ∙ ap (λ (x : Maybe Head). request_head x q) h)
 
 -- by what stands before the headers, and whether they can be read
-module _ (e : Engine) (q t : List ℕ) (o : Opcode) (final : Bool) (from : ℕ) (known : packet_head q ≡ head.Known o final from) where
+module _ (e : Engine) (q t : List ℕ) (d : Head) (known : packet_head q ≡ Some d) where
+  abbrev o : Opcode
+  o = d.opcode
+
+  abbrev final : Bool
+  final = d.is_final
+
+  abbrev from : ℕ
+  from = d.headers
+
   request_is : request_of q ≡ request_with o final q (read_headers q from)
-  request_is = request-head q ∙ ap (λ (x : Head). request_head x q) known
+  request_is = request-head q ∙ ap (λ (x : Maybe Head). request_head x q) known
 
   from-head : from ≡ prefix_of o
   unfolding packet_head
-  from-head = go (first_byte (get_or q 0 0)) known
-    where
-      by : (c : Opcode) (f u : Bool) → pick u head.Unreadable (head.Known c f (prefix_of c)) ≡ head.Known o final from → from ≡ prefix_of o
-      by c f true k = let z : ◌≡◌ {A = ℕ} 0 1 = cc in absurd (omega arith)
-      by c f false k = let a : prefix_of c ≡ from = cc in let b : c ≡ o = cc in sym a ∙ ap prefix_of b
-
-      go : (b : FirstByte) → head_by b q ≡ head.Known o final from → from ≡ prefix_of o
-      go Unknown k = let z : ◌≡◌ {A = ℕ} 0 1 = cc in absurd (omega arith)
-      go (Known c f) k = by c f (ltb (length q) (prefix_of c)) k
+  from-head = head-place (first_byte (get_or q 0 0)) q d known
 
   -- a Name is found in the packet if the request has one
   trailed_way : (p : Operation) (hs : List Header) → read_headers q from ≡ some hs
@@ -123,11 +122,11 @@ module _ (e : Engine) (q t : List ℕ) (o : Opcode) (final : Bool) (from : ℕ) 
   unfolding trails
   trailed_way p hs k = ap (λ (u : Bool). is_trailing p && u) (go (same_opcode o op.Put) refl)
     where
-      missing : (x : Found) → is_missing x ≡ not (present (bytes_at q x))
-      missing place.Missing = refl
-      missing (place.At a b) = refl
+      missing : (x : Place) → is_none x ≡ not (present (bytes_at q x))
+      missing None = refl
+      missing (Some p) = refl
 
-      go : (u : Bool) → same_opcode o op.Put ≡ u → (u && is_missing (first_place 0x01 q 3)) ≡ (u && not (present (first 0x01 hs)))
+      go : (u : Bool) → same_opcode o op.Put ≡ u → (u && is_none (first_place 0x01 q 3)) ≡ (u && not (present (first 0x01 hs)))
       go false i = refl
       go true i =
           let a : from ≡ 3 = from-head ∙ ap prefix_of (same-equal o op.Put i) in

@@ -17,7 +17,7 @@ use Rattle.server.specs.declared.CallResult.{CallResult}
 use Rattle.engine.specs.declared.step.Plan.{Plan}
 use Rattle.engine.proofs.Guards.{Goes, guarded_in, turned}
 use Rattle.engine.proofs.Plans.{Carries}
-use Rattle.engine.specs.Guard.{refused_with}
+use Rattle.engine.specs.Guard.{Verdict, refuses, refused_with}
 use Rattle.model.specs.Step.{Stepped, stepped, after, Stores, Done, with_reply, capacity_of, sent}
 use Rattle.model.specs.Guard.{guarded}
 use Rattle.model.specs.Object.{sends_made, sends_packet}
@@ -27,8 +27,6 @@ use Rattle.engine.specs.Step.{small_bytes, planned, ends_plan, code_plan, asks_p
 use Rattle.engine.specs.Object.{made_plan, packet_plan, plan_made, object_plan}
 use Rattle.server.specs.declared.CallKind.{CallKind}
 use Rattle.server.specs.declared.Refusal.{Refusal}
-use Rattle.engine.specs.declared.guard.Guarded.{Guarded}
-use Rattle.engine.specs.declared.guard.Guarded.TheVariants.{Refuse}
 use Rattle.server.specs.declared.Engine.{Engine}
 
 -- a packet of an object
@@ -56,8 +54,8 @@ object-made e srm wait o h y z k p n w r q =
 -- ---- Calls
 
 -- a call that the guard refuses
-pub refused-call : (k : CallKind) (e : Engine) (s : Stores) (go : Stepped) (x : Guarded) (q : Refusal) (r : CallResult) → r ≡ refused_with q e
-    → x ≡ guarded_in k e s → x ≡ Refuse q → stepped r s ≡ guarded k e s go
+pub refused-call : (k : CallKind) (e : Engine) (s : Stores) (go : Stepped) (x : Verdict) (q : Refusal) (r : CallResult) → r ≡ refused_with q e
+    → x ≡ guarded_in k e s → x ≡ refuses q → stepped r s ≡ guarded k e s go
 refused-call k e s go x q r h i w = ap (λ (x : CallResult). stepped x s) h ∙ turned k e s go x q i w
 
 -- a call that goes on, and carries a plan out

@@ -24,9 +24,7 @@ use Rattle.server.specs.declared.CallKind.TheVariants as kind
 use Rattle.server.specs.declared.CallResult.{CallResult}
 use Rattle.server.specs.declared.Refusal.{Refusal}
 use Rattle.server.specs.declared.Refusal.TheVariants as refusal
-use Rattle.engine.specs.Guard.{guarded_nonce, refused_with}
-use Rattle.engine.specs.declared.guard.Guarded.{Guarded}
-use Rattle.engine.specs.declared.guard.Guarded.TheVariants.{Proceed, Refuse}
+use Rattle.engine.specs.Guard.{Verdict, proceed, refuses, guarded_nonce, refused_with}
 use Rattle.engine.proofs.Guards.{GoesLent, told_refusal, no_refusal}
 
 pub options_are : (st : Settings) → flag_bits st.user_id_required st.read_only ≡ options_of st
@@ -58,7 +56,7 @@ realm-fits st l h = go st.has_realm h
 -- ---- the call
 
 module _ (e : Engine) (n : Octets16) (l : List ℕ) (s : Stores) (t : List ℕ) (g : GoesLent kind.NonceGiven e s t) (used : Bool)
-    (is-used : used ≡ among n (remembered e.peer.nonces t)) (x : Guarded) (said : x ≡ guarded_nonce (long_realm e.settings l) used) where
+    (is-used : used ≡ among n (remembered e.peer.nonces t)) (x : Verdict) (said : x ≡ guarded_nonce (long_realm e.settings l) used) where
   abbrev long : Bool
   long = long_realm e.settings l
 
@@ -72,11 +70,11 @@ module _ (e : Engine) (n : Octets16) (l : List ℕ) (s : Stores) (t : List ℕ) 
   unfolding nonce_given_step
   whole = ap (by_tests long) is-used ∙ sym (simp (g.enough, g.fitted))
 
-  pub nonce-refused : (q : Refusal) (r : CallResult) → x ≡ Refuse q → r ≡ refused_with q e → called (stepped r s) t ≡ nonce_given_step e n l s t
+  pub nonce-refused : (q : Refusal) (r : CallResult) → x ≡ refuses q → r ≡ refused_with q e → called (stepped r s) t ≡ nonce_given_step e n l s t
   unfolding guarded_nonce
   nonce-refused q r w h = ap (λ (y : CallResult). called (stepped y s) t) h ∙ go long used refl refl (sym said ∙ w)
     where
-      go : (a b : Bool) → long ≡ a → used ≡ b → guarded_nonce long used ≡ Refuse q → called (refuse q e s) t ≡ nonce_given_step e n l s t
+      go : (a b : Bool) → long ≡ a → used ≡ b → guarded_nonce long used ≡ refuses q → called (refuse q e s) t ≡ nonce_given_step e n l s t
       go true b i j z =
           ap (λ (y : Refusal). called (refuse y e s) t) (sym (told_refusal _ _ (simp i at z))) ∙ sym (ap₂ by_tests i j) ∙ whole
       go false true i j z =
@@ -84,17 +82,17 @@ module _ (e : Engine) (n : Octets16) (l : List ℕ) (s : Stores) (t : List ℕ) 
       go false false i j z = absurd (no_refusal q (simp (i, j) at z))
 
   -- a nonce that may be taken
-  pub nonce-fresh : x ≡ Proceed → (long ≡ false) × (used ≡ false)
+  pub nonce-fresh : x ≡ proceed → (long ≡ false) × (used ≡ false)
   unfolding guarded_nonce
   nonce-fresh w = go long used refl refl (sym said ∙ w)
     where
-      go : (a b : Bool) → long ≡ a → used ≡ b → guarded_nonce long used ≡ Proceed → (long ≡ false) × (used ≡ false)
+      go : (a b : Bool) → long ≡ a → used ≡ b → guarded_nonce long used ≡ proceed → (long ≡ false) × (used ≡ false)
       go true b i j z = absurd (no_refusal _ (sym (simp i at z)))
       go false true i j z = absurd (no_refusal _ (sym (simp (i, j) at z)))
       go false false i j z = (i, j)
 
-  pub nonce-taken : x ≡ Proceed → called (after 0 (nonce_answer e n l s)) (remembered_with n t) ≡ nonce_given_step e n l s t
+  pub nonce-taken : x ≡ proceed → called (after 0 (nonce_answer e n l s)) (remembered_with n t) ≡ nonce_given_step e n l s t
   nonce-taken w = let f = nonce-fresh w in sym (ap₂ by_tests f.0 f.1) ∙ whole
 
-  pub realm-short : x ≡ Proceed → long_realm e.settings l ≡ false
+  pub realm-short : x ≡ proceed → long_realm e.settings l ≡ false
   realm-short w = (nonce-fresh w).0

@@ -1,14 +1,16 @@
 -- Ids that are closed together, place by place of their list, and what the model says of them by numbers. Assumes nothing.
-use mathlib.Core.Path.{◌≡◌, refl, sym, ap, ◌∙◌}
+use Rattle.std.specs.Prelude.{nat_eq}
+use Rattle.std.specs.List.{list_all, list_any}
+use mathlib.Core.Path.{◌≡◌, refl, sym, ap, ap₂, ◌∙◌}
 use mathlib.Core.List.{List, [], ◌∷◌}
 use mathlib.Core.Bool.{Bool, true, false, ◌&&◌, ◌||◌, not}
-use Prim.Native.Nat.{ℕ, ◌+◌, ◌≤◌, ◌<◌}
+use Prim.Native.Nat.{ℕ, ◌+◌, ◌-◌, ◌≤◌, ◌<◌}
 use native.Mathlib.Omega.{arith}
 use native.Mathlib.Numerals.{add-one}
 use lib.Dec.{ltb, eqb}
-use lib.ListN.{length, get_or, take, drop, length-take, drop_of_length-le}
-use lib.Seq.{drop-cons}
-use borrow.Author.Tests.{ltb-false, ne_eqb}
+use lib.ListN.{length, get_or, take, drop, length-take, length-drop, drop_of_length-le}
+use lib.Seq.{drop-cons, take-length}
+use borrow.Author.Tests.{ltb-false, ne_eqb, eqb-true, eqb-false}
 use Rattle.journal.specs.Ids.{member, without, all_open, repeats}
 use Rattle.connection.specs.Peer.{ids_of, closed_tables}
 use Rattle.connection.specs.declared.peer.Peer.{Peer}
@@ -24,9 +26,8 @@ use Rattle.server.specs.declared.Refusal.TheVariants as refusal
 use Rattle.server.specs.declared.Engine.{Engine}
 use Rattle.server.specs.declared.CallResult.{CallResult}
 use Rattle.engine.specs.Close.{guarded_close, judged_close, closed_by}
-use Rattle.engine.specs.declared.guard.Guarded.{Guarded}
-use Rattle.engine.specs.declared.guard.Guarded.TheVariants.{Proceed, Refuse}
 use Rattle.engine.proofs.Guards.{bounds, told_refusal, no_refusal}
+use Rattle.engine.specs.Guard.{Verdict, proceed, refuses}
 
 -- ---- a list from a place on
 
@@ -36,16 +37,38 @@ from_place l i h = rw (add-one i) (drop-cons l i 0 h)
 pub none-behind : (l : List ℕ) (i : ℕ) → length l ≤ i → drop i l ≡ []
 none-behind l i h = drop_of_length-le l {i = i} h
 
-pub member-from : (x : ℕ) (l : List ℕ) (i : ℕ) → i < length l → member x (drop i l) ≡ eqb x (get_or l i 0) || member x (drop (i + 1) l)
-member-from x l i h = ap (member x) (from_place l i h)
-
-pub open-from : (ids l : List ℕ) (i : ℕ) → i < length l → all_open (drop i l) ids ≡ member (get_or l i 0) ids && all_open (drop (i + 1) l) ids
-unfolding all_open
-open-from ids l i h = ap (λ (k : List ℕ). all_open k ids) (from_place l i h)
-
 pub repeats-from : (l : List ℕ) (i : ℕ) → i < length l → repeats (drop i l) ≡ member (get_or l i 0) (drop (i + 1) l) || repeats (drop (i + 1) l)
 unfolding repeats
 repeats-from l i h = ap repeats (from_place l i h)
+
+-- ---- what the slice's own methods tell
+
+pub opened : (ids l : List ℕ) → list_all (λ x. member x ids) l ≡ all_open l ids
+unfolding all_open
+opened ids [] = refl
+opened ids (x ∷ l) = ap (λ (b : Bool). member x ids && b) (opened ids l)
+
+same_both : (x y : ℕ) → eqb x y ≡ eqb y x
+same_both x y = go (eqb x y) refl
+  where
+    go : (b : Bool) → eqb x y ≡ b → eqb x y ≡ eqb y x
+    go true e = let q : x ≡ y = eqb-true x y e in rw q
+    go false e = let n = eqb-false x y e in e ∙ sym (ne_eqb y x (λ q. n (sym q)))
+
+pub contained : (x : ℕ) (l : List ℕ) → list_any (λ y. nat_eq y x) l ≡ member x l
+contained x [] = refl
+contained x (y ∷ l) = ap₂ (λ (a b : Bool). a || b) (same_both y x) (contained x l)
+
+-- `contains` asks of the ids behind place `i`
+pub repeats_by : (l : List ℕ) (i : ℕ) (r : Bool) → i < length l
+    → r ≡ list_any (λ y. nat_eq y (get_or l i 0)) (take (length l - (i + 1)) (drop (i + 1) l))
+    → repeats (drop i l) ≡ r || repeats (drop (i + 1) l)
+repeats_by l i r h e =
+    let b = drop (i + 1) l in
+    let n : length l - (i + 1) ≡ length b = omega (arith, length-drop (i + 1) l) in
+    repeats-from l i h
+    ∙ ap (λ (x : Bool). x || repeats b)
+    (sym (e ∙ contained (get_or l i 0) (take (length l - (i + 1)) b) ∙ ap (member (get_or l i 0)) (ap (λ (k : ℕ). take k b) n ∙ take-length b)))
 
 -- ---- closing one after the other
 
@@ -93,55 +116,55 @@ pub record Closable (e : Engine) (t : List ℕ) : Type 0 where
   pub room : 320 ≤ length t
   pub whole : (l : List ℕ) → connections_closed_step e l t ≡ close_checked e l t
 
-module _ (e : Engine) (t : List ℕ) (x : Guarded) (p : x ≡ guarded_close e (length t)) where
+module _ (e : Engine) (t : List ℕ) (x : Verdict) (p : x ≡ guarded_close e (length t)) where
   -- where the guard refuses, the model refuses with the same
-  pub guard_turned : (l : List ℕ) (r : Refusal) → x ≡ Refuse r → refuse_closing r e t ≡ connections_closed_step e l t
+  pub guard_turned : (l : List ℕ) (r : Refusal) → x ≡ refuses r → refuse_closing r e t ≡ connections_closed_step e l t
   unfolding guarded_close connections_closed_step short_tables
   guard_turned l r w = by (ltb (length t) 320) (fitted e) refl refl (sym p ∙ w)
     where
-      by : (s f : Bool) → ltb (length t) 320 ≡ s → fitted e ≡ f → guarded_close e (length t) ≡ Refuse r
+      by : (s f : Bool) → ltb (length t) 320 ≡ s → fitted e ≡ f → guarded_close e (length t) ≡ refuses r
           → refuse_closing r e t ≡ connections_closed_step e l t
-      by true f h i q = let z : Refuse refusal.StoreTooShort ≡ Refuse r = simp h at q in simp (h, sym (told_refusal _ _ z))
-      by false true h i q = let z : Proceed ≡ Refuse r = simp (h, i) at q in absurd (no_refusal r z)
-      by false false h i q = let z : Refuse refusal.WrongMoment ≡ Refuse r = simp (h, i) at q in simp (h, i, sym (told_refusal _ _ z))
+      by true f h i q = let z : refuses refusal.StoreTooShort ≡ refuses r = simp h at q in simp (h, sym (told_refusal _ _ z))
+      by false true h i q = let z : proceed ≡ refuses r = simp (h, i) at q in absurd (no_refusal r z)
+      by false false h i q = let z : refuses refusal.WrongMoment ≡ refuses r = simp (h, i) at q in simp (h, i, sym (told_refusal _ _ z))
 
-  pub guard_passed : x ≡ Proceed → Closable e t
+  pub guard_passed : x ≡ proceed → Closable e t
   unfolding guarded_close connections_closed_step short_tables
   guard_passed w = by (ltb (length t) 320) (fitted e) refl refl (sym p ∙ w)
     where
-      by : (s f : Bool) → ltb (length t) 320 ≡ s → fitted e ≡ f → guarded_close e (length t) ≡ Proceed → Closable e t
-      by true f h i q = let z : Refuse refusal.StoreTooShort ≡ Proceed = simp h at q in absurd (no_refusal _ (sym z))
-      by false false h i q = let z : Refuse refusal.WrongMoment ≡ Proceed = simp (h, i) at q in absurd (no_refusal _ (sym z))
+      by : (s f : Bool) → ltb (length t) 320 ≡ s → fitted e ≡ f → guarded_close e (length t) ≡ proceed → Closable e t
+      by true f h i q = let z : refuses refusal.StoreTooShort ≡ proceed = simp h at q in absurd (no_refusal _ (sym z))
+      by false false h i q = let z : refuses refusal.WrongMoment ≡ proceed = simp (h, i) at q in absurd (no_refusal _ (sym z))
       by false true h i q =
           let few = (bounds e (and_left _ _ i)).count in
           let long : 320 ≤ length t = ltb-false _ _ h in
           record { few = few; room = long; whole = λ l. simp (h, i) }
 
-module _ (e : Engine) (l t : List ℕ) (x : Guarded) (p : x ≡ judged_close l (ids_of e.peer t)) where
-  pub judge-turned : (r : Refusal) → x ≡ Refuse r → refuse_closing r e t ≡ close_checked e l t
+module _ (e : Engine) (l t : List ℕ) (x : Verdict) (p : x ≡ judged_close l (ids_of e.peer t)) where
+  pub judge-turned : (r : Refusal) → x ≡ refuses r → refuse_closing r e t ≡ close_checked e l t
   unfolding judged_close close_checked
   judge-turned r w = by (ltb 64 (length l)) (all_open l (ids_of e.peer t)) (repeats l) refl refl refl (sym p ∙ w)
     where
-      by : (a b c : Bool) → ltb 64 (length l) ≡ a → all_open l (ids_of e.peer t) ≡ b → repeats l ≡ c → judged_close l (ids_of e.peer t) ≡ Refuse r
+      by : (a b c : Bool) → ltb 64 (length l) ≡ a → all_open l (ids_of e.peer t) ≡ b → repeats l ≡ c → judged_close l (ids_of e.peer t) ≡ refuses r
           → refuse_closing r e t ≡ close_checked e l t
-      by true b c h i k q = let z : Refuse refusal.TooManyIds ≡ Refuse r = simp h at q in simp (h, sym (told_refusal _ _ z))
-      by false false c h i k q = let z : Refuse refusal.IdNotOpen ≡ Refuse r = simp (h, i) at q in simp (h, i, sym (told_refusal _ _ z))
-      by false true true h i k q = let z : Refuse refusal.IdRepeated ≡ Refuse r = simp (h, i, k) at q in simp (h, i, k, sym (told_refusal _ _ z))
-      by false true false h i k q = let z : Proceed ≡ Refuse r = simp (h, i, k) at q in absurd (no_refusal r z)
+      by true b c h i k q = let z : refuses refusal.TooManyIds ≡ refuses r = simp h at q in simp (h, sym (told_refusal _ _ z))
+      by false false c h i k q = let z : refuses refusal.IdNotOpen ≡ refuses r = simp (h, i) at q in simp (h, i, sym (told_refusal _ _ z))
+      by false true true h i k q = let z : refuses refusal.IdRepeated ≡ refuses r = simp (h, i, k) at q in simp (h, i, k, sym (told_refusal _ _ z))
+      by false true false h i k q = let z : proceed ≡ refuses r = simp (h, i, k) at q in absurd (no_refusal r z)
 
-  pub judge_passed : x ≡ Proceed → close_checked e l t ≡ closes e l (closed_all l e.peer.count t)
+  pub judge_passed : x ≡ proceed → close_checked e l t ≡ closes e l (closed_all l e.peer.count t)
   unfolding judged_close close_checked
   judge_passed w = by (ltb 64 (length l)) (all_open l (ids_of e.peer t)) (repeats l) refl refl refl (sym p ∙ w)
     where
-      by : (a b c : Bool) → ltb 64 (length l) ≡ a → all_open l (ids_of e.peer t) ≡ b → repeats l ≡ c → judged_close l (ids_of e.peer t) ≡ Proceed
+      by : (a b c : Bool) → ltb 64 (length l) ≡ a → all_open l (ids_of e.peer t) ≡ b → repeats l ≡ c → judged_close l (ids_of e.peer t) ≡ proceed
           → close_checked e l t ≡ closes e l (closed_all l e.peer.count t)
-      by true b c h i k q = let z : Refuse refusal.TooManyIds ≡ Proceed = simp h at q in absurd (no_refusal _ (sym z))
-      by false false c h i k q = let z : Refuse refusal.IdNotOpen ≡ Proceed = simp (h, i) at q in absurd (no_refusal _ (sym z))
-      by false true true h i k q = let z : Refuse refusal.IdRepeated ≡ Proceed = simp (h, i, k) at q in absurd (no_refusal _ (sym z))
+      by true b c h i k q = let z : refuses refusal.TooManyIds ≡ proceed = simp h at q in absurd (no_refusal _ (sym z))
+      by false false c h i k q = let z : refuses refusal.IdNotOpen ≡ proceed = simp (h, i) at q in absurd (no_refusal _ (sym z))
+      by false true true h i k q = let z : refuses refusal.IdRepeated ≡ proceed = simp (h, i, k) at q in absurd (no_refusal _ (sym z))
       by false true false h i k q = simp (h, i, k)
 
   -- all were closed
-  pub all_closed : Closable e t → x ≡ Proceed → (n : ℕ) (u : List ℕ) → remaining n u ≡ closed_all l e.peer.count t → (q : Peer)
+  pub all_closed : Closable e t → x ≡ proceed → (n : ℕ) (u : List ℕ) → remaining n u ≡ closed_all l e.peer.count t → (q : Peer)
       → q ≡ closed_by e.peer (length l) n → (r : CallResult) → r ≡ goes_on_with e q → closed r u ≡ connections_closed_step e l t
   all_closed g w n u a q b r c =
       ap (λ (y : CallResult). closed y u) c

@@ -12,12 +12,10 @@ use borrow.Author.Tests.{ltb-true, ltb-false, leb-true}
 use Rattle.model.specs.Step.{Stores, Stepped, limit_of}
 use Rattle.model.specs.Guard.{short, short_tables, sound, fits, guarded, refuse, sound_operation}
 use Rattle.model.proofs.Fit.{and_left, and_right, or_left, or_right, Room, room}
-use Rattle.engine.specs.Guard.{short_by, guarded_by, guarded_lent}
+use Rattle.engine.specs.Guard.{Verdict, proceed, refuses, short_by, guarded_by, guarded_lent}
 use Rattle.server.specs.declared.CallKind.{CallKind}
 use Rattle.server.specs.declared.Refusal.{Refusal}
 use Rattle.server.specs.declared.Refusal.TheVariants as refusal
-use Rattle.engine.specs.declared.guard.Guarded.{Guarded}
-use Rattle.engine.specs.declared.guard.Guarded.TheVariants.{Proceed, Refuse}
 use Rattle.server.specs.declared.Engine.{Engine}
 
 -- counts in bounds
@@ -72,14 +70,14 @@ pub same-short : (limit : ℕ) (s : Stores) (t : Bool) → short_in limit s ≡ 
 unfolding short short_by
 same-short limit s t h = h
 
-abbrev pub guarded_in : CallKind → Engine → Stores → Guarded
+abbrev pub guarded_in : CallKind → Engine → Stores → Verdict
 guarded_in k e s = guarded_by k e (length s.packet) (length s.headers) (length s.body) (length s.reply)
 
 -- a refusal is told by the guard's answer, and an answer that lets a call proceed is none
-pub told_refusal : (r q : Refusal) → Refuse r ≡ Refuse q → r ≡ q
+pub told_refusal : (r q : Refusal) → refuses r ≡ refuses q → r ≡ q
 told_refusal r q h = cc
 
-pub no_refusal : (r : Refusal) → Proceed ≡ Refuse r → ⊥
+pub no_refusal : (r : Refusal) → proceed ≡ refuses r → ⊥
 no_refusal r h = let z : ◌≡◌ {A = ℕ} 0 1 = cc in omega arith
 
 module _ (k : CallKind) (e : Engine) (s : Stores) where
@@ -87,27 +85,27 @@ module _ (k : CallKind) (e : Engine) (s : Stores) where
   fitting = sound e && fits k e.awaits
 
   -- where the guard refuses, the model refuses with the same
-  pub turned : (go : Stepped) (x : Guarded) (r : Refusal) → x ≡ guarded_in k e s → x ≡ Refuse r → refuse r e s ≡ guarded k e s go
+  pub turned : (go : Stepped) (x : Verdict) (r : Refusal) → x ≡ guarded_in k e s → x ≡ refuses r → refuse r e s ≡ guarded k e s go
   unfolding guarded_by fitting
   turned go x r p w = by (short_in (limit_of e) s) fitting refl refl (sym p ∙ w)
     where
-      by : (t f : Bool) → short_in (limit_of e) s ≡ t → fitting ≡ f → guarded_in k e s ≡ Refuse r → refuse r e s ≡ guarded k e s go
+      by : (t f : Bool) → short_in (limit_of e) s ≡ t → fitting ≡ f → guarded_in k e s ≡ refuses r → refuse r e s ≡ guarded k e s go
       by true f h i q =
-          let z : Refuse refusal.StoreTooShort ≡ Refuse r = simp h at q in
+          let z : refuses refusal.StoreTooShort ≡ refuses r = simp h at q in
           simp (same-short (limit_of e) s true h, sym (told_refusal _ _ z))
-      by false true h i q = let z : Proceed ≡ Refuse r = simp (h, i) at q in absurd (no_refusal r z)
+      by false true h i q = let z : proceed ≡ refuses r = simp (h, i) at q in absurd (no_refusal r z)
       by false false h i q =
-          let z : Refuse refusal.WrongMoment ≡ Refuse r = simp (h, i) at q in
+          let z : refuses refusal.WrongMoment ≡ refuses r = simp (h, i) at q in
           simp (same-short (limit_of e) s false h, i, sym (told_refusal _ _ z))
 
   -- where it lets the call proceed, the call goes on
-  pub going : (x : Guarded) → x ≡ guarded_in k e s → x ≡ Proceed → Goes k e s
+  pub going : (x : Verdict) → x ≡ guarded_in k e s → x ≡ proceed → Goes k e s
   unfolding guarded_by fitting
   going x p w = by (short_in (limit_of e) s) fitting refl refl (sym p ∙ w)
     where
-      by : (t f : Bool) → short_in (limit_of e) s ≡ t → fitting ≡ f → guarded_in k e s ≡ Proceed → Goes k e s
-      by true f h i q = let z : Refuse refusal.StoreTooShort ≡ Proceed = simp h at q in absurd (no_refusal _ (sym z))
-      by false false h i q = let z : Refuse refusal.WrongMoment ≡ Proceed = simp (h, i) at q in absurd (no_refusal _ (sym z))
+      by : (t f : Bool) → short_in (limit_of e) s ≡ t → fitting ≡ f → guarded_in k e s ≡ proceed → Goes k e s
+      by true f h i q = let z : refuses refusal.StoreTooShort ≡ proceed = simp h at q in absurd (no_refusal _ (sym z))
+      by false false h i q = let z : refuses refusal.WrongMoment ≡ proceed = simp (h, i) at q in absurd (no_refusal _ (sym z))
       by false true h i q =
           let z = room (limit_of e) s (same-short (limit_of e) s false h) in
           let u = bounds e (and_left _ _ i) in
@@ -127,7 +125,7 @@ pub same_lack : (limit : ℕ) (s : Stores) (t : List ℕ) (b : Bool) → lack_in
 unfolding short short_by short_tables
 same_lack limit s t b h = h
 
-abbrev pub guarded_lent_in : CallKind → Engine → Stores → List ℕ → Guarded
+abbrev pub guarded_lent_in : CallKind → Engine → Stores → List ℕ → Verdict
 guarded_lent_in k e s t = guarded_lent k e (length t) (length s.packet) (length s.headers) (length s.body) (length s.reply)
 
 -- what such a call knows where it goes on
@@ -143,34 +141,34 @@ module _ (k : CallKind) (e : Engine) (s : Stores) (t : List ℕ) where
   fitting-lent = sound e && fits k e.awaits
 
   -- where the guard refuses, the model does: `f` is what a refusal gives, `go` what goes on
-  pub turned-lent : {A : Type 0} (f : Refusal → A) (go : A) (x : Guarded) (r : Refusal) → x ≡ guarded_lent_in k e s t → x ≡ Refuse r
+  pub turned-lent : {A : Type 0} (f : Refusal → A) (go : A) (x : Verdict) (r : Refusal) → x ≡ guarded_lent_in k e s t → x ≡ refuses r
       → f r ≡ pick (short_tables t || short (limit_of e) s) (f refusal.StoreTooShort) (pick (sound e && fits k e.awaits) go (f refusal.WrongMoment))
   unfolding guarded_lent fitting-lent
   turned-lent {A = A} f go x r p w = by (lack_in (limit_of e) s t) fitting-lent refl refl (sym p ∙ w)
     where
-      by : (u v : Bool) → lack_in (limit_of e) s t ≡ u → fitting-lent ≡ v → guarded_lent_in k e s t ≡ Refuse r
+      by : (u v : Bool) → lack_in (limit_of e) s t ≡ u → fitting-lent ≡ v → guarded_lent_in k e s t ≡ refuses r
           → f r ≡ pick (short_tables t || short (limit_of e) s) (f refusal.StoreTooShort)
           (pick (sound e && fits k e.awaits) go (f refusal.WrongMoment))
       by true v h i q =
-          let z : Refuse refusal.StoreTooShort ≡ Refuse r = simp h at q in
+          let z : refuses refusal.StoreTooShort ≡ refuses r = simp h at q in
           simp (same_lack (limit_of e) s t true h, sym (told_refusal _ _ z))
-      by false true h i q = let z : Proceed ≡ Refuse r = simp (h, i) at q in absurd (no_refusal r z)
+      by false true h i q = let z : proceed ≡ refuses r = simp (h, i) at q in absurd (no_refusal r z)
       by false false h i q =
-          let z : Refuse refusal.WrongMoment ≡ Refuse r = simp (h, i) at q in
+          let z : refuses refusal.WrongMoment ≡ refuses r = simp (h, i) at q in
           simp (same_lack (limit_of e) s t false h, i, sym (told_refusal _ _ z))
 
-  pub going-lent : (x : Guarded) → x ≡ guarded_lent_in k e s t → x ≡ Proceed → GoesLent k e s t
+  pub going-lent : (x : Verdict) → x ≡ guarded_lent_in k e s t → x ≡ proceed → GoesLent k e s t
   unfolding guarded_lent guarded_by fitting-lent
   going-lent x p w = by (lack_in (limit_of e) s t) fitting-lent refl refl (sym p ∙ w)
     where
-      by : (u v : Bool) → lack_in (limit_of e) s t ≡ u → fitting-lent ≡ v → guarded_lent_in k e s t ≡ Proceed → GoesLent k e s t
-      by true v h i q = let z : Refuse refusal.StoreTooShort ≡ Proceed = simp h at q in absurd (no_refusal _ (sym z))
-      by false false h i q = let z : Refuse refusal.WrongMoment ≡ Proceed = simp (h, i) at q in absurd (no_refusal _ (sym z))
+      by : (u v : Bool) → lack_in (limit_of e) s t ≡ u → fitting-lent ≡ v → guarded_lent_in k e s t ≡ proceed → GoesLent k e s t
+      by true v h i q = let z : refuses refusal.StoreTooShort ≡ proceed = simp h at q in absurd (no_refusal _ (sym z))
+      by false false h i q = let z : refuses refusal.WrongMoment ≡ proceed = simp (h, i) at q in absurd (no_refusal _ (sym z))
       by false true h i q =
           let long : short_in (limit_of e) s ≡ false = or_right (ltb (length t) 320) _ h in
           let room : 320 ≤ length t = ltb-false _ _ (or_left _ _ h) in
           record {
-            goes = going k e s Proceed (sym (simp (long, i))) refl;
+            goes = going k e s proceed (sym (simp (long, i))) refl;
             tables = room;
             ids = omega arith;
             enough = same_lack (limit_of e) s t false h;

@@ -22,7 +22,7 @@ use Rattle.model.specs.Step.{Stores, Done, stepped, with_headers, after, capacit
 use Rattle.model.specs.Guard.{refuse, long_realm, bad_headers, sound_operation}
 use Rattle.model.specs.Calls.{body_for, object_for, started, start_step}
 use Rattle.model.specs.Object.{sends_packet, sends_next, object_of}
-use Rattle.engine.specs.Guard.{guarded_start, refused_with}
+use Rattle.engine.specs.Guard.{Verdict, proceed, refuses, guarded_start, refused_with}
 use Rattle.engine.specs.Step.{Written, within, carried}
 use Rattle.engine.specs.Object.{packet_plan, packet_sent}
 use Rattle.server.specs.declared.Settings.{Settings}
@@ -38,8 +38,6 @@ use Rattle.model.proofs.Steps.{OutgoingFits, outgoing_within}
 use Rattle.model.proofs.FromHost.{headers-fit}
 use Rattle.server.specs.declared.Refusal.{Refusal}
 use Rattle.server.specs.declared.Refusal.TheVariants as refusal
-use Rattle.engine.specs.declared.guard.Guarded.{Guarded}
-use Rattle.engine.specs.declared.guard.Guarded.TheVariants.{Proceed, Refuse}
 use Rattle.engine.proofs.Guards.{lack_in, same_lack, told_refusal, no_refusal}
 use Rattle.engine.proofs.Carried.{packet-carried}
 
@@ -121,7 +119,7 @@ module _ (p : Operation) (g : Gathered) (srm confirm wait : Bool) (is : p ≡ Ge
 
 -- ---- the start
 
-module _ (st : Settings) (l : List ℕ) (s : Stores) (t : List ℕ) (m : Bool) (long : m ≡ (st.has_realm && ltb 254 (length l))) (x : Guarded)
+module _ (st : Settings) (l : List ℕ) (s : Stores) (t : List ℕ) (m : Bool) (long : m ≡ (st.has_realm && ltb 254 (length l))) (x : Verdict)
     (e : Engine) where
   abbrev limit : ℕ
   limit = st.max_object_size
@@ -131,30 +129,30 @@ module _ (st : Settings) (l : List ℕ) (s : Stores) (t : List ℕ) (m : Bool) (
   same-long b h = sym long ∙ h
 
   -- what the guard says of the start
-  abbrev guarded_at : Guarded
+  abbrev guarded_at : Verdict
   guarded_at = guarded_start limit m (length t) (length s.packet) (length s.headers) (length s.body) (length s.reply)
 
-  pub start-refused : x ≡ guarded_at → e ≡ engine_with st fresh_peer Nothing await.Nothing 0 0 unnamed → (q : Refusal) → x ≡ Refuse q → (r : CallResult)
+  pub start-refused : x ≡ guarded_at → e ≡ engine_with st fresh_peer Nothing await.Nothing 0 0 unnamed → (q : Refusal) → x ≡ refuses q → (r : CallResult)
       → r ≡ refused_with q e → stepped r s ≡ start_step st l s t
   unfolding start_step guarded_start
   start-refused said k q w r h = go (lack_in limit s t) m refl refl (sym said ∙ w)
     where
-      go : (u v : Bool) → lack_in limit s t ≡ u → m ≡ v → guarded_at ≡ Refuse q → stepped r s ≡ start_step st l s t
+      go : (u v : Bool) → lack_in limit s t ≡ u → m ≡ v → guarded_at ≡ refuses q → stepped r s ≡ start_step st l s t
       go true v a b i =
-          let z : Refuse refusal.StoreTooShort ≡ Refuse q = simp a at i in
+          let z : refuses refusal.StoreTooShort ≡ refuses q = simp a at i in
           simp (h, k, sym (told_refusal _ _ z), same_lack limit s t true a)
       go false true a b i =
-          let z : Refuse refusal.BadAnswer ≡ Refuse q = simp (a, b) at i in
+          let z : refuses refusal.BadAnswer ≡ refuses q = simp (a, b) at i in
           simp (h, k, sym (told_refusal _ _ z), same_lack limit s t false a, same-long true b)
-      go false false a b i = let z : Proceed ≡ Refuse q = simp (a, b) at i in absurd (no_refusal q z)
+      go false false a b i = let z : proceed ≡ refuses q = simp (a, b) at i in absurd (no_refusal q z)
 
-  pub start-goes : x ≡ guarded_at → e ≡ engine_with st fresh_peer Nothing await.Bytes 0 0 unnamed → x ≡ Proceed
+  pub start-goes : x ≡ guarded_at → e ≡ engine_with st fresh_peer Nothing await.Bytes 0 0 unnamed → x ≡ proceed
       → stepped (record { engine = e; taken = 0; outcome = outcome.WantsBytes }) s ≡ start_step st l s t
   unfolding start_step guarded_start started
   start-goes said k w = go (lack_in limit s t) m refl refl (sym said ∙ w)
     where
-      go : (u v : Bool) → lack_in limit s t ≡ u → m ≡ v → guarded_at ≡ Proceed
+      go : (u v : Bool) → lack_in limit s t ≡ u → m ≡ v → guarded_at ≡ proceed
           → stepped (record { engine = e; taken = 0; outcome = outcome.WantsBytes }) s ≡ start_step st l s t
-      go true v a b i = let z : Refuse refusal.StoreTooShort ≡ Proceed = simp a at i in absurd (no_refusal _ (sym z))
-      go false true a b i = let z : Refuse refusal.BadAnswer ≡ Proceed = simp (a, b) at i in absurd (no_refusal _ (sym z))
+      go true v a b i = let z : refuses refusal.StoreTooShort ≡ proceed = simp a at i in absurd (no_refusal _ (sym z))
+      go false true a b i = let z : refuses refusal.BadAnswer ≡ proceed = simp (a, b) at i in absurd (no_refusal _ (sym z))
       go false false a b i = simp (k, same_lack limit s t false a, same-long false b)

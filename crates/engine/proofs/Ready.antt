@@ -14,7 +14,7 @@ use Rattle.packet.specs.FirstByte.{first_byte, same_opcode}
 use Rattle.packet.specs.Header.{Header, read_headers}
 use Rattle.packet.specs.Packet.{Request as Packet, request_of, request_by, request_with, prefix_of}
 use Rattle.packet.specs.declared.opcode.FirstByte.{FirstByte}
-use Rattle.packet.specs.declared.opcode.FirstByte.TheVariants.{Known, Unknown}
+use Rattle.std.specs.Prelude.{Option as Maybe, Some, None}
 use Rattle.packet.specs.declared.opcode.Opcode.{Opcode}
 use Rattle.packet.specs.declared.opcode.Opcode.TheVariants as op
 use Rattle.incoming.specs.Survey.{survey_of}
@@ -24,15 +24,14 @@ use Rattle.model.specs.Step.{limit_of}
 use Rattle.model.specs.Operation.{nothing_gathered}
 use Rattle.model.specs.Guard.{sound_gathered, sound_outgoing, sound_operation}
 use Rattle.model.specs.Dispatch.{rejection, busy}
-use Rattle.engine.specs.Dispatch.{heading_of, admission_of, drained_by, rejected_route, dispatch_route, admitted_route, open_route, inside_route, heading_route, route_as, packet_route}
+use Rattle.engine.specs.Dispatch.{Admission, heading_of, admission_of, drained_by, rejected_route, dispatch_route, admitted_route, open_route, inside_route, heading_route, route_as, packet_route}
 use Rattle.engine.specs.Operation.{from_of}
 use Rattle.server.specs.declared.Operation.{Operation}
 use Rattle.server.specs.declared.Operation.TheVariants.{Nothing, Trailing, Putting, Getting, Sending, Gathering as GatheringOp, Connecting, Draining}
 use Rattle.server.specs.declared.Engine.{Engine}
 use Rattle.engine.specs.declared.dispatch.Route.{Route}
 use Rattle.engine.specs.declared.dispatch.Route.TheVariants.{Plain, Connect, Gather, Send}
-use Rattle.engine.specs.declared.dispatch.Admission.{Admission}
-use Rattle.engine.specs.declared.dispatch.Admission.TheVariants.{Admits, Rejects}
+use Rattle.std.specs.Prelude.{Ok, Err}
 use Rattle.packet.proofs.OpcodeLaws.{same-equal}
 
 -- the headers of a request are those after its fields, and its bytes are the packet
@@ -57,9 +56,9 @@ parts q r e = go (first_byte (get_or q 0 0)) e
     long c f true w = absurd (none-some w)
     long c f false w = read c f (read_headers q (prefix_of c)) refl w
 
-    go : (b : FirstByte) → request_by b q ≡ some r → Parts q r
-    go Unknown w = absurd (none-some w)
-    go (Known c f) w = long c f (ltb (length q) (prefix_of c)) w
+    go : (b : Maybe FirstByte) → request_by b q ≡ some r → Parts q r
+    go None w = absurd (none-some w)
+    go (Some b) w = long b.opcode b.is_final (ltb (length q) (prefix_of b.opcode)) w
 
 -- by the way it goes
 abbrev pub Ready : Route → Engine → List ℕ → List Header → Type 0
@@ -98,8 +97,8 @@ module _ (e : Engine) (q : List ℕ) (r : Packet) (known trails : Bool) where
     from-open o h = subst (λ (x : Opcode). read_headers q (prefix_of x) ≡ some r.headers) (same-equal r.opcode o h) k
 
     admitted-ready : (x : Admission) → Ready (admitted_route x e (heading_of r known trails)) e q r.headers
-    admitted-ready Admits = dispatch-ready r.opcode k
-    admitted-ready (Rejects code) = rejected-ready code
+    admitted-ready (Ok x) = dispatch-ready r.opcode k
+    admitted-ready (Err code) = rejected-ready code
 
     open-ready : Ready (open_route e (heading_of r known trails)) e q r.headers
     unfolding open_route

@@ -7,11 +7,12 @@ use Prim.Native.Nat.{ℕ}
 use lib.ListN.{take}
 use lib.Count.{ones}
 use lib.Dec.{leb}
+use Rattle.std.specs.Prelude.{Some, None}
 use Rattle.base.specs.Pick.{pick}
+use Rattle.base.specs.Place.{Place}
 use Rattle.packet.specs.Codes.{sent_code}
 use Rattle.packet.specs.FirstByte.{same_opcode}
 use Rattle.packet.specs.Auth.{Response, response_of}
-use Rattle.packet.specs.declared.tlv.Found.{Found}
 use Rattle.digest.specs.declared.md5.Octets16.{Octets16}
 use Rattle.packet.specs.Header.{first}
 use Rattle.packet.specs.Packet.{Request as Packet, request_of, connect_limit, packet_bytes}
@@ -20,9 +21,7 @@ use Rattle.packet.specs.declared.opcode.Opcode.TheVariants as op
 use Rattle.incoming.specs.Survey.{survey_of}
 use Rattle.incoming.specs.declared.gather.Gathered.{Gathered}
 use Rattle.incoming.specs.declared.gather.Keep.TheVariants as keep
-use Rattle.connection.specs.Peer.{isGiven, limited, checked_peer}
-use Rattle.connection.specs.declared.peer.Challenge.{Challenge}
-use Rattle.connection.specs.declared.peer.Challenge.TheVariants.{Stored, Absent}
+use Rattle.connection.specs.Peer.{isGiven, limited, checked_peer, Challenge}
 use Rattle.connection.specs.declared.peer.Peer.{Peer}
 use Rattle.journal.specs.Checks.{most_wrong}
 use Rattle.journal.specs.Journal.{response_in, headers_of as headersIn}
@@ -33,9 +32,8 @@ use Rattle.model.specs.Operation.{nothing_gathered, gathers, put_packet, get_pac
 use Rattle.model.specs.Dispatch.{Rejection, admits, rejects, rejection, known_in, drains, rejected, dispatches, admitted_as, dispatch, interrupts, trails, inside, busy, read_as, packet_target, arrived, packet_done}
 use Rattle.table.specs.declared.targets.Target.{Target}
 use Rattle.engine.specs.declared.dispatch.Heading.{Heading}
-use Rattle.engine.specs.declared.dispatch.Admission.{Admission}
-use Rattle.engine.specs.declared.dispatch.Admission.TheVariants.{Admits, Rejects}
-use Rattle.engine.specs.Dispatch.{heading_of, ask_route, code_route, keep_route, trailed_route, is_trailing, admission_of, rejected_route, put_route, get_route, headers_route, dispatch_route, admitted_route, open_route, interrupts_route, inside_route, heading_route, route_as, packet_route, targeted, simple_plan, acts}
+use Rattle.std.specs.Prelude.{Ok, Err}
+use Rattle.engine.specs.Dispatch.{heading_of, ask_route, code_route, keep_route, trailed_route, is_trailing, Admission, admission_of, rejected_route, put_route, get_route, headers_route, dispatch_route, admitted_route, open_route, interrupts_route, inside_route, heading_route, route_as, packet_route, targeted, simple_plan, acts}
 use Rattle.engine.specs.Operation.{keep_of, kind_plan, acts_gathered}
 use Rattle.engine.specs.Connect.{answered_read, answered_as, verifies_plan, carries, stops_by, limited_plan, connect_plan}
 use Rattle.server.specs.declared.Operation.{Operation}
@@ -103,22 +101,22 @@ module _ (e : Engine) (q : List ℕ) (s : Stores) where
 
 module _ (e : Engine) (s : Stores) where
   read-planned : (p : Peer) (n : Octets16) (r : Option Response)
-      → Carries (verifies_plan e p (Stored n) (answered_read r (user_place e s))) s (verifies e p (Stored n) r s)
+      → Carries (verifies_plan e p (Some n) (answered_read r (user_place e s))) s (verifies e p (Some n) r s)
   read-planned p n none = asks-planned e p Nothing await.Nonce request.Nonce s
   read-planned p n (some r) = asks-planned e p Nothing await.Password (request.Password (user_place e s)) s
 
   verifies-planned : (p : Peer) (c : Challenge) (v : Option (List ℕ))
       → Carries (verifies_plan e p c (answered_as v (user_place e s))) s (verifies e p c (response_in v) s)
-  verifies-planned p Absent v = asks-planned e p Nothing await.Nonce request.Nonce s
-  verifies-planned p (Stored n) none = asks-planned e p Nothing await.Nonce request.Nonce s
-  verifies-planned p (Stored n) (some v) = read-planned p n (response_of v)
+  verifies-planned p None v = asks-planned e p Nothing await.Nonce request.Nonce s
+  verifies-planned p (Some n) none = asks-planned e p Nothing await.Nonce request.Nonce s
+  verifies-planned p (Some n) (some v) = read-planned p n (response_of v)
 
   -- a response is carried if its header is there
-  carries-read : (r : Option Response) (u : Found) → carries (answered_read r u) ≡ true
+  carries-read : (r : Option Response) (u : Place) → carries (answered_read r u) ≡ true
   carries-read none u = refl
   carries-read (some r) u = refl
 
-  carries-given : (v : Option (List ℕ)) (u : Found) → carries (answered_as v u) ≡ isGiven v
+  carries-given : (v : Option (List ℕ)) (u : Place) → carries (answered_as v u) ≡ isGiven v
   carries-given none u = refl
   carries-given (some v) u = carries-read (response_of v) u
 
@@ -256,8 +254,8 @@ module _ (e : Engine) (g : Target) (h : Heading) where
 
   admitted-targeted : (a : Admission) → admitted_route a (targeted e g) h ≡ admitted_route a e h
   unfolding engine_with
-  admitted-targeted Admits = dispatch-targeted h.opcode
-  admitted-targeted (Rejects code) = refl
+  admitted-targeted (Ok x) = dispatch-targeted h.opcode
+  admitted-targeted (Err code) = refl
 
   open-targeted : open_route (targeted e g) h ≡ open_route e h
   unfolding open_route rejection engine_with

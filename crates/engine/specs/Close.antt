@@ -12,21 +12,20 @@ use Rattle.model.specs.Dispatch.{busy}
 use Rattle.server.specs.declared.Await.TheVariants as await
 use Rattle.server.specs.declared.Refusal.TheVariants as refusal
 use Rattle.server.specs.declared.Engine.{Engine}
-use Rattle.engine.specs.declared.guard.Guarded.{Guarded}
-use Rattle.engine.specs.declared.guard.Guarded.TheVariants.{Proceed, Refuse}
+use Rattle.engine.specs.Guard.{Verdict, proceed, refuses}
 
 -- The guard of the call, by the length `n` of the table store: bytes must be awaited, and no operation may be open.
-unfoldable pub guarded_close : Engine → ℕ → Guarded
+unfoldable pub guarded_close : Engine → ℕ → Verdict
 guarded_close e n =
-    pick (ltb n table_length) (Refuse refusal.StoreTooShort)
-    (pick (sound e && (same_await e.awaits await.Bytes && not (busy e.operation))) Proceed (Refuse refusal.WrongMoment))
+    pick (ltb n table_length) (refuses refusal.StoreTooShort)
+    (pick (sound e && (same_await e.awaits await.Bytes && not (busy e.operation))) proceed (refuses refusal.WrongMoment))
 
 -- Whether the ids `l` may be closed of those that are open.
-unfoldable pub judged_close : List ℕ → List ℕ → Guarded
+unfoldable pub judged_close : List ℕ → List ℕ → Verdict
 judged_close l ids =
-    pick (ltb max_connections (length l)) (Refuse refusal.TooManyIds)
-    (pick (not (all_open l ids)) (Refuse refusal.IdNotOpen)
-    (pick (repeats l) (Refuse refusal.IdRepeated) Proceed))
+    pick (ltb max_connections (length l)) (refuses refusal.TooManyIds)
+    (pick (not (all_open l ids)) (refuses refusal.IdNotOpen)
+    (pick (repeats l) (refuses refusal.IdRepeated) proceed))
 
 -- The peer once `k` ids were closed and `n` are left.
 abbrev pub closed_by : Peer → ℕ → ℕ → Peer

@@ -1,24 +1,24 @@
 -- Connect from its packet to its reply, and Disconnect, by the stores that they touch: the design level between model/specs/Connect and the
 -- code.
-use Rattle.std.specs.Prelude.{ℕ, ◌+◌, ◌^◌, ◌≤◌, ◌<◌, List, [], Bool, true, false, ◌&&◌, ◌||◌, length, take, leb}
+use Rattle.std.specs.Prelude.{ℕ, ◌+◌, ◌^◌, ◌≤◌, ◌<◌, List, [], Bool, true, false, ◌&&◌, ◌||◌, length, take, leb, Some, None}
+use Rattle.std.specs.Prelude.{Option as OrNone}
 use Rattle.std.proofs.Math.Option.{Option, none, some}
 use Rattle.std.specs.Int.Count.{ones}
 use Rattle.base.specs.Pick.{pick}
+use Rattle.base.specs.Place.{Place}
 use Rattle.packet.specs.Codes.{is_success}
 use Rattle.packet.specs.Header.{Header, first, first_place, all_bytes}
 use Rattle.packet.specs.HeaderIds as header_id
 use Rattle.packet.specs.Packet.{request_of, connect_limit}
 use Rattle.packet.specs.declared.auth.DigestChallenge.{DigestChallenge}
-use Rattle.packet.specs.declared.auth.DigestChallenge.TheVariants as challenge
 use Rattle.journal.specs.Calls.{Credentials}
 use Rattle.incoming.specs.Survey.{survey_of}
 use Rattle.connection.specs.Reply.{fields_of, front}
-use Rattle.connection.specs.Peer.{Linked, linked, id_in, isGiven, target_given, Answers, answer_by, disconnected_peer, checked_peer, verified_peer, limited}
+use Rattle.connection.specs.Peer.{Linked, linked, id_in, target_asked, Answers, answer_by, disconnected_peer, checked_peer, verified_peer, limited, ConnectionId, Challenge}
 use Rattle.connection.specs.ConnectReply.{connect_headers}
 use Rattle.connection.specs.Pieces.{headers_from, answered_in, id_given}
 use Rattle.connection.specs.declared.peer.Peer.{Peer}
 use Rattle.connection.specs.declared.peer.Answer.{Answer}
-use Rattle.connection.specs.declared.peer.ConnectionId.{ConnectionId}
 use Rattle.journal.specs.Checks.{most_wrong}
 use Rattle.journal.specs.Journal.{headers_of as headersIn}
 use Rattle.model.specs.Step.{Stores, Stepped, stepped, stores}
@@ -39,21 +39,17 @@ use Rattle.server.specs.declared.CallResult.{CallResult}
 use Rattle.engine.specs.declared.step.Plan.{Plan}
 use Rattle.packet.specs.ResponseCodes as response
 use Rattle.packet.specs.Auth.{Response, response_of}
-use Rattle.packet.specs.declared.tlv.Found.{Found}
-use Rattle.packet.specs.declared.tlv.Found.TheVariants as place
-use Rattle.connection.specs.declared.peer.Challenge.{Challenge}
-use Rattle.connection.specs.declared.peer.Challenge.TheVariants.{Stored, Absent}
 use Rattle.engine.specs.declared.connect.Answered.{Answered}
 use Rattle.engine.specs.declared.connect.Question.{Question}
 use Rattle.engine.specs.declared.connect.Answered.TheVariants.{Missing, Unreadable, User}
 
 -- The client's response can be read or not; `u` is the place of its user id.
-abbrev pub answered_read : Option Response → Found → Answered
+abbrev pub answered_read : Option Response → Place → Answered
 answered_read none u = Unreadable
 answered_read (some r) u = User u
 
 -- The header of the client's response is there or not.
-abbrev pub answered_as : Option (List ℕ) → Found → Answered
+abbrev pub answered_as : Option (List ℕ) → Place → Answered
 answered_as none u = Missing
 answered_as (some v) u = answered_read (response_of v) u
 
@@ -62,9 +58,9 @@ abbrev pub answered_by : List ℕ → Answered
 answered_by q = answered_as (first header_id.authenticate_response (headersIn (request_of q))) (user_in q (first_place header_id.authenticate_response q 7))
 
 -- A place that is moved on by `n` stays below the largest number of 64 bits.
-abbrev pub Below : ℕ → Found → Type 0
-Below n place.Missing = Unit {0}
-Below n (place.At a b) = (a ≤ b) × (n + b < 2 ^ 64)
+abbrev pub Below : ℕ → Place → Type 0
+Below n None = Unit {0}
+Below n (Some p) = (p.start ≤ p.end) × (n + p.end < 2 ^ 64)
 
 -- Makes a `Question`.
 abbrev pub asked : Await → HostRequest → Question
@@ -76,10 +72,10 @@ nonce_asked = asked await.Nonce request.Nonce
 
 -- If a challenge is stored and the client's response can be read, the engine asks the host for the password. Otherwise it asks for a nonce.
 abbrev pub verifies_by : Challenge → Answered → Question
-verifies_by Absent a = nonce_asked
-verifies_by (Stored n) Missing = nonce_asked
-verifies_by (Stored n) Unreadable = nonce_asked
-verifies_by (Stored n) (User u) = asked await.Password (request.Password u)
+verifies_by None a = nonce_asked
+verifies_by (Some n) Missing = nonce_asked
+verifies_by (Some n) Unreadable = nonce_asked
+verifies_by (Some n) (User u) = asked await.Password (request.Password u)
 
 -- What the host is asked about a Connect that is not stopped: the client is checked if a password is required, and else the host decides.
 abbrev pub question_of : Bool → Challenge → Answered → ℕ → Question
@@ -170,22 +166,21 @@ accepted_headers e f q hs c =
 unfoldable pub answer_for : Engine → List ℕ → List ℕ → List ℕ → Answers
 answer_for e t hs q =
     answer_by e.peer t (e.peer.srm_enabled || srm_asked_by e q) (id_in (first header_id.connection_id (headers_from hs 0)))
-    (isGiven (first header_id.target (headers_of q))) (target_given (first header_id.target (headers_of q)))
+    (target_asked (first header_id.target (headers_of q)))
 
 -- If the client sent challenges that can all be read, the engine asks for credentials, and the host's headers wait in the header store.
-abbrev pub challenged_by : DigestChallenge → Engine → Peer → ℕ → ConnectionId → List ℕ → List ℕ → List ℕ → List ℕ → Answering
-challenged_by challenge.Unreadable e p code f hs q h y = leaving h (connect_replies e p code (accepted_headers e f q hs none) y)
-challenged_by (challenge.Challenge n u r x) e p code f hs q h y =
+abbrev pub challenged_by : OrNone DigestChallenge → Engine → Peer → ℕ → ConnectionId → List ℕ → List ℕ → List ℕ → List ℕ → Answering
+challenged_by None e p code f hs q h y = leaving h (connect_replies e p code (accepted_headers e f q hs none) y)
+challenged_by (Some c) e p code f hs q h y =
     answering
-    (took_by (asks_plan e p (Connecting code f (length hs)) await.Credentials (request.Credentials n u r (realm_in q (first_place header_id.authenticate_challenge q 7)))))
+    (took_by (asks_plan e p (Connecting code f (length hs)) await.Credentials (request.Credentials c.nonce c.user_id_required c.read_only (realm_in q (first_place header_id.authenticate_challenge q 7)))))
     (front hs h)
     y
 
 -- The engine answers a 65th id with 0x53.
-abbrev pub opened_by : Answer → Engine → ℕ → List ℕ → List ℕ → List ℕ → List ℕ → Answering
-opened_by a e code hs q h y =
-    pick a.opening.full (leaving h (connect_replies e e.peer response.service_unavailable [] y))
-    (challenged_by (answered_in (headers_of q)) e a.opening.peer code a.front hs q h y)
+abbrev pub opened_by : OrNone Answer → Engine → ℕ → List ℕ → List ℕ → List ℕ → List ℕ → Answering
+opened_by None e code hs q h y = leaving h (connect_replies e e.peer response.service_unavailable [] y)
+opened_by (Some a) e code hs q h y = challenged_by (answered_in (headers_of q)) e a.peer code a.front hs q h y
 
 -- The engine answers a Connect that the host accepts, and leaves the table store as opening the id left it.
 abbrev pub opened_in : Answers → Engine → ℕ → List ℕ → List ℕ → List ℕ → List ℕ → Accepting

@@ -1,6 +1,6 @@
 -- Which way a packet goes, decided without the stores, and what acting on it does: the design level between model/specs/Dispatch and the
 -- code.
-use Rattle.std.specs.Prelude.{ℕ, List, Bool, true, false, ◌&&◌, not, get_or}
+use Rattle.std.specs.Prelude.{ℕ, List, Bool, true, false, is_none, ◌&&◌, not, get_or, Result, Ok, Err}
 use Rattle.std.proofs.Math.Option.{Option, none, some}
 use Rattle.base.specs.Pick.{pick}
 use Rattle.packet.specs.HeaderIds as header_id
@@ -9,8 +9,6 @@ use Rattle.packet.specs.FirstByte.{first_byte, same_opcode}
 use Rattle.packet.specs.Codes.{sent_code}
 use Rattle.packet.specs.Header.{first_place}
 use Rattle.packet.specs.Packet.{Request as Packet, request_of, backup, no_create_of}
-use Rattle.packet.specs.declared.tlv.Found.{Found}
-use Rattle.packet.specs.declared.tlv.Found.TheVariants as place
 use Rattle.packet.specs.declared.opcode.Opcode.{Opcode}
 use Rattle.packet.specs.declared.opcode.Opcode.TheVariants as op
 use Rattle.incoming.specs.Survey.{survey_of}
@@ -35,14 +33,13 @@ use Rattle.server.specs.declared.HostRequest.{HostRequest}
 use Rattle.server.specs.declared.HostRequest.TheVariants as request
 use Rattle.engine.specs.declared.step.Plan.{Plan}
 use Rattle.engine.specs.declared.dispatch.Heading.{Heading}
+use Rattle.engine.specs.declared.operation.GatherKind.{GatherKind}
 use Rattle.engine.specs.declared.operation.GatherKind.TheVariants as kind
 use Rattle.engine.specs.declared.dispatch.Simple.{Simple}
 use Rattle.engine.specs.declared.dispatch.Simple.TheVariants as brief
 use Rattle.engine.specs.declared.dispatch.Route.{Route}
 use Rattle.engine.specs.declared.dispatch.Route.TheVariants.{Plain, Connect, Gather, Send}
 use Rattle.engine.specs.declared.dispatch.Routed.{Routed}
-use Rattle.engine.specs.declared.dispatch.Admission.{Admission}
-use Rattle.engine.specs.declared.dispatch.Admission.TheVariants.{Admits, Rejects}
 use Rattle.engine.specs.Operation.{keep_of, acts_gathered}
 use Rattle.engine.specs.Connect.{connect_plan}
 use Rattle.server.specs.declared.Outcome.TheVariants as outcome
@@ -78,10 +75,14 @@ keep_route code = Plain (brief.Keep (sent_code code))
 abbrev pub unauthorized_for : Engine → Opcode → Bool
 unauthorized_for e o = e.settings.authentication && (not e.peer.authenticated && not (same_opcode o op.Disconnect))
 
+-- Whether the engine admits a packet, or the code with which it turns the packet away.
+abbrev pub Admission : Type 0
+Admission = Result (Unit {0}) ℕ
+
 -- The model's rejection, as the code has it.
 abbrev pub admission_of : Rejection → Admission
-admission_of admits = Admits
-admission_of (rejects code) = Rejects code
+admission_of admits = Ok tt
+admission_of (rejects code) = Err code
 
 -- Under Single Response Mode (SRM) the engine reads a Put or Get that it turns away to its end before it replies.
 abbrev pub drained_by : Engine → Heading → Bool
@@ -91,15 +92,24 @@ drained_by e h = e.peer.srm_enabled && (drains h.opcode && not h.is_final)
 abbrev pub rejected_route : Engine → Heading → ℕ → Route
 rejected_route e h code = pick (drained_by e h) (Plain (brief.Drain code)) (code_route code)
 
+-- What the packet asks for: an additional Continue for a Put under SRM, a wait for a Get's request.
+abbrev pub asked_by : GatherKind → Heading → Bool
+asked_by kind.Put h = h.survey.additional
+asked_by kind.Get h = h.survey.wait
+asked_by (kind.Headers o) h = false
+
+-- The engine gathers a packet of an operation of this kind.
+abbrev pub gather_route : Heading → GatherKind → Gathered → Bool → Bool → Route
+gather_route h k g srm confirm =
+    Gather (record { is_final = h.is_final; asked = asked_by k h; srm = srm; confirm_srm = confirm }) k g
+
 -- The engine gathers a packet of a Put; under SRM the packet may ask for an additional Continue.
 abbrev pub put_route : Heading → Gathered → Bool → Bool → Route
-put_route h g srm confirm =
-    Gather (record { is_final = h.is_final; asked = h.survey.additional; srm = srm; confirm_srm = confirm }) kind.Put g
+put_route h g srm confirm = gather_route h kind.Put g srm confirm
 
 -- The engine gathers a packet of a Get's request; the packet may ask the engine to wait.
 abbrev pub get_route : Heading → Gathered → Bool → Bool → Route
-get_route h g srm confirm =
-    Gather (record { is_final = h.is_final; asked = h.survey.wait; srm = srm; confirm_srm = confirm }) kind.Get g
+get_route h g srm confirm = gather_route h kind.Get g srm confirm
 
 -- The engine sends the next packet of a Get's object.
 abbrev pub send_route : Heading → Outgoing → Bool → Route
@@ -107,8 +117,7 @@ send_route h o srm = Send o srm h.survey.wait
 
 -- The engine gathers a packet of an operation of headers alone, for which there is no SRM.
 abbrev pub headers_route : Heading → Opcode → Gathered → Route
-headers_route h o g =
-    Gather (record { is_final = h.is_final; asked = false; srm = false; confirm_srm = false }) (kind.Headers o) g
+headers_route h o g = gather_route h (kind.Headers o) g false false
 
 -- The engine dispatches an admitted packet by its opcode.
 abbrev pub dispatch_route : Opcode → Engine → Heading → Route
@@ -124,8 +133,8 @@ dispatch_route (op.UserDefined x) e h = headers_route h (op.UserDefined x) nothi
 
 -- The engine admits a packet or turns it away.
 abbrev pub admitted_route : Admission → Engine → Heading → Route
-admitted_route Admits e h = dispatch_route h.opcode e h
-admitted_route (Rejects code) e h = rejected_route e h code
+admitted_route (Ok x) e h = dispatch_route h.opcode e h
+admitted_route (Err code) e h = rejected_route e h code
 
 -- If nothing is open, the engine tests admission first, but never turns a Connect away.
 unfoldable pub open_route : Engine → Heading → Route
@@ -159,15 +168,10 @@ is_trailing (GatheringOp o g) = false
 is_trailing (Connecting c f n) = false
 is_trailing (Draining code) = false
 
--- No place was found.
-abbrev pub is_missing : Found → Bool
-is_missing place.Missing = true
-is_missing (place.At from to) = false
-
 -- The engine refuses what trails a Put, and packet `q` of this opcode does: it is a Put packet, whose headers start at place 3, without a
 -- Name.
 abbrev pub trailed_by : Operation → Opcode → List ℕ → Bool
-trailed_by o c q = is_trailing o && (same_opcode c op.Put && is_missing (first_place header_id.name q 3))
+trailed_by o c q = is_trailing o && (same_opcode c op.Put && is_none (first_place header_id.name q 3))
 
 -- The engine decides by the operation that is open. While it refuses what trails a Put, any other packet goes its way as with nothing open.
 abbrev pub inside_route : Operation → Engine → Heading → Route

@@ -1,9 +1,7 @@
 -- What a call leads to, decided without the stores, and carried out: the design level between model/specs/Step and the code.
-use Rattle.std.specs.Prelude.{ℕ, List, [], ◌∷◌, Bool, false, true}
+use Rattle.std.specs.Prelude.{ℕ, List, [], ◌∷◌, Bool, false, true, Option, Some, None}
 use Rattle.connection.specs.Reply.{Sending as Replying, fields_of, send_bytes, sent_into, front}
 use Rattle.connection.specs.declared.peer.Peer.{Peer}
-use Rattle.connection.specs.declared.reply.Sent.{Sent}
-use Rattle.connection.specs.declared.reply.Sent.TheVariants as sent
 use Rattle.model.specs.Step.{Stores, Stepped, stepped, with_reply, engine_with, Done, done}
 use Rattle.server.specs.declared.Operation.{Operation}
 use Rattle.server.specs.declared.Operation.TheVariants.{Nothing}
@@ -100,9 +98,9 @@ abbrev pub carried : Plan → List ℕ → Written
 carried p y = written (took_by p) (front (small_bytes p.small) y)
 
 -- The engine replies with what was written, or ends if it was too large.
-unfoldable pub sent_plan : Engine → Peer → Sent → Plan
-sent_plan e p sent.TooLarge = ends_plan e p end.ReplyTooLarge
-sent_plan e p (sent.Reply n) =
+unfoldable pub sent_plan : Engine → Peer → Option ℕ → Plan
+sent_plan e p None = ends_plan e p end.ReplyTooLarge
+sent_plan e p (Some n) =
     plan (engine_with e.settings p Nothing await.Taken 0 e.length e.target) (outcome.Reply n) Silent
 
 -- The same by what the writer of the reply gave.

@@ -1,6 +1,8 @@
 // The thirteen calls of a host, and nothing else. Each asks the guard first and then equals its definition in model/specs/Calls.
-ghost use Rattle.std.specs.Prelude.{◌≡◌};
-ghost use Rattle.model.specs.Step.{stepped, called, stores};
+ghost use Rattle.std.specs.Prelude.{◌≡◌, []};
+ghost use Rattle.packet.specs.Packet.{packet_bytes};
+ghost use Rattle.model.specs.Guard.{guarded};
+ghost use Rattle.model.specs.Step.{stepped, called, stores, after, replies};
 ghost use Rattle.model.specs.Calls.{stream_ended_step, start_step, bytes_offered_step, reply_taken_step, abort_acknowledged_step, body_failed_step, body_given_step, object_given_step, nonce_given_step, password_given_step, reply_given_step, credentials_given_step, connections_closed_step};
 ghost use Rattle.model.specs.Close.{closed};
 ghost use Rattle.model.specs.Runs.{Octets};
@@ -15,10 +17,10 @@ use crate::connect::{
 };
 use crate::dispatch::{more, packet_done, with_taken};
 use crate::guard::{
-    Guarded, guard, guard_lent, guard_nonce, guard_start, is_bad_headers, is_bad_reply,
-    is_long_realm, refuse, same_await,
+    guard, guard_lent, guard_nonce, guard_start, is_bad_headers, is_bad_reply, is_long_realm,
+    refuse, same_await,
 };
-use crate::object::{either, object_of, packet_plan, sends_next, turn_plan};
+use crate::object::{object_of, packet_plan, sends_next, turn_plan};
 use crate::request::is_right;
 use crate::step::{carry_out, code, ends, fresh, sends, sent_plan, stream_end, took};
 use base::copy_into;
@@ -44,7 +46,7 @@ pub fn start(
         ≡ start_step settings realm.now (stores packet.old headers.old body.old
         reply.old) tables.now }
 {
-    if let Guarded::Refuse(refusal) = guard_start(
+    if let Err(refusal) = guard_start(
         settings.max_object_size,
         is_long_realm(settings.has_realm, realm.len()),
         tables.len(),
@@ -80,7 +82,7 @@ pub fn bytes_offered(
         (stores packet.old headers.old body.old reply.old) tables.now }
     ensures octets { Octets (coming packet.old e.begun placed input.now) }
 {
-    if let Guarded::Refuse(refusal) = guard_lent(
+    if let Err(refusal) = guard_lent(
         e,
         CallKind::FromPeer,
         tables.len(),
@@ -92,8 +94,7 @@ pub fn bytes_offered(
         return refuse(e, refusal);
     }
     let f = read_packet(e.begun, placed, input, packet);
-    let frame = f.frame;
-    match frame {
+    match f.frame {
         Frame::More => more(e, f.begun, f.taken),
         Frame::Short => with_taken(took(ends(e, e.peer, End::LengthTooSmall)), f.taken),
         Frame::Whole => with_taken(
@@ -104,6 +105,7 @@ pub fn bytes_offered(
 }
 
 // Tells the engine that the client's stream has ended: the engine ends with `Disconnected` between packets, with `Truncated` inside one.
+// Stays beside `reply_taken`: the two share the guard, which is one call, and no step after it.
 pub fn stream_ended(
     e: Engine,
     packet: &mut [u8],
@@ -114,7 +116,7 @@ pub fn stream_ended(
     ensures { stepped result (stores packet.new headers.new body.new reply.new)
         ≡ stream_ended_step e (stores packet.old headers.old body.old reply.old) }
 {
-    if let Guarded::Refuse(refusal) = guard(
+    if let Err(refusal) = guard(
         e,
         CallKind::FromPeer,
         packet.len(),
@@ -139,7 +141,7 @@ pub fn reply_taken(
     ensures { stepped result (stores packet.new headers.new body.new reply.new)
         ≡ reply_taken_step e (stores packet.old headers.old body.old reply.old) }
 {
-    if let Guarded::Refuse(refusal) = guard(
+    if let Err(refusal) = guard(
         e,
         CallKind::ReplyTaken,
         packet.len(),
@@ -149,7 +151,7 @@ pub fn reply_taken(
     ) {
         return refuse(e, refusal);
     }
-    let plan = turn_plan(e, &headers[..], reply);
+    let plan = turn_plan(e, headers, reply);
     carry_out(plan, reply)
 }
 
@@ -170,7 +172,7 @@ pub fn reply_given(
         ≡ reply_given_step e code header_bytes.now (stores packet.old headers.old body.old
         reply.old) tables.old }
 {
-    if let Guarded::Refuse(refusal) = guard_lent(
+    if let Err(refusal) = guard_lent(
         e,
         CallKind::ReplyGiven,
         tables.len(),
@@ -185,8 +187,7 @@ pub fn reply_given(
         return refuse(e, Refusal::BadAnswer);
     }
     let length = e.length;
-    let awaits = e.awaits;
-    if same_await(awaits, Await::Connect) {
+    if same_await(e.awaits, Await::Connect) {
         return connect_answer(
             e,
             code,
@@ -216,7 +217,7 @@ pub fn object_given(
         ≡ object_given_step e header_bytes.now has_body
         (stores packet.old headers.old body.old reply.old) }
 {
-    if let Guarded::Refuse(refusal) = guard(
+    if let Err(refusal) = guard(
         e,
         CallKind::ObjectGiven,
         packet.len(),
@@ -226,13 +227,12 @@ pub fn object_given(
     ) {
         return refuse(e, refusal);
     }
-    let operation = e.operation;
     let Operation::Getting {
-        gathered: _,
         srm,
         confirm_srm,
         wait,
-    } = operation
+        ..
+    } = e.operation
     else {
         return refuse(e, Refusal::WrongMoment);
     };
@@ -241,7 +241,8 @@ pub fn object_given(
     }
     copy_into(headers, 0, header_bytes);
     let o = object_of(header_bytes.len(), confirm_srm, has_body);
-    sends_next(e, o, either(srm, confirm_srm), wait, headers, reply)
+    let granted = srm || confirm_srm;
+    sends_next(e, o, granted, wait, headers, reply)
 }
 
 // Gives bytes of the object's body: at most as many as the engine asked for, and none at the body's end. More are refused with
@@ -257,7 +258,7 @@ pub fn body_given(
     ensures { stepped result (stores packet.new headers.new body.new reply.new)
         ≡ body_given_step e bytes.now (stores packet.old headers.old body.old reply.old) }
 {
-    if let Guarded::Refuse(refusal) = guard(
+    if let Err(refusal) = guard(
         e,
         CallKind::FromBody,
         packet.len(),
@@ -267,13 +268,12 @@ pub fn body_given(
     ) {
         return refuse(e, refusal);
     }
-    let operation = e.operation;
     let Operation::Sending {
         outgoing,
         chunk,
         srm,
         wait,
-    } = operation
+    } = e.operation
     else {
         return refuse(e, Refusal::WrongMoment);
     };
@@ -284,7 +284,28 @@ pub fn body_given(
     carry_out(packet_plan(e, srm, wait, k), reply)
 }
 
+// Replies to a call of kind `k` with the first byte `byte` and no headers, after which nothing is open.
+fn answers_code(
+    e: Engine,
+    k: CallKind,
+    byte: u8,
+    packet: &mut [u8],
+    headers: &mut [u8],
+    body: &mut [u8],
+    reply: &mut [u8],
+) -> CallResult
+    ensures { let s = stores packet.old headers.old body.old reply.old in
+        stepped result (stores packet.new headers.new body.new reply.new)
+        ≡ guarded k e s (after 0 (replies e e.peer Operation.Nothing Await.Taken (packet_bytes byte [] []) s)) }
+{
+    if let Err(refusal) = guard(e, k, packet.len(), headers.len(), body.len(), reply.len()) {
+        return refuse(e, refusal);
+    }
+    carry_out(code(e, e.peer, Await::Taken, byte), reply)
+}
+
 // Tells the engine that the object's body cannot be read on. The engine replies with 0x50 and ends the Get, even after earlier packets.
+#[tactic(auto, unfolding(model::specs::Calls::body_failed_step))]
 pub fn body_failed(
     e: Engine,
     packet: &mut [u8],
@@ -295,23 +316,19 @@ pub fn body_failed(
     ensures { stepped result (stores packet.new headers.new body.new reply.new)
         ≡ body_failed_step e (stores packet.old headers.old body.old reply.old) }
 {
-    if let Guarded::Refuse(refusal) = guard(
+    answers_code(
         e,
         CallKind::FromBody,
-        packet.len(),
-        headers.len(),
-        body.len(),
-        reply.len(),
-    ) {
-        return refuse(e, refusal);
-    }
-    carry_out(
-        code(e, e.peer, Await::Taken, INTERNAL_SERVER_ERROR_BYTE),
+        INTERNAL_SERVER_ERROR_BYTE,
+        packet,
+        headers,
+        body,
         reply,
     )
 }
 
 // Tells the engine that the host has heard of an Abort. The host gives no code: the reply to an Abort is always 0xA0.
+#[tactic(auto, unfolding(model::specs::Calls::abort_acknowledged_step))]
 pub fn abort_acknowledged(
     e: Engine,
     packet: &mut [u8],
@@ -322,23 +339,22 @@ pub fn abort_acknowledged(
     ensures { stepped result (stores packet.new headers.new body.new reply.new)
         ≡ abort_acknowledged_step e (stores packet.old headers.old body.old reply.old) }
 {
-    if let Guarded::Refuse(refusal) = guard(
+    answers_code(
         e,
         CallKind::AbortAcknowledged,
-        packet.len(),
-        headers.len(),
-        body.len(),
-        reply.len(),
-    ) {
-        return refuse(e, refusal);
-    }
-    carry_out(code(e, e.peer, Await::Taken, SUCCESS_BYTE), reply)
+        SUCCESS_BYTE,
+        packet,
+        headers,
+        body,
+        reply,
+    )
 }
 
 // Gives the password of the user that the client named, or none if the host knows no such user. A wrong or missing password makes the
 // engine ask for a nonce, to challenge the client again.
 pub fn password_given(
     e: Engine,
+    // Stays a flag beside the bytes, as the C interface lends them (obex_engine_password_given).
     has_password: bool,
     password: &[u8],
     packet: &mut [u8],
@@ -350,7 +366,7 @@ pub fn password_given(
         ≡ password_given_step e (given has_password password.now)
         (stores packet.old headers.old body.old reply.old) }
 {
-    if let Guarded::Refuse(refusal) = guard(
+    if let Err(refusal) = guard(
         e,
         CallKind::PasswordGiven,
         packet.len(),
@@ -360,11 +376,14 @@ pub fn password_given(
     ) {
         return refuse(e, refusal);
     }
-    let length = e.length;
-    let peer = e.peer;
-    let stored = peer.challenge;
     let demands = demands_user(e.settings);
-    let right = is_right(stored, &packet[..length], demands, has_password, password);
+    let right = is_right(
+        e.peer.challenge,
+        &packet[..e.length],
+        demands,
+        has_password,
+        password,
+    );
     took(password_plan(e, right))
 }
 
@@ -386,7 +405,7 @@ pub fn nonce_given(
         ≡ nonce_given_step e nonce realm.now (stores packet.old headers.old body.old
         reply.old) tables.old }
 {
-    if let Guarded::Refuse(refusal) = guard_lent(
+    if let Err(refusal) = guard_lent(
         e,
         CallKind::NonceGiven,
         tables.len(),
@@ -398,7 +417,7 @@ pub fn nonce_given(
         return refuse(e, refusal);
     }
     let used = is_used(&tables[..], e.peer.nonces, nonce);
-    if let Guarded::Refuse(refusal) = guard_nonce(e.settings, realm.len(), used) {
+    if let Err(refusal) = guard_nonce(e.settings, realm.len(), used) {
         return refuse(e, refusal);
     }
     remember(tables, nonce);
@@ -418,6 +437,7 @@ pub fn nonce_given(
 pub fn credentials_given(
     e: Engine,
     has_credentials: bool,
+    // Stays a flag beside the bytes, as the C interface lends them (obex_engine_credentials_given).
     has_user: bool,
     user: &[u8],
     password: &[u8],
@@ -430,7 +450,7 @@ pub fn credentials_given(
         ≡ credentials_given_step e (credentials_of has_credentials (given has_user user.now) password.now)
         (stores packet.old headers.old body.old reply.old) }
 {
-    if let Guarded::Refuse(refusal) = guard(
+    if let Err(refusal) = guard(
         e,
         CallKind::CredentialsGiven,
         packet.len(),
@@ -459,12 +479,12 @@ pub fn credentials_given(
 pub fn connections_closed(e: Engine, ids: &[u32], tables: &mut [u64]) -> CallResult
     ensures { closed result tables.new ≡ connections_closed_step e ids.now tables.old }
 {
-    if let Guarded::Refuse(refusal) = guard_close(e, tables.len()) {
+    if let Err(refusal) = guard_close(e, tables.len()) {
         return refuse(e, refusal);
     }
     let peer = e.peer;
     let count = peer.count;
-    if let Guarded::Refuse(refusal) = judge(ids, &tables[..], count) {
+    if let Err(refusal) = judge(ids, &tables[..], count) {
         return refuse(e, refusal);
     }
     let left = close_all(ids, tables, count);

@@ -7,8 +7,7 @@ ghost use Rattle.model.specs.Close.{remaining, closed_all, goes_on_with};
 ghost use Rattle.engine.specs.Close.{guarded_close, judged_close, closed_by};
 
 use crate::dispatch::is_busy;
-use crate::guard::{Guarded, is_sound, same_await};
-use crate::step::engine_with;
+use crate::guard::is_sound;
 use connection::peer::{Peer, close_link, is_open, with_left};
 use packet::limits::MAX_CONNECTIONS;
 use server::{Await, CallResult, Engine, Outcome, Refusal};
@@ -16,24 +15,20 @@ use table::TABLE_LENGTH;
 
 // Returns the refusal of the call by the state and by the length of the table store, or says that it may proceed: bytes must be awaited,
 // and no operation may be open.
-pub(crate) fn guard_close(e: Engine, tables: usize) -> Guarded
+#[tactic(auto, unfolding(crate::specs::Close::guarded_close))]
+pub(crate) fn guard_close(e: Engine, tables: usize) -> Result<(), Refusal>
     ensures { result ≡ guarded_close e tables }
 {
     if tables < TABLE_LENGTH {
-        return Guarded::Refuse(Refusal::StoreTooShort);
+        return Err(Refusal::StoreTooShort);
     }
     if !is_sound(e) {
-        return Guarded::Refuse(Refusal::WrongMoment);
+        return Err(Refusal::WrongMoment);
     }
-    let awaits = e.awaits;
-    if !same_await(awaits, Await::Bytes) {
-        return Guarded::Refuse(Refusal::WrongMoment);
+    if !matches!(e.awaits, Await::Bytes) || is_busy(e.operation) {
+        return Err(Refusal::WrongMoment);
     }
-    let operation = e.operation;
-    if is_busy(operation) {
-        return Guarded::Refuse(Refusal::WrongMoment);
-    }
-    Guarded::Proceed
+    Ok(())
 }
 
 // Whether each of `ids` is one of the first `count` numbers of `tables`.
@@ -41,60 +36,37 @@ fn are_open(ids: &[u32], tables: &[u64], count: usize) -> bool
     requires { (count ≤ max_connections) × (count ≤ length tables.now) }
     ensures { result ≡ all_open ids.now (take count tables.now) }
 {
-    let mut i = 0;
-    while i < ids.len() {
-        if !is_open(tables, count, ids[i]) {
-            return false;
-        }
-        i += 1;
-    }
-    true
-}
-
-// Whether `id` is one of `ids` from place `from` on.
-fn is_among(ids: &[u32], from: usize, id: u32) -> bool
-    requires { from ≤ length ids.now }
-    ensures { result ≡ member id (drop from ids.now) }
-{
-    let mut i = from;
-    while i < ids.len() {
-        if ids[i] == id {
-            return true;
-        }
-        i += 1;
-    }
-    false
+    ids.iter().all(|id| is_open(tables, count, *id))
 }
 
 // Whether one of `ids` occurs twice.
 fn has_repeated(ids: &[u32]) -> bool
     ensures { result ≡ repeats ids.now }
 {
-    let mut i = 0;
-    while i < ids.len() {
-        if is_among(ids, i + 1, ids[i]) {
+    for (i, id) in ids.iter().enumerate() {
+        if ids[i + 1..].contains(id) {
             return true;
         }
-        i += 1;
     }
     false
 }
 
 // Returns why `ids` may not be closed, or says that they may. The first `count` numbers of `tables` are open.
-pub(crate) fn judge(ids: &[u32], tables: &[u64], count: usize) -> Guarded
+#[tactic(auto, unfolding(crate::specs::Close::judged_close))]
+pub(crate) fn judge(ids: &[u32], tables: &[u64], count: usize) -> Result<(), Refusal>
     requires { (count ≤ max_connections) × (count ≤ length tables.now) }
     ensures { result ≡ judged_close ids.now (take count tables.now) }
 {
     if ids.len() > MAX_CONNECTIONS {
-        return Guarded::Refuse(Refusal::TooManyIds);
+        return Err(Refusal::TooManyIds);
     }
     if !are_open(ids, tables, count) {
-        return Guarded::Refuse(Refusal::IdNotOpen);
+        return Err(Refusal::IdNotOpen);
     }
     if has_repeated(ids) {
-        return Guarded::Refuse(Refusal::IdRepeated);
+        return Err(Refusal::IdRepeated);
     }
-    Guarded::Proceed
+    Ok(())
 }
 
 // Closes `ids` one after the other, of the first `count` numbers of `tables`, and returns how many are left.
@@ -103,10 +75,8 @@ pub(crate) fn close_all(ids: &[u32], tables: &mut [u64], count: usize) -> usize
     ensures { remaining result tables.new ≡ closed_all ids.now count tables.old }
 {
     let mut left = count;
-    let mut i = 0;
-    while i < ids.len() {
-        left = close_link(tables, left, ids[i]);
-        i += 1;
+    for id in ids {
+        left = close_link(tables, left, *id);
     }
     left
 }
@@ -122,15 +92,12 @@ pub(crate) fn closed_peer(peer: Peer, closed: usize, left: usize) -> Peer
 }
 
 // Returns the result with `peer`: the engine wants bytes as before, and a packet that has begun goes on.
+#[tactic(auto, unfolding(model::specs::Step::engine_with))]
 pub(crate) fn go_on_with(e: Engine, peer: Peer) -> CallResult
     ensures { result ≡ goes_on_with e peer }
 {
-    let operation = e.operation;
-    let awaits = e.awaits;
     CallResult {
-        engine: engine_with(
-            e.settings, peer, operation, awaits, e.begun, e.length, e.target,
-        ),
+        engine: Engine { peer, ..e },
         taken: 0,
         outcome: Outcome::WantsBytes,
     }

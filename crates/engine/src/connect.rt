@@ -24,25 +24,21 @@ ghost use Rattle.model.specs.Connect.{demands_user, options_of, realm_of};
 ghost use Rattle.model.specs.Guard.{sound_operation, long_realm};
 
 use crate::guard::{refuse, same_await};
-use crate::request::{first_id, first_target, has_target, is_enabling, last_connect, last_from};
-use crate::step::{Plan, asks, fields, sends_connect, sent_plan, took, wide16};
-use base::copy_into;
+use crate::request::{first_id, first_target, is_enabling, last_connect, last_from};
+use crate::step::{Plan, asks, fields, sends_connect, sent_plan, took};
+use base::{Span, copy_into};
 use connection::challenge;
 use connection::challenge::answered_challenge;
 use connection::checks::too_many;
 use connection::connect_reply::{challenge_reply, connect_reply};
-use connection::peer::{
-    Answer, Challenge, ConnectionId, Peer, disconnected, limited, opened_for, verified, with_check,
-};
-use connection::reply::Sent;
+use connection::peer::{Answer, Peer, disconnected, limited, opened_for, verified, with_check};
 use connection::request::ConnectRequest;
 use digest::md5::Octets16;
-use packet::auth::{DigestChallenge, DigestResponse, is_long, read_response, realm};
+use packet::auth::{DigestChallenge, is_long, read_response, realm};
 use packet::header::first_header;
 use packet::header_id::{AUTHENTICATE_CHALLENGE, AUTHENTICATE_RESPONSE};
 use packet::packet::connect_limit;
 use packet::response::{SERVICE_UNAVAILABLE, is_success};
-use packet::tlv::Found;
 use server::{Await, CallResult, Engine, HostRequest, Operation, Refusal, Settings};
 
 // Whether the Connect `c` in `packet` asks for Single Response Mode (SRM) and the settings support it.
@@ -50,10 +46,7 @@ fn srm_asked(e: Engine, packet: &[u8], c: ConnectRequest) -> bool
     requires { c ≡ last_connect packet.now }
     ensures { result ≡ srm_asked_by e packet.now }
 {
-    if !e.settings.srm_supported {
-        return false;
-    }
-    is_enabling(packet, c)
+    e.settings.srm_supported && is_enabling(packet, c)
 }
 
 // Whether SRM is on after the Connect `c` in `packet`. SRM that is on already stays on.
@@ -61,10 +54,7 @@ fn srm_after(e: Engine, packet: &[u8], c: ConnectRequest) -> bool
     requires { c ≡ last_connect packet.now }
     ensures { result ≡ e.peer.srm_enabled || srm_asked_by e packet.now }
 {
-    if e.peer.srm_enabled {
-        return true;
-    }
-    srm_asked(e, packet, c)
+    e.peer.srm_enabled || srm_asked(e, packet, c)
 }
 
 // Opens the ConnectionID that the host's answer names first. If it names none and the Connect has a Target, the engine looks for a new id
@@ -75,7 +65,7 @@ fn opens(
     packet: &[u8],
     c: ConnectRequest,
     tables: &mut [u64],
-) -> Answer
+) -> Option<Answer>
     requires { (e.peer.count ≤ 64) × (table_length ≤ length tables.old) × (c ≡ last_connect packet.now) }
     ensures { answers result tables.new
         ≡ answer_for e tables.old header_bytes.now packet.now }
@@ -84,20 +74,17 @@ fn opens(
         e.peer,
         srm_after(e, packet, c),
         first_id(header_bytes, 0),
-        has_target(c),
         first_target(packet, c),
         tables,
     )
 }
 
 // Finds the realm of the client's challenge in its Connect packet, so that the host can choose credentials by it.
-fn challenge_realm(packet: &[u8]) -> Found
+fn challenge_realm(packet: &[u8]) -> Option<Span>
     ensures { result ≡ realm_in packet.now (first_place header_id.authenticate_challenge packet.now 7) }
 {
-    let Found::At { start, end } = first_header(packet, 7, AUTHENTICATE_CHALLENGE) else {
-        return Found::Missing;
-    };
-    placed(start, realm(&packet[start..end]))
+    let value = first_header(packet, 7, AUTHENTICATE_CHALLENGE)?;
+    placed(value.start, realm(value.of(packet)))
 }
 
 // Sends the reply to a Connect that the host has accepted: `front` in front, then Who if the packet has a Target, the host's headers, the
@@ -106,11 +93,12 @@ pub(crate) fn connect_sends(
     e: Engine,
     peer: Peer,
     code: u8,
-    front: ConnectionId,
+    front: Option<u32>,
     packet: &[u8],
     c: ConnectRequest,
     header_bytes: &[u8],
     has_credentials: bool,
+    // Stays a flag beside the bytes, as the C interface lends them (obex_engine_credentials_given).
     has_user: bool,
     user: &[u8],
     password: &[u8],
@@ -122,16 +110,15 @@ pub(crate) fn connect_sends(
         ≡ connect_replies e peer code (accepted_headers e front packet.now header_bytes.now
         (credentials_of has_credentials (given has_user user.now) password.now)) reply.old }
 {
-    let target = c.target;
     let sent = connect_reply(
         reply,
-        wide16(peer.remote_max_packet_length),
+        peer.remote_max_packet_length as usize,
         code,
         e.settings.max_packet_length,
         front,
         packet,
         c.from,
-        target,
+        c.target,
         header_bytes,
         has_credentials,
         has_user,
@@ -147,7 +134,7 @@ fn unchallenged(
     e: Engine,
     peer: Peer,
     code: u8,
-    front: ConnectionId,
+    front: Option<u32>,
     header_bytes: &[u8],
     packet: &[u8],
     c: ConnectRequest,
@@ -176,13 +163,12 @@ fn unchallenged(
 }
 
 // Reads the challenge of the Connect `c` in `packet` that is to be answered. Only if there is one, the walk that reads all of them follows.
-fn challenge_in(packet: &[u8], c: ConnectRequest) -> DigestChallenge
+fn challenge_in(packet: &[u8], c: ConnectRequest) -> Option<DigestChallenge>
     requires { c ≡ last_connect packet.now }
     ensures { result ≡ answered_in (headers_of packet.now) }
 {
-    let challenge = c.challenge;
-    let Found::At { start: _, end: _ } = challenge else {
-        return DigestChallenge::Unreadable;
+    let Some(_) = c.challenge else {
+        return None;
     };
     answered_challenge(packet, c.from)
 }
@@ -193,7 +179,7 @@ fn accepted(
     e: Engine,
     peer: Peer,
     code: u8,
-    front: ConnectionId,
+    front: Option<u32>,
     header_bytes: &[u8],
     packet: &[u8],
     c: ConnectRequest,
@@ -206,13 +192,7 @@ fn accepted(
         ≡ challenged_by (answered_in (headers_of packet.now)) e peer code front header_bytes.now
         packet.now headers.old reply.old }
 {
-    let DigestChallenge::Challenge {
-        nonce,
-        user_id_required,
-        read_only,
-        realm: _,
-    } = challenge_in(packet, c)
-    else {
+    let Some(challenge) = challenge_in(packet, c) else {
         return unchallenged(e, peer, code, front, header_bytes, packet, c, reply);
     };
     copy_into(headers, 0, header_bytes);
@@ -222,9 +202,9 @@ fn accepted(
         length: header_bytes.len(),
     };
     let request = HostRequest::Credentials {
-        nonce,
-        user_id_required,
-        read_only,
+        nonce: challenge.nonce,
+        user_id_required: challenge.user_id_required,
+        read_only: challenge.read_only,
         realm: challenge_realm(packet),
     };
     took(asks(e, peer, operation, Await::Credentials, request))
@@ -250,17 +230,14 @@ pub(crate) fn connect_answer(
         return sends_connect(e, e.peer, code, header_bytes, reply);
     }
     let c = last_connect(packet);
-    let answer = opens(e, header_bytes, packet, c, tables);
-    let opening = answer.opening;
-    if opening.full {
+    let Some(answer) = opens(e, header_bytes, packet, c, tables) else {
         return sends_connect(e, e.peer, SERVICE_UNAVAILABLE, &header_bytes[..0], reply);
-    }
-    let front = answer.front;
+    };
     accepted(
         e,
-        opening.peer,
+        answer.peer,
         code,
-        front,
+        answer.front,
         header_bytes,
         packet,
         c,
@@ -270,25 +247,24 @@ pub(crate) fn connect_answer(
 }
 
 // The client's response to the server's challenge: missing, unreadable, or readable, with the place of its user id in the packet.
+// Stays an enum of its own: three cases, of which a place within another Option would hide two.
 #[derive(Clone, Copy)]
 pub(crate) enum Answered {
     Missing,
     Unreadable,
-    User(Found),
+    User(Option<Span>),
 }
 
 // Turns a place in the part of the packet that begins at `at` into a place in the packet.
-pub(crate) fn placed(at: usize, found: Found) -> Found
+pub(crate) fn placed(at: usize, found: Option<Span>) -> Option<Span>
     requires { Below at found }
     ensures { result ≡ placed_at at found }
 {
-    match found {
-        Found::At { start, end } => Found::At {
-            start: at + start,
-            end: at + end,
-        },
-        Found::Missing => Found::Missing,
-    }
+    let part = found?;
+    Some(Span {
+        start: at + part.start,
+        end: at + part.end,
+    })
 }
 
 // Finds the client's first AuthenticateResponse in the packet.
@@ -296,18 +272,13 @@ fn client_response(p: &[u8]) -> Answered
     requires { read_headers p.now 7 ≡ some (headersIn (request_of p.now)) }
     ensures { result ≡ answered_by p.now }
 {
-    let Found::At { start, end } = first_header(p, 7, AUTHENTICATE_RESPONSE) else {
+    let Some(value) = first_header(p, 7, AUTHENTICATE_RESPONSE) else {
         return Answered::Missing;
     };
-    let DigestResponse::Response {
-        digest: _,
-        user,
-        nonce: _,
-    } = read_response(&p[start..end])
-    else {
+    let Some(response) = read_response(value.of(p)) else {
         return Answered::Unreadable;
     };
-    Answered::User(placed(start, user))
+    Answered::User(placed(value.start, response.user))
 }
 
 // What the engine asks the host, and what it waits for then.
@@ -329,10 +300,10 @@ fn nonce_question() -> Question
 
 // Asks the host for the password, if the client has answered a stored challenge. Otherwise asks it for a nonce, to challenge the client
 // (again): the source's verify_client gives up at the same two places.
-fn verifies(challenge: Challenge, a: Answered) -> Question
+fn verifies(challenge: Option<Octets16>, a: Answered) -> Question
     ensures { result ≡ verifies_by challenge a }
 {
-    let Challenge::Stored(_) = challenge else {
+    let Some(_) = challenge else {
         return nonce_question();
     };
     let Answered::User(user_id) = a else {
@@ -348,7 +319,7 @@ fn verifies(challenge: Challenge, a: Answered) -> Question
 // otherwise the host decides.
 fn connect_question(
     authentication: bool,
-    challenge: Challenge,
+    challenge: Option<Octets16>,
     a: Answered,
     length: usize,
 ) -> Question
@@ -378,10 +349,7 @@ fn is_stopped(window: u64, a: Answered) -> bool
 fn must_stop(authentication: bool, window: u64, a: Answered) -> bool
     ensures { result ≡ (authentication && stops_by window a) }
 {
-    if !authentication {
-        return false;
-    }
-    is_stopped(window, a)
+    authentication && is_stopped(window, a)
 }
 
 // Goes on after the client's packet limit is set: stops the Connect, checks the client, or asks the host whether it accepts the Connect.
@@ -414,10 +382,7 @@ pub(crate) fn handle_connect(e: Engine, p: &[u8]) -> Plan
 pub(crate) fn demands_user(settings: Settings) -> bool
     ensures { result ≡ demands_user settings }
 {
-    if !settings.user_id_enforced {
-        return false;
-    }
-    settings.user_id_required
+    settings.user_id_enforced && settings.user_id_required
 }
 
 // If the password was right, asks the host whether it accepts the Connect. Otherwise asks it for a nonce, to challenge the client again.
@@ -450,7 +415,7 @@ pub(crate) fn send_challenge(
     remote: u16,
     nonce: Octets16,
     reply: &mut [u8],
-) -> Sent
+) -> Option<usize>
     requires { (long_realm settings realm.now ≡ false) × (max_packet ≤ length reply.old) }
     ensures { sending result reply.new
         ≡ sent_into (send_bytes remote response.unauthorized (fields_of settings.max_packet_length)
@@ -458,7 +423,7 @@ pub(crate) fn send_challenge(
 {
     challenge_reply(
         reply,
-        wide16(remote),
+        remote as usize,
         settings.max_packet_length,
         nonce,
         settings.user_id_required,
@@ -469,21 +434,12 @@ pub(crate) fn send_challenge(
     )
 }
 
-// Whether both flags are set: a user id counts only if there are credentials.
-fn both(a: bool, b: bool) -> bool
-    ensures { result ≡ a && b }
-{
-    if !a {
-        return false;
-    }
-    b
-}
-
 // Replies to the Connect that has waited, with credentials or without. A user id of over 255 bytes is refused with `BadAnswer`, since its
 // length field has one byte.
 pub(crate) fn connect_with_credentials(
     e: Engine,
     has_credentials: bool,
+    // Stays a flag beside the bytes, as the C interface lends them (obex_engine_credentials_given).
     has_user: bool,
     user: &[u8],
     password: &[u8],
@@ -497,16 +453,16 @@ pub(crate) fn connect_with_credentials(
         ≡ credentials_by e.operation e (credentials_of has_credentials (given has_user user.now)
         password.now) packet.now headers.now reply.old }
 {
-    let operation = e.operation;
     let Operation::Connecting {
         code,
         front,
         length: kept,
-    } = operation
+    } = e.operation
     else {
         return refuse(e, Refusal::WrongMoment);
     };
-    let named = both(has_credentials, has_user);
+    // A user id counts only if there are credentials.
+    let named = has_credentials && has_user;
     if is_long(named, user.len()) {
         return refuse(e, Refusal::BadAnswer);
     }
@@ -532,8 +488,7 @@ pub(crate) fn handle_disconnect(e: Engine, packet: &[u8], tables: &mut [u64]) ->
     requires { (e.peer.count ≤ 64) × (table_length ≤ length tables.old) }
     ensures { linked result tables.new ≡ replied_link e packet.now tables.old }
 {
-    let awaits = e.awaits;
-    if !same_await(awaits, Await::Disconnect) {
+    if !same_await(e.awaits, Await::Disconnect) {
         return e.peer;
     }
     disconnected(e.peer, first_id(packet, last_from(packet)), tables)

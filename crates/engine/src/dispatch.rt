@@ -2,7 +2,7 @@
 // open, else by what is open. A packet may also be turned away, drained or unreadable.
 ghost use Rattle.std.specs.Prelude.{◌≡◌, ◌≤◌, ℕ, true, List, length};
 ghost use Rattle.model.specs.Dispatch.{rejection as rejectionOf, known_in, drains as drainsOf, confirms as confirmsOf, busy as busyWith, unknown_byte, is_marked as isMarkedIn, packet_target as packetTargetOf, arrived, packet_done};
-ghost use Rattle.engine.specs.Dispatch.{admission_of, unauthorized_for, code_route, keep_route, ask_route, drained_by, rejected_route, put_route, get_route, send_route, headers_route, dispatch_route, open_route, interrupts_route, continued_route, draining_route, trailed_route, trailed_by, inside_route, heading_route, unreadable_route, simple_plan, packet_route, routed, target_under, targeted, acts, with_taken, more_took};
+ghost use Rattle.engine.specs.Dispatch.{admission_of, unauthorized_for, code_route, keep_route, ask_route, drained_by, rejected_route, gather_route, send_route, dispatch_route, open_route, interrupts_route, continued_route, draining_route, trailed_route, trailed_by, inside_route, heading_route, unreadable_route, simple_plan, packet_route, routed, target_under, targeted, acts, with_taken, more_took};
 ghost use Rattle.packet.specs.Limits.{max_packet};
 ghost use Rattle.packet.specs.FirstByte.{first_byte};
 ghost use Rattle.packet.specs.Packet.{request_of};
@@ -14,17 +14,16 @@ ghost use Rattle.engine.specs.Step.{planned};
 use crate::connect::handle_connect;
 use crate::object::object_plan;
 use crate::operation::{GatherFlags, GatherKind, gather_packet, nothing_gathered};
-use crate::step::{Plan, asks, carry_out, code, code_keeping, ends, engine_with, wants};
+use crate::step::{Plan, asks, carry_out, code, code_keeping, ends, wants};
 use connection::peer::is_open;
 use incoming::gather::Gathered;
 use incoming::survey::{Survey, survey_headers};
 use outgoing::object::Outgoing;
 use packet::header::first_header;
 use packet::header_id::NAME;
-use packet::opcode::{FirstByte, Opcode, from_byte, same};
-use packet::packet::{Head, packet_head, set_path_flags};
+use packet::opcode::{Opcode, from_byte, same};
+use packet::packet::{packet_head, set_path_flags};
 use packet::response;
-use packet::tlv::Found;
 use server::{Await, CallResult, End, Engine, HostRequest, Operation, Outcome};
 use table::targets::{Target, find_place, target_at, unnamed};
 
@@ -83,52 +82,33 @@ pub(crate) struct Routed {
     pub target: Target,
 }
 
-// Whether the engine admits a packet that opens an operation, or the code with which it turns the packet away.
-#[derive(Clone, Copy)]
-pub(crate) enum Admission {
-    Admits,
-    Rejects(u8),
-}
-
 // Whether a password is required and not given. A Disconnect may not be refused (OBEX section 3.4.2).
 fn is_unauthorized(e: Engine, opcode: Opcode) -> bool
     ensures { result ≡ unauthorized_for e opcode }
 {
-    if e.settings.authentication {
-        if e.peer.authenticated {
-            return false;
-        }
-        return !same(opcode, Opcode::Disconnect);
-    }
-    false
+    e.settings.authentication && !e.peer.authenticated && !same(opcode, Opcode::Disconnect)
 }
 
-// Returns the code that refuses a packet before it reaches the host, if any: 0x41 for a missing password comes before 0x53 for a
+// Tells whether a packet may reach the host, or returns the code that refuses it: 0x41 for a missing password comes before 0x53 for a
 // ConnectionID that is not open.
-fn rejection(e: Engine, h: Heading) -> Admission
+#[tactic(auto, unfolding(model::specs::Dispatch::rejection))]
+fn rejection(e: Engine, h: Heading) -> Result<(), u8>
     ensures { result ≡ admission_of (rejectionOf e h.opcode h.survey h.known) }
 {
-    let opcode = h.opcode;
-    if is_unauthorized(e, opcode) {
-        return Admission::Rejects(response::UNAUTHORIZED);
+    if is_unauthorized(e, h.opcode) {
+        return Err(response::UNAUTHORIZED);
     }
-    if h.survey.has_id {
-        if h.known {
-            return Admission::Admits;
-        }
-        return Admission::Rejects(response::SERVICE_UNAVAILABLE);
+    if h.survey.has_id && !h.known {
+        return Err(response::SERVICE_UNAVAILABLE);
     }
-    Admission::Admits
+    Ok(())
 }
 
 // Whether an operation of this opcode is drained if it is turned away under SRM: a Put or a Get.
 fn has_drain(opcode: Opcode) -> bool
     ensures { result ≡ drainsOf opcode }
 {
-    if same(opcode, Opcode::Put) {
-        return true;
-    }
-    same(opcode, Opcode::Get)
+    same(opcode, Opcode::Put) || same(opcode, Opcode::Get)
 }
 
 // Returns the way of a packet to which the engine replies with `code`, and after which nothing is open.
@@ -155,14 +135,7 @@ fn keep_code(code: u8) -> Route
 fn is_drained(e: Engine, h: Heading) -> bool
     ensures { result ≡ drained_by e h }
 {
-    let opcode = h.opcode;
-    if e.peer.srm_enabled {
-        if has_drain(opcode) {
-            return !h.is_final;
-        }
-        return false;
-    }
-    false
+    e.peer.srm_enabled && has_drain(h.opcode) && !h.is_final
 }
 
 // Refuses an operation with `code`, after a drain or at once.
@@ -179,43 +152,33 @@ fn reject(e: Engine, h: Heading, code: u8) -> Route
 fn must_confirm_srm(e: Engine, v: Survey) -> bool
     ensures { result ≡ confirmsOf e v }
 {
-    if e.peer.srm_enabled {
-        return false;
-    }
-    if e.settings.srm_supported {
-        return v.enable;
-    }
-    false
+    !e.peer.srm_enabled && e.settings.srm_supported && v.enable
 }
 
-// Returns the way of a packet of a Put, of which `begun` was gathered before.
-fn put_route(h: Heading, begun: Gathered, srm: bool, confirm_srm: bool) -> Route
-    ensures { result ≡ put_route h begun srm confirm_srm }
+// Returns the way of a packet of an operation of this `kind`, of which `begun` was gathered before. A Put may ask for an additional
+// Continue, a Get's request for a wait.
+fn gather_route(
+    h: Heading,
+    kind: GatherKind,
+    begun: Gathered,
+    srm: bool,
+    confirm_srm: bool,
+) -> Route
+    ensures { result ≡ gather_route h kind begun srm confirm_srm }
 {
+    let asked = match kind {
+        GatherKind::Put => h.survey.additional,
+        GatherKind::Get => h.survey.wait,
+        GatherKind::Headers(_) => false,
+    };
     Route::Gather {
         flags: GatherFlags {
             is_final: h.is_final,
-            asked: h.survey.additional,
+            asked,
             srm,
             confirm_srm,
         },
-        kind: GatherKind::Put,
-        begun,
-    }
-}
-
-// Returns the way of a packet of a Get's request, of which `begun` was gathered before.
-fn get_route(h: Heading, begun: Gathered, srm: bool, confirm_srm: bool) -> Route
-    ensures { result ≡ get_route h begun srm confirm_srm }
-{
-    Route::Gather {
-        flags: GatherFlags {
-            is_final: h.is_final,
-            asked: h.survey.wait,
-            srm,
-            confirm_srm,
-        },
-        kind: GatherKind::Get,
+        kind,
         begun,
     }
 }
@@ -231,22 +194,6 @@ fn send_route(h: Heading, outgoing: Outgoing, srm: bool) -> Route
     }
 }
 
-// Returns the way of a packet of an operation of headers alone, of which `begun` was gathered before.
-fn headers_route(h: Heading, opcode: Opcode, begun: Gathered) -> Route
-    ensures { result ≡ headers_route h opcode begun }
-{
-    Route::Gather {
-        flags: GatherFlags {
-            is_final: h.is_final,
-            asked: false,
-            srm: false,
-            confirm_srm: false,
-        },
-        kind: GatherKind::Headers(opcode),
-        begun,
-    }
-}
-
 // Returns the way of a packet about which the engine asks the host with `request`.
 fn ask(awaits: Await, request: HostRequest) -> Route
     ensures { result ≡ ask_route awaits request }
@@ -259,8 +206,7 @@ fn dispatch(e: Engine, h: Heading) -> Route
     ensures { result ≡ dispatch_route h.opcode e h }
 {
     let length = e.length;
-    let opcode = h.opcode;
-    match opcode {
+    match h.opcode {
         Opcode::Connect => Route::Connect,
         Opcode::Abort => ask(Await::Acknowledgement, HostRequest::Abort { length }),
         Opcode::Disconnect => ask(Await::Disconnect, HostRequest::Disconnect { length }),
@@ -272,39 +218,41 @@ fn dispatch(e: Engine, h: Heading) -> Route
                 no_create: h.no_create,
             },
         ),
-        Opcode::Put => put_route(
+        Opcode::Put => gather_route(
             h,
+            GatherKind::Put,
             nothing_gathered(),
             e.peer.srm_enabled,
             must_confirm_srm(e, h.survey),
         ),
-        Opcode::Get => get_route(
+        Opcode::Get => gather_route(
             h,
+            GatherKind::Get,
             nothing_gathered(),
             e.peer.srm_enabled,
             must_confirm_srm(e, h.survey),
         ),
-        Opcode::Action => headers_route(h, Opcode::Action, nothing_gathered()),
-        Opcode::Session => headers_route(h, Opcode::Session, nothing_gathered()),
-        Opcode::UserDefined(value) => headers_route(
+        Opcode::Action | Opcode::Session | Opcode::UserDefined(_) => gather_route(
             h,
-            Opcode::UserDefined(value),
+            GatherKind::Headers(h.opcode),
             nothing_gathered(),
+            false,
+            false,
         ),
     }
 }
 
 // Returns the way of a packet while nothing is open. The engine tests no admission of a Connect.
+#[tactic(auto, unfolding(crate::specs::Dispatch::open_route))]
 fn open_route(e: Engine, h: Heading) -> Route
     ensures { result ≡ open_route e h }
 {
-    let opcode = h.opcode;
-    if same(opcode, Opcode::Connect) {
+    if same(h.opcode, Opcode::Connect) {
         return Route::Connect;
     }
     match rejection(e, h) {
-        Admission::Admits => dispatch(e, h),
-        Admission::Rejects(code) => reject(e, h, code),
+        Ok(()) => dispatch(e, h),
+        Err(code) => reject(e, h, code),
     }
 }
 
@@ -313,11 +261,11 @@ fn open_route(e: Engine, h: Heading) -> Route
 fn next_request(h: Heading, open: Opcode, route: Route) -> Route
     ensures { result ≡ continued_route h «open» route }
 {
-    let opcode = h.opcode;
-    if same(opcode, open) {
-        return route;
+    if same(h.opcode, open) {
+        route
+    } else {
+        interrupts()
     }
-    interrupts()
 }
 
 // Returns the way of a packet that interrupts an operation: the engine replies with 0x40, and ends with `OtherOperation` once the reply is
@@ -357,47 +305,45 @@ fn trailed(is_final: bool) -> Route
 fn inside(e: Engine, h: Heading) -> Route
     ensures { result ≡ inside_route e.operation e h }
 {
-    let operation = e.operation;
-    match operation {
+    match e.operation {
         Operation::Putting { gathered, srm } => next_request(
             h,
             Opcode::Put,
-            put_route(h, gathered, srm, false),
+            gather_route(h, GatherKind::Put, gathered, srm, false),
         ),
         Operation::Getting {
             gathered,
             srm,
             confirm_srm,
-            wait: _,
-        } => next_request(h, Opcode::Get, get_route(h, gathered, srm, confirm_srm)),
-        Operation::Sending {
-            outgoing,
-            chunk: _,
-            srm,
-            wait: _,
-        } => next_request(h, Opcode::Get, send_route(h, outgoing, srm)),
+            ..
+        } => next_request(
+            h,
+            Opcode::Get,
+            gather_route(h, GatherKind::Get, gathered, srm, confirm_srm),
+        ),
+        Operation::Sending { outgoing, srm, .. } => next_request(
+            h,
+            Opcode::Get,
+            send_route(h, outgoing, srm),
+        ),
         Operation::Gathering { opcode, gathered } => next_request(
             h,
             opcode,
-            headers_route(h, opcode, gathered),
+            gather_route(h, GatherKind::Headers(opcode), gathered, false, false),
         ),
-        Operation::Connecting {
-            code: _,
-            front: _,
-            length: _,
-        } => interrupts(),
+        Operation::Connecting { .. } => interrupts(),
         Operation::Draining { code } => draining(h, code),
-        _ => open_route(e, h),
+        Operation::Nothing | Operation::Trailing => open_route(e, h),
     }
 }
 
 // Returns the way of a readable packet. An Abort goes before all else, since the engine answers it in every state. The engine refuses what
 // trails a Put that was too long before it tests the admission.
+#[tactic(auto, unfolding(crate::specs::Dispatch::heading_route))]
 pub(crate) fn heading_route(e: Engine, h: Heading) -> Route
     ensures { result ≡ heading_route e h }
 {
-    let opcode = h.opcode;
-    if same(opcode, Opcode::Abort) {
+    if same(h.opcode, Opcode::Abort) {
         return ask(
             Await::Acknowledgement,
             HostRequest::Abort { length: e.length },
@@ -413,36 +359,7 @@ pub(crate) fn heading_route(e: Engine, h: Heading) -> Route
 pub(crate) fn is_busy(operation: Operation) -> bool
     ensures { result ≡ busyWith operation }
 {
-    match operation {
-        Operation::Nothing => false,
-        Operation::Trailing => false,
-        Operation::Putting {
-            gathered: _,
-            srm: _,
-        } => true,
-        Operation::Getting {
-            gathered: _,
-            srm: _,
-            confirm_srm: _,
-            wait: _,
-        } => true,
-        Operation::Sending {
-            outgoing: _,
-            chunk: _,
-            srm: _,
-            wait: _,
-        } => true,
-        Operation::Gathering {
-            opcode: _,
-            gathered: _,
-        } => true,
-        Operation::Connecting {
-            code: _,
-            front: _,
-            length: _,
-        } => true,
-        Operation::Draining { code: _ } => true,
-    }
+    !matches!(operation, Operation::Nothing | Operation::Trailing)
 }
 
 // Returns the way of a packet that cannot be read. Inside an operation the engine ends with `Unreadable`. Otherwise the engine replies with
@@ -450,8 +367,7 @@ pub(crate) fn is_busy(operation: Operation) -> bool
 pub(crate) fn unreadable(e: Engine, unknown: bool) -> Route
     ensures { result ≡ unreadable_route e.operation unknown }
 {
-    let operation = e.operation;
-    if is_busy(operation) {
+    if is_busy(e.operation) {
         return Route::Plain(Simple::End(End::Unreadable));
     }
     if unknown {
@@ -464,13 +380,7 @@ pub(crate) fn unreadable(e: Engine, unknown: bool) -> Route
 fn is_unknown(byte: u8) -> bool
     ensures { result ≡ unknown_byte (first_byte byte) }
 {
-    match from_byte(byte) {
-        FirstByte::Known {
-            opcode: _,
-            is_final: _,
-        } => false,
-        FirstByte::Unknown => true,
-    }
+    from_byte(byte).is_none()
 }
 
 // Whether the packet names a ConnectionID that is open: one of the ids in the table store.
@@ -478,10 +388,7 @@ fn is_known(e: Engine, v: Survey, tables: &[u64]) -> bool
     requires { (e.peer.count ≤ 64) × (table_length ≤ length tables.now) }
     ensures { result ≡ known_in e tables.now v }
 {
-    if v.has_id {
-        return is_open(tables, e.peer.count, v.id);
-    }
-    false
+    v.has_id && is_open(tables, e.peer.count, v.id)
 }
 
 // Whether the packet trails a Put that was too long, and the engine refuses what does: a Put packet without a Name. Only such a packet is
@@ -489,27 +396,16 @@ fn is_known(e: Engine, v: Survey, tables: &[u64]) -> bool
 fn is_trailed(e: Engine, opcode: Opcode, p: &[u8]) -> bool
     ensures { result ≡ trailed_by e.operation opcode p.now }
 {
-    let operation = e.operation;
-    let Operation::Trailing = operation else {
-        return false;
-    };
-    if same(opcode, Opcode::Put) {
-        let Found::At { start: _, end: _ } = first_header(p, 3, NAME) else {
-            return true;
-        };
-        return false;
-    }
-    false
+    matches!(e.operation, Operation::Trailing)
+        && same(opcode, Opcode::Put)
+        && first_header(p, 3, NAME).is_none()
 }
 
 // Whether an operation of this opcode goes under the mark wherever it comes: a Connect or an Abort.
 fn is_marked(opcode: Opcode) -> bool
     ensures { result ≡ isMarkedIn opcode }
 {
-    if same(opcode, Opcode::Connect) {
-        return true;
-    }
-    same(opcode, Opcode::Abort)
+    same(opcode, Opcode::Connect) || same(opcode, Opcode::Abort)
 }
 
 // Returns the Target under which a readable packet goes (docs/PROTOCOL.md#targets). A Connect or an Abort goes under the mark. Inside an
@@ -522,13 +418,14 @@ fn packet_target(e: Engine, opcode: Opcode, v: Survey, known: bool, tables: &[u6
     if is_marked(opcode) {
         return unnamed();
     }
-    let operation = e.operation;
-    if is_busy(operation) {
-        let target = e.target;
-        return target;
+    if is_busy(e.operation) {
+        return e.target;
     }
     if known {
-        return target_at(tables, find_place(tables, e.peer.count, v.id));
+        return match find_place(tables, e.peer.count, v.id) {
+            Some(place) => target_at(tables, place),
+            None => unnamed(),
+        };
     }
     unnamed()
 }
@@ -537,10 +434,9 @@ fn packet_target(e: Engine, opcode: Opcode, v: Survey, known: bool, tables: &[u6
 fn unreadable_route(e: Engine, byte: u8) -> Routed
     ensures { result ≡ routed (unreadable_route e.operation (unknown_byte (first_byte byte))) e.target }
 {
-    let target = e.target;
     Routed {
         route: unreadable(e, is_unknown(byte)),
-        target,
+        target: e.target,
     }
 }
 
@@ -549,60 +445,52 @@ pub(crate) fn route_packet(e: Engine, p: &[u8], tables: &[u64]) -> Routed
     requires { (1 ≤ length p.now) × (e.peer.count ≤ 64) × (table_length ≤ length tables.now) }
     ensures { result ≡ routed (packet_route e p.now tables.now) (packetTargetOf (request_of p.now) e tables.now) }
 {
-    let Head::Known {
-        opcode,
-        is_final,
-        headers,
-    } = packet_head(p)
-    else {
+    let Some(head) = packet_head(p) else {
         return unreadable_route(e, p[0]);
     };
-    let survey = survey_headers(p, headers);
+    let survey = survey_headers(p, head.headers);
     if !survey.readable {
         return unreadable_route(e, p[0]);
     }
     let flags = set_path_flags(p);
     let known = is_known(e, survey, tables);
-    let trails = is_trailed(e, opcode, p);
+    let trails = is_trailed(e, head.opcode, p);
     let route = heading_route(
         e,
         Heading {
             survey,
-            opcode,
+            opcode: head.opcode,
             backup: flags.backup,
             no_create: flags.no_create,
-            is_final,
+            is_final: head.is_final,
             known,
             trails,
         },
     );
-    let target = packet_target(e, opcode, survey, known, tables);
+    let target = packet_target(e, head.opcode, survey, known, tables);
     Routed { route, target }
 }
 
 // Carries out a step that needs no more of the packet than its heading.
+#[tactic(auto, unfolding(crate::specs::Dispatch::simple_plan))]
 pub(crate) fn simple_plan(e: Engine, brief: Simple) -> Plan
     ensures { result ≡ simple_plan e brief }
 {
     match brief {
         Simple::Ask { awaits, request } => asks(e, e.peer, Operation::Nothing, awaits, request),
         Simple::Code { awaits, byte } => code(e, e.peer, awaits, byte),
-        Simple::Keep { byte } => {
-            let operation = e.operation;
-            code_keeping(e, operation, byte)
-        }
+        Simple::Keep { byte } => code_keeping(e, e.operation, byte),
         Simple::Drain { code } => wants(e, e.peer, Operation::Draining { code }),
         Simple::End(end) => ends(e, e.peer, end),
     }
 }
 
 // Returns the state with `target`, the Target under which the last packet goes.
+#[tactic(auto, unfolding(model::specs::Step::engine_with))]
 fn with_target(e: Engine, target: Target) -> Engine
     ensures { result ≡ targeted e target }
 {
-    let mut r = e;
-    r.target = target;
-    r
+    Engine { target, ..e }
 }
 
 // Acts on a packet and returns the plan that is still to be carried out.
@@ -623,10 +511,8 @@ fn act(
         (stores q headers.old body.old reply.old) }
 {
     let routed = route_packet(e, p, tables);
-    let target = routed.target;
-    let route = routed.route;
-    let at = with_target(e, target);
-    match route {
+    let at = with_target(e, routed.target);
+    match routed.route {
         Route::Plain(brief) => simple_plan(at, brief),
         Route::Connect => handle_connect(at, p),
         Route::Gather { flags, kind, begun } => gather_packet(
@@ -641,12 +527,15 @@ fn act(
 }
 
 // Returns the state after a whole packet of `n` bytes has arrived: later answers read it again from the packet store.
+#[tactic(auto, unfolding(model::specs::Step::engine_with))]
 fn whole(e: Engine, n: usize) -> Engine
     ensures { result ≡ arrived e n e.target }
 {
-    let operation = e.operation;
-    let awaits = e.awaits;
-    engine_with(e.settings, e.peer, operation, awaits, 0, n, e.target)
+    Engine {
+        begun: 0,
+        length: n,
+        ..e
+    }
 }
 
 // Handles a whole packet of `n` bytes at the front of the packet store.
@@ -672,28 +561,20 @@ pub(crate) fn packet_done(
 }
 
 // Returns the result `r` with `taken`, the count of bytes that the engine took.
+// Stays beside the client's of that name: one line each, over two results.
 pub(crate) fn with_taken(r: CallResult, taken: usize) -> CallResult
     ensures { result ≡ with_taken r taken }
 {
-    let engine = r.engine;
-    let outcome = r.outcome;
-    CallResult {
-        engine,
-        taken,
-        outcome,
-    }
+    CallResult { taken, ..r }
 }
 
 // Returns the result if the packet is not whole yet: `begun` bytes of it stand in the packet store, and the engine wants more.
+#[tactic(auto, unfolding(model::specs::Step::engine_with))]
 pub(crate) fn more(e: Engine, begun: usize, taken: usize) -> CallResult
     ensures { result ≡ more_took e begun taken }
 {
-    let operation = e.operation;
-    let awaits = e.awaits;
     CallResult {
-        engine: engine_with(
-            e.settings, e.peer, operation, awaits, begun, e.length, e.target,
-        ),
+        engine: Engine { begun, ..e },
         taken,
         outcome: Outcome::WantsBytes,
     }

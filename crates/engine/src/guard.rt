@@ -17,6 +17,7 @@ use table::TABLE_LENGTH;
 use table::nonces::MAX_NONCES;
 
 // Whether the engine waits for the same thing in `a` and `b`.
+// Stays beside the client's of that name: each is one line over an enum of its own, and a trait for both would be longer.
 pub(crate) fn same_await(a: Await, b: Await) -> bool
     ensures { result ≡ same_await a b }
 {
@@ -27,26 +28,17 @@ pub(crate) fn same_await(a: Await, b: Await) -> bool
 fn awaits_reply(a: Await) -> bool
     ensures { result ≡ fits kind.ReplyGiven a }
 {
-    if same_await(a, Await::Connect) {
-        return true;
-    }
-    if same_await(a, Await::Disconnect) {
-        return true;
-    }
-    if same_await(a, Await::Get) {
-        return true;
-    }
-    same_await(a, Await::Reply)
+    matches!(
+        a,
+        Await::Connect | Await::Disconnect | Await::Get | Await::Reply
+    )
 }
 
 // Whether the engine waits for a reply to be sent. The reply may be the last one.
 fn awaits_taken(a: Await) -> bool
     ensures { result ≡ fits kind.ReplyTaken a }
 {
-    if same_await(a, Await::Taken) {
-        return true;
-    }
-    same_await(a, Await::Last)
+    matches!(a, Await::Taken | Await::Last)
 }
 
 // Whether a call of kind `k` may come while the engine waits for `a`.
@@ -54,15 +46,15 @@ fn is_awaited(k: CallKind, a: Await) -> bool
     ensures { result ≡ fits k a }
 {
     match k {
-        CallKind::FromPeer => same_await(a, Await::Bytes),
+        CallKind::FromPeer => matches!(a, Await::Bytes),
         CallKind::ReplyTaken => awaits_taken(a),
         CallKind::ReplyGiven => awaits_reply(a),
-        CallKind::ObjectGiven => same_await(a, Await::Get),
-        CallKind::AbortAcknowledged => same_await(a, Await::Acknowledgement),
-        CallKind::PasswordGiven => same_await(a, Await::Password),
-        CallKind::NonceGiven => same_await(a, Await::Nonce),
-        CallKind::CredentialsGiven => same_await(a, Await::Credentials),
-        CallKind::FromBody => same_await(a, Await::Body),
+        CallKind::ObjectGiven => matches!(a, Await::Get),
+        CallKind::AbortAcknowledged => matches!(a, Await::Acknowledgement),
+        CallKind::PasswordGiven => matches!(a, Await::Password),
+        CallKind::NonceGiven => matches!(a, Await::Nonce),
+        CallKind::CredentialsGiven => matches!(a, Await::Credentials),
+        CallKind::FromBody => matches!(a, Await::Body),
     }
 }
 
@@ -74,48 +66,29 @@ pub(crate) fn wide(n: u32) -> usize
 }
 
 // Whether a lent store is too short: packet, header and reply store hold 65,535 bytes each, the body store as many as the Put limit.
+#[tactic(auto, unfolding(crate::specs::Guard::short_by))]
 pub(crate) fn is_short(limit: u32, packet: usize, headers: usize, body: usize, reply: usize) -> bool
     ensures { result ≡ short_by limit packet headers body reply }
 {
-    if packet < MAX_PACKET {
-        return true;
-    }
-    if headers < MAX_PACKET {
-        return true;
-    }
-    if reply < MAX_PACKET {
-        return true;
-    }
-    body < wide(limit)
+    packet < MAX_PACKET || headers < MAX_PACKET || reply < MAX_PACKET || body < wide(limit)
 }
 
 // Whether the counts of gathered bytes are ones that a call can leave.
 fn sound_gathered(limit: u32, g: Gathered) -> bool
     ensures { result ≡ sound_gathered limit g }
 {
-    if g.kept > MAX_PACKET {
-        return false;
-    }
-    g.body <= wide(limit)
+    g.kept <= MAX_PACKET && g.body <= wide(limit)
 }
 
 // Whether the counts of an object that is sent are ones that a call can leave.
 fn sound_outgoing(o: Outgoing, c: Chunk) -> bool
     ensures { result ≡ sound_outgoing o c }
 {
-    if o.total > MAX_PACKET {
-        return false;
-    }
-    if o.sent > o.total {
-        return false;
-    }
-    if c.at > MAX_CAPACITY {
-        return false;
-    }
-    if c.got > MAX_CAPACITY - c.at {
-        return false;
-    }
-    c.room <= 65533 - c.at - c.got
+    o.total <= MAX_PACKET
+        && o.sent <= o.total
+        && c.at <= MAX_CAPACITY
+        && c.got <= MAX_CAPACITY - c.at
+        && c.room <= MAX_CAPACITY + 1 - c.at - c.got
 }
 
 // Whether the counts of the open operation are ones that a call can leave.
@@ -123,67 +96,36 @@ fn sound_operation(limit: u32, operation: Operation) -> bool
     ensures { result ≡ sound_operation limit operation }
 {
     match operation {
-        Operation::Nothing => true,
-        Operation::Trailing => true,
-        Operation::Putting { gathered, srm: _ } => sound_gathered(limit, gathered),
-        Operation::Getting {
-            gathered,
-            srm: _,
-            confirm_srm: _,
-            wait: _,
-        } => sound_gathered(limit, gathered),
+        Operation::Putting { gathered, .. }
+        | Operation::Getting { gathered, .. }
+        | Operation::Gathering { gathered, .. } => sound_gathered(limit, gathered),
         Operation::Sending {
             outgoing,
             chunk,
-            srm: _,
-            wait: _,
+            ..
         } => sound_outgoing(outgoing, chunk),
-        Operation::Gathering {
-            opcode: _,
-            gathered,
-        } => sound_gathered(limit, gathered),
-        Operation::Connecting {
-            code: _,
-            front: _,
-            length,
-        } => length <= MAX_PACKET,
-        Operation::Draining { code: _ } => true,
+        Operation::Connecting { length, .. } => length <= MAX_PACKET,
+        Operation::Nothing | Operation::Trailing | Operation::Draining { .. } => true,
     }
 }
 
 // Whether the state's counts are ones that a call can leave. Any other state is refused, so that a call is defined for every state that it
 // is given.
+#[tactic(auto, unfolding(model::specs::Guard::sound))]
 pub(crate) fn is_sound(e: Engine) -> bool
     ensures { result ≡ sound e }
 {
-    if e.begun >= MAX_PACKET {
-        return false;
-    }
-    if e.length > MAX_PACKET {
-        return false;
-    }
-    if e.peer.count > MAX_CONNECTIONS {
-        return false;
-    }
-    if e.peer.remote_max_packet_length < MIN_PACKET {
-        return false;
-    }
-    if e.peer.nonces > MAX_NONCES {
-        return false;
-    }
-    let operation = e.operation;
-    sound_operation(e.settings.max_object_size, operation)
-}
-
-// What the guard says of a call.
-#[derive(Clone, Copy)]
-pub(crate) enum Guarded {
-    Proceed,
-    Refuse(Refusal),
+    e.begun < MAX_PACKET
+        && e.length <= MAX_PACKET
+        && e.peer.count <= MAX_CONNECTIONS
+        && e.peer.remote_max_packet_length >= MIN_PACKET
+        && e.peer.nonces <= MAX_NONCES
+        && sound_operation(e.settings.max_object_size, e.operation)
 }
 
 // Returns the refusal of a call of kind `k`, or says that it may proceed. A short store comes before a wrong moment, and a state that no
 // call can have left counts as a wrong moment, as after the end.
+#[tactic(auto, unfolding(crate::specs::Guard::guarded_by))]
 pub(crate) fn guard(
     e: Engine,
     k: CallKind,
@@ -191,23 +133,23 @@ pub(crate) fn guard(
     headers: usize,
     body: usize,
     reply: usize,
-) -> Guarded
+) -> Result<(), Refusal>
     ensures { result ≡ guarded_by k e packet headers body reply }
 {
     if is_short(e.settings.max_object_size, packet, headers, body, reply) {
-        return Guarded::Refuse(Refusal::StoreTooShort);
+        return Err(Refusal::StoreTooShort);
     }
     if !is_sound(e) {
-        return Guarded::Refuse(Refusal::WrongMoment);
+        return Err(Refusal::WrongMoment);
     }
-    let awaits = e.awaits;
-    if is_awaited(k, awaits) {
-        return Guarded::Proceed;
+    if is_awaited(k, e.awaits) {
+        return Ok(());
     }
-    Guarded::Refuse(Refusal::WrongMoment)
+    Err(Refusal::WrongMoment)
 }
 
 // Returns the refusal of a call that is lent the table store too, which holds `TABLE_LENGTH` numbers, or says that it may proceed.
+#[tactic(auto, unfolding(crate::specs::Guard::guarded_lent, crate::specs::Guard::guarded_by))]
 pub(crate) fn guard_lent(
     e: Engine,
     k: CallKind,
@@ -216,11 +158,11 @@ pub(crate) fn guard_lent(
     headers: usize,
     body: usize,
     reply: usize,
-) -> Guarded
+) -> Result<(), Refusal>
     ensures { result ≡ guarded_lent k e tables packet headers body reply }
 {
     if tables < TABLE_LENGTH {
-        return Guarded::Refuse(Refusal::StoreTooShort);
+        return Err(Refusal::StoreTooShort);
     }
     guard(e, k, packet, headers, body, reply)
 }
@@ -229,13 +171,11 @@ pub(crate) fn guard_lent(
 pub(crate) fn is_long_realm(has_realm: bool, length: usize) -> bool
     ensures { result ≡ has_realm && ltb max_realm length }
 {
-    if has_realm {
-        return length > MAX_REALM;
-    }
-    false
+    has_realm && length > MAX_REALM
 }
 
 // Returns the refusal of a start, or says that it may proceed: a short store comes before a realm that is too long.
+#[tactic(auto, unfolding(crate::specs::Guard::guarded_start))]
 pub(crate) fn guard_start(
     limit: u32,
     long: bool,
@@ -244,32 +184,33 @@ pub(crate) fn guard_start(
     headers: usize,
     body: usize,
     reply: usize,
-) -> Guarded
+) -> Result<(), Refusal>
     ensures { result ≡ guarded_start limit long tables packet headers body reply }
 {
     if tables < TABLE_LENGTH {
-        return Guarded::Refuse(Refusal::StoreTooShort);
+        return Err(Refusal::StoreTooShort);
     }
     if is_short(limit, packet, headers, body, reply) {
-        return Guarded::Refuse(Refusal::StoreTooShort);
+        return Err(Refusal::StoreTooShort);
     }
     if long {
-        return Guarded::Refuse(Refusal::BadAnswer);
+        return Err(Refusal::BadAnswer);
     }
-    Guarded::Proceed
+    Ok(())
 }
 
 // Returns the refusal of a nonce, or says that the engine may take it: a realm of `realm` bytes that is too long comes before a nonce that
 // was used.
-pub(crate) fn guard_nonce(settings: Settings, realm: usize, used: bool) -> Guarded
+#[tactic(auto, unfolding(crate::specs::Guard::guarded_nonce))]
+pub(crate) fn guard_nonce(settings: Settings, realm: usize, used: bool) -> Result<(), Refusal>
     ensures { result ≡ guarded_nonce (settings.has_realm && ltb max_realm realm) used }
 {
     if is_long_realm(settings.has_realm, realm) {
-        Guarded::Refuse(Refusal::BadAnswer)
+        Err(Refusal::BadAnswer)
     } else if used {
-        Guarded::Refuse(Refusal::NonceUsed)
+        Err(Refusal::NonceUsed)
     } else {
-        Guarded::Proceed
+        Ok(())
     }
 }
 
@@ -285,21 +226,17 @@ pub(crate) fn refuse(e: Engine, refusal: Refusal) -> CallResult
 }
 
 // Whether header bytes are none that a host may give: over 65,535, or not what the writer gives for what the reader reads.
+#[tactic(auto, unfolding(model::specs::Guard::bad_headers))]
 pub(crate) fn is_bad_headers(s: &[u8]) -> bool
     ensures { result ≡ bad_headers s.now }
 {
-    if s.len() > MAX_PACKET {
-        return true;
-    }
-    !is_canonical(s)
+    s.len() > MAX_PACKET || !is_canonical(s)
 }
 
 // Whether a reply is none that a host may give: by its code or by its header bytes.
+#[tactic(auto, unfolding(model::specs::Guard::bad_reply))]
 pub(crate) fn is_bad_reply(code: u8, header_bytes: &[u8]) -> bool
     ensures { result ≡ bad_reply code header_bytes.now }
 {
-    if !is_code(code) {
-        return true;
-    }
-    is_bad_headers(header_bytes)
+    !is_code(code) || is_bad_headers(header_bytes)
 }

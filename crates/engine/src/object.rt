@@ -8,8 +8,7 @@ ghost use Rattle.engine.specs.Object.{sending_on, packet_plan, plan_made, object
 ghost use Rattle.model.specs.Guard.{sound_operation};
 ghost use Rattle.model.specs.Object.{object_of};
 
-use crate::guard::same_await;
-use crate::step::{Plan, ShortReply, asks, carry_out, code, ends, engine_with, wants, wide16};
+use crate::step::{Plan, ShortReply, asks, carry_out, code, ends, wants};
 use outgoing::object::{Next, NextPacket, Outgoing, next_packet};
 use packet::response::INTERNAL_SERVER_ERROR_BYTE;
 use server::{Await, CallResult, End, Engine, HostRequest, Operation, Outcome};
@@ -21,11 +20,9 @@ fn sending(k: NextPacket, last: bool, srm: bool, wait: bool) -> Operation
     if last {
         return Operation::Nothing;
     }
-    let outgoing = k.outgoing;
-    let chunk = k.chunk;
     Operation::Sending {
-        outgoing,
-        chunk,
+        outgoing: k.outgoing,
+        chunk: k.chunk,
         srm,
         wait,
     }
@@ -33,27 +30,21 @@ fn sending(k: NextPacket, last: bool, srm: bool, wait: bool) -> Operation
 
 // Plans a packet of an object: the engine replies with it, or asks the host for body bytes first. If a header is too long for any packet,
 // the engine replies with 0x50 and the Get ends.
+#[tactic(auto, unfolding(model::specs::Step::engine_with, crate::specs::Object::packet_plan))]
 pub(crate) fn packet_plan(e: Engine, srm: bool, wait: bool, k: NextPacket) -> Plan
     ensures { result ≡ packet_plan e srm wait k }
 {
-    let next = k.next;
-    match next {
-        Next::Send { length, last } => {
-            let operation = sending(k, last, srm, wait);
-            Plan {
-                engine: engine_with(
-                    e.settings,
-                    e.peer,
-                    operation,
-                    Await::Taken,
-                    0,
-                    e.length,
-                    e.target,
-                ),
-                outcome: Outcome::Reply { length },
-                small: ShortReply::Silent,
-            }
-        }
+    match k.next {
+        Next::Send { length, last } => Plan {
+            engine: Engine {
+                operation: sending(k, last, srm, wait),
+                awaits: Await::Taken,
+                begun: 0,
+                ..e
+            },
+            outcome: Outcome::Reply { length },
+            small: ShortReply::Silent,
+        },
         Next::Read => asks(
             e,
             e.peer,
@@ -78,7 +69,7 @@ pub(crate) fn object_plan(
     ensures { plan_made result reply.new
         ≡ object_plan e srm wait (next_packet (capacity_of e) o headers.now reply.old) }
 {
-    let capacity = wide16(e.peer.remote_max_packet_length) - 3;
+    let capacity = e.peer.remote_max_packet_length as usize - 3;
     packet_plan(e, srm, wait, next_packet(capacity, o, headers, reply))
 }
 
@@ -95,7 +86,7 @@ pub(crate) fn sends_next(
     ensures { written result reply.new
         ≡ packet_sent e srm wait (next_packet (capacity_of e) o headers.now reply.old) }
 {
-    let capacity = wide16(e.peer.remote_max_packet_length) - 3;
+    let capacity = e.peer.remote_max_packet_length as usize - 3;
     let k = next_packet(capacity, o, headers, reply);
     carry_out(packet_plan(e, srm, wait, k), reply)
 }
@@ -115,17 +106,8 @@ pub(crate) fn object_of(total: usize, lead: bool, has_body: bool) -> Outgoing
     }
 }
 
-// Whether one of two flags is set.
-pub(crate) fn either(a: bool, b: bool) -> bool
-    ensures { result ≡ a || b }
-{
-    if a {
-        return true;
-    }
-    b
-}
-
 // What the engine does once the host has sent the reply.
+// Stays an enum of its own: three things may follow, and an Option of an Option would not name them.
 #[derive(Clone, Copy)]
 enum Turn {
     Send {
@@ -141,10 +123,7 @@ enum Turn {
 fn follows(outgoing: Outgoing, srm: bool, wait: bool) -> Turn
     ensures { result ≡ follows_turn outgoing srm wait }
 {
-    if srm {
-        if wait {
-            return Turn::Wait;
-        }
+    if srm && !wait {
         return Turn::Send {
             outgoing,
             srm,
@@ -161,32 +140,11 @@ fn goes_on(operation: Operation) -> Turn
     match operation {
         Operation::Sending {
             outgoing,
-            chunk: _,
             srm,
             wait,
+            ..
         } => follows(outgoing, srm, wait),
-        Operation::Nothing => Turn::Wait,
-        Operation::Trailing => Turn::Wait,
-        Operation::Putting {
-            gathered: _,
-            srm: _,
-        } => Turn::Wait,
-        Operation::Getting {
-            gathered: _,
-            srm: _,
-            confirm_srm: _,
-            wait: _,
-        } => Turn::Wait,
-        Operation::Gathering {
-            opcode: _,
-            gathered: _,
-        } => Turn::Wait,
-        Operation::Connecting {
-            code: _,
-            front: _,
-            length: _,
-        } => Turn::Wait,
-        Operation::Draining { code: _ } => Turn::Wait,
+        _ => Turn::Wait,
     }
 }
 
@@ -194,12 +152,10 @@ fn goes_on(operation: Operation) -> Turn
 fn next_turn(e: Engine) -> Turn
     ensures { result ≡ turn_of e }
 {
-    let awaits = e.awaits;
-    if same_await(awaits, Await::Taken) {
-        let operation = e.operation;
-        return goes_on(operation);
+    match e.awaits {
+        Await::Taken => goes_on(e.operation),
+        _ => Turn::End,
     }
-    Turn::End
 }
 
 // Plans what follows a reply that was taken. After the reply to an interrupting packet the engine ends with `OtherOperation`.
@@ -215,10 +171,7 @@ pub(crate) fn turn_plan(e: Engine, headers: &[u8], reply: &mut [u8]) -> Plan
             srm,
             wait,
         } => object_plan(e, outgoing, srm, wait, headers, reply),
-        Turn::Wait => {
-            let operation = e.operation;
-            wants(e, e.peer, operation)
-        }
+        Turn::Wait => wants(e, e.peer, e.operation),
         Turn::End => ends(e, e.peer, End::OtherOperation),
     }
 }

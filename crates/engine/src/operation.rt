@@ -18,9 +18,10 @@ use incoming::gather::{Gathered, Keep, gather};
 use packet::opcode::Opcode;
 use packet::packet::prefix_len;
 use packet::response::REQUESTED_ENTITY_TOO_LARGE_BYTE;
-use server::{Await, Body, End, Engine, HostRequest, Operation, Settings};
+use server::{Await, End, Engine, HostRequest, Operation, Settings};
 
 // The kinds of operations whose packets the engine gathers.
+// Stays an enum of its own: three kinds, of which one holds its opcode.
 #[derive(Clone, Copy)]
 pub(crate) enum GatherKind {
     Put,
@@ -70,21 +71,16 @@ fn headers_from(kind: GatherKind) -> usize
     ensures { result ≡ from_of kind }
 {
     match kind {
-        GatherKind::Put => 3,
-        GatherKind::Get => 3,
+        GatherKind::Put | GatherKind::Get => 3,
         GatherKind::Headers(opcode) => prefix_len(opcode),
     }
 }
 
 // Returns the body of a Put: missing if no body header came, which differs from an empty body.
-fn put_body(g: Gathered) -> Body
+fn put_body(g: Gathered) -> Option<usize>
     ensures { result ≡ put_body g }
 {
-    if g.came {
-        Body::Bytes(g.body)
-    } else {
-        Body::Missing
-    }
+    g.came.then_some(g.body)
 }
 
 // Returns what is open once the engine has refused a Put before its final packet: if `refuse_trailing` is set, the engine refuses the

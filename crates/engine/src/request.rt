@@ -1,41 +1,35 @@
 // The request that is being answered: the client's last whole packet, read again from the packet store in a later call.
-ghost use Rattle.std.specs.Prelude.{◌≡◌};
+ghost use Rattle.std.specs.Prelude.{◌≡◌, is_some};
 ghost use Rattle.std.proofs.Math.Option.{some};
 ghost use Rattle.packet.specs.Header.{first};
 ghost use Rattle.packet.specs.HeaderIds as header_id;
 ghost use Rattle.packet.specs.Packet.{request_of};
 ghost use Rattle.packet.specs.AuthWrite.{given};
 ghost use Rattle.incoming.specs.Survey.{survey_of};
-ghost use Rattle.connection.specs.Peer.{id_in, target_given};
+ghost use Rattle.connection.specs.Peer.{id_in, target_asked};
 ghost use Rattle.connection.specs.Pieces.{headers_from};
 ghost use Rattle.journal.specs.Journal.{response_in, headers_of as headersIn};
 ghost use Rattle.model.specs.Connect.{checks};
-ghost use Rattle.engine.specs.Request.{last_from, last_connect, is_found};
+ghost use Rattle.engine.specs.Request.{last_from, last_connect};
 
 use connection::challenge::verify_client;
-use connection::peer::{Challenge, ConnectionId};
 use connection::request::{ConnectRequest, connect_request};
+use digest::md5::Octets16;
 use incoming::survey::survey_headers;
 use packet::auth::read_response;
-use packet::packet::{Head, packet_head};
+use packet::packet::packet_head;
 use packet::srm::ENABLE;
-use packet::tlv::Found;
-use table::targets::{Target, target_of, unnamed};
+use table::targets::{Target, target_of};
 
 // Returns where the headers of packet `q` start, whether they can be read or not. If the first byte of `q` names no opcode, or its fields
 // are not all there, that is its end, so that it has none.
 pub(crate) fn last_from(q: &[u8]) -> usize
     ensures { result ≡ last_from q.now }
 {
-    let Head::Known {
-        opcode: _,
-        is_final: _,
-        headers,
-    } = packet_head(q)
-    else {
-        return q.len();
-    };
-    headers
+    match packet_head(q) {
+        Some(head) => head.headers,
+        None => q.len(),
+    }
 }
 
 // Reads the headers of packet `q` that the answer to a Connect looks for, in one walk.
@@ -46,37 +40,25 @@ pub(crate) fn last_connect(q: &[u8]) -> ConnectRequest
 }
 
 // Returns the first ConnectionID among the headers of `s` from `from` on, if there is one.
-pub(crate) fn first_id(s: &[u8], from: usize) -> ConnectionId
+pub(crate) fn first_id(s: &[u8], from: usize) -> Option<u32>
     ensures { result ≡ id_in (first header_id.connection_id (headers_from s.now from)) }
 {
     let v = survey_headers(s, from);
     if v.has_id {
-        return ConnectionId::Id(v.id);
+        return Some(v.id);
     }
-    ConnectionId::Missing
+    None
 }
 
-// Whether the Connect `c` has a Target.
-pub(crate) fn has_target(c: ConnectRequest) -> bool
-    ensures { result ≡ is_found c.target }
-{
-    let target = c.target;
-    let Found::At { start: _, end: _ } = target else {
-        return false;
-    };
-    true
-}
-
-// Returns the Target that the Connect `c` in packet `q` gives an id: that of its first Target header, or the mark.
-pub(crate) fn first_target(q: &[u8], c: ConnectRequest) -> Target
+// Returns the Target that the Connect `c` in packet `q` gives an id: that of its first Target header, if it has one.
+pub(crate) fn first_target(q: &[u8], c: ConnectRequest) -> Option<Target>
     requires { c ≡ last_connect q.now }
-    ensures { result ≡ target_given (first header_id.target (headersIn (request_of q.now))) }
+    ensures { result ≡ target_asked (first header_id.target (headersIn (request_of q.now))) }
 {
-    let target = c.target;
-    let Found::At { start, end } = target else {
-        return unnamed();
-    };
-    target_of(&q[start..end])
+    match c.target {
+        Some(value) => Some(target_of(value.of(q))),
+        None => None,
+    }
 }
 
 // Whether the first SingleResponseMode header of the Connect `c` in packet `q` is Enable.
@@ -84,19 +66,19 @@ pub(crate) fn is_enabling(q: &[u8], c: ConnectRequest) -> bool
     requires { c ≡ last_connect q.now }
     ensures { result ≡ (survey_of (some (headersIn (request_of q.now)))).enable }
 {
-    let mode = c.mode;
-    let Found::At { start, end: _ } = mode else {
-        return false;
-    };
-    q[start] == ENABLE
+    match c.mode {
+        Some(value) => q[value.start] == ENABLE,
+        None => false,
+    }
 }
 
 // Whether the password is right for the stored challenge and the first AuthenticateResponse of packet `q`, which must bring a user id if
 // the server `demands` one.
 pub(crate) fn is_right(
-    stored: Challenge,
+    stored: Option<Octets16>,
     q: &[u8],
     demands: bool,
+    // Stays a flag beside the bytes, as the C interface lends them (obex_engine_password_given).
     has_password: bool,
     password: &[u8],
 ) -> bool
@@ -104,13 +86,12 @@ pub(crate) fn is_right(
         (given has_password password.now) }
 {
     let c = last_connect(q);
-    let response = c.response;
-    let Found::At { start, end } = response else {
+    let Some(value) = c.response else {
         return false;
     };
     verify_client(
         stored,
-        read_response(&q[start..end]),
+        read_response(value.of(q)),
         demands,
         has_password,
         password,

@@ -9,10 +9,8 @@ ghost use Rattle.table.specs.Targets.{unnamed as unnamedTarget};
 ghost use Rattle.server.specs.declared.End.TheVariants as end;
 ghost use Rattle.connection.specs.Reply.{fields_of, front};
 
-use connection::peer::{Challenge, Peer};
-use connection::reply::{
-    Sent, put_connect_prefix, put_continue, put_reply_code, send, send_connect,
-};
+use connection::peer::Peer;
+use connection::reply::{put_connect_prefix, put_continue, put_reply_code, send, send_connect};
 use packet::limits::MIN_PACKET;
 use packet::response::{CONTINUE_BYTE, to_byte};
 use server::{Await, CallResult, End, Engine, HostRequest, Operation, Outcome, Settings};
@@ -38,30 +36,8 @@ pub(crate) struct Plan {
     pub small: ShortReply,
 }
 
-// Makes the state anew. This is the one place that lists its fields.
-pub(crate) fn engine_with(
-    settings: Settings,
-    peer: Peer,
-    operation: Operation,
-    awaits: Await,
-    begun: usize,
-    length: usize,
-    target: Target,
-) -> Engine
-    ensures { result ≡ engine_with settings peer operation awaits begun length target }
-{
-    Engine {
-        settings,
-        peer,
-        operation,
-        awaits,
-        begun,
-        length,
-        target,
-    }
-}
-
 // Returns the peer at the start: no id is open, the id counter stands at 1, and the client's packet limit is the smallest there is.
+#[tactic(auto, unfolding(connection::specs::Peer::peer_with))]
 fn fresh_peer() -> Peer
     ensures { result ≡ fresh_peer }
 {
@@ -73,45 +49,46 @@ fn fresh_peer() -> Peer
         remote_max_packet_length: MIN_PACKET,
         srm_enabled: false,
         authenticated: false,
-        challenge: Challenge::Absent,
+        challenge: None,
     }
 }
 
 // Returns an engine at its start. `awaits` is bytes, or nothing if the start is refused.
+#[tactic(auto, unfolding(model::specs::Step::engine_with))]
 pub(crate) fn fresh(settings: Settings, awaits: Await) -> Engine
     ensures { result ≡ engine_with settings fresh_peer Operation.Nothing awaits 0 0 unnamedTarget }
 {
-    engine_with(
+    Engine {
         settings,
-        fresh_peer(),
-        Operation::Nothing,
+        peer: fresh_peer(),
+        operation: Operation::Nothing,
         awaits,
-        0,
-        0,
-        unnamed(),
-    )
+        begun: 0,
+        length: 0,
+        target: unnamed(),
+    }
 }
 
 // Plans that the engine wants bytes, with `operation` open.
+#[tactic(auto, unfolding(crate::specs::Step::wants_plan, model::specs::Step::engine_with))]
 pub(crate) fn wants(e: Engine, peer: Peer, operation: Operation) -> Plan
     ensures { result ≡ wants_plan e peer operation }
 {
     Plan {
-        engine: engine_with(
-            e.settings,
+        engine: Engine {
             peer,
             operation,
-            Await::Bytes,
-            0,
-            e.length,
-            e.target,
-        ),
+            awaits: Await::Bytes,
+            begun: 0,
+            ..e
+        },
         outcome: Outcome::WantsBytes,
         small: ShortReply::Silent,
     }
 }
 
 // Plans that the engine asks the host with `request`, with `operation` open.
+#[tactic(auto, unfolding(crate::specs::Step::asks_plan, model::specs::Step::engine_with))]
 pub(crate) fn asks(
     e: Engine,
     peer: Peer,
@@ -122,32 +99,38 @@ pub(crate) fn asks(
     ensures { result ≡ asks_plan e peer operation awaits request }
 {
     Plan {
-        engine: engine_with(e.settings, peer, operation, awaits, 0, e.length, e.target),
+        engine: Engine {
+            peer,
+            operation,
+            awaits,
+            begun: 0,
+            ..e
+        },
         outcome: Outcome::Request(request),
         small: ShortReply::Silent,
     }
 }
 
 // Plans that the engine ends with `end`.
+#[tactic(auto, unfolding(crate::specs::Step::ends_plan, model::specs::Step::engine_with))]
 pub(crate) fn ends(e: Engine, peer: Peer, end: End) -> Plan
     ensures { result ≡ ends_plan e peer end }
 {
     Plan {
-        engine: engine_with(
-            e.settings,
+        engine: Engine {
             peer,
-            Operation::Nothing,
-            Await::Nothing,
-            0,
-            e.length,
-            e.target,
-        ),
+            operation: Operation::Nothing,
+            awaits: Await::Nothing,
+            begun: 0,
+            ..e
+        },
         outcome: Outcome::End(end),
         small: ShortReply::Silent,
     }
 }
 
 // Returns how the engine ends at the end of the stream, with `begun` bytes of a packet in the packet store.
+// Stays beside the client's of that name: each names the ends of its own side.
 pub(crate) fn stream_end(begun: usize) -> End
     ensures { result ≡ pick (eqb begun 0) end.Disconnected end.Truncated }
 {
@@ -158,38 +141,36 @@ pub(crate) fn stream_end(begun: usize) -> End
 }
 
 // Plans a reply of the first byte `byte` and no headers, with no operation open afterwards.
+#[tactic(auto, unfolding(crate::specs::Step::code_plan, model::specs::Step::engine_with))]
 pub(crate) fn code(e: Engine, peer: Peer, awaits: Await, byte: u8) -> Plan
     ensures { result ≡ code_plan e peer awaits byte }
 {
     Plan {
-        engine: engine_with(
-            e.settings,
+        engine: Engine {
             peer,
-            Operation::Nothing,
+            operation: Operation::Nothing,
             awaits,
-            0,
-            e.length,
-            e.target,
-        ),
+            begun: 0,
+            ..e
+        },
         outcome: Outcome::Reply { length: 3 },
         small: ShortReply::Byte(byte),
     }
 }
 
 // Plans a reply of `code`, Connect's fields and no headers.
+#[tactic(auto, unfolding(crate::specs::Step::fields_plan, model::specs::Step::engine_with))]
 pub(crate) fn fields(e: Engine, peer: Peer, code: u8) -> Plan
     ensures { result ≡ fields_plan e peer code }
 {
     Plan {
-        engine: engine_with(
-            e.settings,
+        engine: Engine {
             peer,
-            Operation::Nothing,
-            Await::Taken,
-            0,
-            e.length,
-            e.target,
-        ),
+            operation: Operation::Nothing,
+            awaits: Await::Taken,
+            begun: 0,
+            ..e
+        },
         outcome: Outcome::Reply { length: 7 },
         small: ShortReply::Fields {
             byte: to_byte(code),
@@ -199,38 +180,34 @@ pub(crate) fn fields(e: Engine, peer: Peer, code: u8) -> Plan
 }
 
 // Plans a reply of the first byte `byte` and no headers, with `operation` open afterwards.
+#[tactic(auto, unfolding(crate::specs::Step::code_keeping_plan, model::specs::Step::engine_with))]
 pub(crate) fn code_keeping(e: Engine, operation: Operation, byte: u8) -> Plan
     ensures { result ≡ code_keeping_plan e operation byte }
 {
     let small = ShortReply::Byte(byte);
     Plan {
-        engine: engine_with(
-            e.settings,
-            e.peer,
+        engine: Engine {
             operation,
-            Await::Taken,
-            0,
-            e.length,
-            e.target,
-        ),
+            awaits: Await::Taken,
+            begun: 0,
+            ..e
+        },
         outcome: Outcome::Reply { length: 3 },
         small,
     }
 }
 
 // Plans a Continue, with the grant of SRM if `grant` is set. The operation goes on.
+#[tactic(auto, unfolding(crate::specs::Step::continue_plan, model::specs::Step::engine_with))]
 pub(crate) fn continues(e: Engine, operation: Operation, grant: bool) -> Plan
     ensures { result ≡ continue_plan e operation grant }
 {
-    let engine = engine_with(
-        e.settings,
-        e.peer,
+    let engine = Engine {
         operation,
-        Await::Taken,
-        0,
-        e.length,
-        e.target,
-    );
+        awaits: Await::Taken,
+        begun: 0,
+        ..e
+    };
     if grant {
         return Plan {
             engine,
@@ -268,12 +245,10 @@ pub(crate) fn write_short_reply(small: ShortReply, reply: &mut [u8])
 pub(crate) fn took(p: Plan) -> CallResult
     ensures { result ≡ took_by p }
 {
-    let engine = p.engine;
-    let outcome = p.outcome;
     CallResult {
-        engine,
+        engine: p.engine,
         taken: 0,
-        outcome,
+        outcome: p.outcome,
     }
 }
 
@@ -282,38 +257,29 @@ pub(crate) fn carry_out(p: Plan, reply: &mut [u8]) -> CallResult
     requires { 7 ≤ length reply.old }
     ensures { written result reply.new ≡ carried p reply.old }
 {
-    let small = p.small;
-    write_short_reply(small, reply);
+    write_short_reply(p.small, reply);
     took(p)
 }
 
 // Plans what follows the writing of a reply: the host sends it, or the engine ends with `ReplyTooLarge`.
-pub(crate) fn sent_plan(e: Engine, peer: Peer, sent: Sent) -> Plan
+#[tactic(auto, unfolding(crate::specs::Step::sent_plan, crate::specs::Step::ends_plan, model::specs::Step::engine_with))]
+pub(crate) fn sent_plan(e: Engine, peer: Peer, sent: Option<usize>) -> Plan
     ensures { result ≡ sent_plan e peer sent }
 {
     match sent {
-        Sent::TooLarge => ends(e, peer, End::ReplyTooLarge),
-        Sent::Reply(length) => Plan {
-            engine: engine_with(
-                e.settings,
+        None => ends(e, peer, End::ReplyTooLarge),
+        Some(length) => Plan {
+            engine: Engine {
                 peer,
-                Operation::Nothing,
-                Await::Taken,
-                0,
-                e.length,
-                e.target,
-            ),
+                operation: Operation::Nothing,
+                awaits: Await::Taken,
+                begun: 0,
+                ..e
+            },
             outcome: Outcome::Reply { length },
             small: ShortReply::Silent,
         },
     }
-}
-
-// Widens a packet limit to a length.
-pub(crate) fn wide16(n: u16) -> usize
-    ensures { (result ≡ n) × (result < 65536) }
-{
-    n as usize
 }
 
 // Replies with a code and headers.
@@ -327,7 +293,7 @@ pub(crate) fn sends(
     requires { max_packet ≤ length reply.old }
     ensures { written result reply.new ≡ replies_by e peer code [] header_bytes.now reply.old }
 {
-    let remote = wide16(peer.remote_max_packet_length);
+    let remote = peer.remote_max_packet_length as usize;
     let sent = send(reply, remote, code, header_bytes);
     took(sent_plan(e, peer, sent))
 }
@@ -344,7 +310,7 @@ pub(crate) fn sends_connect(
     ensures { written result reply.new
         ≡ replies_by e peer code (fields_of e.settings.max_packet_length) header_bytes.now reply.old }
 {
-    let remote = wide16(peer.remote_max_packet_length);
+    let remote = peer.remote_max_packet_length as usize;
     let limit = e.settings.max_packet_length;
     let sent = send_connect(reply, remote, code, limit, header_bytes);
     took(sent_plan(e, peer, sent))

@@ -4,19 +4,16 @@ use mathlib.Core.Path.{◌≡◌, refl, ap, ◌∙◌}
 use mathlib.Core.List.{List}
 use mathlib.Core.Bool.{Bool, true, false}
 use Prim.Native.Nat.{ℕ, ◌%◌, ◌^◌}
+use Rattle.base.specs.Place.{Place, Some, None}
+use Rattle.connection.specs.Peer.{Challenge}
 use Rattle.packet.specs.declared.opcode.Opcode.{Opcode}
-use Rattle.packet.specs.declared.tlv.Found.{Found}
-use Rattle.packet.specs.declared.tlv.Found.TheVariants as place
 use Rattle.incoming.specs.declared.gather.Gathered.{Gathered}
 use Rattle.outgoing.specs.declared.object.Outgoing.{Outgoing}
 use Rattle.outgoing.specs.declared.object.Chunk.{Chunk}
-use Rattle.connection.specs.declared.peer.Challenge.{Challenge}
-use Rattle.connection.specs.declared.peer.Challenge.TheVariants.{Stored, Absent}
 use Rattle.connection.specs.declared.peer.Peer.{Peer}
 use Rattle.server.specs.Numbers.{end_number, refusal_number}
 use Rattle.server.specs.declared.Settings.{Settings}
 use Rattle.server.specs.declared.Operation.TheVariants as operation
-use Rattle.server.specs.declared.Body.TheVariants as body
 use Rattle.server.specs.declared.HostRequest.{HostRequest}
 use Rattle.server.specs.declared.HostRequest.TheVariants as request
 use Rattle.server.specs.declared.End.{End}
@@ -77,8 +74,8 @@ settings-back s object packet charset =
     )
 
 challenge-back : (x : Challenge) → challenge_of (challenge_numbers x).kind (challenge_numbers x).a (challenge_numbers x).b ≡ x
-challenge-back (Stored n) = refl
-challenge-back Absent = refl
+challenge-back (Some n) = refl
+challenge-back None = refl
 
 pub peer-back : (p : Peer)
     → p.next_connection_id % 2 ^ 32 ≡ p.next_connection_id
@@ -110,9 +107,9 @@ gathering-back o got h = simp (h, flag-back got.came, flag-back got.over, flag-b
 
 -- ---- the outcome
 
-found_back : (x : Found) → found_of (found_numbers 0 x).a (found_numbers 0 x).b (found_numbers 0 x).c ≡ x
-found_back (place.At start stop) = refl
-found_back place.Missing = refl
+found_back : (x : Place) → found_of (found_numbers 0 x).a (found_numbers 0 x).b (found_numbers 0 x).c ≡ x
+found_back (Some p) = refl
+found_back None = refl
 
 request-back : (x : HostRequest) → outcome_of (request_numbers x) ≡ outcome.Request x
 unfolding outcome_of
@@ -120,14 +117,14 @@ request-back (request.Connect n) = refl
 request-back (request.Disconnect n) = refl
 request-back (request.SetPath n backup no-create) = simp (flag-back backup, flag-back no-create)
 request-back (request.Abort n) = refl
-request-back (request.Put kept (body.Bytes n)) = refl
-request-back (request.Put kept body.Missing) = refl
+request-back (request.Put kept (Some n)) = refl
+request-back (request.Put kept None) = refl
 request-back (request.Get kept) = refl
 request-back (request.Action kept) = refl
 request-back (request.Session kept) = refl
 request-back (request.UserDefined opcode kept) = refl
-request-back (request.Password (place.At start stop)) = refl
-request-back (request.Password place.Missing) = refl
+request-back (request.Password (Some p)) = refl
+request-back (request.Password None) = refl
 request-back request.Nonce = refl
 request-back (request.Credentials nonce required only realm) = simp (flag-back required, flag-back only, found_back realm)
 request-back (request.Read room) = refl

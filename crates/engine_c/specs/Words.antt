@@ -1,21 +1,18 @@
 -- How the state and the result of a call stand in the 64 numbers that a host outside Rattle keeps (docs/RUST.md has the table). `result_of`
 -- reads the numbers: every list is read as some state, a kind that nothing has as the last kind, and a field of the state keeps the bits that
 -- its type has. `words_of` is what a call leaves, all 64 of them. `start_on` is the start, which refuses numbers that are no settings.
-use Rattle.std.specs.Prelude.{ℕ, ◌%◌, ◌^◌, List, [], ◌∷◌, Bool, true, false, ◌&&◌, ◌||◌, not, get_or, eqb, ltb}
+use Rattle.std.specs.Prelude.{ℕ, ◌%◌, ◌^◌, List, [], ◌∷◌, Bool, true, false, ◌&&◌, ◌||◌, not, get_or, eqb, ltb, Some, None}
+use Rattle.incoming.specs.Gather.{Body}
 use Rattle.base.specs.Pick.{pick}
+use Rattle.base.specs.Place.{Place, span}
 use Rattle.digest.specs.declared.md5.Octets16.{Octets16}
 use Rattle.packet.specs.declared.opcode.Opcode.{Opcode}
 use Rattle.packet.specs.declared.opcode.Opcode.TheVariants as op
-use Rattle.packet.specs.declared.tlv.Found.{Found}
-use Rattle.packet.specs.declared.tlv.Found.TheVariants as place
 use Rattle.incoming.specs.declared.gather.Gathered.{Gathered}
 use Rattle.outgoing.specs.declared.object.Outgoing.{Outgoing}
 use Rattle.outgoing.specs.declared.object.Chunk.{Chunk}
 use Rattle.table.specs.declared.targets.Target.{Target}
-use Rattle.connection.specs.declared.peer.Challenge.{Challenge}
-use Rattle.connection.specs.declared.peer.Challenge.TheVariants.{Stored, Absent}
-use Rattle.connection.specs.declared.peer.ConnectionId.{ConnectionId}
-use Rattle.connection.specs.declared.peer.ConnectionId.TheVariants as front_id
+use Rattle.connection.specs.Peer.{ConnectionId, Challenge}
 use Rattle.connection.specs.declared.peer.Peer.{Peer}
 use Rattle.server.specs.Numbers.{await_of, await_number, end_number, refusal_number}
 use Rattle.server.specs.declared.Await.TheVariants as await
@@ -23,8 +20,6 @@ use Rattle.server.specs.declared.Settings.{Settings}
 use Rattle.server.specs.declared.Operation.{Operation}
 use Rattle.server.specs.declared.Operation.TheVariants as operation
 use Rattle.server.specs.declared.Engine.{Engine}
-use Rattle.server.specs.declared.Body.{Body}
-use Rattle.server.specs.declared.Body.TheVariants as body
 use Rattle.server.specs.declared.HostRequest.{HostRequest}
 use Rattle.server.specs.declared.HostRequest.TheVariants as request
 use Rattle.server.specs.declared.End.{End}
@@ -115,12 +110,12 @@ settings_fit w =
 
 -- The challenge: if `n` is 1, one is stored whose nonce has the halves `a` and `b`.
 abbrev pub challenge_of : ℕ → ℕ → ℕ → Challenge
-challenge_of n a b = pick (eqb n 1) (Stored (record { first = a; second = b })) Absent
+challenge_of n a b = pick (eqb n 1) (Some (record { first = a; second = b })) None
 
 -- The numbers of a challenge.
 abbrev pub challenge_numbers : Challenge → Numbers
-challenge_numbers (Stored n) = numbers 1 n.first n.second 0
-challenge_numbers Absent = numbers 0 0 0 0
+challenge_numbers (Some n) = numbers 1 n.first n.second 0
+challenge_numbers None = numbers 0 0 0 0
 
 -- The peer of ten numbers, in the order of the table in docs/RUST.md.
 abbrev pub peer_of : ℕ → ℕ → ℕ → ℕ → ℕ → ℕ → ℕ → ℕ → ℕ → ℕ → Peer
@@ -184,7 +179,7 @@ gathered_of kept n came over full = record { kept = kept; body = n; came = flag 
 
 -- The ConnectionID `x` if `n` is 1, else none.
 abbrev pub id_of : ℕ → ℕ → ConnectionId
-id_of n x = pick (eqb n 1) (front_id.Id (x % 2 ^ 32)) front_id.Missing
+id_of n x = pick (eqb n 1) (Some (x % 2 ^ 32)) None
 
 -- An object that is being sent: its header bytes, how many of them went out, three flags, and the byte `x` that was read ahead.
 abbrev pub outgoing_of : ℕ → ℕ → ℕ → ℕ → ℕ → ℕ → Outgoing
@@ -220,8 +215,8 @@ sending_numbers o c srm wait =
 
 -- The numbers of a Connect that waits for credentials.
 abbrev pub connecting_numbers : ℕ → ConnectionId → ℕ → Numbers
-connecting_numbers code (front_id.Id x) n = twelve 5 code 1 x n 0 0 0 0 0 0 0
-connecting_numbers code front_id.Missing n = twelve 5 code 0 0 n 0 0 0 0 0 0 0
+connecting_numbers code (Some x) n = twelve 5 code 1 x n 0 0 0 0 0 0 0
+connecting_numbers code None n = twelve 5 code 0 0 n 0 0 0 0 0 0 0
 
 -- The numbers of an operation.
 abbrev pub operation_numbers : Operation → Numbers
@@ -286,12 +281,12 @@ refusal_of n =
     (pick (eqb n 20) refusal.IdNotOpen refusal.IdRepeated)))))
 
 -- The place from `a` up to `b` if `n` is 1, else none.
-abbrev pub found_of : ℕ → ℕ → ℕ → Found
-found_of n a b = pick (eqb n 1) (place.At a b) place.Missing
+abbrev pub found_of : ℕ → ℕ → ℕ → Place
+found_of n a b = pick (eqb n 1) (span a b) None
 
 -- A body of `a` bytes if `n` is 1, else none.
 abbrev pub body_of : ℕ → ℕ → Body
-body_of n a = pick (eqb n 1) (body.Bytes a) body.Missing
+body_of n a = pick (eqb n 1) (Some a) None
 
 -- The outcome, by its kind. From 4 on it is a request to the host; any kind over 15 asks for body bytes.
 unfoldable pub outcome_of : Numbers → Outcome
@@ -316,17 +311,17 @@ outcome_of n =
     (outcome.Request (request.Read n.a)))))))))))))))))
 
 -- The numbers of a place in the packet store, with a kind.
-abbrev pub found_numbers : ℕ → Found → Numbers
-found_numbers kind (place.At start end) = numbers kind 1 start end
-found_numbers kind place.Missing = numbers kind 0 0 0
+abbrev pub found_numbers : ℕ → Place → Numbers
+found_numbers kind (Some p) = numbers kind 1 p.start p.end
+found_numbers kind None = numbers kind 0 0 0
 
 -- The numbers of a Put that is handed over.
 abbrev pub put_numbers : ℕ → Body → Numbers
-put_numbers kept (body.Bytes n) = numbers 8 kept 1 n
-put_numbers kept body.Missing = numbers 8 kept 0 0
+put_numbers kept (Some n) = numbers 8 kept 1 n
+put_numbers kept None = numbers 8 kept 0 0
 
 -- The numbers of a request for credentials.
-abbrev pub credentials_numbers : Octets16 → Bool → Bool → Found → Numbers
+abbrev pub credentials_numbers : Octets16 → Bool → Bool → Place → Numbers
 credentials_numbers nonce required only realm =
     let n = found_numbers 0 realm in
     twelve 15 nonce.first nonce.second (flag_number required) (flag_number only) n.a n.b n.c 0 0 0 0

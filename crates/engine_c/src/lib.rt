@@ -249,6 +249,7 @@ pub extern "C" fn obex_engine_abort_acknowledged(
 #[unsafe(no_mangle)]
 pub extern "C" fn obex_engine_password_given(
     words: &mut [u64; 64],
+    // Stays a flag beside the bytes: the C interface lends both.
     has_password: bool,
     password: &[u8],
     packet: &mut [u8],
@@ -312,6 +313,7 @@ pub extern "C" fn obex_engine_nonce_given(
 pub extern "C" fn obex_engine_credentials_given(
     words: &mut [u64; 64],
     has_credentials: bool,
+    // Stays a flag beside the bytes: the C interface lends both.
     has_user: bool,
     user: &[u8],
     password: &[u8],

@@ -9,15 +9,15 @@ ghost use Rattle.engine_c.specs.Words.{settings_numbers, challenge_numbers, peer
 ghost use Rattle.engine_c.specs.Words.{credentials_numbers, request_numbers, outcome_numbers, words_of};
 ghost use Rattle.engine_c.specs.Words.{flags_fit, settings_fit, is_waiting, judged_start};
 
-use connection::peer::{Challenge, ConnectionId, Peer};
+use base::Span;
+use connection::peer::Peer;
 use digest::md5::Octets16;
 use incoming::gather::Gathered;
 use outgoing::object::{Chunk, Outgoing};
 use packet::opcode::Opcode;
-use packet::tlv::Found;
 use server::{
-    Await, Body, CallResult, Engine, HostRequest, Operation, Outcome, Refusal, Settings,
-    await_number, end_number, refusal_number,
+    Await, CallResult, Engine, HostRequest, Operation, Outcome, Refusal, Settings, await_number,
+    end_number, refusal_number,
 };
 use table::targets::Target;
 
@@ -177,19 +177,19 @@ fn sending_numbers(o: Outgoing, c: Chunk, srm: bool, wait: bool) -> Numbers
 }
 
 // Returns the numbers of a Connect that waits for credentials.
-fn connecting_numbers(code: u8, front: ConnectionId, length: usize) -> Numbers
+fn connecting_numbers(code: u8, front: Option<u32>, length: usize) -> Numbers
     ensures numbers { result ≡ connecting_numbers code front length }
     ensures back { operation_of (connecting_numbers code front length) ≡ Operation.Connecting code front length }
 {
     let mut r = few(5, wide8(code), 0, 0);
     r.d = wide(length);
     match front {
-        ConnectionId::Id(x) => {
+        Some(x) => {
             r.b = 1;
             r.c = wide32(x);
             r
         }
-        ConnectionId::Missing => r,
+        None => r,
     }
 }
 
@@ -261,12 +261,12 @@ fn settings_numbers(s: Settings) -> Numbers
 }
 
 // Returns the numbers of a challenge.
-fn challenge_numbers(c: Challenge) -> Numbers
+fn challenge_numbers(c: Option<Octets16>) -> Numbers
     ensures { result ≡ challenge_numbers c }
 {
     match c {
-        Challenge::Stored(n) => few(1, n.first, n.second, 0),
-        Challenge::Absent => few(0, 0, 0, 0),
+        Some(n) => few(1, n.first, n.second, 0),
+        None => few(0, 0, 0, 0),
     }
 }
 
@@ -303,22 +303,22 @@ fn target_numbers(t: Target) -> Numbers
 // ---- what a call gave, as numbers
 
 // Returns `kind` with a place in the packet store, or with none.
-fn found_numbers(kind: u64, f: Found) -> Numbers
+fn found_numbers(kind: u64, f: Option<Span>) -> Numbers
     ensures { result ≡ found_numbers kind f }
 {
     match f {
-        Found::At { start, end } => few(kind, 1, wide(start), wide(end)),
-        Found::Missing => few(kind, 0, 0, 0),
+        Some(part) => few(kind, 1, wide(part.start), wide(part.end)),
+        None => few(kind, 0, 0, 0),
     }
 }
 
 // Returns the numbers of a Put that is handed over.
-fn put_numbers(kept: usize, body: Body) -> Numbers
+fn put_numbers(kept: usize, body: Option<usize>) -> Numbers
     ensures { result ≡ put_numbers kept body }
 {
     match body {
-        Body::Bytes(n) => few(8, wide(kept), 1, wide(n)),
-        Body::Missing => few(8, wide(kept), 0, 0),
+        Some(n) => few(8, wide(kept), 1, wide(n)),
+        None => few(8, wide(kept), 0, 0),
     }
 }
 
@@ -327,7 +327,7 @@ fn credentials_numbers(
     nonce: Octets16,
     user_id_required: bool,
     read_only: bool,
-    realm: Found,
+    realm: Option<Span>,
 ) -> Numbers
     ensures { result ≡ credentials_numbers nonce user_id_required read_only realm }
 {
@@ -484,6 +484,7 @@ pub fn store(r: CallResult, words: &mut [u64; 64])
 // ---- and back
 
 // Returns the opcode of a kind and a value.
+// Stays a match on numbers: they are the C interface's.
 fn opcode_of(n: u64, x: u64) -> Opcode
     ensures { result ≡ opcode_of n x }
 {
@@ -539,23 +540,23 @@ fn chunk_of(n: Numbers) -> Chunk
 }
 
 // Returns an id, or that there is none.
-fn id_of(n: u64, x: u64) -> ConnectionId
+fn id_of(n: u64, x: u64) -> Option<u32>
     ensures { result ≡ id_of n x }
 {
     if n == 1 {
-        return ConnectionId::Id((x % 4294967296) as u32);
+        return Some((x % 4294967296) as u32);
     }
-    ConnectionId::Missing
+    None
 }
 
 // Returns a challenge, or that there is none.
-fn challenge_of(n: u64, first: u64, second: u64) -> Challenge
+fn challenge_of(n: u64, first: u64, second: u64) -> Option<Octets16>
     ensures { result ≡ challenge_of n first second }
 {
     if n == 1 {
-        return Challenge::Stored(Octets16 { first, second });
+        return Some(Octets16 { first, second });
     }
-    Challenge::Absent
+    None
 }
 
 // Returns the open operation.
@@ -598,6 +599,7 @@ fn operation_of(n: Numbers) -> Operation
 }
 
 // Returns what the engine waits for.
+// Stays a match on numbers: they are the C interface's.
 fn await_of(n: u64) -> Await
     ensures { result ≡ await_of n }
 {

@@ -1,11 +1,10 @@
 -- Which names are served, and the name that the headers of a request give (docs/PROTOCOL.md#text). Assumes nothing.
 use Rattle.std.specs.Prelude.{ℕ, Bool, true, false, List, [], ◌∷◌, eqb, ltb, length, get_or}
 use Rattle.base.specs.Pick.{pick}
+use Rattle.base.specs.Place.{Place, Some, None}
 use Rattle.text.specs.Text.{unicode_text}
 use Rattle.packet.specs.HeaderIds as header_id
 use Rattle.packet.specs.Header as header
-use Rattle.packet.specs.declared.tlv.Found.{Found}
-use Rattle.packet.specs.declared.tlv.Found.TheVariants.{At, Missing}
 
 -- Whether a byte may stand in a name: it is neither a zero nor a separator.
 unfoldable pub part : ℕ → Bool
@@ -21,9 +20,9 @@ unfoldable pub file_name : List ℕ → Bool
 file_name s = pick (eqb (length s) 0) false (pick (ltb 255 (length s)) false (pick (eqb (get_or s 0 0) 46) false (plain s)))
 
 -- The text at a place of some headers, or none.
-abbrev pub text_at : List ℕ → Found → List ℕ
-text_at s Missing = []
-text_at s (At from to) = unicode_text (header.part s from to)
+abbrev pub text_at : List ℕ → Place → List ℕ
+text_at s None = []
+text_at s (Some p) = unicode_text (header.part s p.start p.end)
 
 -- The text of the first Name among some headers; no bytes if there is no Name.
 unfoldable pub name_text : List ℕ → List ℕ

@@ -30,6 +30,7 @@ const ELOOP: i32 = 40;
 const EDQUOT: i32 = 122;
 
 // Returns the code of the reply if a file cannot be opened.
+// Stays a number for each: the code is the byte of a reply, and the error is the system's number of it.
 pub fn refusal_of(error: i32) -> u8
     ensures { result ≡ refusal_of error }
 {
@@ -44,28 +45,19 @@ pub fn refusal_of(error: i32) -> u8
 pub fn is_read_only(error: i32) -> bool
     ensures { result ≡ read_alone error }
 {
-    match error {
-        EACCES | EPERM | EROFS | ETXTBSY => true,
-        _ => false,
-    }
+    matches!(error, EACCES | EPERM | EROFS | ETXTBSY)
 }
 
 // Returns whether a folder that cannot be opened is not there. A file of its name is no folder.
 pub fn is_missing(error: i32) -> bool
     ensures { result ≡ missing error }
 {
-    match error {
-        ENOENT | ENOTDIR => true,
-        _ => false,
-    }
+    matches!(error, ENOENT | ENOTDIR)
 }
 
 // Returns whether what was to be written has no room: on the disk, or in this user's share of it.
 pub fn is_full(error: i32) -> bool
     ensures { result ≡ is_full error }
 {
-    match error {
-        ENOSPC | EDQUOT => true,
-        _ => false,
-    }
+    matches!(error, ENOSPC | EDQUOT)
 }

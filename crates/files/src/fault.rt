@@ -21,11 +21,7 @@ impl fmt::Write for Text {
     fn write_str(&mut self, s: &str) -> fmt::Result {
         let len = self.len;
         let s = s.as_bytes();
-        let n = if s.len() < 256 - len {
-            s.len()
-        } else {
-            256 - len
-        };
+        let n = s.len().min(256 - len);
         copy_into(&mut self.bytes, len, &s[0..n]);
         self.len = len + n;
         Ok(())
@@ -36,20 +32,15 @@ impl fmt::Write for Text {
 fn text_end(s: &[u8]) -> usize
     ensures { result ≤ length s.now }
 {
-    for i in 0..s.len() {
-        if s[i..].starts_with(&NUMBER) {
-            return i;
-        }
-    }
-    s.len()
+    let mut windows = s.windows(NUMBER.len());
+    windows
+        .position(|w| w == NUMBER.as_slice())
+        .unwrap_or(s.len())
 }
 
 // Returns the system's number of the error `e`, or 0 if it is none of the system's.
 pub fn number_of(e: &io::Error) -> i32 {
-    match e.raw_os_error() {
-        Some(n) => n,
-        None => 0,
-    }
+    e.raw_os_error().unwrap_or(0)
 }
 
 // Writes a line to standard error, `err`: `what`, a colon and the text of the error `e`.

@@ -5,49 +5,35 @@ ghost use Rattle.files.specs.Store.{filled, fit};
 
 use packet::header::first_header;
 use packet::header_id::NAME;
-use packet::tlv::Found;
-use text::{Decoded, decode_unicode};
+use text::decode_unicode;
 
 // Puts the text of the first Name at the front of `store`, and returns its length: 0 if the Name is missing, or longer than the store.
 pub fn name_in(headers: &[u8], store: &mut [u8]) -> usize
     ensures value { filled result store.new ≡ fit (name_text headers.now) store.old }
     ensures room { result ≤ length store.new }
 {
-    let Found::At { start, end } = first_header(headers, 0, NAME) else {
+    let Some(value) = first_header(headers, 0, NAME) else {
         return 0;
     };
-    let done = decode_unicode(&headers[start..end], store);
+    let done = decode_unicode(value.of(headers), store);
     match done {
-        Decoded::Written(n) => n,
-        Decoded::Short => 0,
+        Ok(n) => n,
+        Err(_) => 0,
     }
 }
 
 // Whether `b` is neither a zero nor a separator.
+#[tactic(auto, unfolding(crate::specs::Name::part))]
 fn is_part(b: u8) -> bool
     ensures { result ≡ part b }
 {
-    if b == 0 {
-        return false;
-    }
-    if b == b'/' {
-        return false;
-    }
-    true
+    b != 0 && b != b'/'
 }
 
 fn is_plain(s: &[u8]) -> bool
     ensures { result ≡ plain s.now }
 {
-    let mut i = 0;
-    while i < s.len() {
-        if is_part(s[i]) {
-            i += 1;
-        } else {
-            return false;
-        }
-    }
-    true
+    s.iter().all(|b| is_part(*b))
 }
 
 // Whether `s` may name a file here.

@@ -59,7 +59,7 @@ fn hex_digit(x: u8) -> u8
 }
 
 // Returns the two hexadecimal digits of `b`.
-fn hex_pair(b: u8) -> [u8; 2]
+pub fn hex_pair(b: u8) -> [u8; 2]
     ensures { result ≡ hex_digit (b / 16 % 16) ∷ hex_digit (b % 16) ∷ [] }
 {
     [hex_digit(b / 16), hex_digit(b)]
@@ -70,11 +70,9 @@ fn put_hex(out: &mut [u8], at: usize, bytes: &[u8])
     requires { at + 2 * length bytes.now ≤ length out.old }
     ensures { out.new ≡ laid out.old at (hex_of bytes.now) }
 {
-    let mut i = 0;
-    while i < bytes.len() {
+    for i in 0..bytes.len() {
         let pair = hex_pair(bytes[i]);
         copy_into(out, at + 2 * i, &pair);
-        i += 1;
     }
 }
 

@@ -28,11 +28,13 @@ fn text_of(path: &[u8]) -> io::Result<&str> {
 }
 
 // Opens a file for reading.
+// Stays beside `open_overwrite`: one line each, which differ in the library's word; with that word as a closure they would be no shorter.
 pub fn open<R: Files>(rt: &R, path: &[u8]) -> io::Result<R::File> {
     fs::open(rt, text_of(path)?)
 }
 
 // Opens a file for reading and writing, and leaves its bytes as they are.
+// Stays beside the three below: each is a path read as text and the options that make it what it is, which stand nowhere else.
 pub fn open_update<R: Files>(rt: &R, path: &[u8]) -> io::Result<R::File> {
     let path = text_of(path)?;
     OpenOptions::new().read(true).write(true).open(rt, path)
@@ -119,6 +121,7 @@ pub fn rename(rt: &impl Files, from: &[u8], to: &[u8]) -> io::Result<()> {
 }
 
 // Removes a file.
+// Stays beside `create_folder`: one line each, which differ in the library's word.
 pub fn remove(rt: &impl Files, path: &[u8]) -> io::Result<()> {
     fs::remove_file(rt, text_of(path)?)
 }

@@ -10,11 +10,12 @@ use lib.ListN.{length, get_or, take, drop, length-append, length-drop, drop_of_l
 use lib.Seq.{take_all, take-take, length-take-le, drop-cons}
 use borrow.Author.Tests.{eq-eqb, ne_eqb, le-leb, lt-leb, leb-true, leb-false}
 use Rattle.base.specs.Pick.{pick}
+use Rattle.std.specs.Prelude.{is_some}
+use Rattle.base.specs.Place.{Place, span, None}
 use Rattle.packet.specs.Auth.{same}
 use Rattle.packet.specs.Header.{present}
 use Rattle.packet.specs.Tags.{bytes_at}
-use Rattle.packet.specs.declared.tlv.Found.{Found}
-use Rattle.packet.specs.declared.tlv.Found.TheVariants as place
+use Rattle.packet.proofs.HeaderLaws.{is_some-present}
 use Rattle.packet.proofs.SameBytes.{same_is}
 use Rattle.digest.specs.Md5.{octets16}
 use Rattle.table.specs.Targets.{is_named}
@@ -31,16 +32,16 @@ use Rattle.filing.proofs.Lined.{LineAt, before-take, behind-drop, no_lines}
 pub same-told : (a b : List ℕ) (r x : Bool) → (r ≡ true → a ≡ b) × (a ≡ b → r ≡ true) → r ≡ x → same a b ≡ x
 same-told a b r x h e = sym (same_is a b r h.0 h.1) ∙ e
 
-pub said-none : (text w : List ℕ) (f : Found) → bytes_at text f ≡ value_for 0x20 w (lines_of text) → f ≡ place.Missing → [] ≡ said text w
+pub said-none : (text w : List ℕ) (f : Place) → bytes_at text f ≡ value_for 0x20 w (lines_of text) → f ≡ None → [] ≡ said text w
 unfolding said
 said-none text w f p q = ap or_none (sym (ap (bytes_at text) q) ∙ p)
 
-pub said-some : (text w : List ℕ) (f : Found) (b e : ℕ) → bytes_at text f ≡ value_for 0x20 w (lines_of text) → f ≡ place.At b e
+pub said-some : (text w : List ℕ) (f : Place) (b e : ℕ) → bytes_at text f ≡ value_for 0x20 w (lines_of text) → f ≡ span b e
     → take (e - b) (drop b text) ≡ said text w
 unfolding said
 said-some text w f b e p q = ap or_none (sym (ap (bytes_at text) q) ∙ p)
 
-pub place_in : (n : ℕ) (f : Found) (b e : ℕ) → PlaceFits n f → f ≡ place.At b e → (b ≤ e) × (e ≤ n)
+pub place_in : (n : ℕ) (f : Place) (b e : ℕ) → PlaceFits n f → f ≡ span b e → (b ≤ e) × (e ≤ n)
 place_in n f b e h q = subst (PlaceFits n) q h
 
 -- ---- the realm
@@ -147,14 +148,9 @@ unfolding wrong_from
 wrong-none text at k h = sym (ap (wrong_from k) (no_lines text at h))
 
 -- a line that is one of the choices, or is not
-module _ (t l : List ℕ) (f : Found) (p : bytes_at t f ≡ value_for 9 l (lines_of t)) where
-  pub choice_found : (b e : ℕ) → f ≡ place.At b e → true ≡ is_in t l
-  unfolding is_in
-  choice_found b e q = ap present (sym (ap (bytes_at t) q) ∙ p)
-
-  pub choice_missing : f ≡ place.Missing → false ≡ is_in t l
-  unfolding is_in
-  choice_missing q = ap present (sym (ap (bytes_at t) q) ∙ p)
+pub choice_found : (t l : List ℕ) (f : Place) → bytes_at t f ≡ value_for 9 l (lines_of t) → is_some f ≡ is_in t l
+unfolding is_in
+choice_found t l f p = is_some-present t f ∙ ap present p
 
 -- ---- the whole
 

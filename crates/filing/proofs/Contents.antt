@@ -10,7 +10,8 @@ use lib.ListN.{length, take, drop, length-append, length-take}
 use lib.Seq.{paste}
 use borrow.Author.Tests.{le-ltb, lt-ltb, le-leb, lt-leb, leb-true, leb-false}
 use Rattle.archive.specs.Writing.{writing, front}
-use Rattle.archive.specs.declared.block.Wrote.TheVariants.{Written, Short, TooLong}
+use Rattle.std.specs.Prelude.{Ok, Err}
+use Rattle.archive.specs.declared.block.WriteError.TheVariants.{Short, TooLong}
 use Rattle.archive.proofs.Laid.{front-more}
 use Rattle.filing.specs.Entries.{LogEntry}
 use Rattle.filing.specs.Kinds.{check_pair, open_row, entry_in}
@@ -122,13 +123,13 @@ module _ (s : List ℕ) (e : Event) (a b c : List ℕ) where
         front-size e (length a),
       )
 
-  pub content-short : leb (length (front_of e 0) + (length a + (length b + length c))) (length s) ≡ false → writing Short s ≡ content_written s e a b c
+  pub content-short : leb (length (front_of e 0) + (length a + (length b + length c))) (length s) ≡ false → writing (Err Short) s ≡ content_written s e a b c
   unfolding content_written size
   content-short h =
       rw (lt-ltb (length s) (length (payload_for e a b c)) (omega (arith, payload-size, leb-false size (length s) h))) refl
 
   pub content-long : leb (length (front_of e 0) + (length a + (length b + length c))) (length s) ≡ true → right_parts e (length a) (length b) ≡ false
-      → writing TooLong s ≡ content_written s e a b c
+      → writing (Err TooLong) s ≡ content_written s e a b c
   unfolding content_written size
   content-long h r =
       rw (le-ltb (length s) (length (payload_for e a b c)) (omega (arith, payload-size, leb-true size (length s) h)), r) refl
@@ -137,7 +138,7 @@ module _ (s : List ℕ) (e : Event) (a b c : List ℕ) where
       → leb (length (front_of e 0) + (length a + (length b + length c))) (length s) ≡ true
       → right_parts e (length a) (length b) ≡ true → row ≡ filled_row (front_of e (length a % 65536))
       → s₁ ≡ front (take (n - 0) (drop 0 row) ++ (a ++ (b ++ c))) s
-      → writing (Written (n + length a + length b + length c)) s₁ ≡ content_written s e a b c
+      → writing (Ok (n + length a + length b + length c)) s₁ ≡ content_written s e a b c
   unfolding content_written size payload_for
   content-done n row s₁ en h r er es =
       let i : n - 0 ≡ length (front_of e 0) = omega arith in
@@ -146,7 +147,7 @@ module _ (s : List ℕ) (e : Event) (a b c : List ℕ) where
       let x : s₁ ≡ front (payload_for e a b c) s = es ∙ ap (λ (l : List ℕ). front (l ++ (a ++ (b ++ c))) s) t in
       let y : n + length a + length b + length c ≡ length (payload_for e a b c) = omega (arith, payload-size) in
       rw (le-ltb (length s) (length (payload_for e a b c)) (omega (arith, payload-size, leb-true size (length s) h)), r)
-      (ap₂ (λ (k : ℕ) (l : List ℕ). writing (Written k) l) y x)
+      (ap₂ (λ (k : ℕ) (l : List ℕ). writing (Ok k) l) y x)
 
 -- ---- what is read back
 

@@ -15,12 +15,13 @@ use Rattle.digest.specs.Md5.{digest_of}
 use Rattle.digest.proofs.Octets.{length-digest}
 use Rattle.archive.specs.Block.{same, all_zero, longest}
 use Rattle.archive.specs.Writing.{writing}
-use Rattle.archive.specs.declared.block.Wrote.TheVariants.{Written, Short, TooLong}
+use Rattle.std.specs.Prelude.{Ok, Err}
+use Rattle.archive.specs.declared.block.WriteError.TheVariants.{Short, TooLong}
 use Rattle.archive.proofs.Laid.{parts-laid}
 use Rattle.filing.specs.Frame.{Content, filling, check_at, frame_length, rows_of, check_of, chain_at, before_at, frame_of, frame_written}
 use Rattle.filing.specs.Reading.{Log, log, put_first, size_in, content_of, check_in, frame_fault, read_from, turn_for, turn_of, turn_at, after_turn}
 use Rattle.filing.specs.Claims.{TurnReads}
-use Rattle.filing.specs.declared.frame.Turn.TheVariants.{End, Cut, Damaged, Misplaced, Malformed, Frame}
+use Rattle.filing.specs.declared.frame.NoFrame.TheVariants.{End, Cut, Damaged, Misplaced, Malformed}
 
 -- ---- room
 
@@ -184,17 +185,17 @@ module _ (s : List ℕ) (at number : ℕ) (c : Content) where
   abbrev size : ℕ
   size = length c.payload
 
-  pub written-short : leb (at + frame_length size) (length s) ≡ false → writing Short s ≡ frame_written s at number c
+  pub written-short : leb (at + frame_length size) (length s) ≡ false → writing (Err Short) s ≡ frame_written s at number c
   unfolding frame_written
   written-short e = rw (lt-ltb (length s) (at + frame_length size) (leb-false (at + frame_length size) (length s) e)) refl
 
-  pub written-long : leb (at + frame_length size) (length s) ≡ true → longest < size → writing TooLong s ≡ frame_written s at number c
+  pub written-long : leb (at + frame_length size) (length s) ≡ true → longest < size → writing (Err TooLong) s ≡ frame_written s at number c
   unfolding frame_written
   written-long e h =
       rw (le-ltb (length s) (at + frame_length size) (leb-true (at + frame_length size) (length s) e), lt-ltb longest size h) refl
 
   pub written-whole : leb (at + frame_length size) (length s) ≡ true → size ≤ longest
-      → writing (Written (frame_length size)) (paste s at (frame_of (before_at s at number) number c) (frame_length size)) ≡ frame_written s at number c
+      → writing (Ok (frame_length size)) (paste s at (frame_of (before_at s at number) number c) (frame_length size)) ≡ frame_written s at number c
   unfolding frame_written
   written-whole e h =
       rw (le-ltb (length s) (at + frame_length size) (leb-true (at + frame_length size) (length s) e), le-ltb longest size h) refl
@@ -211,13 +212,13 @@ module _ (s : List ℕ) (at number : ℕ) (c : Content) where
       → size ≤ longest → f ≡ filling size
       → s₁ ≡ paste s at (rows_of number c) (check_at size)
       → s₂ ≡ paste s₁ (at + check_at size) (digest_of (before_at s₁ at number ++ take (check_at size) (drop at s₁))) 16
-      → writing (Written (32 + size + f)) s₂ ≡ frame_written s at number c
+      → writing (Ok (32 + size + f)) s₂ ≡ frame_written s at number c
   frame_written_lem s₁ s₂ f four room short fills e₁ e₂ =
       let n : 32 + size + f ≡ frame_length size = omega (arith, fills) in
       let t : s₂ ≡ paste s at (frame_of (before_at s at number) number c) (frame_length size) =
       e₂ ∙ ap (λ (u : List ℕ). paste u (at + check_at size) (digest_of (before_at u at number ++ take (check_at size) (drop at u))) 16) e₁
       ∙ frame_laid_lem s at number c (length-rows four) (leb-true (at + frame_length size) (length s) room) in
-      ap₂ (λ (k : ℕ) (u : List ℕ). writing (Written k) u) n t ∙ written-whole room short
+      ap₂ (λ (k : ℕ) (u : List ℕ). writing (Ok k) u) n t ∙ written-whole room short
 
 -- ---- reading
 
@@ -264,12 +265,12 @@ module _ (s : List ℕ) (at number n from to : ℕ) (size : n ≡ size_in (drop 
       ∙ drop-front x (check_at n) (16 + n) in
       sym (ap all_zero l ∙ ap (λ (k : ℕ). all_zero (drop (16 + k) (take (check_at k) x))) size)
 
-  pub found_damaged : check-seen ≡ false → Damaged ≡ turn_for (frame_fault (before_at s at number) number x) n
+  pub found_damaged : check-seen ≡ false → Err Damaged ≡ turn_for (frame_fault (before_at s at number) number x) n
   unfolding frame_fault turn_for
   found_damaged e = rw (check_is ∙ e) refl
 
   module _ (right : check-seen ≡ true) where
-    pub found_misplaced : (be32 s (at + 4) ≡ number → ⊥) → Misplaced ≡ turn_for (frame_fault (before_at s at number) number x) n
+    pub found_misplaced : (be32 s (at + 4) ≡ number → ⊥) → Err Misplaced ≡ turn_for (frame_fault (before_at s at number) number x) n
     unfolding frame_fault turn_for
     found_misplaced h = rw (check_is ∙ right, ne_eqb (be32 x 4) number (λ e. h (sym (number_at s at 4) ∙ e))) refl
 
@@ -277,11 +278,11 @@ module _ (s : List ℕ) (at number n from to : ℕ) (size : n ≡ size_in (drop 
       next_is : eqb (be32 x 4) number ≡ true
       next_is = eq-eqb (be32 x 4) number (number_at s at 4 ∙ next)
 
-      pub found_malformed : zeros-seen ≡ false → Malformed ≡ turn_for (frame_fault (before_at s at number) number x) n
+      pub found_malformed : zeros-seen ≡ false → Err Malformed ≡ turn_for (frame_fault (before_at s at number) number x) n
       unfolding frame_fault turn_for
       found_malformed e = rw (check_is ∙ right, next_is, zeros_is ∙ e) refl
 
-      pub found_frame : zeros-seen ≡ true → Frame n ≡ turn_for (frame_fault (before_at s at number) number x) n
+      pub found_frame : zeros-seen ≡ true → Ok n ≡ turn_for (frame_fault (before_at s at number) number x) n
       unfolding frame_fault turn_for
       found_frame e = rw (check_is ∙ right, next_is, zeros_is ∙ e) refl
 
@@ -290,7 +291,7 @@ module _ (s : List ℕ) (at number : ℕ) where
   abbrev rest : List ℕ
   rest = drop at s
 
-  pub turn_end : length s ≤ at → End ≡ turn_at s at number
+  pub turn_end : length s ≤ at → Err End ≡ turn_at s at number
   unfolding turn_at turn_of
   turn_end h = rw (eq-eqb (length rest) 0 (omega (arith, length-drop at s))) refl
 
@@ -298,7 +299,7 @@ module _ (s : List ℕ) (at number : ℕ) where
     begun : eqb (length rest) 0 ≡ false
     begun = ne_eqb (length rest) 0 (λ e. omega (arith, length-drop at s, some, e))
 
-    pub turn-short : length s - at < 32 → Cut ≡ turn_at s at number
+    pub turn-short : length s - at < 32 → Err Cut ≡ turn_at s at number
     unfolding turn_at turn_of
     turn-short h = rw (begun, lt-ltb (length rest) 32 (omega (arith, length-drop at s))) refl
 
@@ -306,7 +307,7 @@ module _ (s : List ℕ) (at number : ℕ) where
       long : ltb (length rest) 32 ≡ false
       long = le-ltb (length rest) 32 (omega (arith, length-drop at s))
 
-      pub turn-cut : leb (at + frame_length n) (length s) ≡ false → Cut ≡ turn_at s at number
+      pub turn-cut : leb (at + frame_length n) (length s) ≡ false → Err Cut ≡ turn_at s at number
       unfolding turn_at turn_of
       turn-cut e =
           let h : length rest < frame_length n = omega (arith, length-drop at s, leb-false (at + frame_length n) (length s) e, some) in
@@ -360,7 +361,7 @@ turn-reads f before n (a ∷ x) = rw (some) (go (ltb (length y) 32) (ltb (length
     last = pick (eqb (frame_fault before n y) 0) (put_first (content_of y) l) (log [] (frame_fault before n y))
 
     go : (s t : Bool) → pick s (log [] 1) (pick t (log [] 1) last)
-        ≡ after_turn (pick s Cut (pick t Cut (turn_for (frame_fault before n y) (size_in y)))) y l
+        ≡ after_turn (pick s (Err Cut) (pick t (Err Cut) (turn_for (frame_fault before n y) (size_in y)))) y l
     go true t = refl
     go false true = refl
     go false false = by_fault before n y l

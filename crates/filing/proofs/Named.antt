@@ -7,8 +7,9 @@ use native.Mathlib.Omega.{arith}
 use lib.ListN.{length, drop, get_or, replicate, length-append}
 use lib.Seq.{paste}
 use borrow.Author.Tests.{le-leb}
+use Rattle.std.proofs.Common.{Result}
 use Rattle.archive.proofs.Laid.{front-more}
-use Rattle.calendar.specs.declared.time.Wrote.{Wrote}
+use Rattle.base.specs.declared.Short.{Short}
 use Rattle.calendar.specs.Time.{Writing, writing, write_time, time_of, instant_of, decimal, is_digit_of, all_digits}
 use Rattle.calendar.proofs.Text.{text-size}
 use Rattle.filing.specs.Names.{record_name, part_name}
@@ -36,7 +37,7 @@ module _ (time front back d₁ d₂ d₃ : List ℕ) (lt : length time ≡ 16) (
       d ∙ append-nil ((q ++ front) ++ back) ∙ append_assoc q front back ∙ append_assoc time (0x2D ∷ []) (front ++ back)
 
 -- the time that is written to a store of sixteen bytes
-pub time-written : (r : Wrote) (n : ℕ) (t : List ℕ) → writing r t ≡ write_time n (replicate 16 0) → t ≡ time_of n
+pub time-written : (r : Result (Unit {0}) Short) (n : ℕ) (t : List ℕ) → writing r t ≡ write_time n (replicate 16 0) → t ≡ time_of n
 unfolding write_time
 time-written r n t e = ap (λ (w : Writing). w.target) e ∙ append-nil (time_of n)
 

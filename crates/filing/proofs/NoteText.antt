@@ -12,7 +12,7 @@ use lib.ListN.{length, take, drop, get_or, set, length-append, length-drop, leng
 use lib.Seq.{paste, take_all, take-length, paste-zero, take-suc, drop-cons, drop-length, drop-set-lt, get_or-set_same}
 use borrow.Author.Tests.{eq-eqb, ne_eqb, eqb-true, leb-true, le-leb, le-ltb}
 use Rattle.archive.specs.Writing.{writing, front}
-use Rattle.archive.specs.declared.block.Wrote.TheVariants.{Written}
+use Rattle.std.specs.Prelude.{Ok}
 use Rattle.archive.proofs.Laid.{parts-laid}
 use Rattle.calendar.specs.Day.{leap, days_in, month_from, date_from}
 use Rattle.calendar.specs.Time.{decimal, text_of, instant_of, time_of}
@@ -160,10 +160,10 @@ lengths_say name check body payload h =
 
 pub note_done : (s name : List ℕ) (p : LogPlace) (f : FileFrame) (check body : List ℕ) {r : ℕ} {t : List ℕ}
     → Laid s 0 (note_of name p f check body) r t
-    → writing (Written r) t ≡ note_for s name p (some f) check body
+    → writing (Ok r) t ≡ note_for s name p (some f) check body
 note_done s name p f check body {r} l =
     let e : r ≡ length (note_of name p f check body) = omega (arith, l.ends) in
-    ap₂ (λ (k : ℕ) (u : List ℕ). writing (Written k) u) e (laid-front l)
+    ap₂ (λ (k : ℕ) (u : List ℕ). writing (Ok k) u) e (laid-front l)
 
 -- ---- the claims
 

@@ -1,5 +1,5 @@
 -- What is claimed of filing, of the log, and of the checks over all connections.
-use Rattle.std.specs.Prelude.{◌≡◌, Bool, true, false, ◌&&◌, ℕ, suc, ◌+◌, ◌≤◌, ◌<◌, ◌^◌, length, take, drop, List, [], ◌∷◌, ◌++◌}
+use Rattle.std.specs.Prelude.{◌≡◌, Bool, true, false, ◌&&◌, ℕ, suc, ◌+◌, ◌≤◌, ◌<◌, ◌^◌, length, take, drop, List, [], ◌∷◌, ◌++◌, Some, Ok}
 use Rattle.std.proofs.Math.Option.{some}
 use Rattle.journal.specs.Record.{Record}
 use Rattle.journal.specs.Calls.{Fed}
@@ -13,7 +13,6 @@ use Rattle.filing.specs.Entries.{LogEntry, received, entry_step, names_step, log
 use Rattle.filing.specs.Frame.{Content, frame_length, log_bytes}
 use Rattle.filing.specs.Reading.{Log, log, size_in, check_in, read_from, read_log, turn_of, after_turn}
 use Rattle.filing.specs.declared.frame.Kind.{Kind}
-use Rattle.filing.specs.declared.entry.KindRead.TheVariants.{Known}
 use Rattle.filing.specs.ReadBack.{kind_read, entry_read, entry_with}
 use Rattle.filing.specs.Kinds.{kind_number, letters_of, entry_in, entries_in, Encodes, OpenFrame, opening_bytes, opened, open_row, settings_in}
 use Rattle.filing.specs.declared.payload.OpenNumbers.{OpenNumbers}
@@ -25,7 +24,6 @@ use Rattle.packet.specs.AuthWrite.{given}
 use Rattle.filing.specs.FileFrame.{FileFrame, bytes_in, file_bytes, file_of, handed_by, file_row, file_in}
 use Rattle.filing.specs.Contents.{payload_for, content_by, entry_by, Noted, contents_by, entries_by}
 use Rattle.archive.specs.Writing.{writing, front}
-use Rattle.archive.specs.declared.block.Wrote.TheVariants.{Written}
 use Rattle.filing.specs.declared.note.LogPlace.{LogPlace}
 use Rattle.filing.specs.Note.{note_of, note_for, note_written}
 use Rattle.filing.specs.Cases.{example_place, example_name, example_payload, example_check, example_sum, example_note}
@@ -156,7 +154,7 @@ SettingsBack =
 
 -- The letters of a kind are read as that kind.
 abbrev pub KindsRead : Type 0
-KindsRead = (k : Kind) → kind_read (kind_number k) ≡ Known k
+KindsRead = (k : Kind) → kind_read (kind_number k) ≡ Some k
 
 -- What is read of a payload is the entry that its frame stands for.
 abbrev pub EntryReads : Type 0
@@ -198,11 +196,11 @@ NoteSays =
     (s name : List ℕ) (p : LogPlace) (f : FileFrame) (check body : List ℕ) → 1024 ≤ length s → FitsFile f → length name ≡ 33 → length check ≡ 16
     → length body ≡ 16
     → note_written s name p (file_bytes f) check body
-    ≡ writing (Written (length (note_of name p f check body))) (front (note_of name p f check body) s)
+    ≡ writing (Ok (length (note_of name p f check body))) (front (note_of name p f check body) s)
 
 -- The note of the example is the one that was made by other means.
 abbrev pub ExampleNote : Type 0
-ExampleNote = note_for [] example_name example_place (file_in example_payload) example_check example_sum ≡ writing (Written (length example_note)) example_note
+ExampleNote = note_for [] example_name example_place (file_in example_payload) example_check example_sum ≡ writing (Ok (length example_note)) example_note
 
 -- ---- names
 

@@ -1,10 +1,10 @@
 -- What is logged of an event in the code's words (docs/ARCHIVE.md, "The log"): the frame's kind, what its payload begins with, and the parts that
 -- follow it as they were lent; which parts an event may have; and what a call of `content_for` gives.
-use Rattle.std.specs.Prelude.{ℕ, ◌%◌, Bool, true, ◌&&◌, not, List, [], ◌∷◌, ◌++◌, ltb, leb, eqb, length, get_or, take, replicate}
+use Rattle.std.specs.Prelude.{ℕ, ◌%◌, Bool, true, ◌&&◌, not, List, [], ◌∷◌, ◌++◌, ltb, leb, eqb, length, get_or, take, replicate, Ok, Err}
 use Rattle.base.specs.Pick.{pick}
 use Rattle.base.specs.Bytes.{bytes16}
 use Rattle.archive.specs.Writing.{Writing, writing, front}
-use Rattle.archive.specs.declared.block.Wrote.TheVariants.{Written, Short, TooLong}
+use Rattle.archive.specs.declared.block.WriteError.TheVariants.{Short, TooLong}
 use Rattle.journal.specs.Checks.{bit}
 use Rattle.filing.specs.Entries.{LogEntry, received, sent, answered, object, checked, nonce, closed}
 use Rattle.filing.specs.Frame.{Content}
@@ -72,8 +72,8 @@ right_parts (Ended o) m n = true
 unfoldable pub content_written : List ℕ → Event → List ℕ → List ℕ → List ℕ → Writing
 content_written s e a b c =
     let p = payload_for e a b c in
-    pick (ltb (length s) (length p)) (writing Short s)
-    (pick (not (right_parts e (length a) (length b))) (writing TooLong s) (writing (Written (length p)) (front p s)))
+    pick (ltb (length s) (length p)) (writing (Err Short) s)
+    (pick (not (right_parts e (length a) (length b))) (writing (Err TooLong) s) (writing (Ok (length p)) (front p s)))
 
 -- Some bytes with zeros behind them, up to a whole row.
 abbrev pub filled_row : List ℕ → List ℕ

@@ -9,8 +9,7 @@ use Rattle.digest.specs.Md5.{digest_of}
 use Rattle.packet.specs.AuthWrite.{given}
 use Rattle.filing.specs.Entries.{Handed}
 use Rattle.filing.specs.declared.file.FileNumbers.{FileNumbers}
-use Rattle.filing.specs.declared.file.FileRead.{FileRead}
-use Rattle.filing.specs.declared.file.FileRead.TheVariants.{Row, Malformed}
+use Rattle.std.specs.Prelude.{Option as Found, Some, None}
 use Rattle.filing.specs.declared.file.RecordMarks.{RecordMarks}
 
 -- What the frame says.
@@ -82,8 +81,8 @@ abbrev pub numbers_in : List ℕ → FileNumbers
 numbers_in p = record { number = be32 p 0; headers = be32 p 4; body = be32 p 8; blocks = be32 p 12; target = get_or p 48 0 }
 
 -- A payload as it reads.
-unfoldable pub file_read : List ℕ → FileRead
-file_read p = pick (ltb (length p) 49) Malformed (pick (right_mark (get_or p 48 0) (length p - 49)) (Row (numbers_in p)) Malformed)
+unfoldable pub file_read : List ℕ → Found FileNumbers
+file_read p = pick (ltb (length p) 49) None (pick (right_mark (get_or p 48 0) (length p - 49)) (Some (numbers_in p)) None)
 
 -- What the payload `p` with these numbers says: the MD5s and the Target stand where they were written.
 abbrev pub frame_with : FileNumbers → List ℕ → FileFrame
@@ -99,9 +98,9 @@ frame_with n p =
     }
 
 -- What a payload says by what was read of it.
-abbrev pub frame_by : FileRead → List ℕ → Option FileFrame
-frame_by Malformed p = none
-frame_by (Row n) p = some (frame_with n p)
+abbrev pub frame_by : Found FileNumbers → List ℕ → Option FileFrame
+frame_by None p = none
+frame_by (Some n) p = some (frame_with n p)
 
 -- What a payload says, if it is one of the frame `file`.
 abbrev pub file_in : List ℕ → Option FileFrame

@@ -1,14 +1,14 @@
 -- The log as bytes (docs/ARCHIVE.md, "The log"): frames of whole rows of sixteen. A frame has four letters, its number, its payload's length and
 -- the clock, then the payload filled up with zeros to a whole row, then the MD5 of the check before it and of all this. Numbers are
 -- big-endian.
-use Rattle.std.specs.Prelude.{ℕ, ◌+◌, ◌-◌, ◌%◌, List, [], ◌∷◌, ◌++◌, length, replicate, take, drop, ltb, eqb}
+use Rattle.std.specs.Prelude.{ℕ, ◌+◌, ◌-◌, ◌%◌, List, [], ◌∷◌, ◌++◌, length, replicate, take, drop, ltb, eqb, Ok, Err}
 use Rattle.std.proofs.Math.Seq.{paste}
 use Rattle.base.specs.Pick.{pick}
 use Rattle.base.specs.Bytes.{bytes32}
 use Rattle.digest.specs.Md5.{digest_of}
 use Rattle.archive.specs.Block.{longest}
 use Rattle.archive.specs.Writing.{Writing, writing}
-use Rattle.archive.specs.declared.block.Wrote.TheVariants.{Written, Short, TooLong}
+use Rattle.archive.specs.declared.block.WriteError.TheVariants.{Short, TooLong}
 
 -- What a frame holds: four letters, the clock in seconds since 1970, and the payload.
 pub record Content : Type 0 where
@@ -72,6 +72,6 @@ frame_of before n c = rows_of n c ++ check_of before n c
 unfoldable pub frame_written : List ℕ → ℕ → ℕ → Content → Writing
 frame_written s at n c =
     let size = length c.payload in
-    pick (ltb (length s) (at + frame_length size)) (writing Short s)
-    (pick (ltb longest size) (writing TooLong s)
-    (writing (Written (frame_length size)) (paste s at (frame_of (before_at s at n) n c) (frame_length size))))
+    pick (ltb (length s) (at + frame_length size)) (writing (Err Short) s)
+    (pick (ltb longest size) (writing (Err TooLong) s)
+    (writing (Ok (frame_length size)) (paste s at (frame_of (before_at s at n) n c) (frame_length size))))

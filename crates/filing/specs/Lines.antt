@@ -4,14 +4,13 @@ use Prim.Native.Char.{code}
 use Prim.Native.String as string
 use Rattle.std.proofs.Math.Option.{Option, none, some}
 use Rattle.base.specs.Pick.{pick}
+use Rattle.base.specs.Place.{Place, Some, None}
 use Rattle.packet.specs.Auth.{same}
-use Rattle.packet.specs.declared.tlv.Found.{Found}
-use Rattle.packet.specs.declared.tlv.Found.TheVariants.{At, Missing}
 
 -- A place stands in a text of `n` bytes.
-abbrev pub PlaceFits : ℕ → Found → Type 0
-PlaceFits n (At from to) = (from ≤ to) × (to ≤ n)
-PlaceFits n Missing = Unit {0}
+abbrev pub PlaceFits : ℕ → Place → Type 0
+PlaceFits n (Some p) = (p.start ≤ p.end) × (p.end ≤ n)
+PlaceFits n None = Unit {0}
 
 -- The bytes of a text of ASCII.
 abbrev pub bytes : string.String → List ℕ

@@ -1,11 +1,11 @@
 -- The note beside a record (docs/ARCHIVE.md, "The note"), line by line: what the frame `file` of the log says, where that frame stands, and the MD5s
 -- of the files. Numbers are decimal without leading zeros, bytes are hexadecimal, a line ends with a line feed.
-use Rattle.std.specs.Prelude.{ℕ, ◌+◌, ◌≡◌, Bool, ◌&&◌, not, List, [], ◌∷◌, ◌++◌, ltb, leb, eqb, length}
+use Rattle.std.specs.Prelude.{ℕ, ◌+◌, ◌≡◌, Bool, ◌&&◌, not, List, [], ◌∷◌, ◌++◌, ltb, leb, eqb, length, Ok, Err}
 use Rattle.std.proofs.Math.Option.{Option, none, some}
 use Rattle.std.proofs.Math.Seq.{paste}
 use Rattle.base.specs.Pick.{pick}
 use Rattle.archive.specs.Writing.{Writing, writing, front}
-use Rattle.archive.specs.declared.block.Wrote.TheVariants.{Written, Short, TooLong}
+use Rattle.archive.specs.declared.block.WriteError.TheVariants.{Short, TooLong}
 use Rattle.calendar.specs.Time.{decimal, time_of}
 use Rattle.files.specs.Path.{hex_of}
 use Rattle.filing.specs.FileFrame.{FileFrame, file_in}
@@ -146,14 +146,14 @@ right_lengths name check body payload = eqb name 33 && (eqb check 16 && (eqb bod
 
 -- The note of what a payload says; 13 if it says nothing.
 abbrev pub note_for : List ℕ → List ℕ → LogPlace → Option FileFrame → List ℕ → List ℕ → Writing
-note_for s name p none check body = writing TooLong s
-note_for s name p (some f) check body = writing (Written (length (note_of name p f check body))) (front (note_of name p f check body) s)
+note_for s name p none check body = writing (Err TooLong) s
+note_for s name p (some f) check body = writing (Ok (length (note_of name p f check body))) (front (note_of name p f check body) s)
 
 -- A note written to the front of the store `s`, which is to have room for the longest: 10 comes before 13, and neither changes the store.
 unfoldable pub note_written : List ℕ → List ℕ → LogPlace → List ℕ → List ℕ → List ℕ → Writing
 note_written s name p payload check body =
-    pick (ltb (length s) 1024) (writing Short s)
-    (pick (not (right_lengths (length name) (length check) (length body) (length payload))) (writing TooLong s)
+    pick (ltb (length s) 1024) (writing (Err Short) s)
+    (pick (not (right_lengths (length name) (length check) (length body) (length payload))) (writing (Err TooLong) s)
     (note_for s name p (file_in payload) check body))
 
 -- ---- bytes laid in a store

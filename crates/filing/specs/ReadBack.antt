@@ -1,32 +1,30 @@
 -- What the frames of a log say, in the code's words (docs/ARCHIVE.md, "The log"): the kind by the four letters, the entry by kind and payload, and
 -- the settings by the first frame's payload.
-use Rattle.std.specs.Prelude.{ℕ, ◌||◌, List, [], ◌∷◌, eqb, get_or, drop}
+use Rattle.std.specs.Prelude.{ℕ, ◌||◌, List, [], ◌∷◌, eqb, get_or, drop, Option, Some, None}
 use Rattle.base.specs.Pick.{pick}
 use Rattle.journal.specs.Journal.{Settings}
 use Rattle.filing.specs.Entries.{LogEntry, received, sent, answered, object, checked, nonce, closed, ended}
 use Rattle.filing.specs.Kinds.{kind_number, ids_in}
 use Rattle.filing.specs.declared.frame.Kind.{Kind}
 use Rattle.filing.specs.declared.frame.Kind.TheVariants.{Open, Recv, Part, Sent, Answ, Objt, Pass, Nonc, Clos, File, Fail, Done}
-use Rattle.filing.specs.declared.entry.KindRead.{KindRead}
-use Rattle.filing.specs.declared.entry.KindRead.TheVariants.{Known, Unknown}
 use Rattle.filing.specs.declared.entry.EntryRead.{EntryRead}
 use Rattle.filing.specs.declared.entry.EntryRead.TheVariants.{Packet, Reply, Answer, Object, Check, Nonce, Ids, End, Nothing}
 use Rattle.filing.specs.declared.entry.SettingsRead.{SettingsRead}
 
 -- The kind of a frame by its four letters as one number.
-abbrev pub kind_read : ℕ → KindRead
+abbrev pub kind_read : ℕ → Option Kind
 kind_read n =
-    pick (eqb n (kind_number Open)) (Known Open)
-    (pick (eqb n (kind_number Recv)) (Known Recv)
-    (pick (eqb n (kind_number Part)) (Known Part)
-    (pick (eqb n (kind_number Sent)) (Known Sent)
-    (pick (eqb n (kind_number Answ)) (Known Answ)
-    (pick (eqb n (kind_number Objt)) (Known Objt)
-    (pick (eqb n (kind_number Pass)) (Known Pass)
-    (pick (eqb n (kind_number Nonc)) (Known Nonc)
-    (pick (eqb n (kind_number Clos)) (Known Clos)
-    (pick (eqb n (kind_number File)) (Known File)
-    (pick (eqb n (kind_number Fail)) (Known Fail) (pick (eqb n (kind_number Done)) (Known Done) Unknown)))))))))))
+    pick (eqb n (kind_number Open)) (Some Open)
+    (pick (eqb n (kind_number Recv)) (Some Recv)
+    (pick (eqb n (kind_number Part)) (Some Part)
+    (pick (eqb n (kind_number Sent)) (Some Sent)
+    (pick (eqb n (kind_number Answ)) (Some Answ)
+    (pick (eqb n (kind_number Objt)) (Some Objt)
+    (pick (eqb n (kind_number Pass)) (Some Pass)
+    (pick (eqb n (kind_number Nonc)) (Some Nonc)
+    (pick (eqb n (kind_number Clos)) (Some Clos)
+    (pick (eqb n (kind_number File)) (Some File)
+    (pick (eqb n (kind_number Fail)) (Some Fail) (pick (eqb n (kind_number Done)) (Some Done) None)))))))))))
 
 -- What the payload `p` of a frame says.
 abbrev pub entry_read : Kind → List ℕ → EntryRead

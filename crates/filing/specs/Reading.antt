@@ -1,14 +1,14 @@
 -- The log read back: frame after frame, up to the first that is at fault or the first that is not whole. The numbers are those of blocks
 -- (docs/ARCHIVE.md): 11 if a check is wrong, 12 if a number is not the next, 13 if the filling is not zero; the lowest that fits. Bytes that
 -- are no whole frame are what a cut left.
-use Rattle.std.specs.Prelude.{ℕ, zero, suc, ◌+◌, List, [], ◌∷◌, ◌++◌, length, take, drop, ltb, eqb}
+use Rattle.std.specs.Prelude.{ℕ, zero, suc, ◌+◌, List, [], ◌∷◌, ◌++◌, length, take, drop, ltb, eqb, Result, Ok, Err}
 use Rattle.base.specs.Pick.{pick}
 use Rattle.base.specs.Bytes.{be32}
 use Rattle.digest.specs.Md5.{digest_of}
 use Rattle.archive.specs.Block.{same, all_zero}
 use Rattle.filing.specs.Frame.{Content, check_at, frame_length, before_at}
-use Rattle.filing.specs.declared.frame.Turn.{Turn}
-use Rattle.filing.specs.declared.frame.Turn.TheVariants.{End, Cut, Damaged, Misplaced, Malformed, Frame}
+use Rattle.filing.specs.declared.frame.NoFrame.{NoFrame}
+use Rattle.filing.specs.declared.frame.NoFrame.TheVariants.{End, Cut, Damaged, Misplaced, Malformed}
 
 -- A log as it reads.
 pub record Log : Type 0 where
@@ -63,25 +63,25 @@ read_log x = read_from (length x + 1) [] 0 x
 -- ---- one turn
 
 -- What a frame of `size` payload bytes with the fault `f` is found to be.
-unfoldable pub turn_for : ℕ → ℕ → Turn
-turn_for f size = pick (eqb f 0) (Frame size) (pick (eqb f 11) Damaged (pick (eqb f 12) Misplaced Malformed))
+unfoldable pub turn_for : ℕ → ℕ → Result ℕ NoFrame
+turn_for f size = pick (eqb f 0) (Ok size) (Err (pick (eqb f 11) Damaged (pick (eqb f 12) Misplaced Malformed)))
 
 -- What stands at the front of `x`, behind the check `before`, if frame `n` is due.
-unfoldable pub turn_of : List ℕ → ℕ → List ℕ → Turn
+unfoldable pub turn_of : List ℕ → ℕ → List ℕ → Result ℕ NoFrame
 turn_of before n x =
-    pick (eqb (length x) 0) End
-    (pick (ltb (length x) 32) Cut
-    (pick (ltb (length x) (frame_length (size_in x))) Cut (turn_for (frame_fault before n x) (size_in x))))
+    pick (eqb (length x) 0) (Err End)
+    (pick (ltb (length x) 32) (Err Cut)
+    (pick (ltb (length x) (frame_length (size_in x))) (Err Cut) (turn_for (frame_fault before n x) (size_in x))))
 
 -- The same at place `at` of the store `s`.
-unfoldable pub turn_at : List ℕ → ℕ → ℕ → Turn
+unfoldable pub turn_at : List ℕ → ℕ → ℕ → Result ℕ NoFrame
 turn_at s at n = turn_of (before_at s at n) n (drop at s)
 
 -- A log as it reads by what its first turn finds; `l` is what is behind a whole frame.
-abbrev pub after_turn : Turn → List ℕ → Log → Log
-after_turn End x l = log [] 0
-after_turn Cut x l = log [] 1
-after_turn Damaged x l = log [] 11
-after_turn Misplaced x l = log [] 12
-after_turn Malformed x l = log [] 13
-after_turn (Frame size) x l = put_first (content_of x) l
+abbrev pub after_turn : Result ℕ NoFrame → List ℕ → Log → Log
+after_turn (Err End) x l = log [] 0
+after_turn (Err Cut) x l = log [] 1
+after_turn (Err Damaged) x l = log [] 11
+after_turn (Err Misplaced) x l = log [] 12
+after_turn (Err Malformed) x l = log [] 13
+after_turn (Ok size) x l = put_first (content_of x) l

@@ -9,7 +9,6 @@ use crate::payload::{OpenFlags, OpenNumbers};
 use base::wide32;
 use check::same;
 use files::path::{front, service_folder};
-use packet::tlv::Found;
 use table::targets::{Target, is_named};
 
 // What a text of settings says.
@@ -31,10 +30,10 @@ const NO_NUMBER: u32 = 1000000;
 fn said<'a>(text: &'a [u8], word: &[u8]) -> &'a [u8]
     ensures { result.now ≡ said text.now word.now }
 {
-    let Found::At { start, end } = value_of(text, b' ', word) else {
-        return &text[0..0];
-    };
-    &text[start..end]
+    match value_of(text, b' ', word) {
+        Some(value) => value.of(text),
+        None => &[],
+    }
 }
 
 // Tells whether a text says this value behind a word.
@@ -95,11 +94,7 @@ fn number_said(text: &[u8], word: &[u8], default: u32, most: u32) -> u32
 fn is_in(choices: &[u8], line: &[u8]) -> bool
     ensures { result ≡ is_in choices.now line.now }
 {
-    let found = value_of(choices, b'\t', line);
-    match found {
-        Found::At { start: _, end: _ } => true,
-        Found::Missing => false,
-    }
+    value_of(choices, b'\t', line).is_some()
 }
 
 // Tells whether a line says one of several values.
@@ -254,12 +249,12 @@ fn realm_length(n: usize) -> u8
 fn find_realm(text: &[u8]) -> Realm
     ensures { realm_at_of text.now result ≡ realm_said text.now }
 {
-    let Found::At { start, end } = value_of(text, b' ', b"realm") else {
-        return Realm { at: 0, length: 0 };
-    };
-    Realm {
-        at: start,
-        length: realm_length(end - start),
+    match value_of(text, b' ', b"realm") {
+        Some(value) => Realm {
+            at: value.start,
+            length: realm_length(value.size()),
+        },
+        None => Realm { at: 0, length: 0 },
     }
 }
 

@@ -9,7 +9,7 @@ ghost use Rattle.filing.specs.Contents.{event_kind, front_of, right_parts, conte
 
 use crate::frame::Kind;
 use crate::payload::{CheckMade, OpenFlags, OpenNumbers, check_pair, open_row};
-use archive::block::Wrote;
+use archive::block::WriteError;
 use base::copy_into;
 
 // What is logged, and which parts it has.
@@ -221,19 +221,19 @@ pub fn content_for(
     first: &[u8],
     second: &[u8],
     third: &[u8],
-) -> Wrote
+) -> Result<usize, WriteError>
     ensures { writing result store.new
         ≡ content_written store.old event first.now second.now third.now }
 {
     let n = front_len(event);
     let m = first.len();
     if !has_room(store.len(), n, m, second.len(), third.len()) {
-        return Wrote::Short;
+        return Err(WriteError::Short);
     }
     if !are_parts_right(event, m, second.len()) {
-        return Wrote::TooLong;
+        return Err(WriteError::TooLong);
     }
     let row = front_row(event, (m % 65536) as u16);
     lay(store, &row[0..n], first, second, third);
-    Wrote::Written(n + m + second.len() + third.len())
+    Ok(n + m + second.len() + third.len())
 }

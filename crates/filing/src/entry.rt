@@ -8,14 +8,6 @@ ghost use Rattle.filing.specs.ReadBack.{kind_read, entry_read, settings_with};
 use crate::frame::Kind;
 use base::wide32;
 
-// What four letters are.
-#[derive(Clone, Copy)]
-pub enum KindRead {
-    Known(Kind),
-    // No frame has these letters.
-    Unknown,
-}
-
 // What a payload says; what has no number here is the payload, or a part of it.
 #[derive(Clone, Copy)]
 pub enum EntryRead {
@@ -50,24 +42,25 @@ pub struct SettingsRead {
     pub refuses: bool,
 }
 
-// Returns the kind of a frame, by its four letters as one number.
-pub fn kind_in(letters: u32) -> KindRead
+// Returns the kind of a frame, by its four letters as one number; none if no frame has these letters.
+// Stays a match on numbers: they are the letters that stand in the log (docs/ARCHIVE.md#the-log).
+pub fn kind_in(letters: u32) -> Option<Kind>
     ensures { result ≡ kind_read letters }
 {
     match letters {
-        0x6F70656E => KindRead::Known(Kind::Open),
-        0x72656376 => KindRead::Known(Kind::Recv),
-        0x70617274 => KindRead::Known(Kind::Part),
-        0x73656E74 => KindRead::Known(Kind::Sent),
-        0x616E7377 => KindRead::Known(Kind::Answ),
-        0x6F626A74 => KindRead::Known(Kind::Objt),
-        0x70617373 => KindRead::Known(Kind::Pass),
-        0x6E6F6E63 => KindRead::Known(Kind::Nonc),
-        0x636C6F73 => KindRead::Known(Kind::Clos),
-        0x66696C65 => KindRead::Known(Kind::File),
-        0x6661696C => KindRead::Known(Kind::Fail),
-        0x646F6E65 => KindRead::Known(Kind::Done),
-        _ => KindRead::Unknown,
+        0x6F70656E => Some(Kind::Open),
+        0x72656376 => Some(Kind::Recv),
+        0x70617274 => Some(Kind::Part),
+        0x73656E74 => Some(Kind::Sent),
+        0x616E7377 => Some(Kind::Answ),
+        0x6F626A74 => Some(Kind::Objt),
+        0x70617373 => Some(Kind::Pass),
+        0x6E6F6E63 => Some(Kind::Nonc),
+        0x636C6F73 => Some(Kind::Clos),
+        0x66696C65 => Some(Kind::File),
+        0x6661696C => Some(Kind::Fail),
+        0x646F6E65 => Some(Kind::Done),
+        _ => None,
     }
 }
 

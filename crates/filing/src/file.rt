@@ -27,15 +27,6 @@ pub struct FileNumbers {
     pub target: u8,
 }
 
-// What `read_file` finds.
-#[derive(Clone, Copy)]
-pub enum FileRead {
-    // The MD5 of the headers stands at place 16, that of the body at 32, and the Target from 49 on.
-    Row(FileNumbers),
-    // The payload is too short, or the Target has another length than its mark says.
-    Malformed,
-}
-
 // The bytes of a payload without the Target, and the place of the Target's mark.
 const ROW: usize = 49;
 
@@ -146,15 +137,16 @@ fn numbers_in(payload: &[u8]) -> FileNumbers
     }
 }
 
-// Reads the payload of the frame `file`.
-pub fn read_file(payload: &[u8]) -> FileRead
+// Reads the numbers of the payload of the frame `file`: none if it is too short, or if the Target has another length than its mark says. The MD5
+// of the headers stands at place 16, that of the body at 32, and the Target from 49 on.
+pub fn read_file(payload: &[u8]) -> Option<FileNumbers>
     ensures { result ≡ file_read payload.now }
 {
     if payload.len() < ROW {
-        return FileRead::Malformed;
+        return None;
     }
     if !is_mark_right(payload[MARK], payload.len() - ROW) {
-        return FileRead::Malformed;
+        return None;
     }
-    FileRead::Row(numbers_in(payload))
+    Some(numbers_in(payload))
 }

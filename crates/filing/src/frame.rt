@@ -7,7 +7,7 @@ ghost use Rattle.filing.specs.Frame.{filling, frame_length, chain_at, before_at,
 ghost use Rattle.filing.specs.Reading.{size_in, frame_fault, turn_for, turn_at};
 ghost use Rattle.filing.specs.Kinds.{kind_number, content_in};
 
-use archive::block::{Wrote, is_same, is_zero};
+use archive::block::{WriteError, is_same, is_zero};
 use base::copy_into;
 use digest::md5::digest;
 use packet::header::be32_at;
@@ -46,9 +46,9 @@ pub struct Head {
     pub clock: u32,
 }
 
-// What `read_frame` finds; `turnNumber` gives the number of each.
-#[derive(Clone, Copy)]
-pub enum Turn {
+// Why `read_frame` finds no frame.
+#[derive(Clone, Copy, PartialEq, Eq)]
+pub enum NoFrame {
     // The log ends here.
     End,
     // The log breaks off in the middle of a frame.
@@ -59,8 +59,6 @@ pub enum Turn {
     Misplaced,
     // The filling is not zero.
     Malformed,
-    // A whole frame, whose payload has as many bytes.
-    Frame(usize),
 }
 
 // The bytes of a row, of a frame's head and of a check.
@@ -73,6 +71,7 @@ const LEAST: usize = 32;
 const LONGEST: usize = 4294967295;
 
 // Returns the four letters of a frame as one number.
+// Stays a number for each: they are the letters that stand in the log (docs/ARCHIVE.md#the-log).
 pub fn kind_number(kind: Kind) -> u32
     ensures { result ≡ kind_number kind }
 {
@@ -178,26 +177,31 @@ fn write_check(store: &mut [u8], at: usize, number: u32, n: usize)
 }
 
 // Writes a frame at place `at`, behind the check that stands there. A store short of it is told before a payload that is too long.
-pub fn write_frame(store: &mut [u8], at: usize, head: Head, payload: &[u8]) -> Wrote
+pub fn write_frame(
+    store: &mut [u8],
+    at: usize,
+    head: Head,
+    payload: &[u8],
+) -> Result<usize, WriteError>
     ensures { writing result store.new ≡ frame_written store.old at head.number (content_in head payload.now) }
 {
     let n = payload.len();
     if !has_room(store.len(), at, n) {
-        return Wrote::Short;
+        return Err(WriteError::Short);
     }
     if LONGEST < n {
-        return Wrote::TooLong;
+        return Err(WriteError::TooLong);
     }
     let number = head.number;
     write_rows(store, at, head, payload);
     write_check(store, at, number, n);
-    Wrote::Written(LEAST + n + filling(n))
+    Ok(LEAST + n + filling(n))
 }
 
 // ---- reading
 
-// Judges frame `number` at place `at`, which is there whole and has `n` payload bytes.
-fn judge(log: &[u8], at: usize, number: u32, n: usize) -> Turn
+// Judges frame `number` at place `at`, which is there whole and has `n` payload bytes, and returns `n`.
+fn judge(log: &[u8], at: usize, number: u32, n: usize) -> Result<usize, NoFrame>
     requires { (at + frame_length n ≤ length log.now) × (n ≡ size_in (drop at log.now)) }
     ensures { result ≡ turn_for (frame_fault (before_at log.now at number) number (drop at log.now)) n }
 {
@@ -205,30 +209,30 @@ fn judge(log: &[u8], at: usize, number: u32, n: usize) -> Turn
     let to = from + filling(n);
     let check = digest(&log[chain_at(at, number)..to]);
     if !is_same(&check, &log[to..to + ROW]) {
-        return Turn::Damaged;
+        return Err(NoFrame::Damaged);
     }
     if be32_at(log, at + 4) != number {
-        return Turn::Misplaced;
+        return Err(NoFrame::Misplaced);
     }
     if !is_zero(&log[from..to]) {
-        return Turn::Malformed;
+        return Err(NoFrame::Malformed);
     }
-    Turn::Frame(n)
+    Ok(n)
 }
 
-// Reads what stands at place `at` of a log, if frame `number` is due there.
-pub fn read_frame(log: &[u8], at: usize, number: u32) -> Turn
+// Reads what stands at place `at` of a log, if frame `number` is due there, and returns how many bytes its payload has.
+pub fn read_frame(log: &[u8], at: usize, number: u32) -> Result<usize, NoFrame>
     ensures { result ≡ turn_at log.now at number }
 {
     if log.len() <= at {
-        return Turn::End;
+        return Err(NoFrame::End);
     }
     if log.len() - at < LEAST {
-        return Turn::Cut;
+        return Err(NoFrame::Cut);
     }
     let n = be32_at(log, at + 8) as usize;
     if !has_room(log.len(), at, n) {
-        return Turn::Cut;
+        return Err(NoFrame::Cut);
     }
     judge(log, at, number, n)
 }

@@ -3,8 +3,8 @@ ghost use Rattle.std.specs.Prelude.{◌≡◌, ◌≤◌, length};
 ghost use Rattle.packet.specs.Tags.{bytes_at};
 ghost use Rattle.filing.specs.Lines.{PlaceFits, up_to, under, lines_of, value_for};
 
+use base::Span;
 use check::same;
-use packet::tlv::Found;
 
 // Returns where the first `byte` stands in `s`, or how long `s` is if there is none.
 pub fn find(s: &[u8], byte: u8) -> usize
@@ -33,7 +33,7 @@ fn is_under(line: &[u8], separator: u8, word: &[u8]) -> bool
 }
 
 // Finds the value behind `word`: that of the first line which has the word.
-pub fn value_of(text: &[u8], separator: u8, word: &[u8]) -> Found
+pub fn value_of(text: &[u8], separator: u8, word: &[u8]) -> Option<Span>
     ensures value { bytes_at text.now result ≡ value_for separator word.now (lines_of text.now) }
     ensures room { PlaceFits (length text.now) result }
 {
@@ -42,12 +42,12 @@ pub fn value_of(text: &[u8], separator: u8, word: &[u8]) -> Found
         let n = find(&text[at..], b'\n');
         let end = at + n;
         if is_under(&text[at..end], separator, word) {
-            return Found::At {
+            return Some(Span {
                 start: at + word.len() + 1,
                 end,
-            };
+            });
         }
         at = end + 1;
     }
-    Found::Missing
+    None
 }

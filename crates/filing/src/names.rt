@@ -46,7 +46,7 @@ pub fn session_name(clock: u32, high: u32, low: u32) -> [u8; 33]
 {
     let mut name = [b'-'; 33];
     let mut time = [0u8; 16];
-    write_time(clock, &mut time);
+    let _ = write_time(clock, &mut time);
     let front = hex8(high);
     let back = hex8(low);
     copy_into(&mut name, 0, &time);

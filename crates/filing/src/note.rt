@@ -9,9 +9,9 @@ ghost use Rattle.filing.specs.FileFrame.{frame_with};
 ghost use Rattle.filing.specs.Note.{stripped, decimal_of, Laid};
 ghost use Rattle.filing.specs.Note.{record_line, filed_line, headers_line, body_line, target_line, log_line, sum_lines, note_of, right_lengths, note_written};
 
-use crate::file::{FileNumbers, FileRead, read_file};
+use crate::file::{FileNumbers, read_file};
 use crate::names::hex_digit;
-use archive::block::Wrote;
+use archive::block::WriteError;
 use base::{copy_into, wide32};
 use calendar::time::write_time;
 
@@ -154,7 +154,7 @@ fn put_record(store: &mut [u8], name: &[u8], number: u32, clock: u32) -> usize
     ensures small { result ≤ 67 + length name.now }
 {
     let mut time = [0u8; 16];
-    write_time(clock, &mut time);
+    let _ = write_time(clock, &mut time);
     let a = put_counted(store, 0, b"# record ", number as usize, b" of session ");
     let b = put_text(store, a, name);
     let c = put_text(store, b, b"\n# filed ");
@@ -287,18 +287,18 @@ pub fn write_note(
     payload: &[u8],
     check: &[u8],
     body: &[u8],
-) -> Wrote
+) -> Result<usize, WriteError>
     ensures { writing result store.new
         ≡ note_written store.old name.now place payload.now check.now body.now }
 {
     if store.len() < ROOM {
-        return Wrote::Short;
+        return Err(WriteError::Short);
     }
     if !are_lengths_right(name.len(), check.len(), body.len(), payload.len()) {
-        return Wrote::TooLong;
+        return Err(WriteError::TooLong);
     }
-    let FileRead::Row(numbers) = read_file(payload) else {
-        return Wrote::TooLong;
+    let Some(numbers) = read_file(payload) else {
+        return Err(WriteError::TooLong);
     };
-    Wrote::Written(put_note(store, name, place, numbers, payload, check, body))
+    Ok(put_note(store, name, place, numbers, payload, check, body))
 }

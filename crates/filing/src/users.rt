@@ -5,10 +5,10 @@ ghost use Rattle.filing.specs.Lines.{PlaceFits};
 ghost use Rattle.filing.specs.Users.{password_for, first_user};
 
 use crate::line::{find, value_of};
-use packet::tlv::Found;
+use base::Span;
 
 // Finds the password of `user` in a file of such lines. A `user` of no bytes is that of a response that names none.
-pub fn password_for(text: &[u8], user: &[u8]) -> Found
+pub fn password_for(text: &[u8], user: &[u8]) -> Option<Span>
     ensures value { bytes_at text.now result ≡ password_for text.now user.now }
     ensures room { PlaceFits (length text.now) result }
 {

@@ -1,14 +1,12 @@
 -- What crosses to C of what the readers and writers of `packet` and `text` answer: a place, a number with an end, a challenge.
-use Rattle.std.specs.Prelude.{ℕ, List, Bool, true, false}
-use Rattle.text.specs.declared.Decoded.{Decoded}
-use Rattle.text.specs.declared.Decoded.TheVariants as decoded
+use Rattle.std.specs.Prelude.{ℕ, List, Bool, true, false, Option as Maybe}
+use Rattle.base.specs.Place.{Place as Found, Some, None}
+use Rattle.std.specs.Prelude.{Result, Ok, Err}
+use Rattle.base.specs.declared.Short.{Short}
 use Rattle.text.specs.Text.{Stored, decoded_number}
-use Rattle.packet.specs.declared.tlv.Found.{Found}
-use Rattle.packet.specs.declared.tlv.Found.TheVariants as found
 use Rattle.packet.specs.declared.tlv.Wrote.{Wrote}
 use Rattle.packet.specs.declared.tlv.Wrote.TheVariants as wrote
 use Rattle.packet.specs.declared.auth.DigestChallenge.{DigestChallenge}
-use Rattle.packet.specs.declared.auth.DigestChallenge.TheVariants as digest_challenge
 use Rattle.packet.specs.Placed.{Putting, wrote_number}
 use Rattle.headers_c.specs.declared.Place.{Place}
 use Rattle.headers_c.specs.declared.Answer.{Answer}
@@ -21,8 +19,8 @@ abbrev pub place_at : ℕ → ℕ → ℕ → Place
 place_at n start end = record { found = n; start = start; end = end }
 
 abbrev pub place_of : Found → Place
-place_of (found.At start end) = place_at 1 start end
-place_of found.Missing = place_at 0 0 0
+place_of (Some p) = place_at 1 p.start p.end
+place_of None = place_at 0 0 0
 
 -- ---- answers
 
@@ -42,12 +40,12 @@ abbrev pub answer_of : Wrote → Answer
 answer_of w = answer_with (wrote_number w) (end_of_wrote w)
 
 -- Where a text ends.
-abbrev pub end_of_text : Decoded → ℕ
-end_of_text (decoded.Written n) = n
-end_of_text decoded.Short = 0
+abbrev pub end_of_text : Result ℕ Short → ℕ
+end_of_text (Ok n) = n
+end_of_text (Err e) = 0
 
 -- The answer of a reader of text.
-abbrev pub text_answer_of : Decoded → Answer
+abbrev pub text_answer_of : Result ℕ Short → Answer
 text_answer_of d = answer_with (decoded_number d) (end_of_text d)
 
 -- What C gets: the answer, and the store afterwards.
@@ -89,7 +87,7 @@ challenge_with readable first second user only realm =
     }
 
 -- What C is told of a challenge.
-abbrev pub challenge_told : DigestChallenge → Challenge
-challenge_told (digest_challenge.Challenge nonce user only realm) =
-    challenge_with 1 nonce.first nonce.second (flag_number user) (flag_number only) (place_of realm)
-challenge_told digest_challenge.Unreadable = challenge_with 0 0 0 0 0 (place_at 0 0 0)
+abbrev pub challenge_told : Maybe DigestChallenge → Challenge
+challenge_told (Some c) =
+    challenge_with 1 c.nonce.first c.nonce.second (flag_number c.user_id_required) (flag_number c.read_only) (place_of c.realm)
+challenge_told None = challenge_with 0 0 0 0 0 (place_at 0 0 0)

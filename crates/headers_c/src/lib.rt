@@ -15,10 +15,9 @@ ghost use Rattle.packet.specs.AuthRead.{read_challenge};
 ghost use Rattle.packet.specs.AuthWrite.{given, write_digest_response};
 ghost use Rattle.headers_c.specs.Crossing.{place_of, answer_of, text_answer_of, flag_number, given_to_c, given_putting, given_text, challenge_told};
 
+use base::{Short, Span};
 use digest::md5::Octets16;
-use packet::auth::DigestChallenge;
-use packet::tlv::{Found, Wrote};
-use text::Decoded;
+use packet::tlv::Wrote;
 
 // A place in a list of bytes: `found` is 1 and the bytes are those from `start` up to `end`, or all three are 0.
 #[repr(C)]
@@ -63,16 +62,16 @@ fn flag_number(b: bool) -> u64
 }
 
 // Returns a place as C gets it.
-fn place_of(f: Found) -> Place
+fn place_of(f: Option<Span>) -> Place
     ensures { result ≡ place_of f }
 {
     match f {
-        Found::At { start, end } => Place {
+        Some(part) => Place {
             found: 1,
-            start,
-            end,
+            start: part.start,
+            end: part.end,
         },
-        Found::Missing => Place {
+        None => Place {
             found: 0,
             start: 0,
             end: 0,
@@ -93,12 +92,12 @@ fn answer_of(w: Wrote) -> Answer
 }
 
 // Returns the answer of a reader of text as C gets it.
-fn text_answer_of(d: Decoded) -> Answer
+fn text_answer_of(d: Result<usize, Short>) -> Answer
     ensures { result ≡ text_answer_of d }
 {
     match d {
-        Decoded::Written(end) => Answer { number: 0, end },
-        Decoded::Short => Answer { number: 10, end: 0 },
+        Ok(end) => Answer { number: 0, end },
+        Err(Short) => Answer { number: 10, end: 0 },
     }
 }
 
@@ -110,6 +109,7 @@ pub extern "C" fn obex_header_find(headers: &[u8], from: usize, id: u8) -> Place
     place_of(packet::header::first_header(headers, from, id))
 }
 
+// Stays a function for each form of text: each is an exported name of the C interface (bindings/c).
 // Stores the UTF-16 text of a header's `value`, as of a Name, in UTF-8: up to its first zero unit, each unpaired surrogate as U+FFFD.
 #[unsafe(no_mangle)]
 pub extern "C" fn obex_header_text(value: &[u8], store: &mut [u8]) -> Answer
@@ -126,6 +126,7 @@ pub extern "C" fn obex_header_ascii(value: &[u8], store: &mut [u8]) -> Answer
     text_answer_of(text::decode_ascii(value, store))
 }
 
+// Stays a function for each form of value, with the store and its place beside it: each is an exported name of the C interface.
 // Writes a header with `value` at `at` of the store.
 #[unsafe(no_mangle)]
 pub extern "C" fn obex_header_put_bytes(store: &mut [u8], at: usize, id: u8, value: &[u8]) -> Answer
@@ -174,25 +175,20 @@ pub extern "C" fn obex_challenge_read(value: &[u8]) -> Challenge
     ensures { result ≡ challenge_told (read_challenge value.now) }
 {
     match packet::auth::read_challenge(value) {
-        DigestChallenge::Challenge {
-            nonce,
-            user_id_required,
-            read_only,
-            realm,
-        } => {
-            let place = place_of(realm);
+        Some(challenge) => {
+            let place = place_of(challenge.realm);
             Challenge {
                 readable: 1,
-                first: nonce.first,
-                second: nonce.second,
-                user_id_required: flag_number(user_id_required),
-                read_only: flag_number(read_only),
+                first: challenge.nonce.first,
+                second: challenge.nonce.second,
+                user_id_required: flag_number(challenge.user_id_required),
+                read_only: flag_number(challenge.read_only),
                 has_realm: place.found,
                 realm_start: place.start,
                 realm_end: place.end,
             }
         }
-        DigestChallenge::Unreadable => Challenge {
+        None => Challenge {
             readable: 0,
             first: 0,
             second: 0,
@@ -213,6 +209,7 @@ pub extern "C" fn obex_challenge_answer(
     at: usize,
     first: u64,
     second: u64,
+    // Stays a flag beside the bytes of a user: the C interface has no Option.
     has_user: bool,
     user: &[u8],
     password: &[u8],

@@ -19,19 +19,3 @@ request_name (request.Password user) = 112 ∷ 97 ∷ 115 ∷ 115 ∷ 119 ∷ 11
 request_name (request.Credentials nonce required only realm) = 99 ∷ 114 ∷ 101 ∷ 100 ∷ 101 ∷ 110 ∷ 116 ∷ 105 ∷ 97 ∷ 108 ∷ 115 ∷ []
 request_name request.Nonce = []
 request_name (request.Read room) = []
-
--- The number of the line of the names in `put_name` that is the name of a request.
-abbrev pub name_line : HostRequest → ℕ
-name_line (request.Connect n) = 1
-name_line (request.Disconnect n) = 2
-name_line (request.SetPath n backup no-create) = 3
-name_line (request.Abort n) = 4
-name_line (request.Put kept b) = 5
-name_line (request.Get kept) = 6
-name_line (request.Action kept) = 7
-name_line (request.Session kept) = 8
-name_line (request.UserDefined opcode kept) = 9
-name_line (request.Password user) = 10
-name_line (request.Credentials nonce required only realm) = 11
-name_line request.Nonce = 0
-name_line (request.Read room) = 0

@@ -21,20 +21,13 @@ pub enum Kind {
     NoBody,
 }
 
-// Sixteen bytes of the kernel's, or none.
-#[derive(Clone, Copy)]
-enum Drawn {
-    Fresh(Octets16),
-    Missing,
-}
-
-// Draws a nonce. The kernel gives no sixteen bytes twice, as far as anybody can tell.
-fn draw(random: &impl RandomSource) -> Drawn {
+// Draws a nonce, if the kernel has one. It gives no sixteen bytes twice, as far as anybody can tell.
+fn draw(random: &impl RandomSource) -> Option<Octets16> {
     let mut bytes = [0u8; 16];
-    if random.fill_bytes(&mut bytes).is_ok() {
-        return Drawn::Fresh(octets16_of(bytes));
+    match random.fill_bytes(&mut bytes) {
+        Ok(_) => Some(octets16_of(bytes)),
+        Err(_) => None,
     }
-    Drawn::Missing
 }
 
 // Returns which call answers `request`.
@@ -42,28 +35,15 @@ fn kind_of(request: HostRequest) -> Kind
     ensures { result ≡ kind_for request }
 {
     match request {
-        HostRequest::Connect { length: _ } => Kind::Reply(SUCCESS),
-        HostRequest::Disconnect { length: _ } => Kind::Reply(SUCCESS),
-        HostRequest::SetPath {
-            length: _,
-            backup: _,
-            no_create: _,
-        } => Kind::Reply(NOT_IMPLEMENTED),
-        HostRequest::Abort { length: _ } => Kind::Acknowledge,
-        HostRequest::Put { kept: _, body: _ } => Kind::Reply(SUCCESS),
-        HostRequest::Get { kept: _ } => Kind::Reply(NOT_IMPLEMENTED),
-        HostRequest::Action { kept: _ } => Kind::Reply(NOT_IMPLEMENTED),
-        HostRequest::Session { kept: _ } => Kind::Reply(NOT_IMPLEMENTED),
-        HostRequest::UserDefined { opcode: _, kept: _ } => Kind::Reply(NOT_IMPLEMENTED),
-        HostRequest::Password { user_id: _ } => Kind::NoPassword,
+        HostRequest::Connect { .. } | HostRequest::Disconnect { .. } | HostRequest::Put { .. } => {
+            Kind::Reply(SUCCESS)
+        }
+        HostRequest::Abort { .. } => Kind::Acknowledge,
+        HostRequest::Password { .. } => Kind::NoPassword,
+        HostRequest::Credentials { .. } => Kind::NoCredentials,
         HostRequest::Nonce => Kind::Nonce,
-        HostRequest::Credentials {
-            nonce: _,
-            user_id_required: _,
-            read_only: _,
-            realm: _,
-        } => Kind::NoCredentials,
-        HostRequest::Read { room: _ } => Kind::NoBody,
+        HostRequest::Read { .. } => Kind::NoBody,
+        _ => Kind::Reply(NOT_IMPLEMENTED),
     }
 }
 
@@ -91,8 +71,8 @@ pub fn answer(
             e, false, false, b"", b"", packet, headers, body, reply,
         ),
         Kind::Nonce => match draw(random) {
-            Drawn::Fresh(n) => calls::nonce_given(e, n, b"", tables, packet, headers, body, reply),
-            Drawn::Missing => calls::body_failed(e, packet, headers, body, reply),
+            Some(n) => calls::nonce_given(e, n, b"", tables, packet, headers, body, reply),
+            None => calls::body_failed(e, packet, headers, body, reply),
         },
         Kind::NoBody => calls::body_failed(e, packet, headers, body, reply),
     }

@@ -1,6 +1,6 @@
 -- Gathering (docs/PROTOCOL.md#put, #get, #headers-only; the source's engine/server.rs): the headers of an operation's packets go to the
 -- header store as received, the body bytes of a Put to the body store.
-use Rattle.std.specs.Prelude.{ℕ, ◌+◌, List, [], ◌∷◌, Bool, true, false, length, leb}
+use Rattle.std.specs.Prelude.{ℕ, ◌+◌, List, [], ◌∷◌, Bool, true, false, length, leb, Option}
 use Rattle.std.proofs.Math.Seq.{paste}
 use Rattle.base.specs.Pick.{pick}
 use Rattle.packet.specs.Limits.{max_packet}
@@ -20,6 +20,10 @@ pub record Gathering : Type 0 where
 -- Makes a `Gathering`.
 abbrev pub gathering : Gathered → List ℕ → List ℕ → Gathering
 gathering g h b = record { got = g; headers = h; body = b }
+
+-- How many body bytes a Put or a part has, as the code says it: none if no body header came, which differs from a body of 0 bytes.
+abbrev pub Body : Type 0
+Body = Option ℕ
 
 -- What becomes of a header.
 pub data Fate : Type 0 where

@@ -1,6 +1,6 @@
 // Frames (docs/PROTOCOL.md#frames; the source's engine/io.rs, Framed::read_packet): the bytes of a packet go to the front of the packet
 // store, in runs and not one by one.
-ghost use Rattle.std.specs.Prelude.{◌≡◌, ℕ, ◌+◌, ◌≤◌, ◌<◌, length, drop};
+ghost use Rattle.std.specs.Prelude.{◌≡◌, ℕ, ◌+◌, ◌≤◌, ◌<◌, length, drop, IfSome};
 ghost use Rattle.base.specs.Bytes.{be16};
 ghost use Rattle.packet.specs.Limits.{max_packet};
 ghost use Rattle.incoming.specs.Frame.{frame_end, framed, frames, placed_in, coming};
@@ -54,11 +54,7 @@ fn room(at: usize, n: usize, left: usize) -> usize
     if at < 3 {
         return 0;
     }
-    if n <= at + 1 {
-        return 0;
-    }
-    let m = n - 1 - at;
-    if m < left { m } else { left }
+    n.saturating_sub(at + 1).min(left)
 }
 
 // Copies bytes from the middle of a packet at once, and returns how many.
@@ -68,7 +64,7 @@ fn bulk(at: usize, i: usize, input: &[u8], packet: &mut [u8]) -> usize
     ensures model { framed packet.old at i (drop i input.now)
         ≡ framed packet.new (at + result) (i + result) (drop (i + result) input.now) }
 {
-    let n = be16_at(&packet[..], 1);
+    let n = be16_at(packet, 1);
     let m = room(at, n, input.len() - i);
     copy_into(packet, at, &input[i..i + m]);
     m
@@ -82,8 +78,9 @@ fn read_on(begun: usize, input: &[u8], packet: &mut [u8]) -> Framed
 {
     let mut at = begun;
     let mut i = 0;
+    // Stays a loop over two places: it copies runs of many lengths, and the bytes that it has copied tell how long the next may be.
     loop {
-        let m = bulk(at, i, input, &mut packet[..]);
+        let m = bulk(at, i, input, packet);
         at += m;
         i += m;
         if input.len() <= i {
@@ -96,42 +93,30 @@ fn read_on(begun: usize, input: &[u8], packet: &mut [u8]) -> Framed
         packet[at] = input[i];
         at += 1;
         i += 1;
-        match frame_end(&packet[..], at) {
-            Frame::More => {}
-            Frame::Whole => {
-                return Framed {
-                    begun: at,
-                    taken: i,
-                    frame: Frame::Whole,
-                };
-            }
-            Frame::Short => {
-                return Framed {
-                    begun: at,
-                    taken: i,
-                    frame: Frame::Short,
-                };
-            }
-        }
+        let frame = frame_end(packet, at);
+        let Frame::More = frame else {
+            return Framed {
+                begun: at,
+                taken: i,
+                frame,
+            };
+        };
     }
 }
 
-// Returns the length of the packet with which `input` begins, or 0 if `input` does not hold all of it or its length field is under 3.
-fn whole_length(input: &[u8]) -> usize
-    ensures fits { (result ≤ length input.now) × (result ≤ max_packet) }
-    ensures field { 0 < result → (3 ≤ result) × (result ≡ be16 input.now 1) }
+// Returns the length of the packet with which `input` begins, or `None` if `input` does not hold all of it or its length field is under 3.
+fn whole_length(input: &[u8]) -> Option<usize>
+    ensures fits { IfSome result (λ n. (n ≤ length input.now) × (n ≤ max_packet)) }
+    ensures field { IfSome result (λ n. (3 ≤ n) × (n ≡ be16 input.now 1)) }
 {
     if input.len() < 3 {
-        return 0;
+        return None;
     }
     let n = be16_at(input, 1);
-    if n < 3 {
-        return 0;
+    if n < 3 || n > input.len() {
+        return None;
     }
-    if n > input.len() {
-        return 0;
-    }
-    n
+    Some(n)
 }
 
 // Takes offered bytes into the packet store, up to the packet's end and never past it. A packet that is offered whole is copied at once,
@@ -141,16 +126,15 @@ fn read_offered(begun: usize, input: &[u8], packet: &mut [u8]) -> Framed
     ensures whole { result.frame ≡ Frame.Whole → (3 ≤ result.begun) × (result.begun ≤ max_packet) }
     ensures model { frames result packet.new ≡ framed packet.old begun 0 input.now }
 {
-    if begun == 0 {
-        let n = whole_length(input);
-        if n > 0 {
-            copy_into(packet, 0, &input[..n]);
-            return Framed {
-                begun: n,
-                taken: n,
-                frame: Frame::Whole,
-            };
-        }
+    if begun == 0
+        && let Some(n) = whole_length(input)
+    {
+        copy_into(packet, 0, &input[..n]);
+        return Framed {
+            begun: n,
+            taken: n,
+            frame: Frame::Whole,
+        };
     }
     read_on(begun, input, packet)
 }
@@ -162,11 +146,7 @@ fn earliest_end(begun: usize, n: usize) -> usize
     ensures reached { (3 ≤ result) × (begun < result) × (n ≤ result) × (result ≤ max_packet) }
     ensures least { (m : ℕ) → 3 ≤ m → begun < m → n ≤ m → result ≤ m }
 {
-    let next = begun + 1;
-    if n < next {
-        return if next < 3 { 3 } else { next };
-    }
-    if n < 3 { 3 } else { n }
+    n.max(begun + 1).max(3)
 }
 
 // Returns where `count` bytes behind the first `begun` of a store of `len` bytes end. The store may end before them.
@@ -174,10 +154,7 @@ fn placed_end(begun: usize, count: usize, len: usize) -> usize
     requires { begun ≤ len }
     ensures { (begun ≤ result) × (result ≤ len) × (result ≤ begun + count) × (result < len → result ≡ begun + count) }
 {
-    if count < len - begun {
-        return begun + count;
-    }
-    len
+    begun + count.min(len - begun)
 }
 
 // Takes `count` bytes that stand in the packet store already, behind the `begun` ones, up to the packet's end and never past it.
@@ -198,18 +175,10 @@ fn read_placed(begun: usize, count: usize, packet: &[u8]) -> Framed
             frame: Frame::More,
         };
     }
-    let taken = stop - begun;
-    if n < 3 {
-        return Framed {
-            begun: stop,
-            taken,
-            frame: Frame::Short,
-        };
-    }
     Framed {
         begun: stop,
-        taken,
-        frame: Frame::Whole,
+        taken: stop - begun,
+        frame: if n < 3 { Frame::Short } else { Frame::Whole },
     }
 }
 
@@ -221,16 +190,13 @@ pub fn read_packet(begun: usize, placed: usize, input: &[u8], packet: &mut [u8])
     ensures model { frames result packet.new
         ≡ framed packet.old begun 0 (coming packet.old begun placed input.now) }
 {
-    let f = read_placed(begun, placed, &packet[..]);
-    let frame = f.frame;
-    let Frame::More = frame else {
+    let f = read_placed(begun, placed, packet);
+    let Frame::More = f.frame else {
         return f;
     };
     let g = read_offered(f.begun, input, packet);
-    let end = g.frame;
     Framed {
-        begun: g.begun,
         taken: f.taken + g.taken,
-        frame: end,
+        ..g
     }
 }

@@ -41,23 +41,19 @@ pub struct Gathered {
 }
 
 // Tells whether `id` is Body or EndOfBody.
+#[tactic(auto, unfolding(journal::specs::Record::is_body))]
 fn is_body(id: u8) -> bool
     ensures { result ≡ is_body id }
 {
-    if id == BODY {
-        return true;
-    }
-    id == END_OF_BODY
+    matches!(id, BODY | END_OF_BODY)
 }
 
 // Tells whether `id` is one of the two SRM headers.
+#[tactic(auto, unfolding(journal::specs::Record::is_srm))]
 fn is_srm(id: u8) -> bool
     ensures { result ≡ is_srm id }
 {
-    if id == SINGLE_RESPONSE_MODE {
-        return true;
-    }
-    id == SINGLE_RESPONSE_MODE_PARAMETERS
+    matches!(id, SINGLE_RESPONSE_MODE | SINGLE_RESPONSE_MODE_PARAMETERS)
 }
 
 // Appends the bytes of a header to the header store, if the kept headers then stay within 65,535 bytes.
@@ -66,16 +62,15 @@ fn keep_bytes(bytes: &[u8], g: Gathered, headers: &mut [u8]) -> Gathered
     ensures model { (b : List ℕ) → gathering result headers.new b
         ≡ keep_bytes (gathering g headers.old b) bytes.now }
 {
-    let kept = g.kept;
-    let mut r = g;
-    if MAX_PACKET - kept < bytes.len() {
-        r.full = true;
-        return r;
+    if MAX_PACKET - g.kept < bytes.len() {
+        return Gathered { full: true, ..g };
     }
-    copy_into(headers, kept, bytes);
-    r.kept = kept + bytes.len();
-    r.full = false;
-    r
+    copy_into(headers, g.kept, bytes);
+    Gathered {
+        kept: g.kept + bytes.len(),
+        full: false,
+        ..g
+    }
 }
 
 // Appends the bytes of a body header to the body store, unless they pass the limit: then none of them is stored, but a later header that
@@ -85,17 +80,21 @@ fn store_bytes(bytes: &[u8], g: Gathered, limit: usize, body: &mut [u8]) -> Gath
     ensures model { (h : List ℕ) → gathering result h body.new
         ≡ store_bytes limit (gathering g h body.old) bytes.now }
 {
-    let stored = g.body;
-    let mut r = g;
-    r.came = true;
-    r.full = false;
-    if limit - stored < bytes.len() {
-        r.over = true;
-        return r;
+    if limit - g.body < bytes.len() {
+        return Gathered {
+            came: true,
+            over: true,
+            full: false,
+            ..g
+        };
     }
-    copy_into(body, stored, bytes);
-    r.body = stored + bytes.len();
-    r
+    copy_into(body, g.body, bytes);
+    Gathered {
+        body: g.body + bytes.len(),
+        came: true,
+        full: false,
+        ..g
+    }
 }
 
 // Tells whether the value of a header with `id` is stored as body bytes.
@@ -104,8 +103,7 @@ fn is_stored(keep: Keep, id: u8) -> bool
 {
     match keep {
         Keep::Put => is_body(id),
-        Keep::Get => false,
-        Keep::All => false,
+        Keep::Get | Keep::All => false,
     }
 }
 
@@ -114,8 +112,7 @@ fn is_dropped(keep: Keep, id: u8) -> bool
     ensures { result ≡ is_dropped keep id }
 {
     match keep {
-        Keep::Put => is_srm(id),
-        Keep::Get => is_srm(id),
+        Keep::Put | Keep::Get => is_srm(id),
         Keep::All => false,
     }
 }
@@ -168,14 +165,9 @@ pub fn gather(
 {
     let mut g = begun;
     let mut at = from;
+    // Stays a walk from place to place: each header tells where the next one starts.
     while !g.full {
-        let HeaderAt::At {
-            id,
-            encoding: _,
-            start,
-            end,
-        } = step(p, at)
-        else {
+        let HeaderAt::At { id, start, end, .. } = step(p, at) else {
             return g;
         };
         g = gather_one(p, at, start, end, id, keep, limit, g, headers, body);

@@ -12,6 +12,7 @@ use lib.Dec.{leb, ltb}
 use borrow.Author.Tests.{ltb-true, ltb-false, lt-leb, le-leb}
 use Rattle.base.specs.Pick.{pick}
 use Rattle.base.specs.Bytes.{be32}
+use Rattle.base.specs.Place.{Place, Some, None}
 use Rattle.packet.specs.FirstByte.{first_byte, same_opcode}
 use Rattle.packet.specs.Header.{Header, read_headers, first, present, first_place}
 use Rattle.packet.specs.Packet.{Request, prefix_of, request_with, request_by, request_of}
@@ -19,9 +20,7 @@ use Rattle.packet.specs.Tags.{bytes_at}
 use Rattle.packet.specs.declared.opcode.Opcode.{Opcode}
 use Rattle.packet.specs.declared.opcode.Opcode.TheVariants as op
 use Rattle.packet.specs.declared.opcode.FirstByte.{FirstByte}
-use Rattle.packet.specs.declared.opcode.FirstByte.TheVariants.{Known, Unknown}
-use Rattle.packet.specs.declared.tlv.Found.{Found}
-use Rattle.packet.specs.declared.tlv.Found.TheVariants as place
+use Rattle.std.specs.Prelude.{Option as Maybe}
 use Rattle.packet.proofs.HeaderBytes.{Octets}
 use Rattle.packet.proofs.HeaderLaws.{first-agrees}
 use Rattle.journal.specs.Record.{Record, joined, size_of, bare, carried_by, kept_by_get}
@@ -67,9 +66,9 @@ octets-take (suc n) [] o k = omega arith
 octets-take (suc n) (x ∷ l) o zero = o 0
 octets-take (suc n) (x ∷ l) o (suc k) = octets-take n l (λ i. o (suc i)) k
 
-octets_at : (p : List ℕ) (f : Found) → Octets p → Given (bytes_at p f)
-octets_at p place.Missing o = tt
-octets_at p (place.At b e) o = octets-take (e - b) (drop b p) (λ k. rw (get_or-drop b p k 0) (o (b + k)))
+octets_at : (p : List ℕ) (f : Place) → Octets p → Given (bytes_at p f)
+octets_at p None o = tt
+octets_at p (Some q) o = octets-take (q.end - q.start) (drop q.start p) (λ k. rw (get_or-drop q.start p k 0) (o (q.start + k)))
 
 -- the headers of a packet of bytes have values of bytes
 request-given : (p : List ℕ) (id : ℕ) → Octets p → Given (first id (headers_of (request_of p)))
@@ -85,9 +84,9 @@ request-given p id o = go (first_byte (get_or p 0 0))
     by true c f = tt
     by false c f = with_headers_lem c f (read_headers p (prefix_of c)) refl
 
-    go : (b : FirstByte) → Given (first id (headers_of (request_by b p)))
-    go Unknown = tt
-    go (Known c f) = by (ltb (length p) (prefix_of c)) c f
+    go : (b : Maybe FirstByte) → Given (first id (headers_of (request_by b p)))
+    go None = tt
+    go (Some b) = by (ltb (length p) (prefix_of b.opcode)) b.opcode b.is_final
 
 -- ---- between two packets, without the bytes of one that has begun
 

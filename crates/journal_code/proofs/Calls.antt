@@ -16,7 +16,7 @@ use Rattle.packet.specs.HeaderList.{is_read, readable_from}
 use Rattle.packet.specs.Packet.{Request, prefix_of, request_with, request_by, request_of}
 use Rattle.packet.specs.declared.opcode.Opcode.{Opcode}
 use Rattle.packet.specs.declared.opcode.FirstByte.{FirstByte}
-use Rattle.packet.specs.declared.opcode.FirstByte.TheVariants.{Known, Unknown}
+use Rattle.std.specs.Prelude.{Option as Maybe, Some, None}
 use Rattle.journal.specs.Journal.{list_of}
 use Rattle.incoming.specs.Frame.{Frames, frames}
 use Rattle.incoming.specs.declared.frame.Frame.TheVariants.{More, Whole, Short}
@@ -26,7 +26,7 @@ use Rattle.connection.specs.Pieces.{headers_from}
 use Rattle.filing.specs.Kinds.{ids_in}
 use Rattle.journal_code.specs.declared.state.State.{State}
 use Rattle.journal_code.specs.declared.heading.Heading.{Heading}
-use Rattle.journal_code.specs.declared.heading.Reading.TheVariants.{Unreadable, Read}
+use Rattle.std.specs.Prelude.{Some, None}
 use Rattle.journal_code.specs.State.{quiet, ended_with, coming_to, standing_by, fits_in}
 use Rattle.journal_code.specs.Heading.{heading_of, reading_of}
 use Rattle.journal_code.specs.Route.{heading_route}
@@ -94,23 +94,23 @@ request-headers p r e = go (first_byte (get_or p 0 0)) e
     by true o f e = absurd (let z : ◌≡◌ {A = ℕ} 0 1 = cc in omega arith)
     by false o f e = read o f (read_headers p (prefix_of o)) refl e
 
-    go : (b : FirstByte) → request_by b p ≡ some r → read_headers p (prefix_of r.opcode) ≡ some r.headers
-    go Unknown e = absurd (let z : ◌≡◌ {A = ℕ} 0 1 = cc in omega arith)
-    go (Known o f) e = by (ltb (length p) (prefix_of o)) o f e
+    go : (b : Maybe FirstByte) → request_by b p ≡ some r → read_headers p (prefix_of r.opcode) ≡ some r.headers
+    go None e = absurd (let z : ◌≡◌ {A = ℕ} 0 1 = cc in omega arith)
+    go (Some b) e = by (ltb (length p) (prefix_of b.opcode)) b.opcode b.is_final e
 
 module _ (s : State) (p t hd bd : List ℕ) where
   abbrev ids : List ℕ
   ids = ids_of s.peer t
 
-  pub unread : reading_of (request_of p) ids t ≡ Unreadable → step (unreadable_state s) hd bd ≡ packet_step s p t hd bd
+  pub unread : reading_of (request_of p) ids t ≡ None → step (unreadable_state s) hd bd ≡ packet_step s p t hd bd
   unfolding packet_step
   unread e = go (request_of p) e
     where
-      go : (r : Option Request) → reading_of r ids t ≡ Unreadable → step (unreadable_state s) hd bd ≡ request_step r s t hd bd
+      go : (r : Option Request) → reading_of r ids t ≡ None → step (unreadable_state s) hd bd ≡ request_step r s t hd bd
       go none e = refl
       go (some r) e = absurd (let z : ◌≡◌ {A = ℕ} 0 1 = cc in omega arith)
 
-  module _ (h : Heading) (e : reading_of (request_of p) ids t ≡ Read h) where
+  module _ (h : Heading) (e : reading_of (request_of p) ids t ≡ Some h) where
     -- the heading is that of a request
     record Found : Type 0 where
       request : Request
@@ -120,7 +120,7 @@ module _ (s : State) (p t hd bd : List ℕ) where
     found : Found
     found = go (request_of p) refl e
       where
-        go : (q : Option Request) → request_of p ≡ q → reading_of q ids t ≡ Read h → Found
+        go : (q : Option Request) → request_of p ≡ q → reading_of q ids t ≡ Some h → Found
         go none i e = absurd (let z : ◌≡◌ {A = ℕ} 0 1 = cc in omega arith)
         go (some r) i e = record { request = r; is = i; heading = cc }
 

@@ -22,7 +22,7 @@ use Rattle.incoming.specs.declared.frame.Frame.TheVariants.{More}
 use Rattle.incoming.specs.declared.gather.Gathered.{Gathered}
 use Rattle.incoming.proofs.Gathers.{PutAgrees}
 use Rattle.table.specs.Targets.{target_bytes}
-use Rattle.connection.specs.Peer.{id_in, target_given}
+use Rattle.connection.specs.Peer.{id_in, target_asked}
 use Rattle.connection.specs.declared.peer.Peer.{Peer}
 use Rattle.connection.proofs.Carrying.{Carried}
 use Rattle.connection.proofs.Openings.{Given}
@@ -66,7 +66,7 @@ pub record Begins (b : ℕ) (p q : List ℕ) : Type 0 where
 
 -- what of a request decides what the host's reply to it does
 abbrev pub last_of : Opcode → List Header → Last
-last_of op.Connect hs = last.Connect (is_enable (first 0x97 hs)) (present (first 0x46 hs)) (target_given (first 0x46 hs))
+last_of op.Connect hs = last.Connect (is_enable (first 0x97 hs)) (target_asked (first 0x46 hs))
 last_of op.Disconnect hs = last.Disconnect (id_in (first 0xCB hs))
 last_of op.Put hs = last.Other
 last_of op.Get hs = last.Other

@@ -20,7 +20,7 @@ use Rattle.journal.specs.Ids.{member, without, without_all, new_id}
 use Rattle.journal.specs.Checks.{Check}
 use Rattle.journal.specs.Journal.{Settings as JournalSettings, Standing, Opened, nothing, trailing, putting, getting, sending, gathering, draining, Journal, unchanged, stands, busy, list_of, asks_srm, is_enable, with_ids, open_id, opens_for, connected, leaves, disconnected, closes, reply_to, reply_last, replied, headers_of}
 use Rattle.journal.specs.Naming.{Opening, Naming, id_opened, opens_as, answer_names}
-use Rattle.connection.specs.Peer.{ids_of, id_in, isGiven, target_given, Linked, opening_of, opened_for, answer_by, left_peer, closed_tables, disconnected_peer, disconnected_by}
+use Rattle.connection.specs.Peer.{ids_of, id_in, target_asked, Linked, opening_of, opened_for, answer_from, front_by_of, answer_by, left_peer, closed_tables, disconnected_peer, disconnected_by}
 use Rattle.connection.specs.Pieces.{headers_from}
 use Rattle.connection.specs.declared.peer.Peer.{Peer}
 use Rattle.connection.proofs.ByNumbers.{opened_by_lem, disconnected_by_lem}
@@ -36,7 +36,7 @@ use Rattle.journal_code.specs.declared.state.Last.{Last}
 use Rattle.journal_code.specs.declared.state.Last.TheVariants as last
 use Rattle.journal_code.specs.State.{quiet, standing_by, opens_now}
 use Rattle.journal_code.specs.Route.{asks_in}
-use Rattle.journal_code.specs.Answer.{Tabled, tabled, linked_in, is_nothing, stands_answered, stands_linked, connected_step, reply_step, answered_inside, answered_step, Remaining, closed_all, closes_to, closed_step}
+use Rattle.journal_code.specs.Answer.{Tabled, tabled, linked_in, is_nothing, peer_or, stands_answered, stands_linked, connected_step, reply_step, answered_inside, answered_step, Remaining, closed_all, closes_to, closed_step}
 use Rattle.journal_code.specs.Run.{Stores, Held, held_tabled}
 use Rattle.journal_code.proofs.Picks.{on_true, on_false}
 use Rattle.journal_code.proofs.Coupling.{plain, last_of, last_in, OpenedAs, Live, Next}
@@ -170,7 +170,7 @@ module _ (s : State) (x : Stores) (j : Journal) (n : Naming) (w : Live s x j n) 
     under_same (some i) = refl
 
     abbrev by : Option Linked → Tabled
-    by q = tabled (standing_by s (opening_of p t q).opening.peer) (opening_of p t q).tables
+    by q = tabled (standing_by s (peer_or p (answer_from (opening_of t q) (front_by_of p t (id_in a) (target_asked v))).answer)) (opening_of t q).tables
 
     opened-next : (q : Option Linked) → opened_for p t srm a v ≡ q → Next (held_of (by q)) (unchanged (stands j opening)) names
     opened-next none e =
@@ -206,7 +206,7 @@ module _ (s : State) (x : Stores) (j : Journal) (n : Naming) (w : Live s x j n) 
         })
         (under_same (id_opened j.standing a v))
 
-    opened-answer : Next (held_of (stands_answered s (answer_by p t srm (id_in a) (isGiven v) (target_given v)))) (unchanged (stands j opening)) names
+    opened-answer : Next (held_of (stands_answered s (answer_by p t srm (id_in a) (target_asked v)))) (unchanged (stands j opening)) names
     opened-answer =
         next_as (ap (λ (q : Option Linked). held_of (by q)) (opened_by_lem p t srm a v)) refl refl (opened-next (opened_for p t srm a v) refl)
 

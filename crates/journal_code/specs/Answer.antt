@@ -1,6 +1,6 @@
 -- What the entries of a log that are no packets do to the state and the table store (docs/PROTOCOL.md#journal): the journal's `replied`,
 -- `object_sent`, `taken_at`, `password_checked`, `challenged` and `closes` as the code has them.
-use Rattle.std.specs.Prelude.{ℕ, List, [], ◌∷◌, Bool, true, false, ◌&&◌, length, take, leb, eqb}
+use Rattle.std.specs.Prelude.{ℕ, List, [], ◌∷◌, Bool, true, false, ◌&&◌, length, take, leb, eqb, Option, Some, None}
 use Rattle.base.specs.Pick.{pick}
 use Rattle.packet.specs.HeaderIds as header_id
 use Rattle.packet.specs.Header.{first}
@@ -10,9 +10,10 @@ use Rattle.packet.specs.Limits.{max_connections}
 use Rattle.journal.specs.Ids.{without}
 use Rattle.table.specs.Places.{table_length}
 use Rattle.table.specs.declared.targets.Target.{Target}
-use Rattle.connection.specs.Peer.{id_in, Linked, checked_peer, verified_peer, authenticated_peer, left_peer, closed_tables, Answers, answer_by, disconnected_by}
+use Rattle.connection.specs.Peer.{id_in, Linked, checked_peer, verified_peer, authenticated_peer, left_peer, closed_tables, Answers, answer_by, disconnected_by, AskedTarget}
 use Rattle.connection.specs.Pieces.{headers_from}
 use Rattle.connection.specs.declared.peer.Peer.{Peer}
+use Rattle.connection.specs.declared.peer.Answer.{Answer}
 use Rattle.journal_code.specs.declared.state.State.{State}
 use Rattle.journal_code.specs.declared.state.Open.{Open}
 use Rattle.journal_code.specs.declared.state.Open.TheVariants.{Nothing, Trailing, Putting, Getting, Sending, Gathering, Draining}
@@ -46,24 +47,29 @@ is_nothing Draining = false
 
 -- ---- replies
 
+-- The peer of an answer to a Connect, or the peer `p` if no id was opened.
+abbrev pub peer_or : Peer → Option Answer → Peer
+peer_or p None = p
+peer_or p (Some a) = a.peer
+
 -- The state with the peer and the table store of an answer to a Connect, and of a Disconnect.
 abbrev pub stands_answered : State → Answers → Tabled
-stands_answered s a = tabled (standing_by s a.answer.opening.peer) a.tables
+stands_answered s a = tabled (standing_by s (peer_or s.peer a.answer)) a.tables
 
 abbrev pub stands_linked : State → Linked → Tabled
 stands_linked s l = tabled (standing_by s l.peer) l.tables
 
--- A Connect is answered: `enable`, `has` and `g` are what it asked for.
-unfoldable pub connected_step : State → ℕ → List ℕ → Bool → Bool → Target → List ℕ → Tabled
-connected_step s code hs enable has g t =
+-- A Connect is answered: `enable` and `w` are what it asked for.
+unfoldable pub connected_step : State → ℕ → List ℕ → Bool → AskedTarget → List ℕ → Tabled
+connected_step s code hs enable w t =
     pick (is_success code)
-    (stands_answered s (answer_by s.peer t (asks_in s enable) (id_in (first header_id.connection_id (headers_from hs 0))) has g))
+    (stands_answered s (answer_by s.peer t (asks_in s enable) (id_in (first header_id.connection_id (headers_from hs 0))) w))
     (tabled (quiet s) t)
 
 -- The last packet is answered, with nothing open.
 abbrev pub reply_step : Last → State → ℕ → List ℕ → List ℕ → Tabled
 reply_step last.Other s code hs t = tabled (quiet s) t
-reply_step (last.Connect enable has g) s code hs t = connected_step s code hs enable has g t
+reply_step (last.Connect enable w) s code hs t = connected_step s code hs enable w t
 reply_step (last.Disconnect i) s code hs t = stands_linked s (disconnected_by s.peer t i)
 
 -- A reply inside an operation closes a Get.

@@ -1,5 +1,5 @@
 -- What the journal asks of a packet, as the code has it (docs/PROTOCOL.md#journal): of a few headers the first.
-use Rattle.std.specs.Prelude.{ℕ, List, Bool, true, false}
+use Rattle.std.specs.Prelude.{ℕ, List, Bool, true, false, Option as Maybe, Some, None}
 use Rattle.std.proofs.Math.Option.{Option, none, some}
 use Rattle.base.specs.Pick.{pick}
 use Rattle.packet.specs.HeaderIds as header_id
@@ -11,13 +11,9 @@ use Rattle.journal.specs.Ids.{member}
 use Rattle.table.specs.Targets.{unnamed, place_of, target_at}
 use Rattle.table.specs.declared.targets.Target.{Target}
 use Rattle.incoming.specs.Survey.{survey_of}
-use Rattle.connection.specs.Peer.{target_given}
-use Rattle.connection.specs.declared.peer.ConnectionId.{ConnectionId}
-use Rattle.connection.specs.declared.peer.ConnectionId.TheVariants.{Id, Missing}
+use Rattle.connection.specs.Peer.{target_asked, ConnectionId}
 use Rattle.journal_code.specs.declared.heading.Link.{Link}
 use Rattle.journal_code.specs.declared.heading.Heading.{Heading}
-use Rattle.journal_code.specs.declared.heading.Reading.{Reading}
-use Rattle.journal_code.specs.declared.heading.Reading.TheVariants.{Unreadable, Read}
 use Rattle.journal_code.specs.declared.state.Last.{Last}
 use Rattle.journal_code.specs.declared.state.Last.TheVariants as last
 
@@ -29,8 +25,8 @@ link named unknown under = record { named = named; unknown = unknown; under = un
 unfoldable pub link_by : Bool → ℕ → List ℕ → List ℕ → Link
 link_by has id ids t =
     pick has
-    (pick (member id ids) (link (Id id) false (target_at t (place_of id ids))) (link (Id id) true unnamed))
-    (link Missing false unnamed)
+    (pick (member id ids) (link (Some id) false (target_at t (place_of id ids))) (link (Some id) true unnamed))
+    (link None false unnamed)
 
 -- The connection that a request names.
 abbrev pub link_of : Request → List ℕ → List ℕ → Link
@@ -49,18 +45,17 @@ heading_of r ids t =
       under = (link_of r ids t).under;
       has_name = present (first header_id.name r.headers);
       has_response = present (first header_id.authenticate_response r.headers);
-      has_target = present (first header_id.target r.headers);
-      target = target_given (first header_id.target r.headers);
+      target = target_asked (first header_id.target r.headers);
     }
 
 -- The same of what a packet reads as.
-abbrev pub reading_of : Option Request → List ℕ → List ℕ → Reading
-reading_of none ids t = Unreadable
-reading_of (some r) ids t = Read (heading_of r ids t)
+abbrev pub reading_of : Option Request → List ℕ → List ℕ → Maybe Heading
+reading_of none ids t = None
+reading_of (some r) ids t = Some (heading_of r ids t)
 
 -- What of a request decides what the host's reply to it does.
 abbrev pub last_by : Opcode → Heading → Last
-last_by Connect h = last.Connect h.enable h.has_target h.target
+last_by Connect h = last.Connect h.enable h.target
 last_by Disconnect h = last.Disconnect h.named
 last_by Put h = last.Other
 last_by Get h = last.Other

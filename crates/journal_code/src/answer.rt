@@ -13,7 +13,7 @@ ghost use Rattle.journal_code.specs.Answer.{linked_in, is_nothing, tabled, conne
 use crate::route::is_srm_on;
 use crate::state::{Last, Open, State, ended_with, opening, quiet, standing_by};
 use connection::peer::{
-    ConnectionId, Peer, close_link, disconnected, opened_for, verified, with_check, with_left,
+    Peer, close_link, disconnected, opened_for, verified, with_check, with_left,
 };
 use incoming::survey::survey_headers;
 use packet::header::be32_at;
@@ -30,63 +30,45 @@ const TRUNCATED: u8 = 2;
 const OTHER_OPERATION: u8 = 5;
 
 // Tells whether the table store has room for the ids that are open.
+#[tactic(auto, unfolding(crate::specs::Answer::linked_in))]
 fn is_linked(count: usize, tables: usize) -> bool
     ensures { result ≡ linked_in count tables }
 {
-    if count > MAX_CONNECTIONS {
-        return false;
-    }
-    tables >= TABLE_LENGTH
-}
-
-// Tells whether nothing is open, and nothing is refused either.
-fn is_nothing(opened: Open) -> bool
-    ensures { result ≡ is_nothing opened }
-{
-    match opened {
-        Open::Nothing => true,
-        Open::Trailing => false,
-        Open::Putting { srm: _ } => false,
-        Open::Getting => false,
-        Open::Sending => false,
-        Open::Gathering(_) => false,
-        Open::Draining => false,
-    }
+    count <= MAX_CONNECTIONS && tables >= TABLE_LENGTH
 }
 
 // Returns the first ConnectionID among the headers `hs`, if there is one and all can be read.
-fn first_id(hs: &[u8]) -> ConnectionId
+#[tactic(auto, using(crate::proofs::Packets::id_given_lem, crate::proofs::Packets::id_missing))]
+fn first_id(hs: &[u8]) -> Option<u32>
     ensures { result ≡ id_in (first header_id.connection_id (headers_from hs.now 0)) }
 {
     let v = survey_headers(hs, 0);
-    if v.has_id {
-        return ConnectionId::Id(v.id);
-    }
-    ConnectionId::Missing
+    if v.has_id { Some(v.id) } else { None }
 }
 
 // Answers a Connect: a success opens the id that the answer names, else, for a Target, a new one.
+#[tactic(auto, unfolding(crate::specs::Answer::connected_step))]
 fn connect(
     s: State,
     enable: bool,
     code: u8,
-    has_target: bool,
-    target: Target,
+    target: Option<Target>,
     hs: &[u8],
     tables: &mut [u64],
 ) -> State
     requires { (s.peer.count ≤ max_connections) × (table_length ≤ length tables.old) }
     ensures { tabled result tables.new
-        ≡ connected_step s code hs.now enable has_target target tables.old }
+        ≡ connected_step s code hs.now enable target tables.old }
 {
     if !is_success(code) {
         return quiet(s);
     }
     let srm = is_srm_on(s, enable);
     let given = first_id(hs);
-    let a = opened_for(s.peer, srm, given, has_target, target, tables);
-    let opening = a.opening;
-    standing_by(s, opening.peer)
+    match opened_for(s.peer, srm, given, target, tables) {
+        Some(answer) => standing_by(s, answer.peer),
+        None => quiet(s),
+    }
 }
 
 // Answers the last packet with nothing open.
@@ -97,11 +79,7 @@ fn reply_to(s: State, code: u8, hs: &[u8], tables: &mut [u64]) -> State
     let last = s.last;
     match last {
         Last::Other => quiet(s),
-        Last::Connect {
-            enable,
-            has_target,
-            target,
-        } => connect(s, enable, code, has_target, target, hs, tables),
+        Last::Connect { enable, target } => connect(s, enable, code, target, hs, tables),
         Last::Disconnect(named) => {
             let peer = disconnected(s.peer, named, tables);
             standing_by(s, peer)
@@ -109,23 +87,8 @@ fn reply_to(s: State, code: u8, hs: &[u8], tables: &mut [u64]) -> State
     }
 }
 
-// Returns the state once the host has answered inside an operation: a Get closes.
-fn answered_inside(s: State) -> State
-    ensures { result ≡ answered_inside s.opened s }
-{
-    let opened = s.opened;
-    match opened {
-        Open::Getting => opening(s, Open::Nothing),
-        Open::Nothing => quiet(s),
-        Open::Trailing => quiet(s),
-        Open::Putting { srm: _ } => quiet(s),
-        Open::Sending => quiet(s),
-        Open::Gathering(_) => quiet(s),
-        Open::Draining => quiet(s),
-    }
-}
-
 // The host answered with a reply: a code and the bytes of headers. With a table store that is too short nothing changes.
+#[tactic(auto, using(crate::proofs::Calls::linked), unfolding(crate::specs::Answer::answered_step))]
 pub fn answered(s: State, code: u8, hs: &[u8], tables: &mut [u64]) -> State
     ensures { tabled result tables.new ≡ answered_step s code hs.now tables.old }
 {
@@ -135,76 +98,43 @@ pub fn answered(s: State, code: u8, hs: &[u8], tables: &mut [u64]) -> State
     if !is_linked(s.peer.count, tables.len()) {
         return quiet(s);
     }
-    let opened = s.opened;
-    if is_nothing(opened) {
-        return reply_to(s, code, hs, tables);
-    }
-    answered_inside(s)
-}
-
-// Returns the state once the host has answered a Get with an object, before the end.
-fn object_open(s: State) -> State
-    ensures { result ≡ object_in s.opened s }
-{
-    let opened = s.opened;
-    match opened {
-        Open::Getting => opening(s, Open::Sending),
-        Open::Nothing => quiet(s),
-        Open::Trailing => quiet(s),
-        Open::Putting { srm: _ } => quiet(s),
-        Open::Sending => quiet(s),
-        Open::Gathering(_) => quiet(s),
-        Open::Draining => quiet(s),
+    match s.opened {
+        Open::Nothing => reply_to(s, code, hs, tables),
+        Open::Getting => opening(s, Open::Nothing),
+        _ => quiet(s),
     }
 }
 
 // The host answered a Get with an object.
+#[tactic(auto, unfolding(crate::specs::Answer::object_state))]
 pub fn object(s: State) -> State
     ensures { result ≡ object_state s }
 {
     if s.ended {
         return quiet(s);
     }
-    object_open(s)
-}
-
-// Returns the state once a reply was sent while an object is sent: the Get closes on the first one that is not Continue.
-fn sent_object(s: State, byte: u8) -> State
-    ensures { result ≡ sent_object s byte }
-{
-    if byte == CONTINUE_BYTE {
-        return quiet(s);
-    }
-    opening(s, Open::Nothing)
-}
-
-// Returns the state once a reply was sent, before the end.
-fn sent_open(s: State, byte: u8) -> State
-    ensures { result ≡ sent_in s.opened s byte }
-{
-    let opened = s.opened;
-    match opened {
-        Open::Sending => sent_object(s, byte),
-        Open::Nothing => quiet(s),
-        Open::Trailing => quiet(s),
-        Open::Putting { srm: _ } => quiet(s),
-        Open::Getting => quiet(s),
-        Open::Gathering(_) => quiet(s),
-        Open::Draining => quiet(s),
+    match s.opened {
+        Open::Getting => opening(s, Open::Sending),
+        _ => quiet(s),
     }
 }
 
 // A reply was sent, and `byte` is its first byte. After an end without a number it was the reply to a packet of another operation.
+#[tactic(auto, unfolding(crate::specs::Answer::sent_state, crate::specs::Answer::sent_object))]
 pub fn sent(s: State, byte: u8) -> State
     ensures { result ≡ sent_state s byte }
 {
-    if !s.ended {
-        return sent_open(s, byte);
+    if s.ended {
+        return if s.number == 0 {
+            ended_with(s, OTHER_OPERATION)
+        } else {
+            quiet(s)
+        };
     }
-    if s.number == 0 {
-        return ended_with(s, OTHER_OPERATION);
+    match s.opened {
+        Open::Sending if byte != CONTINUE_BYTE => opening(s, Open::Nothing),
+        _ => quiet(s),
     }
-    quiet(s)
 }
 
 // Returns the peer once a password was checked.
@@ -218,6 +148,7 @@ fn checked_peer(peer: Peer, right: bool) -> Peer
 }
 
 // A password was checked, and was right or not.
+#[tactic(auto, unfolding(crate::specs::Answer::checked_state))]
 pub fn checked(s: State, right: bool) -> State
     ensures { result ≡ checked_state s right }
 {
@@ -228,15 +159,18 @@ pub fn checked(s: State, right: bool) -> State
 }
 
 // Returns the peer without a password.
+#[tactic(auto, unfolding(connection::specs::Peer::peer_with))]
 fn unauthenticated(peer: Peer) -> Peer
     ensures { result ≡ authenticated_peer peer false peer.challenge }
 {
-    let mut r = peer;
-    r.authenticated = false;
-    r
+    Peer {
+        authenticated: false,
+        ..peer
+    }
 }
 
 // A challenge was made: the password is given no longer. No record depends on its nonce.
+#[tactic(auto, unfolding(crate::specs::Answer::nonce_state))]
 pub fn nonce(s: State) -> State
     ensures { result ≡ nonce_state s }
 {
@@ -247,15 +181,14 @@ pub fn nonce(s: State) -> State
 }
 
 // Closes the ids whose bytes `ids` are, four each, of the first `count` numbers of `tables`, and returns how many are left.
+#[tactic(auto, using(crate::proofs::Closes::begins, crate::proofs::Closes::done))]
 fn close_all(ids: &[u8], tables: &mut [u64], count: usize) -> usize
     requires { (count ≤ max_connections) × (table_length ≤ length tables.old) }
     ensures { remaining result tables.new ≡ closed_all (ids_in ids.now) count tables.old }
 {
     let mut left = count;
-    let mut at = 0;
-    while ids.len() - at >= 4 {
-        left = close_link(tables, left, be32_at(ids, at));
-        at += 4;
+    for id in ids.chunks_exact(4) {
+        left = close_link(tables, left, be32_at(id, 0));
     }
     left
 }
@@ -278,6 +211,7 @@ pub fn closed(s: State, ids: &[u8], tables: &mut [u64]) -> State
 }
 
 // The peer's stream ended, between packets or inside one.
+#[tactic(auto, unfolding(crate::specs::Answer::ended_state))]
 pub fn stream_ended(s: State) -> State
     ensures { result ≡ ended_state s }
 {

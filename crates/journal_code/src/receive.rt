@@ -8,7 +8,7 @@ ghost use Rattle.journal_code.specs.Heading.{last_by};
 ghost use Rattle.journal_code.specs.Route.{heading_route};
 ghost use Rattle.journal_code.specs.Receive.{stopped_in, peer_after, marked_by, target_after, after_packet, going_on, put_state, unreadable_state, begun_of, step, act_step, packet_step, came, received_step};
 
-use crate::heading::{Heading, Reading, read_heading};
+use crate::heading::{Heading, read_heading};
 use crate::route::{Route, heading_route};
 use crate::state::{
     Last, Lengths, Open, State, coming_to, ended_with, is_busy, is_fitting, moved,
@@ -18,7 +18,7 @@ use connection::checks::too_many;
 use connection::peer::{Peer, with_check};
 use incoming::frame::{Frame, read_packet};
 use incoming::gather::{Gathered, Keep, gather};
-use packet::opcode::{Opcode, same};
+use packet::opcode::Opcode;
 use table::targets::{Target, unnamed};
 
 // The numbers with which a session ends.
@@ -32,79 +32,54 @@ const HEADERS_TOO_LARGE: u8 = 6;
 fn is_stopped(s: State, h: Heading) -> bool
     ensures { result ≡ stopped_in s h }
 {
-    if s.settings.authentication {
-        if too_many(s.peer.window) {
-            return h.has_response;
-        }
-        return false;
-    }
-    false
+    s.settings.authentication && too_many(s.peer.window) && h.has_response
 }
 
 // Returns the peer after a packet: a Connect that is stopped joins the checks.
+#[tactic(auto, unfolding(crate::specs::Receive::peer_after, packet::specs::FirstByte::same_opcode))]
 fn peer_after(s: State, h: Heading) -> Peer
     ensures { result ≡ peer_after s h }
 {
-    let opcode = h.opcode;
-    if !same(opcode, Opcode::Connect) {
-        return s.peer;
+    if matches!(h.opcode, Opcode::Connect) && !is_busy(s.opened) && is_stopped(s, h) {
+        with_check(s.peer, false)
+    } else {
+        s.peer
     }
-    let opened = s.opened;
-    if is_busy(opened) {
-        return s.peer;
-    }
-    if is_stopped(s, h) {
-        return with_check(s.peer, false);
-    }
-    s.peer
 }
 
 // Tells whether a packet goes under the mark wherever it comes.
+#[tactic(auto, unfolding(packet::specs::FirstByte::same_opcode))]
 fn is_marked(opcode: Opcode) -> bool
     ensures { result ≡ marked_by opcode }
 {
-    if same(opcode, Opcode::Connect) {
-        return true;
-    }
-    same(opcode, Opcode::Abort)
+    matches!(opcode, Opcode::Connect | Opcode::Abort)
 }
 
 // Returns the Target under which a packet goes: between operations that of the id that it names, inside one that of its first packet.
+#[tactic(auto, unfolding(crate::specs::Receive::target_after))]
 fn target_after(s: State, h: Heading) -> Target
     ensures { result ≡ target_after s h }
 {
-    let opcode = h.opcode;
-    if is_marked(opcode) {
-        return unnamed();
+    if is_marked(h.opcode) {
+        unnamed()
+    } else if is_busy(s.opened) {
+        s.target
+    } else {
+        h.under
     }
-    let opened = s.opened;
-    if is_busy(opened) {
-        return s.target;
-    }
-    h.under
 }
 
 // Returns what of a packet decides what the host's reply to it does.
 fn last_of(h: Heading) -> Last
     ensures { result ≡ last_by h.opcode h }
 {
-    let opcode = h.opcode;
-    let named = h.named;
-    let target = h.target;
-    match opcode {
+    match h.opcode {
         Opcode::Connect => Last::Connect {
             enable: h.enable,
-            has_target: h.has_target,
-            target,
+            target: h.target,
         },
-        Opcode::Disconnect => Last::Disconnect(named),
-        Opcode::Put => Last::Other,
-        Opcode::Get => Last::Other,
-        Opcode::SetPath => Last::Other,
-        Opcode::Action => Last::Other,
-        Opcode::Session => Last::Other,
-        Opcode::Abort => Last::Other,
-        Opcode::UserDefined(_) => Last::Other,
+        Opcode::Disconnect => Last::Disconnect(h.named),
+        _ => Last::Other,
     }
 }
 
@@ -112,10 +87,15 @@ fn last_of(h: Heading) -> Last
 fn after_packet(s: State, h: Heading, opened: Open, gathered: Gathered, handed: bool) -> State
     ensures { result ≡ after_packet s h opened gathered handed }
 {
-    let peer = peer_after(s, h);
-    let target = target_after(s, h);
-    let last = last_of(h);
-    moved(s, peer, target, last, opened, gathered, handed)
+    moved(
+        s,
+        peer_after(s, h),
+        target_after(s, h),
+        last_of(h),
+        opened,
+        gathered,
+        handed,
+    )
 }
 
 // Returns what is open after a packet of a Put that is not final, with `going` if the Put goes on: past the limit it is closed, unless Single
@@ -123,20 +103,18 @@ fn after_packet(s: State, h: Heading, opened: Open, gathered: Gathered, handed: 
 fn put_open(over: bool, s: State, srm: bool, going: Open) -> Open
     ensures { result ≡ going_on s over srm going }
 {
-    if !over {
-        return going;
+    if !over || srm {
+        going
+    } else if s.settings.refuses {
+        Open::Trailing
+    } else {
+        Open::Nothing
     }
-    if srm {
-        return going;
-    }
-    if s.settings.refuses {
-        return Open::Trailing;
-    }
-    Open::Nothing
 }
 
 // Returns the state after a packet of a Put, with which `g` is gathered. Its final packet hands the record over if the body is within the
 // limit.
+#[tactic(auto, unfolding(crate::specs::Receive::put_state))]
 fn put_state(s: State, srm: bool, h: Heading, next: bool, g: Gathered) -> State
     ensures { result ≡ put_state s h srm next g }
 {
@@ -159,11 +137,18 @@ fn put_state(s: State, srm: bool, h: Heading, next: bool, g: Gathered) -> State
 fn unreadable(s: State) -> State
     ensures { result ≡ unreadable_state s }
 {
-    let opened = s.opened;
-    if is_busy(opened) {
+    if is_busy(s.opened) {
         return ended_with(s, UNREADABLE);
     }
-    moved(s, s.peer, s.target, Last::Other, opened, s.gathered, false)
+    moved(
+        s,
+        s.peer,
+        s.target,
+        Last::Other,
+        s.opened,
+        s.gathered,
+        false,
+    )
 }
 
 // Returns what was gathered before a packet of a Put, the first or a later one.
@@ -173,9 +158,10 @@ fn begun_of(s: State, first: bool) -> Gathered
         × (s.gathered.body ≤ s.settings.limit → result.body ≤ s.settings.limit) }
 {
     if first {
-        return nothing_gathered();
+        nothing_gathered()
+    } else {
+        s.gathered
     }
-    s.gathered
 }
 
 // Acts on a packet that was read.
@@ -211,10 +197,10 @@ fn take_packet(s: State, p: &[u8], tables: &[u64], headers: &mut [u8], body: &mu
     ensures { step result headers.new body.new
         ≡ packet_step s p.now tables.now headers.old body.old }
 {
-    let Reading::Read(h) = read_heading(p, tables, s.peer.count) else {
-        return unreadable(s);
-    };
-    act(s, h, p, headers, body)
+    match read_heading(p, tables, s.peer.count) {
+        Some(h) => act(s, h, p, headers, body),
+        None => unreadable(s),
+    }
 }
 
 // Takes bytes from the peer, a packet or some of one, up to the packet's end. After the session's end, or with stores that are too short,
@@ -243,11 +229,9 @@ pub fn received(
         return quiet(s);
     }
     let f = read_packet(s.begun, 0, input, packet);
-    let begun = f.begun;
-    let frame = f.frame;
-    match frame {
-        Frame::More => coming_to(s, begun),
+    match f.frame {
+        Frame::More => coming_to(s, f.begun),
         Frame::Short => ended_with(s, LENGTH_TOO_SMALL),
-        Frame::Whole => take_packet(s, &packet[..begun], tables, headers, body),
+        Frame::Whole => take_packet(s, &packet[..f.begun], tables, headers, body),
     }
 }

@@ -19,40 +19,31 @@ pub(crate) enum Route {
 }
 
 // Tells whether a password is required and was not given. A Disconnect may not be refused.
+#[tactic(auto, unfolding(packet::specs::FirstByte::same_opcode))]
 fn is_unauthorized(s: State, opcode: Opcode) -> bool
     ensures { result ≡ unauthorized_in s opcode }
 {
-    if s.settings.authentication {
-        if s.peer.authenticated {
-            return false;
-        }
-        return !same(opcode, Opcode::Disconnect);
-    }
-    false
+    s.settings.authentication && !s.peer.authenticated && !matches!(opcode, Opcode::Disconnect)
 }
 
 // Tells whether a packet passes: it is not unauthorized, and the id that it names, if any, is open.
+#[tactic(auto, unfolding(crate::specs::Route::admitted_in))]
 fn is_admitted(s: State, h: Heading) -> bool
     ensures { result ≡ admitted_in s h }
 {
-    let opcode = h.opcode;
-    if is_unauthorized(s, opcode) {
-        return false;
-    }
-    !h.unknown
+    !is_unauthorized(s, h.opcode) && !h.unknown
 }
 
 // Returns what is open once a Put or a Get was turned away: under SRM the client sends on without waiting.
+#[tactic(auto, unfolding(crate::specs::Route::turned_open))]
 fn turned_open(s: State, h: Heading) -> Open
     ensures { result ≡ turned_open s h }
 {
-    if s.peer.srm_enabled {
-        if h.is_final {
-            return Open::Nothing;
-        }
-        return Open::Draining;
+    if s.peer.srm_enabled && !h.is_final {
+        Open::Draining
+    } else {
+        Open::Nothing
     }
-    Open::Nothing
 }
 
 // Returns what is open after a packet of an operation of headers alone.
@@ -60,22 +51,17 @@ fn gathers_on(opcode: Opcode, is_final: bool) -> Open
     ensures { result ≡ gathers_on opcode is_final }
 {
     if is_final {
-        return Open::Nothing;
+        Open::Nothing
+    } else {
+        Open::Gathering(opcode)
     }
-    Open::Gathering(opcode)
 }
 
 // Tells whether SRM is on from the next packet of a Put on.
 pub(crate) fn is_srm_on(s: State, enable: bool) -> bool
     ensures { result ≡ asks_in s enable }
 {
-    if s.peer.srm_enabled {
-        return true;
-    }
-    if s.settings.srm {
-        return enable;
-    }
-    false
+    s.peer.srm_enabled || s.settings.srm && enable
 }
 
 // Returns the way of the first packet of a Put.
@@ -93,19 +79,14 @@ fn put_route(s: State, h: Heading) -> Route
 fn admitted_route(s: State, h: Heading) -> Route
     ensures { result ≡ admitted_route h.opcode s h }
 {
-    let opcode = h.opcode;
-    match opcode {
-        Opcode::Connect => Route::Become(Open::Nothing),
-        Opcode::Disconnect => Route::Become(Open::Nothing),
+    match h.opcode {
+        Opcode::Connect | Opcode::Disconnect | Opcode::SetPath | Opcode::Abort => Route::Become(
+            Open::Nothing,
+        ),
         Opcode::Put => put_route(s, h),
         Opcode::Get => Route::Become(Open::Getting),
-        Opcode::SetPath => Route::Become(Open::Nothing),
-        Opcode::Action => Route::Become(gathers_on(Opcode::Action, h.is_final)),
-        Opcode::Session => Route::Become(gathers_on(Opcode::Session, h.is_final)),
-        Opcode::Abort => Route::Become(Open::Nothing),
-        Opcode::UserDefined(value) => Route::Become(gathers_on(
-            Opcode::UserDefined(value),
-            h.is_final,
+        Opcode::Action | Opcode::Session | Opcode::UserDefined(_) => Route::Become(gathers_on(
+            h.opcode, h.is_final,
         )),
     }
 }
@@ -114,42 +95,34 @@ fn admitted_route(s: State, h: Heading) -> Route
 fn turned_by(s: State, h: Heading) -> Open
     ensures { result ≡ turned_by h.opcode s h }
 {
-    let opcode = h.opcode;
-    match opcode {
-        Opcode::Put => turned_open(s, h),
-        Opcode::Get => turned_open(s, h),
-        Opcode::Connect => Open::Nothing,
-        Opcode::Disconnect => Open::Nothing,
-        Opcode::SetPath => Open::Nothing,
-        Opcode::Action => Open::Nothing,
-        Opcode::Session => Open::Nothing,
-        Opcode::Abort => Open::Nothing,
-        Opcode::UserDefined(_) => Open::Nothing,
+    match h.opcode {
+        Opcode::Put | Opcode::Get => turned_open(s, h),
+        _ => Open::Nothing,
     }
 }
 
 // Returns the way of a packet with nothing open.
+#[tactic(auto, unfolding(crate::specs::Route::first_route))]
 fn first_route(s: State, h: Heading) -> Route
     ensures { result ≡ first_route s h }
 {
     if is_admitted(s, h) {
-        return admitted_route(s, h);
+        admitted_route(s, h)
+    } else {
+        Route::Become(turned_by(s, h))
     }
-    Route::Become(turned_by(s, h))
 }
 
 // Tells whether a packet trails a Put that was too long: it is a Put packet without a Name.
+#[tactic(auto, unfolding(packet::specs::FirstByte::same_opcode))]
 fn is_trailing(h: Heading) -> bool
     ensures { result ≡ trails_in h }
 {
-    let opcode = h.opcode;
-    if same(opcode, Opcode::Put) {
-        return !h.has_name;
-    }
-    false
+    matches!(h.opcode, Opcode::Put) && !h.has_name
 }
 
 // Returns the way of a packet after a Put that was too long, while what trails it is refused.
+#[tactic(auto, unfolding(crate::specs::Route::trailing_route))]
 fn trailing_route(s: State, h: Heading) -> Route
     ensures { result ≡ trailing_route s h }
 {
@@ -166,11 +139,11 @@ fn trailing_route(s: State, h: Heading) -> Route
 fn next_packet(h: Heading, open: Opcode, route: Route) -> Route
     ensures { result ≡ continued h «open» route }
 {
-    let opcode = h.opcode;
-    if same(opcode, open) {
-        return route;
+    if same(h.opcode, open) {
+        route
+    } else {
+        Route::Stop
     }
-    Route::Stop
 }
 
 // Returns what is open after a packet of a drain.
@@ -178,17 +151,17 @@ fn drained(is_final: bool) -> Open
     ensures { result ≡ drained is_final }
 {
     if is_final {
-        return Open::Nothing;
+        Open::Nothing
+    } else {
+        Open::Draining
     }
-    Open::Draining
 }
 
 // Returns the way of a packet by what is open.
 fn inside(s: State, h: Heading) -> Route
     ensures { result ≡ inside_route s.opened s h }
 {
-    let opened = s.opened;
-    match opened {
+    match s.opened {
         Open::Nothing => first_route(s, h),
         Open::Trailing => trailing_route(s, h),
         Open::Putting { srm } => next_packet(
@@ -212,11 +185,11 @@ fn inside(s: State, h: Heading) -> Route
 }
 
 // Returns the way of a readable packet: an Abort closes what is open.
+#[tactic(auto, unfolding(crate::specs::Route::heading_route, packet::specs::FirstByte::same_opcode))]
 pub(crate) fn heading_route(s: State, h: Heading) -> Route
     ensures { result ≡ heading_route s h }
 {
-    let opcode = h.opcode;
-    if same(opcode, Opcode::Abort) {
+    if matches!(h.opcode, Opcode::Abort) {
         return Route::Become(Open::Nothing);
     }
     inside(s, h)

@@ -3,7 +3,7 @@
 ghost use Rattle.std.specs.Prelude.{◌≡◌};
 ghost use Rattle.journal_code.specs.State.{quiet as quietState, ended_with, coming_to, standing_by, opens_now, moved_to, fresh_state, nothing_gathered as nothingKept, is_busy, fits_in};
 
-use connection::peer::{Challenge, ConnectionId, Peer};
+use connection::peer::Peer;
 use incoming::gather::Gathered;
 use packet::limits::{MAX_CONNECTIONS, MAX_PACKET, MIN_PACKET};
 use packet::opcode::Opcode;
@@ -45,12 +45,11 @@ pub enum Last {
     Connect {
         // Its first SingleResponseMode is Enable.
         enable: bool,
-        has_target: bool,
-        // The Target that an id takes.
-        target: Target,
+        // The Target that an id takes, if it has one.
+        target: Option<Target>,
     },
     // The id that it names.
-    Disconnect(ConnectionId),
+    Disconnect(Option<u32>),
 }
 
 // The journal, as far as the records depend on it.
@@ -66,7 +65,8 @@ pub struct State {
     pub opened: Open,
     // How many bytes of a packet that has begun stand in the packet store.
     pub begun: usize,
-    // The number with which the session ended, or 0. It is 6 if the kept headers of a Put passed 65,535 bytes.
+    // The number with which the session ended, or 0; it comes after the end if another operation ended it.
+    // Stays a number beside a flag: the claims HandsAll and SixTold (specs/Claims.antt) name it. It is 6 if the kept headers of a Put passed 65,535 bytes.
     pub number: u8,
     pub ended: bool,
     // The last entry handed a record over: `gathered` counts its bytes, and `target` is its Target.
@@ -83,70 +83,65 @@ pub struct Lengths {
 }
 
 // Returns the state after an entry that changes nothing and hands nothing over.
+#[tactic(auto, unfolding(crate::specs::State::state_with))]
 pub(crate) fn quiet(s: State) -> State
     ensures { result ≡ quietState s }
 {
-    let mut r = s;
-    r.handed = false;
-    r
+    State { handed: false, ..s }
 }
 
 // Returns the state once the session has ended with `number`; 0 if the number is still to come.
+#[tactic(auto, unfolding(crate::specs::State::state_with))]
 pub(crate) fn ended_with(s: State, number: u8) -> State
     ensures { result ≡ ended_with s number }
 {
-    let mut r = s;
-    r.begun = 0;
-    r.number = number;
-    r.ended = true;
-    r.handed = false;
-    r
+    State {
+        begun: 0,
+        number,
+        ended: true,
+        handed: false,
+        ..s
+    }
 }
 
 // Returns the state with `begun` bytes of a packet that goes on.
+#[tactic(auto, unfolding(crate::specs::State::state_with))]
 pub(crate) fn coming_to(s: State, begun: usize) -> State
     ensures { result ≡ coming_to s begun }
 {
-    let mut r = s;
-    r.begun = begun;
-    r.handed = false;
-    r
+    State {
+        begun,
+        handed: false,
+        ..s
+    }
 }
 
 // Returns the state with `peer`.
+#[tactic(auto, unfolding(crate::specs::State::state_with))]
 pub(crate) fn standing_by(s: State, peer: Peer) -> State
     ensures { result ≡ standing_by s peer }
 {
-    let mut r = s;
-    r.peer = peer;
-    r.handed = false;
-    r
+    State {
+        peer,
+        handed: false,
+        ..s
+    }
 }
 
 // Returns the state with `opened` open.
+#[tactic(auto, unfolding(crate::specs::State::state_with))]
 pub(crate) fn opening(s: State, opened: Open) -> State
     ensures { result ≡ opens_now s opened }
 {
-    let settings = s.settings;
-    let peer = s.peer;
-    let gathered = s.gathered;
-    let target = s.target;
-    let last = s.last;
     State {
-        settings,
-        peer,
-        gathered,
-        target,
-        last,
         opened,
-        begun: s.begun,
-        number: s.number,
-        ended: s.ended,
         handed: false,
+        ..s
     }
 }
 
 // Returns the state once a packet was read that left `opened` open, and `gathered` in the stores.
+#[tactic(auto, unfolding(crate::specs::State::state_with))]
 pub(crate) fn moved(
     s: State,
     peer: Peer,
@@ -158,18 +153,15 @@ pub(crate) fn moved(
 ) -> State
     ensures { result ≡ moved_to s peer target last opened gathered handed }
 {
-    let settings = s.settings;
     State {
-        settings,
         peer,
         gathered,
         target,
         last,
         opened,
         begun: 0,
-        number: s.number,
-        ended: s.ended,
         handed,
+        ..s
     }
 }
 
@@ -187,6 +179,7 @@ pub(crate) fn nothing_gathered() -> Gathered
 }
 
 // Returns the state at the start of a session.
+#[tactic(auto, unfolding(crate::specs::State::state_with, connection::specs::Peer::peer_with))]
 pub fn fresh(settings: Settings) -> State
     ensures { result ≡ fresh_state settings }
 {
@@ -198,7 +191,7 @@ pub fn fresh(settings: Settings) -> State
         remote_max_packet_length: MIN_PACKET,
         srm_enabled: false,
         authenticated: false,
-        challenge: Challenge::Absent,
+        challenge: None,
     };
     State {
         settings,
@@ -218,41 +211,20 @@ pub fn fresh(settings: Settings) -> State
 pub(crate) fn is_busy(opened: Open) -> bool
     ensures { result ≡ is_busy opened }
 {
-    match opened {
-        Open::Nothing => false,
-        Open::Trailing => false,
-        Open::Putting { srm: _ } => true,
-        Open::Getting => true,
-        Open::Sending => true,
-        Open::Gathering(_) => true,
-        Open::Draining => true,
-    }
+    !matches!(opened, Open::Nothing | Open::Trailing)
 }
 
 // Tells whether the stores have room and the counts of the state are within them. If not, an entry changes nothing.
+#[tactic(auto, unfolding(crate::specs::State::fits_in))]
 pub(crate) fn is_fitting(s: State, lengths: Lengths) -> bool
     ensures { result ≡ fits_in s lengths.packet lengths.headers lengths.body lengths.tables }
 {
-    if lengths.packet < MAX_PACKET {
-        return false;
-    }
-    if lengths.headers < MAX_PACKET {
-        return false;
-    }
-    if lengths.body < s.settings.limit {
-        return false;
-    }
-    if lengths.tables < TABLE_LENGTH {
-        return false;
-    }
-    if s.peer.count > MAX_CONNECTIONS {
-        return false;
-    }
-    if s.gathered.kept > MAX_PACKET {
-        return false;
-    }
-    if s.gathered.body > s.settings.limit {
-        return false;
-    }
-    s.begun < MAX_PACKET
+    lengths.packet >= MAX_PACKET
+        && lengths.headers >= MAX_PACKET
+        && lengths.body >= s.settings.limit
+        && lengths.tables >= TABLE_LENGTH
+        && s.peer.count <= MAX_CONNECTIONS
+        && s.gathered.kept <= MAX_PACKET
+        && s.gathered.body <= s.settings.limit
+        && s.begun < MAX_PACKET
 }

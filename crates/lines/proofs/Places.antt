@@ -2,43 +2,56 @@
 -- say of the rest. Assumes nothing.
 use mathlib.Core.Path.{◌≡◌, refl, sym, ap, subst, ◌∙◌}
 use mathlib.Core.List.{List, [], ◌∷◌}
-use mathlib.Core.Bool.{Bool, true, false, ◌&&◌}
+use mathlib.Core.Bool.{Bool, true, false, cond, ◌&&◌}
 use Prim.Native.Nat.{ℕ, zero, suc, ◌+◌, ◌-◌, ◌≤◌, ◌<◌}
 use native.Mathlib.Omega.{arith}
-use native.Mathlib.Nat.{le_antisymm}
-use native.Mathlib.Numerals.{add-one}
-use lib.ListN.{length, get_or, drop}
-use lib.Seq.{drop-cons, drop-length}
-use lib.Dec.{T, eqb}
-use borrow.Author.Tests.{lt-ltb, le-ltb, eq-eqb, ne_eqb, eqb-true}
-use Rattle.lines.specs.Word.{between, until_byte, first_from, line_feed, same, line_from, with_digit, number_from}
-
--- the rest at the end of a slice is empty
-rest-none : (s : List ℕ) (i : ℕ) → i ≤ length s → length s ≤ i → drop i s ≡ []
-rest-none s i h k = ap (λ (n : ℕ). drop n s) (le_antisymm h k) ∙ drop-length s
-
-rest_more : (s : List ℕ) (i : ℕ) → i < length s → drop i s ≡ get_or s i 0 ∷ drop (i + 1) s
-rest_more s i h = drop-cons s i 0 h ∙ ap (λ (n : ℕ). get_or s i 0 ∷ drop n s) (sym (add-one i))
+use lib.ListN.{length}
+use lib.Dec.{T, eqb, ltb}
+use borrow.Author.Tests.{lt-ltb, le-ltb, eq-eqb, eqb-true, ltb-false}
+use Rattle.std.specs.Prelude.{Some, None}
+use Rattle.std.specs.List.{position, position_or_len}
+use Rattle.std.proofs.lemmas.List.Recursion.{is_position_or_len}
+use Rattle.base.specs.Pick.{pick}
+use Rattle.lines.specs.Word.{between, until_byte, first_from, line_feed, same, line_from}
 
 -- ---- a byte that is looked for
 
-pub until_found : (s : List ℕ) (byte i : ℕ) → i < length s → get_or s i 0 ≡ byte → until_byte byte (drop i s) ≡ 0
-until_found s byte i h e = simp (rest_more s i h, eq-eqb _ _ e)
+pick_suc : (b : Bool) (n : ℕ) → pick b 0 (suc n) ≡ cond b 0 (1 + n)
+pick_suc true n = refl
+pick_suc false n = omega arith
 
-pub until_passed : (s : List ℕ) (byte i : ℕ) → i < length s → (get_or s i 0 ≡ byte → ⊥)
-    → until_byte byte (drop i s) ≡ suc (until_byte byte (drop (i + 1) s))
-until_passed s byte i h e = ap (until_byte byte) (rest_more s i h) ∙ simp (ne_eqb _ _ e)
+until_place : (byte : ℕ) (s : List ℕ) → until_byte byte s ≡ position_or_len (λ (x : ℕ). eqb x byte) s
+until_place byte = is_position_or_len (until_byte byte) (λ (x : ℕ). eqb x byte) refl (λ x xs. pick_suc (eqb x byte) (until_byte byte xs))
 
-pub until_end : (s : List ℕ) (byte i : ℕ) → i ≤ length s → length s ≤ i → until_byte byte (drop i s) ≡ 0
-until_end s byte i h k = ap (until_byte byte) (rest-none s i h k)
+pick_le : (b : Bool) (n k : ℕ) → n ≤ k → pick b 0 (suc n) ≤ suc k
+pick_le true n k h = omega arith
+pick_le false n k h = omega arith
+
+pub until_le : (byte : ℕ) (s : List ℕ) → until_byte byte s ≤ length s
+until_le byte [] = omega arith
+until_le byte (x ∷ xs) = pick_le (eqb x byte) _ _ (until_le byte xs)
+
+some_place : (b : Bool) (n i : ℕ) → cond b (Some n) None ≡ Some i → n ≡ i
+some_place true n i e = cc
+some_place false n i e = cc
+
+none_place : (n m : ℕ) → cond (ltb n m) (Some n) None ≡ None → m ≤ n
+none_place n m e = none_by (ltb n m) refl e
+  where
+    none_by : (b : Bool) → ltb n m ≡ b → cond b (Some n) None ≡ None → m ≤ n
+    none_by true t e = cc
+    none_by false t e = ltb-false n m t
+
+-- what `position` of the slice's items gives
+pub until_found : (byte i : ℕ) (s : List ℕ) → position (λ (x : ℕ). eqb x byte) s ≡ Some i → until_byte byte s ≡ i
+until_found byte i s e = until_place byte s ∙ some_place _ _ i e
+
+pub until_end : (byte : ℕ) (s : List ℕ) → position (λ (x : ℕ). eqb x byte) s ≡ None → until_byte byte s ≡ length s
+until_end byte s e =
+    let l : length s ≤ position_or_len (λ (x : ℕ). eqb x byte) s = none_place _ _ e in
+    let p = until_place byte s in let u = until_le byte s in omega arith
 
 -- ---- a number
-
-pub number-turn : (s : List ℕ) (n i : ℕ) → i < length s → number_from n (drop i s) ≡ number_from (with_digit n (get_or s i 0)) (drop (i + 1) s)
-number-turn s n i h = ap (number_from n) (rest_more s i h)
-
-pub number-end : (s : List ℕ) (n i : ℕ) → i ≤ length s → length s ≤ i → number_from n (drop i s) ≡ n
-number-end s n i h k = ap (number_from n) (rest-none s i h k)
 
 -- ---- the number of a line
 

@@ -5,7 +5,7 @@ use Prim.Native.Nat.{ℕ, zero, suc, ◌+◌, ◌-◌, ◌*◌, ◌/◌, ◌%◌
 use native.Mathlib.Omega.{arith}
 use native.Mathlib.Nat.{pow-suc}
 use lib.ListN.{length, get_or, set, take, drop, length-drop, drop_of_length-le}
-use lib.Seq.{paste, paste-suc, length-take-le, take_all, get_or-append-add, get_or-drop}
+use lib.Seq.{paste, paste-suc, take_all}
 use borrow.Author.Tests.{lt-ltb, le-ltb}
 use Rattle.io.specs.Digits.{last_digits, hex_digit_ascii, IsDigitCount}
 use Rattle.lines.specs.Word.{filled}
@@ -63,24 +63,6 @@ paste_on d s j v h k e =
     ∙ paste-suc d 0 s j 0 (omega arith) k
     ∙ ap (paste d 0 s) m
 
--- one byte more that is moved to the front: where it is read the store is as it was
-pub kept-turn : (s₀ s : List ℕ) (from i : ℕ) → s ≡ paste s₀ 0 (drop from s₀) i → from + i < length s₀
-    → set s i (get_or s (from + i) 0) ≡ paste s₀ 0 (drop from s₀) (i + 1)
-kept-turn s₀ s from i e h =
-    let x = drop from s₀ in
-    let n = length-drop from s₀ in
-    let l : length (take i x) ≡ i = length-take-le i x (omega arith) in
-    let a : from + i ≡ length (take i x) + from = omega arith in
-    let b : 0 + i + from ≡ from + i = omega arith in
-    let read : get_or (paste s₀ 0 x i) (from + i) 0 ≡ get_or s₀ (from + i) 0 =
-    ap (λ (k : ℕ). get_or (paste s₀ 0 x i) k 0) a
-    ∙ get_or-append-add (take i x) (drop (0 + i) s₀) from 0
-    ∙ get_or-drop (0 + i) s₀ from 0
-    ∙ ap (λ (k : ℕ). get_or s₀ k 0) b
-    in
-    ap (λ (z : List ℕ). set z i (get_or z (from + i) 0)) e
-    ∙ paste_on s₀ x i (get_or (paste s₀ 0 x i) (from + i) 0) (omega arith) (omega arith) (get_or-drop from s₀ i 0 ∙ sym read)
-
 -- two digits more
 pub hex_turn : (out₀ s out : List ℕ) (n : ℕ) → out ≡ paste out₀ 0 (hex_of s) (2 * n) → 2 * n + 1 < length out₀ → n < length s
     → set (set out (2 * n) (hex_digit_ascii (get_or s n 0 / 16 % 16))) (2 * n + 1) (hex_digit_ascii (get_or s n 0 % 16)) ≡ paste out₀ 0 (hex_of s) (2 * (n + 1))
@@ -92,17 +74,6 @@ hex_turn out₀ s out n e h k =
     (paste_on out₀ (hex_of s) (2 * n) (hex_digit_ascii (get_or s n 0 / 16 % 16)) (omega arith) (omega arith) (high_digit s n k))
     ∙ paste_on out₀ (hex_of s) (2 * n + 1) (hex_digit_ascii (get_or s n 0 % 16)) (omega arith) (omega arith) (low_digit s n k)
     ∙ ap (paste out₀ 0 (hex_of s)) m
-
--- as many as the bytes, or as the store has room for
-pub all-bytes : (a b n : ℕ) → a ≤ n → n ≤ a → n < b → least_of a b ≡ n
-unfolding least_of
-all-bytes a b n h k l =
-    let e : a ≡ n = omega arith in let t : a < b = omega arith in simp (lt-ltb a b t) e
-
-pub all_room : (a b n : ℕ) → n ≤ a → b ≤ n → n ≤ b → least_of a b ≡ n
-unfolding least_of
-all_room a b n h k l =
-    let e : b ≡ n = omega arith in let t : b ≤ a = omega arith in simp (le-ltb a b t) e
 
 -- ---- decimal
 

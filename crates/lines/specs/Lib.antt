@@ -1,5 +1,6 @@
--- The definitions that the contracts cite: words of a line (`Word`), the texts that are put into an output (`Output`), and the lines of an input
--- (`Input`).
+-- The definitions that the contracts cite: words of a line (`Word`), the texts that are put into an output (`Output`), those that a
+-- log shows (`Text`), and the lines of an input (`Input`).
 pub mod Word
 pub mod Output
+pub mod Text
 pub mod Input

@@ -1,6 +1,8 @@
 // The words that a program is started with. They are numbered from 0, and number 0 is the program's name.
-ghost use Rattle.std.specs.Prelude.{◌≤◌, length};
+ghost use Rattle.std.specs.Prelude.{◌<◌, ◌≤◌, length};
 
+use crate::word::number;
+use check::same;
 use std::env::{Env, FillError};
 
 // Puts the word with the number `i` at the front of `s`, and returns its length. It is 0 if there is no such word, or if it is longer than `s`.
@@ -31,4 +33,20 @@ pub fn argument_count(rt: &impl Env) -> usize {
         }
     }
     usize::MAX
+}
+
+// Returns the number that the word with the number `i` is, or 0 if there is no such word, or if it has more than twenty bytes.
+pub fn number_argument(rt: &impl Env, i: usize) -> usize
+    ensures { result < 20000000000 }
+{
+    let mut word = [0u8; 20];
+    let n = argument(rt, i, &mut word);
+    number(&word[..n])
+}
+
+// Tells whether the word with the number `i` is `name`, which has at most sixteen bytes. No clause can say what words a program is given.
+pub fn is_argument(rt: &impl Env, i: usize, name: &[u8]) -> bool {
+    let mut word = [0u8; 16];
+    let n = argument(rt, i, &mut word);
+    same(&word[..n], name)
 }

@@ -1,11 +1,13 @@
 // Reading: what stands in a store of an input, what is kept of it, and its lines one after the other.
-ghost use Rattle.std.specs.Prelude.{◌≡◌, true, ◌≤◌, length};
+ghost use Rattle.std.specs.Prelude.{◌≡◌, true, ◌-◌, ◌<◌, ◌≤◌, length, Err, IfOk};
+ghost use Rattle.lines.specs.declared.input.NoMore.TheVariants.{Full};
 ghost use Rattle.lines.specs.Word.{filled};
 ghost use Rattle.lines.specs.Input.{kept_front, before_first, has_cut, has_line, line_after, bytes_of};
 
 use crate::output::least;
 use crate::word::find;
-use std::io::Read;
+use std::io;
+use std::io::{ErrorKind, Read};
 
 // A line of the input, as a place in the store that it was read into, or the reason why there is none.
 #[derive(Clone, Copy)]
@@ -40,6 +42,7 @@ pub fn read_full(from: &mut impl Read, s: &mut [u8]) -> usize
     ensures { result ≤ length s.new }
 {
     let mut n = 0;
+    // Stays a loop over a place: each read says itself how many bytes it passes.
     while n < s.len() {
         let k = read(from, &mut s[n..]);
         if k == 0 {
@@ -51,17 +54,46 @@ pub fn read_full(from: &mut impl Read, s: &mut [u8]) -> usize
 }
 
 // Moves what stands from `from` up to `to` to the front of `s`, and returns how many bytes that are.
+#[tactic(auto, unfolding(crate::specs::Input::kept_front))]
 pub fn keep(s: &mut [u8], from: usize, to: usize) -> usize
     requires { (from ≤ to) × (to ≤ length s.old) }
     ensures within { result ≤ length s.new }
+    ensures count { result ≡ to - from }
     ensures kept { filled s.new result ≡ kept_front s.old from to }
 {
-    let mut i = 0;
-    while i < to - from {
-        s[i] = s[from + i];
-        i += 1;
+    s.copy_within(from..to, 0);
+    to - from
+}
+
+// Why no more bytes came behind those that are kept.
+#[derive(Clone, Copy, PartialEq, Eq)]
+pub enum NoMore {
+    // They fill the store.
+    Full,
+    // The input has ended, or the system cannot read it.
+    End,
+}
+
+// Moves what stands from `from` up to `to` to the front of `s`, and reads on behind it once. Returns how many bytes stand there then.
+pub fn read_behind(
+    input: &mut impl Read,
+    s: &mut [u8],
+    from: usize,
+    to: usize,
+) -> Result<usize, NoMore>
+    requires { (from ≤ to) × (to ≤ length s.old) }
+    ensures more { IfOk result (λ n. (to - from < n) × (n ≤ length s.new)) }
+    ensures full { to - from ≡ length s.old → result ≡ Err Full }
+{
+    let kept = keep(s, from, to);
+    if kept == s.len() {
+        return Err(NoMore::Full);
     }
-    i
+    let n = read(input, &mut s[kept..]);
+    if n == 0 {
+        return Err(NoMore::End);
+    }
+    Ok(kept + n)
 }
 
 // Returns what stands before the first line.
@@ -137,8 +169,7 @@ fn has_cut(before: Line) -> bool
 }
 
 // Returns what follows `before` in the input that is read into `s`: the next line, if all of it is in the store, or else what was
-// read of it. A program takes such steps until the input is over. It counts them down from a number that no run uses up, since a proved loop
-// has to end and nothing says that the input does.
+// read of it. `lines_of` takes such steps until the input is over.
 pub fn next_line(input: &mut impl Read, s: &mut [u8], before: Line) -> Line
     ensures bounds { (result.start ≤ result.end) × ((result.end ≤ result.next) × ((result.next ≤ result.have) × (result.have ≤ length s.new))) }
     ensures whole { has_line s.old before ≡ true
@@ -170,4 +201,40 @@ pub fn bytes_of(s: &[u8], line: Line) -> &[u8]
     let end = least(line.end, s.len());
     let start = least(line.start, end);
     &s[start..end]
+}
+
+// Reads the lines of `input` into the store `s`, one after the other, and has `answer` answer each. It is told, too, whether the line is longer
+// than the store, so that its start was dropped. Which lines come is the input's to say, so no clause speaks of what was answered; `next_line`
+// says how each is cut out of the store. The steps are counted up to a number that no run uses up, since a proved loop has to end and nothing
+// says that the input does.
+pub fn lines_of<F: FnMut(&[u8], bool)>(input: &mut impl Read, s: &mut [u8], mut answer: F)
+    requires { F.IsAlwaysCallable answer }
+{
+    let mut at = before_first();
+    for _ in 0..u64::MAX {
+        at = next_line(input, s, at);
+        if at.is_over {
+            return;
+        }
+        if at.is_there {
+            answer(bytes_of(s, at), at.is_cut);
+        }
+    }
+}
+
+// How often a read is tried again that a signal has interrupted.
+const TRIES: usize = 1000;
+
+// Reads the input `from` once into `s`, and returns how many bytes came, or why none could be read. A process that is stopped and continued may
+// find its read interrupted, which is no failure.
+pub fn read_once(from: &mut impl Read, s: &mut [u8]) -> io::Result<usize>
+    ensures { IfOk result (λ n. n ≤ length s.new) }
+{
+    for _ in 0..TRIES {
+        match from.read(s) {
+            Err(e) if e.kind() == ErrorKind::Interrupted => {}
+            read => return read,
+        }
+    }
+    from.read(s)
 }

@@ -35,9 +35,7 @@ pub fn put_line_at(out: &mut [u8], n: usize, text: &[u8], k: usize) -> usize
     ensures text { filled out.new result ≡ put_line out.old n text.now k }
 {
     let place = line_at(text, k);
-    let start = place.start;
-    let end = place.end;
-    put(out, n, &text[start..end])
+    put(out, n, &text[place.start..place.end])
 }
 
 // Returns the hexadecimal digit of `x`.
@@ -60,16 +58,12 @@ pub fn digits(s: &[u8], out: &mut [u8]) -> usize
     ensures within { result ≤ length out.new }
     ensures text { filled out.new result ≡ hex_front out.old s.now }
 {
-    let mut n = 0;
-    while n < out.len() / 2 {
-        if s.len() <= n {
-            return 2 * n;
-        }
+    let count = least(s.len(), out.len() / 2);
+    for n in 0..count {
         out[2 * n] = digit(s[n] / 16 % 16);
         out[2 * n + 1] = digit(s[n] % 16);
-        n += 1;
     }
-    2 * n
+    2 * count
 }
 
 // Puts the byte `b` in two hexadecimal digits behind the first `n` bytes.
@@ -110,10 +104,7 @@ pub fn put_flag(out: &mut [u8], n: usize, b: bool) -> usize
     ensures within { result ≤ length out.new }
     ensures text { filled out.new result ≡ put_bytes out.old n (flag_text b) }
 {
-    if b {
-        return put(out, n, b"1");
-    }
-    put(out, n, b"0")
+    put(out, n, if b { b"1" } else { b"0" })
 }
 
 // Puts the bytes `s` in hexadecimal behind the first `n` bytes, and nothing if there are none.

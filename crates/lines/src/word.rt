@@ -27,17 +27,14 @@ pub fn find(s: &[u8], from: usize, byte: u8) -> usize
     ensures bounds { (from ≤ result) × (result ≤ length s.now) }
     ensures place { result ≡ first_from s.now from byte }
 {
-    let mut i = from;
-    while i < s.len() {
-        if s[i] == byte {
-            return i;
-        }
-        i += 1;
+    match s[from..].iter().position(|b| *b == byte) {
+        Some(i) => from + i,
+        None => s.len(),
     }
-    i
 }
 
 // Returns the place after `end`, or `end` if that is the end of `s`.
+#[tactic(auto, unfolding(crate::specs::Word::place_after))]
 pub fn after(s: &[u8], end: usize) -> usize
     requires { end ≤ length s.now }
     ensures bounds { (end ≤ result) × (result ≤ length s.now) }
@@ -53,10 +50,8 @@ pub fn piece_at(text: &[u8], k: usize, byte: u8) -> Place
     ensures place { result ≡ piece_at text.now k byte }
 {
     let mut start = 0;
-    let mut i = 0;
-    while i < k {
+    for _ in 0..k {
         start = after(text, find(text, start, byte));
-        i += 1;
     }
     Place {
         start,
@@ -110,23 +105,20 @@ pub fn byte_at(s: &[u8], at: usize) -> u8
 }
 
 // Returns what the digit `c` stands for, or 0 for any other sign.
+#[tactic(auto, unfolding(crate::specs::Word::value_of))]
 pub fn value(c: u8) -> u8
     ensures small { result < 16 }
     ensures value { result ≡ value_of c }
 {
-    if c < 48 {
-        return 0;
+    match c {
+        b'0'..=b'9' => c - b'0',
+        b'a'..=b'f' => c - b'a' + 10,
+        _ => 0,
     }
-    if c < 58 {
-        return c - 48;
-    }
-    if c < 97 {
-        return 0;
-    }
-    if c < 103 { c - 87 } else { 0 }
 }
 
 // Returns `n` with the digit `c` behind it, up to the tenth digit.
+#[tactic(auto, unfolding(crate::specs::Word::with_digit))]
 fn more(n: usize, c: u8) -> usize
     requires { n < 20000000000 }
     ensures small { result < 20000000000 }
@@ -144,10 +136,8 @@ pub fn number(s: &[u8]) -> usize
     ensures number { result ≡ number_of s.now }
 {
     let mut n = 0;
-    let mut i = 0;
-    while i < s.len() {
-        n = more(n, s[i]);
-        i += 1;
+    for c in s {
+        n = more(n, *c);
     }
     n
 }
@@ -156,17 +146,13 @@ pub fn number(s: &[u8]) -> usize
 fn again(out: &mut [u8], from: usize, to: usize, at: usize) -> usize
     ensures { filled out.new result ≡ copied_on (to - from) out.old from at }
 {
-    let mut i = from;
     let mut n = at;
-    while i < to {
-        if out.len() <= n {
-            return n;
-        }
-        if out.len() <= i {
+    // Stays a loop over an index: what is copied may be what was just written, and `copy_within` reads all before it writes.
+    for i in from..to {
+        if out.len() <= n || out.len() <= i {
             return n;
         }
         out[n] = out[i];
-        i += 1;
         n += 1;
     }
     n
@@ -180,19 +166,18 @@ fn repeat(out: &mut [u8], from: usize, to: usize, count: usize) -> usize
         return from;
     }
     let mut n = to;
-    let mut i = 1;
-    while i < count {
+    for _ in 1..count {
         let next = again(out, from, to, n);
         if next == n {
             return n;
         }
         n = next;
-        i += 1;
     }
     n
 }
 
 // Stores the byte `b` at `n` if there is room, and returns how many bytes there are then.
+#[tactic(auto, unfolding(crate::specs::Word::pushed))]
 fn push(out: &mut [u8], n: usize, b: u8) -> usize
     ensures { filled out.new result ≡ pushed out.old n b }
 {
@@ -221,6 +206,7 @@ fn group(s: &[u8], p: Scan, out: &mut [u8]) -> Scan
 
 // Reads two digits, or the count at the end of a group. A sign that is neither, such as a bracket, is passed over, and a group starts
 // behind it.
+#[tactic(auto, unfolding(crate::specs::Word::scanned_one))]
 fn scan_one(s: &[u8], p: Scan, out: &mut [u8]) -> Scan
     requires { p.at < length s.now }
     ensures bounds { (p.at < result.at) × (result.at ≤ length s.now) }
@@ -231,14 +217,7 @@ fn scan_one(s: &[u8], p: Scan, out: &mut [u8]) -> Scan
     if c == b'*' {
         return group(s, p, out);
     }
-    if c < 48 {
-        return Scan {
-            at: at + 1,
-            n: p.n,
-            unit: p.n,
-        };
-    }
-    if c == b':' {
+    if c < 48 || c == b':' {
         return Scan {
             at: at + 1,
             n: p.n,
@@ -265,9 +244,9 @@ pub fn unhex(s: &[u8], out: &mut [u8]) -> usize
         n: 0,
         unit: 0,
     };
+    // Stays a loop over a place: a step passes one sign, two digits, or a count with all its digits.
     while p.at < s.len() {
         p = scan_one(s, p, out);
     }
-    let n = p.n;
-    if n <= out.len() { n } else { 0 }
+    if p.n <= out.len() { p.n } else { 0 }
 }

@@ -6,6 +6,7 @@ use mathlib.Core.Bool.{Bool, true, false, ◌&&◌, not}
 use mathlib.Core.Option.{some}
 use Prim.Native.Nat.{ℕ}
 use lib.ListN.{take}
+use Rattle.std.specs.Prelude.{Some, None}
 use Rattle.base.specs.Pick.{pick}
 use Rattle.packet.specs.Packet.{Request as Packet}
 use Rattle.packet.specs.FirstByte.{same_opcode}
@@ -13,9 +14,7 @@ use Rattle.packet.specs.HeaderIds as header_id
 use Rattle.packet.specs.Header.{first}
 use Rattle.journal.specs.Journal.{Journal, Opened, unauthorized, not_open, admitted, trails as trails_in}
 use Rattle.journal.specs.Ids.{member}
-use Rattle.connection.specs.Peer.{ids_of}
-use Rattle.connection.specs.declared.peer.ConnectionId.{ConnectionId}
-use Rattle.connection.specs.declared.peer.ConnectionId.TheVariants.{Id, Missing}
+use Rattle.connection.specs.Peer.{ids_of, ConnectionId}
 use Rattle.outgoing.specs.Queue.{must_lead, insert_early}
 use Rattle.journal.specs.PutForm.{is_trailing as trailing}
 use Rattle.incoming.specs.Survey.{survey_of}
@@ -84,10 +83,10 @@ admission s j a w r =
 first_id : (id : ConnectionId) (srm : Bool) (ids : List ℕ)
     → not_open ids (first header_id.connection_id (leading_headers id srm)) ≡ (has_id id && not (member (id_sent id) ids))
 unfolding leading_headers insert_early must_lead first
-first_id Missing true ids = refl
-first_id Missing false ids = refl
-first_id (Id i) true ids = refl
-first_id (Id i) false ids = refl
+first_id None true ids = refl
+first_id None false ids = refl
+first_id (Some i) true ids = refl
+first_id (Some i) false ids = refl
 
 and_true : (t u : Bool) → (t && (u && true)) ≡ (t && u)
 and_true true true = refl

@@ -4,10 +4,9 @@ use mathlib.Core.Path.{◌≡◌, refl, sym, subst, ◌∙◌}
 use mathlib.Core.List.{List, [], ◌∷◌}
 use mathlib.Core.Bool.{Bool, true, false, false≢true}
 use Prim.Native.Nat.{ℕ}
+use Rattle.std.specs.Prelude.{Some, None}
 use Rattle.text.specs.Unicode.{Octets}
-use Rattle.connection.specs.Peer.{at_least255}
-use Rattle.connection.specs.declared.peer.ConnectionId.{ConnectionId}
-use Rattle.connection.specs.declared.peer.ConnectionId.TheVariants.{Id, Missing}
+use Rattle.connection.specs.Peer.{at_least255, ConnectionId}
 use Rattle.server.specs.declared.Settings.{Settings as ServerSettings}
 use Rattle.model.specs.Runs.{State}
 use Rattle.client_model.specs.Guard.{awaiting}
@@ -27,8 +26,8 @@ use Rattle.link.proofs.Journals.{OctetsIn, run_together, together_ties}
 
 -- an id is open in the words of the claim
 is_open : (id : ConnectionId) (s : State) → open_at id s.engine.peer s.tables ≡ true → is_open_of id s ≡ true
-is_open Missing s e = refl
-is_open (Id i) s e = e
+is_open None s e = refl
+is_open (Some i) s e = e
 
 -- a Put or a Get goes only if an operation is awaited
 called : (l : Link) (u : UserCall) → Many u → goes l u ≡ true → awaiting l.client await.Call ≡ true
@@ -74,7 +73,7 @@ module _ (cs : Settings) (Inside : UserCall → ℕ → Link → Link → Type 0
 
     -- the ConnectionID
     pub names-from : awaiting (moves l before).client await.Call ≡ true
-        → ((moves l before).client.connection_id ≡ named_after Missing l before)
+        → ((moves l before).client.connection_id ≡ named_after None l before)
         × (is_open_of (moves l before).client.connection_id (moves l before).server ≡ true)
     names-from c =
         let s = (rested cs f.client-limit Inside part past (moves l before) ran c).1 in (

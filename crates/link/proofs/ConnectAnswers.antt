@@ -8,6 +8,7 @@ use Prim.Native.Nat.{ℕ, ◌≤◌}
 use lib.ListN.{length, take, drop}
 use lib.Dec.{ltb}
 use borrow.Author.Tests.{ltb-false}
+use Rattle.std.specs.Prelude.{None}
 use Rattle.base.specs.Pick.{pick}
 use Rattle.text.specs.Unicode.{Octets}
 use Rattle.digest.specs.declared.md5.Octets16.{Octets16}
@@ -20,10 +21,8 @@ use Rattle.packet.proofs.HeaderWrites.{read_shaped}
 use Rattle.journal.specs.Calls.{Call, Credentials, bytes_offered_of, stream_ended_of, reply_taken_of, reply_given_of, object_given_of, body_given_of, body_failed_of, abort_acknowledged_of, password_given_of, nonce_given_of, credentials_given_of, connections_closed_of}
 use Rattle.journal.specs.Journal.{list_of}
 use Rattle.table.specs.Nonces.{remembered_with, remembered, among}
-use Rattle.connection.specs.Peer.{linked, id_in, disconnected_peer}
+use Rattle.connection.specs.Peer.{linked, id_in, disconnected_peer, ConnectionId}
 use Rattle.connection.specs.Pieces.{id_given}
-use Rattle.connection.specs.declared.peer.ConnectionId.{ConnectionId}
-use Rattle.connection.specs.declared.peer.ConnectionId.TheVariants.{Missing}
 use Rattle.server.specs.declared.Operation.{Operation}
 use Rattle.server.specs.declared.Operation.TheVariants as server_op
 use Rattle.server.specs.declared.Await.{Await}
@@ -301,7 +300,7 @@ module _ (cs : Settings) (g : Past) (l : Link) (w : Awaits connecting cs l) (beg
 
 module _ (cs : Settings) (g : Past) (l : Link) (w : Awaits disconnecting cs l) (begun : l.client.begun ≡ 0)
     (v : Serves (limit_for l.server) l.server) (up : l.up ≡ []) (dn : l.down ≡ [])
-    (f : Follows Missing l.server) (st : Settled disconnecting cs (limit_for l.server))
+    (f : Follows None l.server) (st : Settled disconnecting cs (limit_for l.server))
     (n : NamesNow disconnecting g.named l.client.connection_id) (bd : Bound disconnecting cs g.connected (limit_for l.server))
     (now : Phase disconnecting cs g l) (q : Asked disconnecting l.server) where
   given-left : (code : ℕ) (hs : List ℕ) → Octets hs → Phase disconnecting cs g (move l (host (reply_given_of code hs)))

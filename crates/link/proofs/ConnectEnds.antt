@@ -10,6 +10,7 @@ use lib.ListN.{length, take, drop}
 use lib.Seq.{drop-length, take-append_seam}
 use lib.Dec.{ltb, eqb}
 use borrow.Author.Tests.{ltb-false, le-leb, lt-ltb}
+use Rattle.std.specs.Prelude.{Some, None}
 use Rattle.base.specs.Pick.{pick}
 use Rattle.text.specs.Unicode.{Octets}
 use Rattle.packet.specs.HeaderIds as header_id
@@ -27,10 +28,8 @@ use Rattle.journal.specs.Record.{is_body, is_srm}
 use Rattle.incoming.specs.Frame.{Frames, framed}
 use Rattle.incoming.proofs.Queued.{Half, Came, goes as stillGoes, comes, queued, none_come}
 use Rattle.outgoing.specs.Queue.{insert_early}
-use Rattle.connection.specs.Peer.{at_least255, id_in}
+use Rattle.connection.specs.Peer.{at_least255, id_in, ConnectionId}
 use Rattle.connection.specs.Reply.{fields_of, front}
-use Rattle.connection.specs.declared.peer.ConnectionId.{ConnectionId}
-use Rattle.connection.specs.declared.peer.ConnectionId.TheVariants.{Id, Missing}
 use Rattle.connection.proofs.Front.{front_length}
 use Rattle.server.specs.declared.Operation.{Operation as ServerOperation}
 use Rattle.server.specs.declared.Operation.TheVariants as server_op
@@ -282,8 +281,8 @@ module _ (k : Kind) (cs : Settings) (g : Past) (l : Link) (y : List ℕ) (w : Aw
               (λ b i. stands x l.client.remote_max_packet_length l.client.connection_id o b (λ h. st)
               (ap (λ (t : Bool). pick t id l.client.connection_id) (sym e) ∙ n) ids)
       by disconnecting gives ids st n =
-          over (rests x le 255 Missing o (omega arith) (omega arith))
-          (λ b i. stands x 255 Missing o b (λ h. absurd (true≢false (sym h ∙ i))) (sym n) ids)
+          over (rests x le 255 None o (omega arith) (omega arith))
+          (λ b i. stands x 255 None o b (λ h. absurd (true≢false (sym h ∙ i))) (sym n) ids)
 
   response-done : (x : List ℕ) → take (length y) x ≡ y
       → response_done l.client (length y) (with_packet l.stores x) ≡ responded (operation_of k) came_client p.response (with_packet l.stores x)
@@ -400,13 +399,13 @@ plain-append (h ∷ a) b p q = (p.0, plain-append a b p.1 q)
 -- the ConnectionID in front of them
 lead_plain : (id : ConnectionId) → NoSrm (leading_headers id false)
 unfolding leading_headers insert_early is_srm
-lead_plain Missing = tt
-lead_plain (Id i) = (refl, tt)
+lead_plain None = tt
+lead_plain (Some i) = (refl, tt)
 
 lead-octets : (id : ConnectionId) → Octets (leading id false)
 unfolding leading leading_headers
-lead-octets Missing = subst Octets (sym bytes-none) octets-none
-lead-octets (Id i) = subst Octets (sym (ap all_bytes (leads_id i) ∙ bytes_one _)) (id_octets i)
+lead-octets None = subst Octets (sym bytes-none) octets-none
+lead-octets (Some i) = subst Octets (sym (ap all_bytes (leads_id i) ∙ bytes_one _)) (id_octets i)
 
 connect_packs : (cs : Settings) (hs : List ℕ) → cs.max_packet_length ≤ 65535 → Octets hs → bad_headers hs ≡ false → length hs ≤ 248
     → Packs connecting cs (packet_bytes (byte_of op.Connect true) (fields_of cs.max_packet_length) hs)
@@ -522,7 +521,7 @@ connect_begins cs g l small i s hs o go =
 pub disconnect_begins : (cs : Settings) (g : Past) (l : Link) → AtRest (limit_for l.server) l → Standing cs g l → (hs : List ℕ)
     → Octets hs
     → shown.goes l (disconnect hs) ≡ true
-    → Phase disconnecting cs (record { connected = false; named = Missing }) (move l (user (disconnect hs)))
+    → Phase disconnecting cs (record { connected = false; named = None }) (move l (user (disconnect hs)))
 unfolding move disconnect_step
 disconnect_begins cs g l i s hs o go =
     let c = l.client in
@@ -536,6 +535,6 @@ disconnect_begins cs g l i s hs o go =
     let w = passed (bad_headers hs) (ltb 248 (length (id_bytes id ++ hs))) c l.stores d
     (sym (ap (λ (m : Stepped). not (is_refused m.took.outcome)) e) ∙ go) in
     let u : disconnect_step c hs l.stores ≡ after 0 d = e ∙ ap₂ (λ (a b : Bool). checked a b c l.stores d) w.0 w.1 in
-    subst (λ (m : Stepped). Phase disconnecting cs (record { connected = false; named = Missing }) (client_did l m l.up l.down)) (sym u)
+    subst (λ (m : Stepped). Phase disconnecting cs (record { connected = false; named = None }) (client_did l m l.up l.down)) (sym u)
     (begins disconnecting cs g l i s q (disconnect_packs cs id hs o w.0 (ltb-false _ _ w.1))
-    (record { connected = false; named = Missing }) refl refl)
+    (record { connected = false; named = None }) refl refl)

@@ -6,6 +6,7 @@ use mathlib.Core.Bool.{Bool, true, false}
 use mathlib.Core.Option.{Option, none, some}
 use Prim.Native.Nat.{ℕ, ◌^◌, ◌≤◌, ◌<◌}
 use lib.ListN.{length, take}
+use Rattle.std.specs.Prelude.{Some, None}
 use Rattle.base.specs.Bytes.{bytes32}
 use Rattle.text.specs.Unicode.{Octets}
 use Rattle.packet.specs.HeaderIds as header_id
@@ -18,11 +19,9 @@ use Rattle.packet.specs.declared.opcode.Opcode.TheVariants as op
 use Rattle.journal.specs.Ids.{member}
 use Rattle.journal.specs.Journal.{is_enable, list_of}
 use Rattle.incoming.proofs.Queued.{IsWhole, Half}
-use Rattle.connection.specs.Peer.{at_least255, ids_of, id_in}
+use Rattle.connection.specs.Peer.{at_least255, ids_of, id_in, ConnectionId}
 use Rattle.connection.specs.Pieces.{id_given}
 use Rattle.connection.specs.declared.peer.Peer.{Peer}
-use Rattle.connection.specs.declared.peer.ConnectionId.{ConnectionId}
-use Rattle.connection.specs.declared.peer.ConnectionId.TheVariants.{Id, Missing}
 use Rattle.server.specs.declared.Operation.TheVariants as server_op
 use Rattle.server.specs.declared.Await.TheVariants as waits
 use Rattle.server.specs.declared.End.{End}
@@ -60,7 +59,7 @@ opcode_for disconnecting = op.Disconnect
 -- the ConnectionID that the server must have open all the while: a Disconnect gives it up
 abbrev pub held_id : Kind → ConnectionId → ConnectionId
 held_id connecting i = i
-held_id disconnecting i = Missing
+held_id disconnecting i = None
 
 -- ---- what was before: whether the client is connected, and the ConnectionID that the server gave
 
@@ -80,8 +79,8 @@ limit_for s = s.engine.peer.remote_max_packet_length
 
 -- the ConnectionID is open, if it is one
 abbrev pub open_at : ConnectionId → Peer → List ℕ → Bool
-open_at Missing p t = true
-open_at (Id i) p t = member i (ids_of p t)
+open_at None p t = true
+open_at (Some i) p t = member i (ids_of p t)
 
 pub record Ids (id : ConnectionId) (p : Peer) (t : List ℕ) : Type 0 where
   pub next : p.next_connection_id < 2 ^ 32
@@ -182,11 +181,11 @@ pub record Awaits (k : Kind) (cs : Settings) (l : Link) : Type 0 where
 -- the client's ConnectionID is the one that the server gave, before the response and by it
 abbrev pub NamesNow : Kind → ConnectionId → ConnectionId → Type 0
 NamesNow connecting i held = held ≡ i
-NamesNow disconnecting i held = i ≡ Missing
+NamesNow disconnecting i held = i ≡ None
 
 abbrev pub NamesThen : Kind → ConnectionId → ConnectionId → ResponsePacket → Type 0
 NamesThen connecting i held r = named_in (some r) held ≡ i
-NamesThen disconnecting i held r = i ≡ Missing
+NamesThen disconnecting i held r = i ≡ None
 
 -- if the client is connected, the server knows its limit; a Disconnect ends that
 abbrev pub Bound : Kind → Settings → Bool → ℕ → Type 0

@@ -9,6 +9,7 @@ use native.Mathlib.Omega.{arith}
 use lib.ListN.{length, take, drop}
 use lib.Seq.{drop-length}
 use borrow.Author.Tests.{le-leb, lt-ltb}
+use Rattle.std.specs.Prelude.{None}
 use Rattle.text.specs.Unicode.{Octets}
 use Rattle.packet.specs.HeaderIds as header_id
 use Rattle.packet.specs.Codes.{is_code, codes}
@@ -18,7 +19,6 @@ use Rattle.journal.specs.Calls.{bytes_offered_of}
 use Rattle.journal.specs.Journal.{is_enable, headers_of}
 use Rattle.incoming.specs.Frame.{Frames, framed}
 use Rattle.incoming.proofs.Queued.{Half, Came, goes as stillGoes, comes, queued, none_come}
-use Rattle.connection.specs.declared.peer.ConnectionId.TheVariants.{Missing}
 use Rattle.server.specs.declared.Await.{Await as ServerAwait}
 use Rattle.server.specs.declared.Await.TheVariants as waits
 use Rattle.server.specs.declared.CallKind.{CallKind}
@@ -355,7 +355,7 @@ module _ (cs : Settings) (small : cs.max_packet_length ≤ 65535) (g : Past) (l 
 module _ (cs : Settings) (small : cs.max_packet_length ≤ 65535) (g : Past) (l : Link) (q : List ℕ) (w : Awaits disconnecting cs l)
     (p : Packs disconnecting cs q)
     (begun : l.client.begun ≡ 0) (v : Serves (limit_for l.server) l.server) (a : l.server.engine.awaits ≡ waits.Bytes)
-    (idle : busy l.server.engine.operation ≡ false) (dn : l.down ≡ []) (f : Follows Missing l.server)
+    (idle : busy l.server.engine.operation ≡ false) (dn : l.down ≡ []) (f : Follows None l.server)
     (n : NamesNow disconnecting g.named l.client.connection_id)
     (bd : Bound disconnecting cs g.connected (limit_for l.server)) where
   unavailable : is_code 0x53 ≡ true
@@ -367,7 +367,7 @@ module _ (cs : Settings) (small : cs.max_packet_length ≤ 65535) (g : Past) (l 
       let z = withServerPacket l.server.stores s in
       let d = serverReads (some (record { opcode = opcode_for disconnecting; final = true; bytes = q; headers = p.headers })) e q z
       l.server.tables in
-      Did disconnecting cs Missing (state_at d l.server.tables) d.outcome
+      Did disconnecting cs None (state_at d l.server.tables) d.outcome
   unfolding engine_with
   disconnect_reads s h le = by (disconnect_reads_as e q z t true q p.headers idle v.srm)
     where
@@ -386,15 +386,15 @@ module _ (cs : Settings) (small : cs.max_packet_length ≤ 65535) (g : Past) (l 
       x : Stood e z
       x = took-stood disconnecting cs small g l q w p begun v a idle dn f n bd s le
 
-      y : PeerStands disconnecting cs Missing l.server.engine.peer t
+      y : PeerStands disconnecting cs None l.server.engine.peer t
       y = record { fits = v.base.peer; long = v.tables; srm = v.srm; settled = tt; ids = f.ids }
 
-      by : Leaves e z d → Did disconnecting cs Missing (state_at d t) d.outcome
+      by : Leaves e z d → Did disconnecting cs None (state_at d t) d.outcome
       by (turned i) =
-          subst (λ (d : server.Done). Did disconnecting cs Missing (state_at d t) d.outcome) (sym i)
+          subst (λ (d : server.Done). Did disconnecting cs None (state_at d t) d.outcome) (sym i)
           (refused_did cs e z x t 0x53 unavailable y)
       by (asked i) =
-          subst (λ (d : server.Done). Did disconnecting cs Missing (state_at d t) d.outcome) (sym i)
+          subst (λ (d : server.Done). Did disconnecting cs None (state_at d t) d.outcome) (sym i)
           (left-did cs e z x t y)
 
   pub offer_disconnect : Half q l.server.stores.packet l.up l.server.engine.begun → Octets l.up → (m : ℕ)

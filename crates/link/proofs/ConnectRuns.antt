@@ -5,14 +5,14 @@ use mathlib.Core.Bool.{Bool, true, false, ◌&&◌, not, true≢false}
 use mathlib.Core.Option.{Option, none}
 use Prim.Native.Nat.{ℕ, ◌≤◌}
 use lib.ListN.{length, take}
+use Rattle.std.specs.Prelude.{None}
 use Rattle.base.specs.Pick.{pick}
 use Rattle.text.specs.Unicode.{Octets}
 use Rattle.packet.specs.Codes.{codes, is_code}
 use Rattle.packet.specs.ResponsePacket.{ResponsePacket, response_packet}
 use Rattle.journal.specs.Calls.{Call, bytes_offered_of, stream_ended_of, reply_taken_of, reply_given_of, object_given_of, body_given_of, body_failed_of, abort_acknowledged_of, password_given_of, nonce_given_of, credentials_given_of, connections_closed_of}
 use Rattle.incoming.proofs.Queued.{Half}
-use Rattle.connection.specs.declared.peer.ConnectionId.{ConnectionId}
-use Rattle.connection.specs.declared.peer.ConnectionId.TheVariants.{Missing}
+use Rattle.connection.specs.Peer.{ConnectionId}
 use Rattle.server.specs.declared.Await.{Await as ServerAwait}
 use Rattle.server.specs.declared.Await.TheVariants as waits
 use Rattle.server.specs.declared.CallKind.TheVariants as kind
@@ -66,7 +66,7 @@ silent-named i l e =
 pub user-named : (i : ConnectionId) (l : Link) (u : UserCall) → awaiting l.client await.Call ≡ false → named_by i l (user u) ≡ i
 user-named i l (connect hs) e = refl
 user-named i l (get hs) e = refl
-user-named i l (disconnect hs) e = ap (λ (b : Bool). pick b Missing i) (user-refused l (disconnect hs) e)
+user-named i l (disconnect hs) e = ap (λ (b : Bool). pick b None i) (user-refused l (disconnect hs) e)
 user-named i l (put hs has) e = refl
 user-named i l (body d) e = refl
 user-named i l abort e = refl

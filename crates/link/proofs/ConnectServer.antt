@@ -11,6 +11,7 @@ use lib.ListN.{length, take, drop, set}
 use lib.Seq.{take-suc-set, take-append_seam}
 use lib.Dec.{leb, eqb}
 use borrow.Author.Tests.{leb-false, le-leb, eq-eqb}
+use Rattle.std.specs.Prelude.{Some, None}
 use Rattle.base.specs.Pick.{pick}
 use Rattle.base.specs.Bytes.{be32, bytes32}
 use Rattle.digest.specs.Md5.{octets16}
@@ -35,15 +36,11 @@ use Rattle.table.specs.Targets.{place_of, target_by, target_set}
 use Rattle.table.specs.declared.targets.Target.{Target}
 use Rattle.table.proofs.Remembering.{remembered-length, remembered-front}
 use Rattle.table.proofs.Naming.{target-set-front}
-use Rattle.connection.specs.Peer.{peer_with, ids_of, id_in, Linked, linked, at_least255, limited, checked_peer, verified_peer, challenged_peer, srm_peer, added_peer, opened, target_given, searched, opened_for, left_peer, cleared_peer, disconnected_peer}
+use Rattle.connection.specs.Peer.{peer_with, ids_of, id_in, Linked, linked, at_least255, limited, checked_peer, verified_peer, challenged_peer, srm_peer, added_peer, opened, target_given, searched, opened_for, left_peer, cleared_peer, disconnected_peer, ConnectionId, Challenge}
 use Rattle.connection.specs.Pieces.{id_given}
 use Rattle.connection.specs.Reply.{fields_of, send_bytes, front}
 use Rattle.connection.specs.ConnectReply.{answered_challenge, connect_headers, challenge_header}
-use Rattle.connection.specs.declared.peer.Challenge.{Challenge}
-use Rattle.connection.specs.declared.peer.Challenge.TheVariants.{Stored, Absent}
 use Rattle.connection.specs.declared.peer.Peer.{Peer}
-use Rattle.connection.specs.declared.peer.ConnectionId.{ConnectionId}
-use Rattle.connection.specs.declared.peer.ConnectionId.TheVariants.{Id, Missing}
 use Rattle.connection.proofs.Front.{front_length}
 use Rattle.connection.proofs.Closing.{with_count}
 use Rattle.connection.proofs.Standings.{PeerFits, own_fits, limited-fits, checked-fits, verified-fits, challenged-fits, disconnected-fits, disconnected-length, opened-fits, opened-length}
@@ -82,8 +79,8 @@ pub record PeerStands (k : Kind) (cs : Settings) (id : ConnectionId) (p : Peer) 
 
 -- an id is open by the ids alone
 open-same : (id : ConnectionId) (p q : Peer) (t u : List ℕ) → ids_of q u ≡ ids_of p t → open_at id p t ≡ true → open_at id q u ≡ true
-open-same Missing p q t u e o = refl
-open-same (Id i) p q t u e o = ap (member i) e ∙ o
+open-same None p q t u e o = refl
+open-same (Some i) p q t u e o = ap (member i) e ∙ o
 
 ids-same : (id : ConnectionId) (p q : Peer) (t u : List ℕ) → q.next_connection_id ≡ p.next_connection_id → ids_of q u ≡ ids_of p t → Ids id p t
     → Ids id q u
@@ -218,8 +215,8 @@ pub record OpenedFor (cs : Settings) (id : ConnectionId) (named : ConnectionId) 
 
 module _ (cs : Settings) (id : ConnectionId) (p : Peer) (t : List ℕ) (h : PeerStands connecting cs id p t) where
   stays_open : (i : ℕ) (q : Linked) → Opened p t i q → (j : ConnectionId) → open_at j p t ≡ true → open_at j q.peer q.tables ≡ true
-  stays_open i q o Missing e = refl
-  stays_open i q o (Id j) e = o.stays j e
+  stays_open i q o None e = refl
+  stays_open i q o (Some j) e = o.stays j e
 
   opened-stands : (a v : Option (List ℕ)) (q : Linked) (i : ℕ) (named : ConnectionId) → opened_for p t false a v ≡ some q → Opened p t i q
       → (p.next_connection_id < 2 ^ 32 → open_at named q.peer q.tables ≡ true) → OpenedFor cs id named q
@@ -241,18 +238,18 @@ module _ (cs : Settings) (id : ConnectionId) (p : Peer) (t : List ℕ) (h : Peer
   unfolding peer_with
   opened_for_lem (some i) v q e =
       let o = opened-did p t (be32 i 0) p.next_connection_id (target_given v) q h.fits h.long (λ n. n) e in
-      opened-stands (some i) v q (be32 i 0) (Id (be32 i 0)) e o (λ n. o.new)
+      opened-stands (some i) v q (be32 i 0) (Some (be32 i 0)) e o (λ n. o.new)
   opened_for_lem none (some v) q e =
       let i = searched p t in
       let o = opened-did p t i ((i + 1) % 2 ^ 32) (target_by v) q h.fits h.long (λ n. omega arith) e in
-      opened-stands none (some v) q i (Id (be32 (bytes32 i) 0)) e o
+      opened-stands none (some v) q i (Some (be32 (bytes32 i) 0)) e o
       (λ n. ap (λ (x : ℕ). member x (ids_of q.peer q.tables)) (id_back i (free-small 66 (ids_of p t) p.next_connection_id n)) ∙ o.new)
   opened_for_lem none none q e = go q e
     where
-      go : (q : Linked) → some (linked (srm_peer p false) t) ≡ some q → OpenedFor cs id Missing q
+      go : (q : Linked) → some (linked (srm_peer p false) t) ≡ some q → OpenedFor cs id None q
       go q e =
           let z : linked (srm_peer p false) t ≡ q = cc in
-          subst (OpenedFor cs id Missing) z
+          subst (OpenedFor cs id None) z
           (record {
             stands =
                 record {
@@ -391,13 +388,13 @@ module _ (cs : Settings) (id : ConnectionId) (e : Engine) (z : Stores) (w : Stoo
     verifies-did : (p : Peer) (t : List ℕ) (c : Challenge) (x : Option Response) → PeerStands connecting cs id p t
         → let d = verifies e p c x z in Did connecting cs id (state_at d t) d.outcome
     unfolding engine_with
-    verifies-did p t Absent x h =
+    verifies-did p t None x h =
         asks-did connecting cs id e z w p t Nothing waits.Nonce request.Nonce z h w.room refl
         (host-nonce refl refl, asked_as p t Nothing waits.Nonce z refl)
-    verifies-did p t (Stored n) none h =
+    verifies-did p t (Some n) none h =
         asks-did connecting cs id e z w p t Nothing waits.Nonce request.Nonce z h w.room refl
         (host-nonce refl refl, asked_as p t Nothing waits.Nonce z refl)
-    verifies-did p t (Stored n) (some x) h =
+    verifies-did p t (Some n) (some x) h =
         asks-did connecting cs id e z w p t Nothing waits.Password (request.Password (user_place e z)) z h w.room refl
         (host-password refl refl, asked_as p t Nothing waits.Password z refl)
 
@@ -540,24 +537,24 @@ module _ (cs : Settings) (e : Engine) (z : Stores) (w : Stood e z) where
       (plain-read code l c s (subst (λ (v : List ℕ). 3 + length v ≤ 65535) eq n)) in
       record { whole-packet = x.whole-packet; response = response_of code y l; reads = x.reads; gives = tt }
 
-  pub refused_did : (t : List ℕ) (code : ℕ) → is_code code ≡ true → PeerStands disconnecting cs Missing e.peer t
-      → let d = replies_code e e.peer Nothing code z in Did disconnecting cs Missing (state_at d t) d.outcome
+  pub refused_did : (t : List ℕ) (code : ℕ) → is_code code ≡ true → PeerStands disconnecting cs None e.peer t
+      → let d = replies_code e e.peer Nothing code z in Did disconnecting cs None (state_at d t) d.outcome
   refused_did t code c h =
-      replies-did disconnecting cs Missing e z w e.peer t (packet_bytes (sent_code code) [] []) h
+      replies-did disconnecting cs None e z w e.peer t (packet_bytes (sent_code code) [] []) h
       (code-replies e.peer t code [] [] (sym bytes-none) c tt (omega arith))
 
-  pub left-did : (t : List ℕ) → PeerStands disconnecting cs Missing e.peer t
-      → let d = asksHost e e.peer Nothing waits.Disconnect (request.Disconnect e.length) z in Did disconnecting cs Missing (state_at d t)
+  pub left-did : (t : List ℕ) → PeerStands disconnecting cs None e.peer t
+      → let d = asksHost e e.peer Nothing waits.Disconnect (request.Disconnect e.length) z in Did disconnecting cs None (state_at d t)
       d.outcome
   unfolding engine_with
-  left-did t h = asks-did disconnecting cs Missing e z w e.peer t Nothing waits.Disconnect (request.Disconnect e.length) z h
+  left-did t h = asks-did disconnecting cs None e z w e.peer t Nothing waits.Disconnect (request.Disconnect e.length) z h
       w.room refl (refl, refl)
 
   pub reply-did : (p : Peer) (t : List ℕ) (code : ℕ) (hs : List ℕ) (l : List Header) → hs ≡ all_bytes l → is_code code ≡ true → AllShaped l
-      → PeerStands disconnecting cs Missing p t → let d = sends e p code hs z in Did disconnecting cs Missing (state_at d t) d.outcome
+      → PeerStands disconnecting cs None p t → let d = sends e p code hs z in Did disconnecting cs None (state_at d t) d.outcome
   unfolding sends
   reply-did p t code hs l eq c s h =
-      sent-did disconnecting cs Missing e z w p t (send_bytes p.remote_max_packet_length code [] hs) h
+      sent-did disconnecting cs None e z w p t (send_bytes p.remote_max_packet_length code [] hs) h
       (λ y g. by y (sends_by p.remote_max_packet_length code [] hs y g))
     where
       by : (y : List ℕ) → Sends code [] hs y → Replies disconnecting p t y
@@ -566,8 +563,8 @@ module _ (cs : Settings) (e : Engine) (z : Stores) (w : Stood e z) where
           (code-replies p t 0x50 [] [] (sym bytes-none) internal_code tt (omega arith))
 
 -- what it leaves of the peer
-pub left-stands : (cs : Settings) (p : Peer) (t : List ℕ) (v : Option (List ℕ)) → PeerStands disconnecting cs Missing p t
-    → let q = disconnected_peer p t v in PeerStands disconnecting cs Missing q.peer q.tables
+pub left-stands : (cs : Settings) (p : Peer) (t : List ℕ) (v : Option (List ℕ)) → PeerStands disconnecting cs None p t
+    → let q = disconnected_peer p t v in PeerStands disconnecting cs None q.peer q.tables
 unfolding disconnected_peer peer_with
 left-stands cs p t v h =
     record {

@@ -7,9 +7,9 @@ use mathlib.Core.Option.{Option, none, some}
 use Prim.Native.Nat.{ℕ, ◌≤◌}
 use native.Mathlib.Omega.{arith}
 use lib.ListN.{take, drop}
+use Rattle.std.specs.Prelude.{None}
 use Rattle.base.specs.Pick.{pick}
 use Rattle.journal.specs.Calls.{Call}
-use Rattle.connection.specs.declared.peer.ConnectionId.TheVariants.{Missing}
 use Rattle.server.specs.declared.CallResult.{CallResult as ServerResult}
 use Rattle.server.specs.declared.Outcome.{Outcome as ServerOutcome}
 use Rattle.server.specs.declared.Outcome.TheVariants as told
@@ -87,7 +87,7 @@ unfolding start_step
 client-started cs s = go (short s) refl
   where
     go : (b : Bool) → short s ≡ b
-        → let m = pick b (refuse refusal.StoreTooShort (client_with cs 255 Missing Nothing await.Nothing false 0 0) s)
+        → let m = pick b (refuse refusal.StoreTooShort (client_with cs 255 None Nothing await.Nothing false 0 0) s)
         (stepped (record { client = started cs; taken = 0; outcome = said.Ready }) s) in
         m.took.outcome ≡ said.Ready → (m.took.client ≡ started cs) × (short m.stores ≡ false)
     go true i e = let z : ◌≡◌ {A = ℕ} 0 1 = cc in absurd (omega arith)

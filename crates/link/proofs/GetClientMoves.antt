@@ -16,7 +16,7 @@ use Rattle.journal.proofs.Laws.{joined-bare}
 use Rattle.incoming.proofs.Queued.{Half, none_come}
 use Rattle.connection.specs.Reply.{front}
 use Rattle.connection.proofs.Front.{front_length}
-use Rattle.connection.specs.declared.peer.ConnectionId.{ConnectionId}
+use Rattle.connection.specs.Peer.{ConnectionId}
 use Rattle.client_model.specs.Step.{Stores, with_request, client_with, goes, Done, wants, sends, Stepped, after}
 use Rattle.client_model.specs.Numbers.{same_await}
 use Rattle.client_model.specs.Request.{sends_abort}

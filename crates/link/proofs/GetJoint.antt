@@ -15,16 +15,15 @@ use Rattle.packet.specs.Header.{Header, first}
 use Rattle.packet.specs.declared.opcode.Opcode.TheVariants as op
 use Rattle.journal.specs.Record.{bare, carried_by}
 use Rattle.journal.specs.Journal.{is_enable}
-use Rattle.incoming.specs.Gather.{gathering as gatheringOf}
+use Rattle.incoming.specs.Gather.{gathering as gatheringOf, Body}
 use Rattle.incoming.specs.declared.gather.Gathered.{Gathered}
 use Rattle.incoming.proofs.Gathers.{KeptAgrees}
 use Rattle.incoming.proofs.Queued.{Half}
 use Rattle.outgoing.specs.Packets.{all_sent}
 use Rattle.outgoing.proofs.Sender.{ending}
 use Rattle.journal.specs.Ids.{member}
-use Rattle.connection.specs.Peer.{ids_of}
+use Rattle.connection.specs.Peer.{ids_of, ConnectionId}
 use Rattle.connection.specs.declared.peer.Peer.{Peer}
-use Rattle.connection.specs.declared.peer.ConnectionId.{ConnectionId}
 use Rattle.server.specs.declared.Settings.{Settings as ServerSettings}
 use Rattle.server.specs.declared.Operation.TheVariants.{Getting}
 use Rattle.server.specs.declared.Await.TheVariants as waits
@@ -39,7 +38,6 @@ use Rattle.model.specs.Runs.{State}
 use Rattle.model.proofs.ServerPut.{Refuses}
 use Rattle.model.proofs.ServerGet.{Asked}
 use Rattle.client_model.specs.Step.{Stores}
-use Rattle.client_model.specs.declared.Body.{Body}
 use Rattle.client_model.specs.declared.End.{End}
 use Rattle.client_model.specs.declared.End.TheVariants as end
 use Rattle.client_model.specs.declared.Operation.TheVariants.{Receiving, Aborting}

@@ -10,6 +10,7 @@ use native.Mathlib.Omega.{arith}
 use lib.ListN.{length, get_or, take, drop, set, length-append}
 use lib.Seq.{take-append_seam}
 use lib.Dec.{leb}
+use Rattle.std.specs.Prelude.{None}
 use Rattle.base.specs.Pick.{pick}
 use Rattle.base.specs.Bytes.{bytes16}
 use Rattle.text.specs.Unicode.{Octets}
@@ -39,7 +40,6 @@ use Rattle.connection.specs.Reply.{front}
 use Rattle.model.specs.Object.{object_of}
 use Rattle.server.specs.declared.Operation.TheVariants.{Sending}
 use Rattle.model.specs.Runs.{State}
-use Rattle.connection.specs.declared.peer.ConnectionId.TheVariants.{Missing}
 use Rattle.client_model.specs.Guard.{any_of}
 use Rattle.client_model.specs.Leading.{leading_headers, leading}
 use Rattle.client_model.proofs.Conveyed.{Holding, carried_all, body_record, reads-back, conveyed}
@@ -145,7 +145,7 @@ lead_off box t e = go t.lead refl
 module _ (box : ℕ) (t : Thing box) where
   -- all its packets, with this body
   abbrev pub thing_packets : Option (List ℕ) → Packets
-  thing_packets b = packets_from (box - 3) (leading Missing t.lead) t.list b
+  thing_packets b = packets_from (box - 3) (leading None t.lead) t.list b
 
   -- the header store while they go
   abbrev pub thing_headers : List ℕ
@@ -211,7 +211,7 @@ module _ (box : ℕ) (t : Thing box) where
   onto-none (some b) = refl
 
   -- behind the grant, if there is one
-  lead_holds : (lead : Bool) (y : List ℕ) → 65535 ≤ length y → Holds (lead_store lead y) (leading Missing lead)
+  lead_holds : (lead : Bool) (y : List ℕ) → 65535 ≤ length y → Holds (lead_store lead y) (leading None lead)
   unfolding leading leading_headers insert_early must_lead all_bytes bytes_of encoding_of
   lead_holds false y long = holds_none y long
   lead_holds true y long =
@@ -220,7 +220,7 @@ module _ (box : ℕ) (t : Thing box) where
       rw (set-laid (set y 3 0x97) 4 0x01 (omega (arith, w.long))) (holds_laid (set y 3 0x97) (0x97 ∷ []) (0x01 ∷ []) 4 refl (omega arith) w)
 
   first-same : (lead : Bool) (y : List ℕ)
-      → next_after (3 + length (leading Missing lead)) (box - 3) (object_of (length t.hs) false t.has) thing_headers (lead_store lead y)
+      → next_after (3 + length (leading None lead)) (box - 3) (object_of (length t.hs) false t.has) thing_headers (lead_store lead y)
       ≡ next_packet (box - 3) (object_of (length t.hs) lead t.has) thing_headers y
   unfolding next_after next_packet fill_packet leading leading_headers insert_early must_lead all_bytes bytes_of encoding_of
   first-same false y = refl
@@ -233,8 +233,8 @@ module _ (box : ℕ) (t : Thing box) where
       let o = object_of (length t.hs) t.lead t.has in
       let cap = box - 3 in
       let w = first_making cap (length t.hs) thing_headers (omega (arith, t.low)) (omega (arith, t.low, t.top)) t.has headers-long
-      headers-octets t.list (leading Missing t.lead) (lead_store t.lead y) headers-walk
-      (omega (arith, t.low, lead-small Missing t.lead)) (lead_holds t.lead y long) in
+      headers-octets t.list (leading None t.lead) (lead_store t.lead y) headers-walk
+      (omega (arith, t.low, lead-small None t.lead)) (lead_holds t.lead y long) in
       made_of [] [] o y (next_packet cap o thing_headers y) (λ b. thing_packets b)
       (subst (λ (m : Made). Making cap (length t.hs) thing_headers t.has m (λ b. thing_packets b)) (first-same t.lead y) w)
       (λ b h. ap thing_packets (onto-none b)) t.most
@@ -339,11 +339,11 @@ module _ (box : ℕ) (t : Thing box) where
     is_code_lem true = refl
     is_code_lem false = refl
 
-    thing-led : (b : Option (List ℕ)) → Led (leading_headers Missing t.lead) (thing_packets b).sent
+    thing-led : (b : Option (List ℕ)) → Led (leading_headers None t.lead) (thing_packets b).sent
     unfolding leading
     thing-led b =
         led-from (box - 3) b t.list (read_shaped t.hs 0 t.list t.reads) (plain-srm t.list t.plain)
-        (leading_headers Missing t.lead) (lead_shaped Missing t.lead) (all_bytes (leading_headers Missing t.lead)) refl
+        (leading_headers None t.lead) (lead_shaped None t.lead) (all_bytes (leading_headers None t.lead)) refl
 
     pub made-down : (last : Bool) → m.packet.next ≡ next.Send n last
         → (x : List Header) × Down sent_of (code_of last) x × Holding (out ++ (sent_of ∷ [])) (zs ++ (x ∷ [])) × Plainly (is_none out && t.lead) x
@@ -352,10 +352,10 @@ module _ (box : ℕ) (t : Thing box) where
         let b = onto d (ending t.has) in
         let v = next_of last (makes last e) in
         let o = thing-led b in
-        let h = asked_at Missing t.lead out sent_of v.0 o.headers (subst (λ (l : List (List ℕ)). Holding l o.headers) v.1 o.holds)
+        let h = asked_at None t.lead out sent_of v.0 o.headers (subst (λ (l : List (List ℕ)). Holding l o.headers) v.1 o.holds)
         o.only in
         let z = sized_at cap out sent_of v.0 (subst (λ (l : List (List ℕ)). AllSized cap l) v.1
-        (packets-sized cap (leading Missing t.lead) t.list b (omega (arith, t.low)) (omega (arith, t.low, lead-small Missing t.lead)))) in
+        (packets-sized cap (leading None t.lead) t.list b (omega (arith, t.low)) (omega (arith, t.low, lead-small None t.lead)))) in
         let c = code_of last in
         let q = first_code last z.last e (first_in_lem n (first_byte z.last) m.reply (bytes16 (3 + length z.content) ++ z.content) z.is) in
         let i : sent_of ≡ sent_code c ∷ (bytes16 (3 + length z.content) ++ z.content) =
@@ -404,7 +404,7 @@ module _ (box : ℕ) (t : Thing box) where
 
   -- ---- what all of them carry
 
-  lead-carried : (lead : Bool) → carried_by (leading_headers Missing lead) ≡ bare
+  lead-carried : (lead : Bool) → carried_by (leading_headers None lead) ≡ bare
   unfolding leading_headers insert_early must_lead carried_by carried_one is_body is_srm
   lead-carried false = refl
   lead-carried true = refl
@@ -415,8 +415,8 @@ module _ (box : ℕ) (t : Thing box) where
   unfolding leading
   thing-carried out d xs e h =
       let b = onto d (ending t.has) in
-      let lead = leading_headers Missing t.lead in
-      let v = conveyed (box - 3) b t.list (read_shaped t.hs 0 t.list t.reads) lead (lead_shaped Missing t.lead)
+      let lead = leading_headers None t.lead in
+      let v = conveyed (box - 3) b t.list (read_shaped t.hs 0 t.list t.reads) lead (lead_shaped None t.lead)
       (ap (λ (r : Packets). r.whole) e) in
       let g = subst (λ (r : Packets). Holding r.sent v.headers) e v.holds in
       let p : carried_by t.list ≡ record { headers = t.hs; body = none } =

@@ -11,6 +11,7 @@ use lib.ListN.{length, take, drop}
 use lib.Seq.{drop-length}
 use lib.Dec.{ltb, eqb}
 use borrow.Author.Tests.{le-ltb}
+use Rattle.std.specs.Prelude.{Some, None}
 use Rattle.base.specs.Pick.{pick}
 use Rattle.packet.specs.Codes.{is_success, sent_code}
 use Rattle.packet.specs.Header.{Header}
@@ -26,7 +27,6 @@ use Rattle.client_model.specs.Request.{requests_next, sends_abort}
 use Rattle.client_model.specs.Answer.{grants, gathers, part_body, parts, ended, received_more, received_last, received, continued, request_answered, responded, is_connecting, read_as, response_done}
 use Rattle.client_model.specs.Guard.{short, sound_operation, awaiting}
 use Rattle.client_model.specs.Calls.{offers, bytes_offered_step, stream_ended_step}
-use Rattle.client_model.specs.declared.Body.TheVariants as part
 use Rattle.client_model.specs.declared.Settings.{Settings}
 use Rattle.client_model.specs.declared.Kind.TheVariants as kind
 use Rattle.client_model.specs.declared.Operation.{Operation}
@@ -72,7 +72,7 @@ pub part-said : (g : Gathering) (c : Record) (p q : List ℕ) → PutAgrees 6553
 part-said g c p q w e =
     λ i. record { headers = sym w.headers i; body = (go g.got.came ∙ sym (w.body e).1) i }
   where
-    go : (t : Bool) → body_in (pick t (part.Bytes g.got.body) part.Missing) g.body ≡ pick t (some (take g.got.body g.body)) none
+    go : (t : Bool) → body_in (pick t (Some g.got.body) None) g.body ≡ pick t (some (take g.got.body g.body)) none
     go true = refl
     go false = refl
 

@@ -10,6 +10,7 @@ use native.Mathlib.Omega.{arith}
 use lib.ListN.{length, take, drop}
 use lib.Seq.{drop-length}
 use borrow.Author.Tests.{le-leb}
+use Rattle.std.specs.Prelude.{None}
 use Rattle.base.specs.Pick.{pick}
 use Rattle.packet.specs.Codes.{codes, is_code, is_success, sent_code}
 use Rattle.packet.specs.FirstByte.{same_opcode}
@@ -19,7 +20,6 @@ use Rattle.packet.specs.Modes as modes
 use Rattle.packet.proofs.HeaderWrites.{read-written}
 use Rattle.text.specs.Unicode.{Octets}
 use Rattle.client_model.specs.Leading.{leading_headers}
-use Rattle.connection.specs.declared.peer.ConnectionId.TheVariants.{Missing}
 use Rattle.outgoing.specs.Queue.{must_lead, insert_early}
 use Rattle.packet.specs.Packet.{Request as Packet, packet_bytes, request_of}
 use Rattle.packet.specs.declared.opcode.Opcode.{Opcode}
@@ -132,7 +132,7 @@ grant-down false = ([], code-down 0x10 refl, refl)
 grant-down true =
     let h : Header = record { id = header_id.single_response_mode; value = modes.enable ∷ [] } in (
       h ∷ [],
-      reply-down 0x10 (0x97 ∷ 0x01 ∷ []) (h ∷ []) refl (omega arith) few (read-written (h ∷ []) (0x97 ∷ 0x01 ∷ []) 0 (lead_shaped Missing true) refl),
+      reply-down 0x10 (0x97 ∷ 0x01 ∷ []) (h ∷ []) refl (omega arith) few (read-written (h ∷ []) (0x97 ∷ 0x01 ∷ []) 0 (lead_shaped None true) refl),
       refl,
     )
   where

@@ -8,6 +8,7 @@ use Prim.Native.Nat.{ℕ, zero, suc, ◌+◌, ◌-◌, ◌/◌, ◌%◌, ◌≤�
 use native.Mathlib.Omega.{arith}
 use lib.ListN.{length, drop, length-append}
 use lib.Dec.{ltb}
+use Rattle.std.specs.Prelude.{Some, None}
 use Rattle.base.specs.Pick.{pick}
 use Rattle.base.specs.Bytes.{bytes16, bytes32}
 use Rattle.text.specs.Unicode.{Octets}
@@ -23,8 +24,7 @@ use Rattle.outgoing.specs.Packets as packets
 use Rattle.outgoing.specs.Queue.{must_lead, insert_early}
 use Rattle.outgoing.proofs.Sender.{ending}
 use Rattle.outgoing.proofs.Sized.{Sized, AllSized, packets-sized}
-use Rattle.connection.specs.declared.peer.ConnectionId.{ConnectionId}
-use Rattle.connection.specs.declared.peer.ConnectionId.TheVariants.{Id, Missing}
+use Rattle.connection.specs.Peer.{ConnectionId}
 use Rattle.client_model.specs.Leading.{leading_headers, leading}
 use Rattle.client_model.specs.Step.{Stores}
 use Rattle.client_model.specs.declared.Client.{Client}
@@ -60,11 +60,11 @@ four-octets n =
 
 pub lead-octets : (id : ConnectionId) (srm : Bool) → Octets (leading id srm)
 unfolding leading leading_headers insert_early must_lead all_bytes bytes_of encoding_of
-lead-octets Missing false = octets-none
-lead-octets Missing true = octets-cons 0x97 (1 ∷ []) (omega arith) (octets-cons 1 [] (omega arith) octets-none)
-lead-octets (Id i) false =
+lead-octets None false = octets-none
+lead-octets None true = octets-cons 0x97 (1 ∷ []) (omega arith) (octets-cons 1 [] (omega arith) octets-none)
+lead-octets (Some i) false =
     octets-cons 0xCB (bytes32 i ++ []) (omega arith) (octets-append (bytes32 i) [] (four-octets i) octets-none)
-lead-octets (Id i) true =
+lead-octets (Some i) true =
     octets-cons 0xCB (bytes32 i ++ (0x97 ∷ 1 ∷ [])) (omega arith)
     (octets-append (bytes32 i) (0x97 ∷ 1 ∷ []) (four-octets i) (octets-cons 0x97 (1 ∷ []) (omega arith) (octets-cons 1 [] (omega arith) octets-none)))
 

@@ -10,6 +10,7 @@ use lib.ListN.{length, take, drop}
 use lib.Seq.{take-append_seam}
 use lib.Dec.{ltb, leb, eqb}
 use borrow.Author.Tests.{ltb-true, ltb-false, le-leb, lt-leb, lt-ltb, eqb-true}
+use Rattle.std.specs.Prelude.{None}
 use Rattle.base.specs.Pick.{pick}
 use Rattle.text.specs.Unicode.{Octets}
 use Rattle.packet.specs.Canonical.{canonical_as, canonical}
@@ -25,7 +26,7 @@ use Rattle.journal.specs.Record.{Record, body_length, size_of, joined, carried_b
 use Rattle.journal.specs.Calls.{bytes_offered_of, reply_given_of, abort_acknowledged_of}
 use Rattle.journal.proofs.Laws.{joined-bare, joined_assoc}
 use Rattle.incoming.specs.Frame.{Frames, framed}
-use Rattle.incoming.specs.Gather.{Gathering, gathering as gatheringOf}
+use Rattle.incoming.specs.Gather.{Gathering, gathering as gatheringOf, Body}
 use Rattle.incoming.specs.Survey.{tests, survey_of}
 use Rattle.incoming.specs.declared.survey.Survey.{Survey}
 use Rattle.incoming.specs.declared.gather.Gathered.{Gathered}
@@ -65,7 +66,6 @@ use Rattle.client_model.proofs.Conveyed.{Holding, carried_all}
 use Rattle.client_model.proofs.Requests.{response-read}
 use Rattle.journal.specs.Journal.{is_enable}
 use Rattle.outgoing.specs.Queue.{insert_early}
-use Rattle.connection.specs.declared.peer.ConnectionId.TheVariants.{Missing}
 use Rattle.client_model.specs.Leading.{leading_headers}
 use Rattle.client_model.proofs.Leads.{lead_shaped}
 use Rattle.client_model.proofs.Putting.{Job, onto, Answered, Up, ends-carried}
@@ -156,7 +156,7 @@ unfolding is_code codes leading_headers insert_early all_bytes bytes_of encoding
 grant-down false = (reply-down 0x10 [] [] refl (omega arith) (λ k. omega arith) none_read, refl)
 grant-down true =
     let h = header header_id.single_response_mode (modes.enable ∷ []) in (
-      reply-down 0x10 (0x97 ∷ 0x01 ∷ []) (h ∷ []) refl (omega arith) few (read-written (h ∷ []) (0x97 ∷ 0x01 ∷ []) 0 (lead_shaped Missing true) refl),
+      reply-down 0x10 (0x97 ∷ 0x01 ∷ []) (h ∷ []) refl (omega arith) few (read-written (h ∷ []) (0x97 ∷ 0x01 ∷ []) 0 (lead_shaped None true) refl),
       refl,
     )
   where
@@ -421,7 +421,7 @@ module _ (g : Deal) (ab : Bool) (h : Heard) (l : Link) (begun : l.client.begun �
 
   -- the host gets the record
   did_hand : (initial srm : Bool) (sent : List (List ℕ)) (xs : List (List Header)) → Client' g (awaits true initial) srm sent ab h l → Holding sent xs
-      → (z : Stores) (k : ℕ) (y : Rattle.server.specs.declared.Body.Body) → Base e z → handed_by (request.Put k y) z ≡ carried_all xs ∷ []
+      → (z : Stores) (k : ℕ) (y : Body) → Base e z → handed_by (request.Put k y) z ≡ carried_all xs ∷ []
       → h.records ≡ [] → h.answer ≡ none → Gave g false h.given
       → Joint g ab (heard_did h (asks e e.peer Nothing waits.Reply (request.Put k y) z))
       (did_link l (asks e e.peer Nothing waits.Reply (request.Put k y) z) [])

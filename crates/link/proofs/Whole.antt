@@ -8,13 +8,12 @@ use mathlib.Core.Option.{Option, none, some}
 use Prim.Native.Nat.{ℕ, ◌^◌, ◌≤◌, ◌<◌}
 use native.Mathlib.Omega.{arith}
 use lib.Dec.{eqb}
+use Rattle.std.specs.Prelude.{None}
 use Rattle.base.specs.Pick.{pick}
 use Rattle.text.specs.Unicode.{Octets}
 use Rattle.packet.specs.ResponsePacket.{response_packet}
 use Rattle.journal.specs.Calls.{Call}
-use Rattle.connection.specs.Peer.{peer_with}
-use Rattle.connection.specs.declared.peer.ConnectionId.{ConnectionId}
-use Rattle.connection.specs.declared.peer.ConnectionId.TheVariants.{Missing}
+use Rattle.connection.specs.Peer.{peer_with, ConnectionId}
 use Rattle.connection.specs.declared.peer.Peer.{Peer}
 use Rattle.server.specs.declared.Engine.{Engine}
 use Rattle.server.specs.declared.Outcome.{Outcome as ServerOutcome}
@@ -93,7 +92,7 @@ user-connected b l abort e = refl
 user-connected b l partTaken e = refl
 
 refused-named : (i : ConnectionId) (l : Link) (u : UserCall) → (shown.goes l u ≡ false) → named_by i l (user u) ≡ i
-refused-named i l (disconnect hs) e = ap (λ (t : Bool). pick t Missing i) e
+refused-named i l (disconnect hs) e = ap (λ (t : Bool). pick t None i) e
 refused-named i l (connect hs) e = refl
 refused-named i l (get hs) e = refl
 refused-named i l (put hs has) e = refl
@@ -217,7 +216,7 @@ module _ (cs : Settings) (small : cs.max_packet_length ≤ 65535) (Inside : User
     calls (connect hs) pl true e = connects (connect_begins cs g l small i s hs pl e)
     calls (disconnect hs) pl true e =
         let c : connected_by g.connected l (user (disconnect hs)) ≡ false = ap (λ (b : Bool). g.connected && not b) e ∙ and_false g.connected in
-        let n : named_by g.named l (user (disconnect hs)) ≡ Missing = ap (λ (b : Bool). pick b Missing g.named) e in
+        let n : named_by g.named l (user (disconnect hs)) ≡ None = ap (λ (b : Bool). pick b None g.named) e in
         disconnects (subst (λ (h : Past). Phase disconnecting cs h (move l (user (disconnect hs))))
         (λ j. record { connected = sym c j; named = sym n j }) (disconnect_begins cs g l i s hs pl e)) c
     calls (put hs has) pl true e = begun (put hs has) puts pl e
@@ -430,7 +429,7 @@ module _ (cs : Settings) (small : cs.max_packet_length ≤ 65535) (Inside : User
 -- ---- two ends that have just started
 
 abbrev pub nothing_past : Past
-nothing_past = record { connected = false; named = Missing }
+nothing_past = record { connected = false; named = None }
 
 pub fresh-standing : (st : ServerSettings) (cs : Settings) (l : Link) → Fresh st cs l → Standing cs nothing_past l
 unfolding started client_with serverStarted engine_with peer_with

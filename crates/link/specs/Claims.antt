@@ -1,6 +1,6 @@
 -- What holds of a Put and of a Get over a reliable stream, for every run (docs/PROTOCOL.md#link). The server is the model of this project,
 -- with any settings and any answers of its host that keep to `Plain`.
-use Rattle.std.specs.Prelude.{ℕ, ◌≤◌, ◌-◌, ◌≡◌, List, [], ◌∷◌, ◌++◌, Bool, true, false, ◌&&◌, ◌||◌, not, ◌⊎◌, length, ltb, eqb}
+use Rattle.std.specs.Prelude.{ℕ, ◌≤◌, ◌-◌, ◌≡◌, List, [], ◌∷◌, ◌++◌, Bool, true, false, ◌&&◌, ◌||◌, not, ◌⊎◌, length, ltb, eqb, Some, None}
 use Rattle.std.proofs.Math.Option.{Option, none, some}
 use Rattle.base.specs.Pick.{pick}
 use Rattle.packet.specs.Limits.{max_packet}
@@ -16,9 +16,7 @@ use Rattle.journal.specs.Calls.{Call, bytes_offered_of, stream_ended_of, reply_t
 use Rattle.journal.specs.Journal.{list_of, Journal, admitted, trails, journal_after}
 use Rattle.journal.specs.PutForm.{is_trailing}
 use Rattle.journal.specs.Ids.{member}
-use Rattle.connection.specs.Peer.{at_least255, ids_of, id_in}
-use Rattle.connection.specs.declared.peer.ConnectionId.{ConnectionId}
-use Rattle.connection.specs.declared.peer.ConnectionId.TheVariants.{Id, Missing}
+use Rattle.connection.specs.Peer.{at_least255, ids_of, id_in, ConnectionId}
 use Rattle.server.specs.declared.Settings.{Settings as ServerSettings}
 use Rattle.server.specs.declared.Outcome.TheVariants as told
 use Rattle.model.specs.Runs.{State, Started, Octets}
@@ -129,7 +127,7 @@ named_in (some r) i = pick (is_success r.code) (id_in (first header_id.connectio
 abbrev pub named_by : ConnectionId → Link → Move → ConnectionId
 named_by i l sendDown =
     pick (is_connecting l.client.operation) (named_in (response_packet true (reply_bytes l.told l.server.stores.reply)) i) i
-named_by i l (user (disconnect hs)) = pick (goes l (disconnect hs)) Missing i
+named_by i l (user (disconnect hs)) = pick (goes l (disconnect hs)) None i
 named_by i l (user (connect hs)) = i
 named_by i l (user (get hs)) = i
 named_by i l (user (put hs has)) = i
@@ -150,8 +148,8 @@ named_after i l (m ∷ ms) = named_after (named_by i l m) (move l m) ms
 
 -- The server has this ConnectionID open, if it is one.
 abbrev pub is_open_of : ConnectionId → State → Bool
-is_open_of Missing s = true
-is_open_of (Id i) s = member i (ids_of s.engine.peer s.tables)
+is_open_of None s = true
+is_open_of (Some i) s = member i (ids_of s.engine.peer s.tables)
 
 -- The run is passed on to the end: the operation is over with its last move, and not before.
 abbrev pub Until : Link → List Move → Type 0
@@ -193,7 +191,7 @@ journal_in st l ms = journal_after (journal_of st) (fed st l.server (performed_i
 abbrev pub Names : Type 0
 Names =
     (st : ServerSettings) (cs : Settings) (l : Link) (ms : List Move) → Fresh st cs l → Plain ms → awaiting (moves l ms).client await.Call ≡ true
-    → ((moves l ms).client.connection_id ≡ named_after Missing l ms) × (is_open_of (moves l ms).client.connection_id (moves l ms).server ≡ true)
+    → ((moves l ms).client.connection_id ≡ named_after None l ms) × (is_open_of (moves l ms).client.connection_id (moves l ms).server ≡ true)
 
 -- ---- a Put
 

@@ -5,8 +5,8 @@ use mathlib.Core.List.{List, [], ◌∷◌}
 use mathlib.Core.Bool.{true, false}
 use mathlib.Core.Option.{Option, none, some}
 use Prim.Native.Nat.{ℕ}
+use Rattle.std.specs.Prelude.{None}
 use Rattle.journal.specs.Calls.{Call}
-use Rattle.connection.specs.declared.peer.ConnectionId.TheVariants.{Missing}
 use Rattle.server.specs.declared.Outcome.{Outcome as ServerOutcome}
 use Rattle.server.specs.declared.Outcome.TheVariants as told
 use Rattle.model.specs.Step.{Called}
@@ -130,7 +130,7 @@ functions_name a b ms xs w r pl =
     let l = started_by a b in
     subst
     (λ (k : Link). awaiting k.client await.Call ≡ true
-    → (k.client.connection_id ≡ named_after Missing l ms) × (is_open_of k.client.connection_id k.server ≡ true))
+    → (k.client.connection_id ≡ named_after None l ms) × (is_open_of k.client.connection_id k.server ≡ true))
     (sym (run-leads l ms xs r)) (all-names a.settings b.settings l ms (starts-fresh a b w) pl)
 
 functions_put : FunctionsPut

@@ -1,10 +1,9 @@
 -- Runs of a client and a server (docs/PROTOCOL.md#link) in which each call was one of the functions of `client` and of `engine`: of both ends only
 -- what the functions' contracts say is known, from their starts on. What `Names`, `Puts` and `Gets` claim is claimed of these runs.
-use Rattle.std.specs.Prelude.{ℕ, ◌≤◌, ◌≡◌, List, [], ◌∷◌, Bool, true, false, take}
+use Rattle.std.specs.Prelude.{ℕ, ◌≤◌, ◌≡◌, List, [], ◌∷◌, Bool, true, false, take, None}
 use Rattle.std.proofs.Math.Option.{Option, none, some}
 use Rattle.packet.specs.Limits.{max_packet}
 use Rattle.journal.specs.Calls.{Call}
-use Rattle.connection.specs.declared.peer.ConnectionId.TheVariants.{Missing}
 use Rattle.server.specs.declared.Outcome.{Outcome as ServerOutcome}
 use Rattle.server.specs.declared.Outcome.TheVariants as told
 use Rattle.model.specs.Step.{Called}
@@ -136,7 +135,7 @@ FunctionsName =
     → let l = started_by a b in
     let k = led_all l ms xs in
     StartsMade a b → RunMade l ms xs → Plain ms → awaiting k.client await.Call ≡ true
-    → (k.client.connection_id ≡ named_after Missing l ms) × (is_open_of k.client.connection_id k.server ≡ true)
+    → (k.client.connection_id ≡ named_after None l ms) × (is_open_of k.client.connection_id k.server ≡ true)
 
 -- `Puts` of such a run: a Put after an accepted Connect, passed on to its end. The run `before` led to the link `k`, and the Put to `n`.
 abbrev pub FunctionsPut : Type 0

@@ -11,7 +11,7 @@ use lines::arguments;
 use lines::input::read_full;
 use lines::output::{least, put, put_number, write};
 use lines::word::{byte_at, number};
-use server::{Body, CallResult, Engine, HostRequest, Outcome, default_settings};
+use server::{CallResult, Engine, HostRequest, Outcome, default_settings};
 use std::env::Env;
 use std::io::Read;
 use std::num::wrapping_add_usize;
@@ -129,10 +129,10 @@ fn count_record(p: Progress, last: usize) -> Progress {
     q
 }
 
-fn last_of(b: Body, body: &[u8]) -> usize {
+fn last_of(b: Option<usize>, body: &[u8]) -> usize {
     match b {
-        Body::Bytes(n) => last_byte(body, n),
-        Body::Missing => 0,
+        Some(n) => last_byte(body, n),
+        None => 0,
     }
 }
 

@@ -99,14 +99,14 @@ fn asked(p: Progress, room: usize) -> Progress {
     q
 }
 
-fn received(p: Progress, body: client_model::Body) -> Progress {
+fn received(p: Progress, body: Option<usize>) -> Progress {
     let mut q = p;
     match body {
-        client_model::Body::Bytes(n) => {
+        Some(n) => {
             q.bytes = wrapping_add_usize(p.bytes, n);
             q
         }
-        client_model::Body::Missing => q,
+        None => q,
     }
 }
 
@@ -120,15 +120,15 @@ fn before_call(p: Progress, outcome: Outcome) -> Progress {
     }
 }
 
-fn recorded(p: Progress, body: server::Body) -> Progress {
+fn recorded(p: Progress, body: Option<usize>) -> Progress {
     let mut q = p;
     q.records = wrapping_add_usize(p.records, 1);
     match body {
-        server::Body::Bytes(n) => {
+        Some(n) => {
             q.bytes = wrapping_add_usize(p.bytes, n);
             q
         }
-        server::Body::Missing => q,
+        None => q,
     }
 }
 

@@ -6,6 +6,7 @@ use mathlib.Core.Option.{Option, none, some}
 use Prim.Native.Nat.{ℕ, ◌≤◌}
 use native.Mathlib.Omega.{arith}
 use lib.ListN.{length}
+use Rattle.std.specs.Prelude.{Some, None}
 use Rattle.base.specs.Pick.{pick}
 use Rattle.digest.specs.Md5.{octets16}
 use Rattle.digest.specs.declared.md5.Octets16.{Octets16}
@@ -20,10 +21,8 @@ use Rattle.journal.specs.Checks.{Check, right, wrong}
 use Rattle.journal.specs.Journal.{Settings as JournalSettings, Standing, Opened, Journal, unchanged, stands, asks_srm, opens_for, connected, disconnected, reply_to, reply_last, replied, passes_with, response_in, passes, headers_of, password_checked, challenged, list_of}
 use Rattle.incoming.specs.Survey.{survey_of}
 use Rattle.connection.specs.Reply.{fields_of, send_bytes, front}
-use Rattle.connection.specs.Peer.{ids_of, Linked, checked_peer, verified_peer, challenged_peer, opened_for, disconnected_peer}
+use Rattle.connection.specs.Peer.{ids_of, Linked, checked_peer, verified_peer, challenged_peer, opened_for, disconnected_peer, ConnectionId, Challenge}
 use Rattle.connection.specs.ConnectReply.{answered_challenge}
-use Rattle.connection.specs.declared.peer.Challenge.{Challenge}
-use Rattle.connection.specs.declared.peer.Challenge.TheVariants.{Stored, Absent}
 use Rattle.connection.specs.declared.peer.Peer.{Peer}
 use Rattle.model.specs.Step.{Stores, with_headers, done_tabled, asks, sent, sends, sends_connect}
 use Rattle.model.specs.Request.{last_packet, last_headers, client_response}
@@ -31,7 +30,6 @@ use Rattle.model.specs.Calls.{sends_linked}
 use Rattle.model.specs.Connect.{srm_asked, connect_sends, front_for, credentials_for, connect_challenged, connect_opened, connect_answer, checks, password_answered, password_answer, nonce_answer, demands_user}
 use Rattle.model.specs.Theorem.{settings_of}
 use Rattle.server.specs.declared.Operation.TheVariants.{Nothing, Connecting}
-use Rattle.connection.specs.declared.peer.ConnectionId.{ConnectionId}
 use Rattle.server.specs.declared.Await.TheVariants as await
 use Rattle.server.specs.declared.Engine.{Engine}
 use Rattle.server.specs.declared.HostRequest.TheVariants as request
@@ -63,10 +61,10 @@ module _ (ts : List ℕ) (e : Engine) (s : Stores) (p : Peer) (j : Journal) (w :
 
 -- the check of the password
 checks_are : (c : Challenge) (r : Option Response) (d : Bool) (p : Option (List ℕ)) → passes_with d (challenge_bytes c) r p ≡ checks c r d p
-checks_are Absent r d p = refl
-checks_are (Stored n) none d p = refl
-checks_are (Stored n) (some r) d none = refl
-checks_are (Stored n) (some r) d (some p) = refl
+checks_are None r d p = refl
+checks_are (Some n) none d p = refl
+checks_are (Some n) (some r) d none = refl
+checks_are (Some n) (some r) d (some p) = refl
 
 module _ (ts : List ℕ) (e : Engine) (s : Stores) (j : Journal) (o : Opcode) (w : AskedBy ts e.settings e.peer o e.length s j) where
   pub headers_are : w.request.headers ≡ last_headers e s

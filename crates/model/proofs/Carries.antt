@@ -6,6 +6,7 @@ use mathlib.Core.Bool.{Bool, true, false, ◌&&◌, ◌||◌, not}
 use mathlib.Core.Option.{Option, none, some}
 use Prim.Native.Nat.{ℕ}
 use lib.ListN.{length}
+use Rattle.std.specs.Prelude.{Some, None}
 use Rattle.base.specs.Pick.{pick}
 use Rattle.digest.specs.declared.md5.Octets16.{Octets16}
 use Rattle.packet.specs.FirstByte.{same_opcode}
@@ -26,11 +27,8 @@ use Rattle.outgoing.specs.declared.object.Outgoing.{Outgoing}
 use Rattle.outgoing.specs.declared.object.Next.{Next}
 use Rattle.outgoing.specs.declared.object.Next.TheVariants as next
 use Rattle.connection.specs.Reply.{fields_of, send_bytes, front}
-use Rattle.connection.specs.Peer.{Linked, limited, checked_peer, verified_peer, challenged_peer, opened_for}
+use Rattle.connection.specs.Peer.{Linked, limited, checked_peer, verified_peer, challenged_peer, opened_for, ConnectionId, Challenge}
 use Rattle.connection.specs.ConnectReply.{answered_challenge}
-use Rattle.connection.specs.declared.peer.Challenge.{Challenge}
-use Rattle.connection.specs.declared.peer.Challenge.TheVariants.{Stored, Absent}
-use Rattle.connection.specs.declared.peer.ConnectionId.{ConnectionId}
 use Rattle.connection.specs.declared.peer.Peer.{Peer}
 use Rattle.server.specs.declared.Operation.{Operation}
 use Rattle.server.specs.declared.Operation.TheVariants.{Nothing, Trailing, Putting, Getting, Sending, Gathering as GatheringOp, Connecting, Draining}
@@ -222,9 +220,9 @@ module _ (m : Bool) (e : Engine) (s : Stores) where
       p = limited e.peer (connect_limit (last_packet e s))
 
       go : (c : Challenge) (x : Option Response) → Carries m e s (verifies e p c x s)
-      go Absent x = marked_leaf m e s p _ await.Nonce _ _ i refl refl
-      go (Stored n) none = marked_leaf m e s p _ await.Nonce _ _ i refl refl
-      go (Stored n) (some x) = marked_leaf m e s p _ await.Password _ _ i refl refl
+      go None x = marked_leaf m e s p _ await.Nonce _ _ i refl refl
+      go (Some n) none = marked_leaf m e s p _ await.Nonce _ _ i refl refl
+      go (Some n) (some x) = marked_leaf m e s p _ await.Password _ _ i refl refl
 
   pub password-carries : m ≡ true → (p : Option (List ℕ)) → Carries m e s (password_answer e p s)
   unfolding password_answer password_answered

@@ -8,6 +8,7 @@ use native.Mathlib.Omega.{arith}
 use lib.ListN.{length, take}
 use lib.Count.{ones}
 use lib.Dec.{leb}
+use Rattle.std.specs.Prelude.{Some, None}
 use Rattle.base.specs.Pick.{pick}
 use Rattle.packet.specs.FirstByte.{same_opcode}
 use Rattle.packet.specs.Codes.{sent_code}
@@ -24,9 +25,7 @@ use Rattle.incoming.specs.Survey.{id_of, present, survey_of}
 use Rattle.incoming.specs.Gather.{gathering as gatheringOf}
 use Rattle.incoming.specs.declared.survey.Survey.{Survey}
 use Rattle.connection.specs.Reply.{fields_of}
-use Rattle.connection.specs.Peer.{ids_of, limited, checked_peer}
-use Rattle.connection.specs.declared.peer.Challenge.{Challenge}
-use Rattle.connection.specs.declared.peer.Challenge.TheVariants.{Stored, Absent}
+use Rattle.connection.specs.Peer.{ids_of, limited, checked_peer, Challenge}
 use Rattle.connection.specs.declared.peer.Peer.{Peer}
 use Rattle.model.specs.Step.{Stores, Done, wants, asks, replies_code, limit_of}
 use Rattle.model.specs.Operation.{put_packet, headers_packet, nothing_gathered}
@@ -192,9 +191,9 @@ module _ (ts : List ℕ) (e : Engine) (s : Stores) (j : Journal) (f : Fixed ts e
 
     verifies-told : r.opcode ≡ op.Connect → stops named (last_headers e s) ≡ false → (c : Challenge) (x : Option Response) → client_response e s ≡ x
         → Told ts (verifies e named c x s) (dropped j r)
-    verifies-told i n Absent x k = asks-told op.Connect named await.Nonce request.Nonce i named-same (λ x. x) refl
-    verifies-told i n (Stored d) none k = asks-told op.Connect named await.Nonce request.Nonce i named-same (λ x. x) refl
-    verifies-told i n (Stored d) (some x) k =
+    verifies-told i n None x k = asks-told op.Connect named await.Nonce request.Nonce i named-same (λ x. x) refl
+    verifies-told i n (Some d) none k = asks-told op.Connect named await.Nonce request.Nonce i named-same (λ x. x) refl
+    verifies-told i n (Some d) (some x) k =
         asks-told op.Connect named await.Password (request.Password (user_place e s)) i named-same (λ y. (y, comes_to_check x k n)) refl
 
     stop-told : Told ts (replies_fields e (checked_peer named false) 0x53 s) (dropped (stands j (with_check j.standing stop)) r)

@@ -25,7 +25,7 @@ use Rattle.model.specs.Runs.{State}
 use Rattle.model.specs.Refusals.{Waits, bytes, taking, reply, object, acknowledgement, password, nonce, credentials, nothing, reading, asked, told, verdict_of}
 use Rattle.server.specs.declared.Operation.{Operation}
 use Rattle.server.specs.declared.Operation.TheVariants.{Nothing, Trailing, Putting, Getting, Sending, Gathering as GatheringOp, Connecting, Draining}
-use Rattle.connection.specs.declared.peer.ConnectionId.{ConnectionId}
+use Rattle.connection.specs.Peer.{ConnectionId}
 use Rattle.server.specs.declared.Await.{Await}
 use Rattle.server.specs.declared.Await.TheVariants as await
 use Rattle.server.specs.declared.End.{End}

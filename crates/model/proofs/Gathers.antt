@@ -9,6 +9,7 @@ use native.Mathlib.Omega.{arith}
 use lib.ListN.{length, get_or, take}
 use lib.Dec.{leb, eqb}
 use borrow.Author.Tests.{ltb-true, ltb-false, lt-leb, le-leb}
+use Rattle.std.specs.Prelude.{Some, None}
 use Rattle.base.specs.Pick.{pick}
 use Rattle.packet.specs.FirstByte.{same_opcode}
 use Rattle.packet.specs.Codes.{sent_code}
@@ -35,7 +36,6 @@ use Rattle.server.specs.declared.Operation.{Operation}
 use Rattle.server.specs.declared.Operation.TheVariants.{Nothing, Trailing, Putting, Getting, Sending, Gathering as GatheringOp}
 use Rattle.server.specs.declared.Await.TheVariants as await
 use Rattle.server.specs.declared.Engine.{Engine}
-use Rattle.server.specs.declared.Body.TheVariants as body
 use Rattle.server.specs.declared.HostRequest.TheVariants as request
 use Rattle.server.specs.declared.Outcome.TheVariants as outcome
 use Rattle.incoming.proofs.Gathers.{PutAgrees, KeptAgrees, put-agrees, get_agrees, all-agrees, put_full, get_full, headers-full}
@@ -48,7 +48,7 @@ use Rattle.model.proofs.Coupling.{PutOpen, Plain, OpenedAt, Fixed, Held, Still, 
 body-handed : (g : Gathered) (b : List ℕ) → body_in (put_body g) b ≡ pick g.came (some (take g.body b)) none
 body-handed g b = go g.came
   where
-    go : (t : Bool) → body_in (pick t (body.Bytes g.body) body.Missing) b ≡ pick t (some (take g.body b)) none
+    go : (t : Bool) → body_in (pick t (Some g.body) None) b ≡ pick t (some (take g.body b)) none
     go true = refl
     go false = refl
 

@@ -10,7 +10,9 @@ use lib.ListN.{length, take, drop, length-drop, take-append-drop, drop_of_length
 use lib.Dec.{ltb}
 use lib.Seq.{sets, length-sets, sets-eq, take_all, drop-length}
 use borrow.Author.Tests.{ltb-true, ltb-false}
+use Rattle.std.specs.Prelude.{Some, None}
 use Rattle.base.specs.Pick.{pick}
+use Rattle.base.specs.Place.{Place}
 use Rattle.digest.specs.declared.md5.Octets16.{Octets16}
 use Rattle.packet.specs.HeaderIds as header_id
 use Rattle.packet.specs.ResponseCodes as response
@@ -19,7 +21,6 @@ use Rattle.packet.specs.FirstByte.{same_opcode}
 use Rattle.packet.specs.Header.{Header, read_headers, first, first_place, all_bytes}
 use Rattle.packet.specs.Packet.{Request as Packet, request_of, connect_limit}
 use Rattle.packet.specs.Auth.{Challenge as PeerChallenge, Response}
-use Rattle.packet.specs.declared.tlv.Found.{Found}
 use Rattle.packet.specs.declared.opcode.Opcode.{Opcode}
 use Rattle.packet.specs.declared.opcode.Opcode.TheVariants as op
 use Rattle.table.specs.Nonces.{remembered_with, remembered, among}
@@ -38,13 +39,10 @@ use Rattle.outgoing.specs.declared.object.Next.{Next}
 use Rattle.outgoing.specs.declared.object.Next.TheVariants as next
 use Rattle.outgoing.specs.declared.object.Outgoing.{Outgoing}
 use Rattle.connection.specs.Reply.{fields_of, send_bytes, front}
-use Rattle.connection.specs.Peer.{Linked, limited, checked_peer, challenged_peer, disconnected_peer, opened_for, ids_of}
+use Rattle.connection.specs.Peer.{Linked, limited, checked_peer, challenged_peer, disconnected_peer, opened_for, ids_of, ConnectionId, Challenge}
 use Rattle.connection.specs.Pieces.{id_given}
 use Rattle.connection.specs.ConnectReply.{answered_challenge, connect_headers}
 use Rattle.connection.specs.declared.peer.Peer.{Peer}
-use Rattle.connection.specs.declared.peer.Challenge.{Challenge}
-use Rattle.connection.specs.declared.peer.Challenge.TheVariants.{Absent, Stored}
-use Rattle.connection.specs.declared.peer.ConnectionId.{ConnectionId}
 use Rattle.journal.specs.Ids.{all_open, repeats}
 use Rattle.journal.specs.Journal.{list_of, response_in, headers_of as headersIn}
 use Rattle.journal.specs.Calls.{Credentials, Call, bytes_offered_of, stream_ended_of, reply_taken_of, reply_given_of, object_given_of, body_given_of, body_failed_of, abort_acknowledged_of, password_given_of, nonce_given_of, credentials_given_of, connections_closed_of}
@@ -230,10 +228,10 @@ module _ (q : List ℕ) (e : Engine) (s : Stores) where
     -- ---- a Connect
 
     verifies_on : (p : Peer) (c : Challenge) (r : Option Response) → Like (verifies e p c r s) (verifies e p c r z)
-    verifies_on p Absent r = leaf q e _ _ _ _ _
-    verifies_on p (Stored n) none = leaf q e _ _ _ _ _
-    verifies_on p (Stored n) (some r) =
-        subst (λ (f : Found). Like (verifies e p (Stored n) (some r) s) (asks e p Nothing await.Password (request.Password f) z)) (sym same-user)
+    verifies_on p None r = leaf q e _ _ _ _ _
+    verifies_on p (Some n) none = leaf q e _ _ _ _ _
+    verifies_on p (Some n) (some r) =
+        subst (λ (f : Place). Like (verifies e p (Some n) (some r) s) (asks e p Nothing await.Password (request.Password f) z)) (sym same-user)
         (leaf q e _ _ _ _ _)
 
     -- by the packet's bytes, its headers and its response

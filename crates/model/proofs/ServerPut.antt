@@ -8,6 +8,7 @@ use Prim.Native.Nat.{ℕ, ◌≤◌, ◌<◌}
 use lib.ListN.{length, take}
 use lib.Dec.{ltb, eqb}
 use borrow.Author.Tests.{ltb-true, ltb-false}
+use Rattle.std.specs.Prelude.{Some, None}
 use Rattle.base.specs.Pick.{pick}
 use Rattle.packet.specs.FirstByte.{same_opcode}
 use Rattle.packet.specs.Codes.{codes, is_code, is_success}
@@ -29,7 +30,6 @@ use Rattle.server.specs.declared.Operation.TheVariants.{Nothing, Trailing, Putti
 use Rattle.server.specs.declared.Await.TheVariants as await
 use Rattle.server.specs.declared.End.TheVariants as end
 use Rattle.server.specs.declared.Engine.{Engine}
-use Rattle.server.specs.declared.Body.TheVariants as body
 use Rattle.server.specs.declared.HostRequest.TheVariants as request
 use Rattle.model.proofs.Fit.{Room}
 
@@ -61,7 +61,7 @@ pub data PutDid (e : Engine) (s : Stores) (r : Packet) (v : Survey) (srm confirm
 body-handed : (g : Gathered) (b : List ℕ) → body_in (put_body g) b ≡ pick g.came (some (take g.body b)) none
 body-handed g b = go g.came
   where
-    go : (t : Bool) → body_in (pick t (body.Bytes g.body) body.Missing) b ≡ pick t (some (take g.body b)) none
+    go : (t : Bool) → body_in (pick t (Some g.body) None) b ≡ pick t (some (take g.body b)) none
     go true = refl
     go false = refl
 

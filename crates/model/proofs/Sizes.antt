@@ -10,6 +10,7 @@ use lib.ListN.{length, take, drop}
 use lib.Seq.{take-append_seam, length-take-le}
 use lib.Dec.{ltb, leb}
 use borrow.Author.Tests.{ltb-false, le-ltb}
+use Rattle.std.specs.Prelude.{Some, None}
 use Rattle.base.specs.Pick.{pick}
 use Rattle.base.specs.Bytes.{be32}
 use Rattle.digest.specs.Md5.{octets16}
@@ -36,13 +37,10 @@ use Rattle.outgoing.specs.declared.object.Next.TheVariants as next
 use Rattle.connection.specs.Reply.{fields_of, send_bytes, front}
 use Rattle.table.specs.Targets.{target_by}
 use Rattle.table.specs.declared.targets.Target.{Target}
-use Rattle.connection.specs.Peer.{ids_of, Linked, opened, searched, target_given, opened_for, limited, verified_peer, challenged_peer, checked_peer}
+use Rattle.connection.specs.Peer.{ids_of, Linked, opened, searched, target_given, opened_for, limited, verified_peer, challenged_peer, checked_peer, ConnectionId, Challenge}
 use Rattle.connection.specs.ConnectReply.{answered_challenge, connect_headers, challenge_header}
 use Rattle.connection.specs.Pieces.{id_given}
-use Rattle.connection.specs.declared.peer.Challenge.{Challenge}
-use Rattle.connection.specs.declared.peer.Challenge.TheVariants.{Stored, Absent}
 use Rattle.connection.specs.declared.peer.Peer.{Peer}
-use Rattle.connection.specs.declared.peer.ConnectionId.{ConnectionId}
 use Rattle.model.specs.Step.{Stores, with_reply, with_gathered, engine_with, Done, done, DoneTabled, done_tabled, sent, sends, sends_connect, capacity_of}
 use Rattle.model.specs.Request.{last_packet, last_headers, client_response}
 use Rattle.model.specs.Guard.{long_realm}
@@ -173,9 +171,9 @@ module _ (e : Engine) (s : Stores) where
       p = limited e.peer (connect_limit (last_packet e s))
 
       go : (c : Challenge) (x : Option Response) → Brief (verifies e p c x s)
-      go Absent x = leaf p _ await.Nonce _ _ refl refl
-      go (Stored n) none = leaf p _ await.Nonce _ _ refl refl
-      go (Stored n) (some x) = leaf p _ await.Password _ _ refl refl
+      go None x = leaf p _ await.Nonce _ _ refl refl
+      go (Some n) none = leaf p _ await.Nonce _ _ refl refl
+      go (Some n) (some x) = leaf p _ await.Password _ _ refl refl
 
   module _ (r : Packet) (v : Survey) where
     dispatches_brief : (o : Opcode) → Brief (dispatches o e r v s)

@@ -9,6 +9,7 @@ use native.Mathlib.Omega.{arith}
 use lib.ListN.{length, take, drop, length-take}
 use lib.Seq.{take-append_seam}
 use lib.Dec.{leb}
+use Rattle.std.specs.Prelude.{Some, None}
 use Rattle.base.specs.Pick.{pick}
 use Rattle.packet.specs.FirstByte.{same_opcode}
 use Rattle.packet.specs.Codes.{is_success}
@@ -32,11 +33,8 @@ use Rattle.outgoing.specs.declared.object.Next.{Next}
 use Rattle.outgoing.specs.declared.object.Next.TheVariants as next
 use Rattle.connection.specs.Reply.{fields_of, send_bytes}
 use Rattle.connection.specs.ConnectReply.{answered_challenge}
-use Rattle.connection.specs.Peer.{Linked, opened_for, limited, verified_peer, challenged_peer, checked_peer}
-use Rattle.connection.specs.declared.peer.Challenge.{Challenge}
-use Rattle.connection.specs.declared.peer.Challenge.TheVariants.{Stored, Absent}
+use Rattle.connection.specs.Peer.{Linked, opened_for, limited, verified_peer, challenged_peer, checked_peer, ConnectionId, Challenge}
 use Rattle.connection.specs.declared.peer.Peer.{Peer}
-use Rattle.connection.specs.declared.peer.ConnectionId.{ConnectionId}
 use Rattle.model.specs.Step.{Stores, with_gathered, engine_with, Done, done, DoneTabled, sent, sends, sends_connect, wants, asks, replies, replies_code, continue_bytes, limit_of, capacity_of}
 use Rattle.model.specs.Request.{last_packet, last_headers, client_response}
 use Rattle.model.specs.Operation.{nothing_gathered, gathers, put_gathered, put_packet, get_gathered, get_packet, headers_gathered, headers_packet, overrun}
@@ -278,9 +276,9 @@ module _ (ts : List ℕ) (e : Engine) (s : Stores) (j : Journal) (f : Fixed ts e
       p = limited e.peer (connect_limit (last_packet e s))
 
       go : (c : Challenge) (x : Option Response) → Spoken (verifies e p c x s) speaks n
-      go Absent x = said e s p Nothing await.Nonce _ _ n refl tt
-      go (Stored k) none = said e s p Nothing await.Nonce _ _ n refl tt
-      go (Stored k) (some x) = said e s p Nothing await.Password _ _ n refl tt
+      go None x = said e s p Nothing await.Nonce _ _ n refl tt
+      go (Some k) none = said e s p Nothing await.Nonce _ _ n refl tt
+      go (Some k) (some x) = said e s p Nothing await.Password _ _ n refl tt
 
   not_connect : (o : Opcode) (y : Due) → r.opcode ≡ o → same_opcode o op.Connect ≡ false
       → Spoken (admitted_as (rejection e r.opcode w known) e r w s) y n → Spoken (dispatch e r w known s) y n

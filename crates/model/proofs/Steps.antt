@@ -8,6 +8,7 @@ use native.Mathlib.Omega.{arith}
 use lib.ListN.{length, get_or, length-append}
 use lib.Dec.{ltb, leb}
 use borrow.Author.Tests.{ltb-false, leb-true, le-leb}
+use Rattle.std.specs.Prelude.{Some, None}
 use Rattle.base.specs.Pick.{pick}
 use Rattle.digest.specs.declared.md5.Octets16.{Octets16}
 use Rattle.packet.specs.FirstByte.{same_opcode, first_byte}
@@ -30,10 +31,8 @@ use Rattle.outgoing.specs.declared.object.Chunk.{Chunk}
 use Rattle.outgoing.specs.declared.object.Next.{Next}
 use Rattle.outgoing.specs.declared.object.Next.TheVariants as next
 use Rattle.connection.specs.Reply.{fields_of, send_bytes, front}
-use Rattle.connection.specs.Peer.{Linked, limited, checked_peer, verified_peer, challenged_peer, opened_for, disconnected_peer}
+use Rattle.connection.specs.Peer.{Linked, limited, checked_peer, verified_peer, challenged_peer, opened_for, disconnected_peer, ConnectionId, Challenge}
 use Rattle.connection.specs.ConnectReply.{answered_challenge}
-use Rattle.connection.specs.declared.peer.Challenge.{Challenge}
-use Rattle.connection.specs.declared.peer.Challenge.TheVariants.{Stored, Absent}
 use Rattle.connection.specs.declared.peer.Peer.{Peer}
 use Rattle.journal.specs.Journal.{list_of}
 use Rattle.model.specs.Step.{Stores, with_reply, with_headers, with_gathered, ends, replies_code, sent, sends, sends_connect, limit_of, capacity_of}
@@ -48,7 +47,6 @@ use Rattle.model.specs.Runs.{handed_by}
 use Rattle.model.specs.Refusals.{reply, asked}
 use Rattle.server.specs.declared.Operation.{Operation}
 use Rattle.server.specs.declared.Operation.TheVariants.{Nothing, Trailing, Putting, Getting, Sending, Gathering as GatheringOp, Connecting, Draining}
-use Rattle.connection.specs.declared.peer.ConnectionId.{ConnectionId}
 use Rattle.server.specs.declared.Await.TheVariants as await
 use Rattle.server.specs.declared.End.TheVariants as end
 use Rattle.server.specs.declared.Engine.{Engine}
@@ -266,9 +264,9 @@ module _ (e : Engine) (s : Stores) (h : Base e s) where
   -- ---- Connect
 
   verifies-fine : (p : Peer) (c : Challenge) (r : Option Response) → PeerFits e.peer.nonces p → Fine e (verifies e p c r s)
-  verifies-fine p Absent r f = fine-asks e s h p await.Nonce request.Nonce s f h.room refl refl
-  verifies-fine p (Stored n) none f = fine-asks e s h p await.Nonce request.Nonce s f h.room refl refl
-  verifies-fine p (Stored n) (some r) f = fine-asks e s h p await.Password (request.Password (user_place e s)) s f h.room refl refl
+  verifies-fine p None r f = fine-asks e s h p await.Nonce request.Nonce s f h.room refl refl
+  verifies-fine p (Some n) none f = fine-asks e s h p await.Nonce request.Nonce s f h.room refl refl
+  verifies-fine p (Some n) (some r) f = fine-asks e s h p await.Password (request.Password (user_place e s)) s f h.room refl refl
 
   fields_fine : (p : Peer) (code : ℕ) → PeerFits e.peer.nonces p → Fine e (replies_fields e p code s)
   unfolding packet_bytes

@@ -12,16 +12,15 @@ use lib.Seq.{get_or-drop}
 use lib.Dec.{ltb}
 use Rattle.base.specs.Pick.{pick}
 use Rattle.base.specs.Bytes.{be32}
+use Rattle.base.specs.Place.{Place, Some, None}
 use Rattle.digest.specs.declared.md5.Octets16.{Octets16}
 use Rattle.packet.specs.Tags.{bytes_at}
 use Rattle.packet.specs.FirstByte.{same_opcode, first_byte}
 use Rattle.packet.specs.Codes.{is_success}
 use Rattle.packet.specs.Header.{Header, read_headers, first, first_place, present}
 use Rattle.packet.specs.Packet.{Request as Packet, prefix_of, request_with, request_by, request_of}
-use Rattle.packet.specs.declared.tlv.Found.{Found}
-use Rattle.packet.specs.declared.tlv.Found.TheVariants as place
 use Rattle.packet.specs.declared.opcode.FirstByte.{FirstByte}
-use Rattle.packet.specs.declared.opcode.FirstByte.TheVariants.{Known as KnownByte, Unknown}
+use Rattle.std.specs.Prelude.{Option as Maybe}
 use Rattle.packet.specs.declared.opcode.Opcode.{Opcode}
 use Rattle.packet.specs.declared.opcode.Opcode.TheVariants as op
 use Rattle.table.specs.Targets.{unnamed, target_bytes, place_of, target_at}
@@ -88,9 +87,9 @@ octets-take (suc n) [] o k = omega arith
 octets-take (suc n) (x ∷ l) o zero = o 0
 octets-take (suc n) (x ∷ l) o (suc k) = octets-take n l (λ i. o (suc i)) k
 
-octets_at : (p : List ℕ) (f : Found) → Octets p → Given (bytes_at p f)
-octets_at p place.Missing o = tt
-octets_at p (place.At b e) o = octets-take (e - b) (drop b p) (λ k. rw (get_or-drop b p k 0) (o (b + k)))
+octets_at : (p : List ℕ) (f : Place) → Octets p → Given (bytes_at p f)
+octets_at p None o = tt
+octets_at p (Some q) o = octets-take (q.end - q.start) (drop q.start p) (λ k. rw (get_or-drop q.start p k 0) (o (q.start + k)))
 
 -- the headers of a packet of bytes have values of bytes
 request-given : (p : List ℕ) (id : ℕ) → Octets p → Given (first id (headers_of (request_of p)))
@@ -106,9 +105,9 @@ request-given p id o = go (first_byte (get_or p 0 0))
     by true c f = tt
     by false c f = with_headers_lem c f (read_headers p (prefix_of c)) refl
 
-    go : (b : FirstByte) → Given (first id (headers_of (request_by b p)))
-    go Unknown = tt
-    go (KnownByte c f) = by (ltb (length p) (prefix_of c)) c f
+    go : (b : Maybe FirstByte) → Given (first id (headers_of (request_by b p)))
+    go None = tt
+    go (Some b) = by (ltb (length p) (prefix_of b.opcode)) b.opcode b.is_final
 
 -- ---- between two calls
 

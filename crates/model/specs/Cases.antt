@@ -1,10 +1,9 @@
 -- The proved cases, P1 to P12 (docs/PROTOCOL.md#proved-cases), as one table of rows: what is given, and what the definitions make of it.
-use Rattle.std.specs.Prelude.{ℕ, List, [], ◌∷◌, ◌++◌, true, false, take, replicate}
+use Rattle.std.specs.Prelude.{ℕ, List, [], ◌∷◌, ◌++◌, true, false, take, replicate, Option}
 use Rattle.std.proofs.Math.Option.{none, some}
 use Rattle.text.specs.Unicode.{scalars16}
-use Rattle.packet.specs.FirstByte.{first_byte}
+use Rattle.packet.specs.FirstByte.{known_byte, first_byte}
 use Rattle.packet.specs.declared.opcode.FirstByte.{FirstByte}
-use Rattle.packet.specs.declared.opcode.FirstByte.TheVariants.{Known}
 use Rattle.packet.specs.declared.opcode.Opcode.TheVariants as op
 use Rattle.journal.specs.Ids.{new_id}
 use Rattle.journal.specs.Record.{Record}
@@ -74,7 +73,7 @@ pub data Given : Type 0 where
 
 -- What comes of what is given: an operation; an id; scalar values; or replies and records.
 pub data Comes : Type 0 where
-  operation : FirstByte → Comes
+  operation : Option FirstByte → Comes
   id : ℕ → Comes
   scalars : List ℕ → Comes
   session : List (List ℕ) → List Record → Comes
@@ -108,11 +107,11 @@ put_body b = record { headers = []; body = some b }
 abbrev pub table : List Row
 table =
     -- P1, P2
-    row (byte 0xE2) (operation (Known op.Put true))
-    ∷ row (byte 0x22) (operation (Known op.Put false))
-    ∷ row (byte 0x7F) (operation (Known op.Abort false))
-    ∷ row (byte 0xFF) (operation (Known op.Abort true))
-    ∷ row (byte 0x1F) (operation (Known (op.UserDefined 0x1F) false))
+    row (byte 0xE2) (operation (known_byte op.Put true))
+    ∷ row (byte 0x22) (operation (known_byte op.Put false))
+    ∷ row (byte 0x7F) (operation (known_byte op.Abort false))
+    ∷ row (byte 0xFF) (operation (known_byte op.Abort true))
+    ∷ row (byte 0x1F) (operation (known_byte (op.UserDefined 0x1F) false))
     -- P3, P4
     ∷ row (calls 8 (bytes_offered_of (0x84 ∷ 0x00 ∷ 0x03 ∷ []) ∷ [])) (session ((0xD1 ∷ 0x00 ∷ 0x03 ∷ []) ∷ []) [])
     ∷ row (calls 8 (bytes_offered_of (0x82 ∷ 0x00 ∷ 0x06 ∷ 0x48 ∷ 0x00 ∷ 0x02 ∷ []) ∷ [])) (session ((0xC0 ∷ 0x00 ∷ 0x03 ∷ []) ∷ []) [])

@@ -1,5 +1,5 @@
 -- Connect, from its packet to its reply (the source's handle_connect and verify_client).
-use Rattle.std.specs.Prelude.{ℕ, ◌+◌, ◌*◌, List, [], ◌∷◌, Bool, true, false, ◌&&◌, ◌||◌, length, leb}
+use Rattle.std.specs.Prelude.{ℕ, ◌+◌, ◌*◌, List, [], ◌∷◌, Bool, true, false, ◌&&◌, ◌||◌, length, leb, Some, None}
 use Rattle.std.proofs.Math.Option.{Option, none, some}
 use Rattle.std.specs.Int.Count.{ones}
 use Rattle.base.specs.Pick.{pick}
@@ -17,14 +17,10 @@ use Rattle.journal.specs.Journal.{list_of}
 use Rattle.incoming.specs.Survey.{survey_of}
 use Rattle.incoming.specs.declared.survey.Survey.{Survey}
 use Rattle.connection.specs.Reply.{fields_of, front}
-use Rattle.connection.specs.Peer.{Linked, isGiven, limited, checked_peer, verified_peer, challenged_peer, searched, opened_for}
+use Rattle.connection.specs.Peer.{Linked, isGiven, limited, checked_peer, verified_peer, challenged_peer, searched, opened_for, ConnectionId, Challenge}
 use Rattle.connection.specs.ConnectReply.{answered_challenge, connect_headers, challenge_header}
 use Rattle.connection.specs.Pieces.{id_given}
-use Rattle.connection.specs.declared.peer.Challenge.{Challenge}
-use Rattle.connection.specs.declared.peer.Challenge.TheVariants.{Stored, Absent}
 use Rattle.connection.specs.declared.peer.Peer.{Peer}
-use Rattle.connection.specs.declared.peer.ConnectionId.{ConnectionId}
-use Rattle.connection.specs.declared.peer.ConnectionId.TheVariants as front_id
 use Rattle.server.specs.declared.Settings.{Settings}
 use Rattle.server.specs.declared.Operation.TheVariants.{Nothing, Connecting}
 use Rattle.server.specs.declared.Await.TheVariants as await
@@ -37,9 +33,9 @@ use Rattle.model.specs.Request.{last_packet, last_headers, client_response, user
 -- If a challenge is stored and the client's response can be read, the host is asked for the password; otherwise for a nonce, to challenge
 -- the client.
 abbrev pub verifies : Engine → Peer → Challenge → Option Response → Stores → Done
-verifies e p Absent r s = asks e p Nothing await.Nonce request.Nonce s
-verifies e p (Stored n) none s = asks e p Nothing await.Nonce request.Nonce s
-verifies e p (Stored n) (some r) s = asks e p Nothing await.Password (request.Password (user_place e s)) s
+verifies e p None r s = asks e p Nothing await.Nonce request.Nonce s
+verifies e p (Some n) none s = asks e p Nothing await.Nonce request.Nonce s
+verifies e p (Some n) (some r) s = asks e p Nothing await.Password (request.Password (user_place e s)) s
 
 -- Whether a Connect with these headers is stopped: eight or more of the last 64 checks were wrong, and the Connect carries an
 -- AuthenticateResponse, whether that can be read or not (docs/PROTOCOL.md#eight-wrong).
@@ -74,9 +70,9 @@ connect_sends e p code f answer c s =
 
 -- The ConnectionID that the engine puts in front of the host's headers: a new one for a Target, if the host gave none.
 abbrev pub front_for : Peer → List ℕ → Option (List ℕ) → Option (List ℕ) → ConnectionId
-front_for p t (some v) target = front_id.Missing
-front_for p t none none = front_id.Missing
-front_for p t none (some v) = front_id.Id (searched p t)
+front_for p t (some v) target = None
+front_for p t none none = None
+front_for p t none (some v) = Some (searched p t)
 
 -- What the host is told of the client's challenge.
 abbrev pub credentials_for : List ℕ → PeerChallenge → HostRequest
@@ -113,10 +109,10 @@ demands_user st = st.user_id_enforced && st.user_id_required
 -- Whether the client is verified: a challenge is stored, the response can be read and brings a user id if the server `demands` one, and its
 -- digest is that of the password (the source's verify_client).
 abbrev pub checks : Challenge → Option Response → Bool → Option (List ℕ) → Bool
-checks Absent r demands p = false
-checks (Stored n) none demands p = false
-checks (Stored n) (some r) demands none = false
-checks (Stored n) (some r) demands (some p) = verified demands (octets16 n) r p
+checks None r demands p = false
+checks (Some n) none demands p = false
+checks (Some n) (some r) demands none = false
+checks (Some n) (some r) demands (some p) = verified demands (octets16 n) r p
 
 -- What follows the check of a password, by what it said. If the client is verified, the host is asked about the Connect; otherwise for a
 -- nonce, to challenge the client again. Either way the window has one check more (docs/PROTOCOL.md#eight-wrong).

@@ -1,5 +1,6 @@
 -- Which way a packet goes (the source's handle_next, dispatch, reject and next_request).
 use Rattle.std.specs.Prelude.{ℕ, List, [], Bool, true, false, ◌&&◌, ◌||◌, not, get_or, take}
+use Rattle.std.specs.Prelude.{Option as Maybe, Some, None}
 use Rattle.std.proofs.Math.Option.{Option, none, some}
 use Rattle.base.specs.Pick.{pick}
 use Rattle.packet.specs.HeaderIds as header_id
@@ -11,7 +12,6 @@ use Rattle.packet.specs.Packet.{Request as Packet, request_of, backup, no_create
 use Rattle.packet.specs.declared.opcode.Opcode.{Opcode}
 use Rattle.packet.specs.declared.opcode.Opcode.TheVariants as op
 use Rattle.packet.specs.declared.opcode.FirstByte.{FirstByte}
-use Rattle.packet.specs.declared.opcode.FirstByte.TheVariants.{Known, Unknown}
 use Rattle.journal.specs.Ids.{member}
 use Rattle.incoming.specs.Survey.{present, survey_of}
 use Rattle.incoming.specs.declared.survey.Survey.{Survey}
@@ -108,9 +108,9 @@ inside (Connecting c f n) e r v known s = interrupts e s
 inside (Draining code) e r v known s = pick r.final (replies_code e e.peer Nothing code s) (wants e e.peer (Draining code) s)
 
 -- Whether a first byte names no opcode.
-abbrev pub unknown_byte : FirstByte → Bool
-unknown_byte Unknown = true
-unknown_byte (Known o f) = false
+abbrev pub unknown_byte : Maybe FirstByte → Bool
+unknown_byte None = true
+unknown_byte (Some b) = false
 
 -- Whether an operation is open.
 abbrev pub busy : Operation → Bool

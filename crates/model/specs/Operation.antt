@@ -1,12 +1,12 @@
 -- A Put, a Get's request and the operations of headers alone, packet by packet (the source's handle_put, handle_get, handle_headers_only).
-use Rattle.std.specs.Prelude.{ℕ, List, Bool, true, false}
+use Rattle.std.specs.Prelude.{ℕ, List, Bool, true, false, Some, None}
 use Rattle.base.specs.Pick.{pick}
 use Rattle.packet.specs.ResponseCodes as response
 use Rattle.packet.specs.Header.{Header}
 use Rattle.packet.specs.Packet.{Request as Packet}
 use Rattle.packet.specs.declared.opcode.Opcode.{Opcode}
 use Rattle.packet.specs.declared.opcode.Opcode.TheVariants as op
-use Rattle.incoming.specs.Gather.{Gathering, gathering, gather_all}
+use Rattle.incoming.specs.Gather.{Gathering, gathering, gather_all, Body}
 use Rattle.incoming.specs.declared.survey.Survey.{Survey}
 use Rattle.incoming.specs.declared.gather.Keep.{Keep}
 use Rattle.incoming.specs.declared.gather.Keep.TheVariants as keep
@@ -17,8 +17,6 @@ use Rattle.server.specs.declared.Operation.TheVariants.{Nothing, Trailing, Putti
 use Rattle.server.specs.declared.Await.TheVariants as await
 use Rattle.server.specs.declared.End.TheVariants as end
 use Rattle.server.specs.declared.Engine.{Engine}
-use Rattle.server.specs.declared.Body.{Body}
-use Rattle.server.specs.declared.Body.TheVariants as body
 use Rattle.server.specs.declared.HostRequest.{HostRequest}
 use Rattle.server.specs.declared.HostRequest.TheVariants as request
 use Rattle.model.specs.Step.{Stores, with_gathered, Done, wants, asks, ends, replies_code, continues, limit_of}
@@ -33,7 +31,7 @@ gathers e k hs g s = gather_all k (limit_of e) hs (gathering g s.headers s.body)
 
 -- The body of a Put: missing if no body header came.
 abbrev pub put_body : Gathered → Body
-put_body g = pick g.came (body.Bytes g.body) body.Missing
+put_body g = pick g.came (Some g.body) None
 
 -- What is open once a Put was refused before its final packet: if the setting is on, the packets that trail it are refused with it
 -- (docs/PROTOCOL.md#trailing).

@@ -1,8 +1,9 @@
 -- A list of calls on one engine, each getting the state and the stores as the call before left them, but for what the host has written into the
 -- packet store behind an unfinished packet: what is known of each call, the records that it hands over, and what the host sees of it.
-use Rattle.std.specs.Prelude.{ℕ, ◌<◌, ◌≡◌, List, [], ◌∷◌, ◌++◌, Bool, false, ◌||◌, get_or, take}
+use Rattle.std.specs.Prelude.{ℕ, ◌<◌, ◌≡◌, List, [], ◌∷◌, ◌++◌, Bool, false, ◌||◌, get_or, take, Some, None}
 use Rattle.std.proofs.Math.Option.{Option, none, some}
 use Rattle.std.proofs.lemmas.List.Edits.{sets}
+use Rattle.incoming.specs.Gather.{Body}
 use Rattle.journal.specs.Record.{Record}
 use Rattle.journal.specs.Calls.{Call, bytes_offered_of, stream_ended_of, reply_taken_of, reply_given_of, object_given_of, body_given_of, body_failed_of, abort_acknowledged_of, password_given_of, nonce_given_of, credentials_given_of, connections_closed_of}
 use Rattle.model.specs.Step.{Stores, Stepped, stepped, Called, called}
@@ -13,8 +14,6 @@ use Rattle.model.specs.Refusals.{Seen}
 use Rattle.server.specs.declared.Settings.{Settings}
 use Rattle.server.specs.declared.Engine.{Engine}
 use Rattle.server.specs.declared.Await.TheVariants as await
-use Rattle.server.specs.declared.Body.{Body}
-use Rattle.server.specs.declared.Body.TheVariants as body
 use Rattle.server.specs.declared.HostRequest.{HostRequest}
 use Rattle.server.specs.declared.HostRequest.TheVariants as request
 use Rattle.server.specs.declared.Outcome.{Outcome}
@@ -130,8 +129,8 @@ Ran s (x ∷ xs) = Writes s x.written × (Says (lent_to s x) x.call (called_in x
 
 -- The body bytes that a Put request tells of, at the front of the body store `b`; none if no body header came.
 abbrev pub body_in : Body → List ℕ → Option (List ℕ)
-body_in body.Missing b = none
-body_in (body.Bytes n) b = some (take n b)
+body_in None b = none
+body_in (Some n) b = some (take n b)
 
 -- The record that a request hands over: only a Put has one.
 abbrev pub handed_by : HostRequest → Stores → List Record

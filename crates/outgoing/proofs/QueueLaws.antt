@@ -21,9 +21,8 @@ use Rattle.packet.proofs.HeaderLaws.{by_cursor_lem, first_of}
 use Rattle.packet.proofs.HeaderWrites.{Shaped, AllShaped, read-written, read_shaped}
 use Rattle.outgoing.specs.declared.queue.Part.{Part}
 use Rattle.outgoing.specs.declared.queue.Part.TheVariants.{All, Headers, Chunks, Nothing}
-use Rattle.outgoing.specs.declared.queue.Rewound.TheVariants as code
 use Rattle.outgoing.specs.Queue.{must_lead, insert_early, is_chunk, Pending, Queue, put_back, rewind}
-use Rattle.outgoing.specs.Queue.{put_in, lead_end, inserted_early, back_from, back_bytes, headers_back, body_back, Rewinding, rewound}
+use Rattle.outgoing.specs.Queue.{put_in, lead_end, inserted_early, back, back_from, back_bytes, headers_back, body_back, Rewinding, rewound}
 use Rattle.outgoing.proofs.Walking.{lead-step, back_step}
 
 -- ---- parts of a list
@@ -305,7 +304,7 @@ rewound-read b p hs n bs m xs ys eof o oh e f g h =
     let fits : (ltb (length hs) (n + length kept) || ltb (length bs) (m + length chunks)) ≡ false =
     ap₂ (λ (t u : Bool). t || u) (le-ltb (length hs) (n + length kept) g) (le-ltb (length bs) (m + length chunks) h) in
     let done : rewound b p hs n bs m ≡ record {
-      answer = code.Back (n + length kept) (m + length chunks);
+      answer = back (n + length kept) (m + length chunks);
       number = 0;
       headers = put_in hs 0 n kept;
       body = put_in bs 0 m chunks;

@@ -1,6 +1,7 @@
 -- Walks over the headers of a store, a header at a time: where those that must lead end, and what goes back of a packet. Assumes nothing.
 use mathlib.Core.Path.{◌≡◌, refl, sym, ap, ◌∙◌}
 use mathlib.Core.Bool.{Bool, true, false}
+use Rattle.std.specs.Prelude.{None, Some}
 use mathlib.Core.List.{List, [], ◌++◌, append_assoc, append-nil}
 use Prim.Native.Nat.{ℕ, zero, suc, ◌+◌, ◌-◌, ◌≤◌, ◌<◌}
 use native.Mathlib.Omega.{arith}
@@ -88,37 +89,40 @@ from-within Chunks false at from to h k = (omega arith, omega arith)
 from-within Nothing chunk at from to h k = (omega arith, omega arith)
 
 -- where no piece stands, nothing goes back from there on
-pub back-ends : (p : Part) (s : List ℕ) (at : ℕ) (x : Piece) → x ≡ piece_of p (header_at_of s at) at → x.to ≤ at → back_bytes p s at ≡ []
-back-ends p s at x e h = by (header_at_of s at) refl e
+pub back-ends : (p : Part) (s : List ℕ) (at : ℕ) → None ≡ piece_of p (header_at_of s at) at → back_bytes p s at ≡ []
+back-ends p s at e = by (header_at_of s at) refl e
   where
-    by : (a : HeaderAt) → header_at_of s at ≡ a → x ≡ piece_of p a at → back_bytes p s at ≡ []
+    by : (a : HeaderAt) → header_at_of s at ≡ a → None ≡ piece_of p a at → back_bytes p s at ≡ []
     by End q w = back_step p s at End q
     by Unreadable q w = back_step p s at Unreadable q
-    by (At id c from to) q w = let t : x.to ≡ to = ap (λ (y : Piece). y.to) w in absurd (omega (arith, header_at_within s at id c from to q))
+    by (At id c from to) q w = cc
 
 -- a piece that goes back, and the rest
 pub record Goes (p : Part) (s : List ℕ) (at : ℕ) (x : Piece) : Type 0 where
   pub start : at ≤ x.from
   pub stop : x.from ≤ x.to
+  pub onward : at < x.to
   pub fits : x.to ≤ length s
   pub bytes : back_bytes p s at ≡ part s x.from x.to ++ back_bytes p s x.to
 
-pub back-goes : (p : Part) (s : List ℕ) (at : ℕ) (x : Piece) → x ≡ piece_of p (header_at_of s at) at → at < x.to → Goes p s at x
-back-goes p s at x e h = by (header_at_of s at) refl e
+pub back-goes : (p : Part) (s : List ℕ) (at : ℕ) (x : Piece) → Some x ≡ piece_of p (header_at_of s at) at → Goes p s at x
+back-goes p s at x e = by (header_at_of s at) refl e
   where
-    by : (a : HeaderAt) → header_at_of s at ≡ a → x ≡ piece_of p a at → Goes p s at x
-    by End q w = let t : x.to ≡ at = ap (λ (y : Piece). y.to) w in absurd (omega arith)
-    by Unreadable q w = let t : x.to ≡ at = ap (λ (y : Piece). y.to) w in absurd (omega arith)
+    by : (a : HeaderAt) → header_at_of s at ≡ a → Some x ≡ piece_of p a at → Goes p s at x
+    by End q w = cc
+    by Unreadable q w = cc
     by (At id c from to) q w =
         let g = stands s at id c from to q in
         let i = from-within p (is_chunk id) at from to (omega (arith, g.start)) g.past in
-        let f : x.from ≡ back_from p (is_chunk id) at from to = ap (λ (y : Piece). y.from) w in
-        let t : x.to ≡ to = ap (λ (y : Piece). y.to) w in
+        let v : x ≡ record { from = back_from p (is_chunk id) at from to; to = to } = cc in
+        let f : x.from ≡ back_from p (is_chunk id) at from to = ap (λ (y : Piece). y.from) v in
+        let t : x.to ≡ to = ap (λ (y : Piece). y.to) v in
         record {
           start = omega (arith, f, i.0);
           stop = omega (arith, f, t, i.1);
+          onward = omega (arith, t, header_at_within s at id c from to q);
           fits = omega (arith, t, g.fits);
-          bytes = back_step p s at (At id c from to) q ∙ sym (ap (λ (y : Piece). part s y.from y.to ++ back_bytes p s y.to) w);
+          bytes = back_step p s at (At id c from to) q ∙ sym (ap (λ (y : Piece). part s y.from y.to ++ back_bytes p s y.to) v);
         }
 
 -- what went back so far, and the rest

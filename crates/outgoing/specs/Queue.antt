@@ -2,6 +2,7 @@
 -- rewind): headers, and of a body the bytes that were read and not sent. First over lists of headers, then over the stores in which these
 -- stand as bytes.
 use Rattle.std.specs.Prelude.{ℕ, zero, suc, ◌+◌, List, [], ◌∷◌, ◌++◌, Bool, true, false, ◌||◌, length, take, drop, eqb, ltb}
+use Rattle.std.specs.Prelude.{Option as StdOption, None, Some}
 use Rattle.std.proofs.Math.Option.{Option, none, some}
 use Rattle.base.specs.Pick.{pick}
 use Rattle.packet.specs.HeaderIds as header_id
@@ -14,7 +15,6 @@ use Rattle.outgoing.specs.declared.queue.Part.{Part}
 use Rattle.outgoing.specs.declared.queue.Part.TheVariants.{All, Headers, Chunks, Nothing}
 use Rattle.outgoing.specs.declared.queue.Piece.{Piece}
 use Rattle.outgoing.specs.declared.queue.Rewound.{Rewound}
-use Rattle.outgoing.specs.declared.queue.Rewound.TheVariants.{Back, Short}
 
 -- ---- headers that lead
 
@@ -102,10 +102,10 @@ back_from Chunks chunk at from to = pick chunk from to
 back_from Nothing chunk at from to = to
 
 -- What goes back of what stands at a place: nothing if it is no header.
-abbrev pub piece_of : Part → HeaderAt → ℕ → Piece
-piece_of p End at = record { from = at; to = at }
-piece_of p Unreadable at = record { from = at; to = at }
-piece_of p (At id e from to) at = record { from = back_from p (is_chunk id) at from to; to = to }
+abbrev pub piece_of : Part → HeaderAt → ℕ → StdOption Piece
+piece_of p End at = None
+piece_of p Unreadable at = None
+piece_of p (At id e from to) at = Some (record { from = back_from p (is_chunk id) at from to; to = to })
 
 -- What goes back from a place on, by what stands there.
 abbrev pub back_by : Part → List ℕ → HeaderAt → ℕ → (ℕ → List ℕ) → List ℕ
@@ -133,32 +133,36 @@ body_back true = Chunks
 body_back false = Nothing
 
 -- The number of an answer: 10, a store too short; none (0) if the packet was put back.
-abbrev pub rewound_number : Rewound → ℕ
-rewound_number (Back n m) = 0
-rewound_number Short = 10
+abbrev pub rewound_number : StdOption Rewound → ℕ
+rewound_number (Some r) = 0
+rewound_number None = 10
+
+-- The answer of a packet that was put back.
+abbrev pub back : ℕ → ℕ → StdOption Rewound
+back n m = Some (record { headers = n; pending = m })
 
 -- The answer, its number, and both stores afterwards.
 pub record Rewinding : Type 0 where
-  pub answer : Rewound
+  pub answer : StdOption Rewound
   pub number : ℕ
   pub headers : List ℕ
   pub body : List ℕ
 
 -- What `rewind` promises, by its answer and the stores afterwards.
-abbrev pub rewinding : Rewound → List ℕ → List ℕ → Rewinding
+abbrev pub rewinding : StdOption Rewound → List ℕ → List ℕ → Rewinding
 rewinding r hs bs = record { answer = r; number = rewound_number r; headers = hs; body = bs }
 
 -- Whether `k` and `c` bytes more fit behind the `n` and `m` bytes of two stores of `len` and `size` bytes.
-unfoldable pub both_room : (len n k size m c : ℕ) → Rewound
-both_room len n k size m c = pick (ltb len (n + k)) Short (pick (ltb size (m + c)) Short (Back (n + k) (m + c)))
+unfoldable pub both_room : (len n k size m c : ℕ) → StdOption Rewound
+both_room len n k size m c = pick (ltb len (n + k)) None (pick (ltb size (m + c)) None (back (n + k) (m + c)))
 
 -- The bytes `k` go in front of the `n` bytes of headers, and the bytes `c` in front of the `m` bytes of the body. Without room for both the
 -- stores stay as they were.
 abbrev pub rewound_with : List ℕ → List ℕ → List ℕ → ℕ → List ℕ → ℕ → Rewinding
 rewound_with k c hs n bs m =
     pick (ltb (length hs) (n + length k) || ltb (length bs) (m + length c))
-    (record { answer = Short; number = 10; headers = hs; body = bs })
-    (record { answer = Back (n + length k) (m + length c); number = 0; headers = put_in hs 0 n k; body = put_in bs 0 m c })
+    (record { answer = None; number = 10; headers = hs; body = bs })
+    (record { answer = back (n + length k) (m + length c); number = 0; headers = put_in hs 0 n k; body = put_in bs 0 m c })
 
 -- The headers of a packet `p` go back into the two stores, the chunks of its body into the second if there is a body.
 unfoldable pub rewound : Bool → List ℕ → List ℕ → ℕ → List ℕ → ℕ → Rewinding

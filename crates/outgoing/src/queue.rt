@@ -18,16 +18,12 @@ use walk::step;
 
 // ---- bytes that are put in between
 
-// Moves the bytes from `from` up to `to` up by `by` places. The last byte goes first, since the two places may overlap.
+// Moves the bytes from `from` up to `to` up by `by` places. The two places may overlap.
 fn move_up(store: &mut [u8], from: usize, to: usize, by: usize)
     requires { (from ≤ to) × (to + by ≤ length store.old) }
     ensures { store.new ≡ laid store.old (from + by) (part store.old from to) }
 {
-    let mut i = to;
-    while from < i {
-        i -= 1;
-        store[i + by] = store[i];
-    }
+    store.copy_within(from..to, from + by);
 }
 
 // Puts `bytes` in at `at`, in front of what stands from there up to `n`.
@@ -42,19 +38,14 @@ fn put_in(store: &mut [u8], at: usize, n: usize, bytes: &[u8])
 // ---- a header that is put in early
 
 // Tells whether a header with `id` must be among the first of a request.
+#[tactic(auto, unfolding(crate::specs::Queue::must_lead))]
 fn must_lead(id: u8) -> bool
     ensures { result ≡ must_lead id }
 {
-    if id == CONNECTION_ID {
-        return true;
-    }
-    if id == TARGET {
-        return true;
-    }
-    if id == SINGLE_RESPONSE_MODE {
-        return true;
-    }
-    id == SINGLE_RESPONSE_MODE_PARAMETERS
+    matches!(
+        id,
+        CONNECTION_ID | TARGET | SINGLE_RESPONSE_MODE | SINGLE_RESPONSE_MODE_PARAMETERS
+    )
 }
 
 // Returns where the headers at the front of `s` that must lead end.
@@ -62,27 +53,14 @@ fn lead_end(s: &[u8]) -> usize
     ensures { (result ≡ lead_end s.now 0) × (result ≤ length s.now) }
 {
     let mut at = 0;
-    loop {
-        match step(s, at) {
-            HeaderAt::At {
-                id,
-                encoding: _,
-                start: _,
-                end,
-            } => {
-                if !must_lead(id) {
-                    return at;
-                }
-                at = end;
-            }
-            HeaderAt::Unreadable => {
-                return at;
-            }
-            HeaderAt::End => {
-                return at;
-            }
+    // Stays a walk from place to place: each header tells where the next one starts.
+    while let HeaderAt::At { id, end, .. } = step(s, at) {
+        if !must_lead(id) {
+            return at;
         }
+        at = end;
     }
+    at
 }
 
 // Puts a header in behind those at the front that must lead; `n` bytes of headers stand at the front of the store. Returns how many there
@@ -120,55 +98,43 @@ struct Piece {
     to: usize,
 }
 
-// What became of a packet that was to be put back. Each case has its number in `rewound_number` (specs/Queue).
+// A packet that was put back: so many bytes of headers and of the body are to be sent now.
 #[derive(Clone, Copy)]
-pub enum Rewound {
-    // The packet was put back: so many bytes of headers and of the body are to be sent now.
-    Back { headers: usize, pending: usize },
-    // 10: one of the stores is too short.
-    Short,
+pub struct Rewound {
+    pub headers: usize,
+    pub pending: usize,
 }
 
 // Tells whether a header with `id` is a chunk of a body.
 fn is_chunk(id: u8) -> bool
     ensures { result ≡ is_chunk id }
 {
-    if id == BODY {
-        return true;
-    }
-    id == END_OF_BODY
+    matches!(id, BODY | END_OF_BODY)
 }
 
 // Returns where that which goes back of a header starts. The header starts at `at`, its value at `start`, and both end at `end`.
 fn back_from(part: Part, id: u8, at: usize, start: usize, end: usize) -> usize
     ensures { result ≡ back_from part (is_chunk id) at start end }
 {
-    let chunk = is_chunk(id);
     match part {
-        Part::All => at,
-        Part::Headers => { if chunk { end } else { at } }
-        Part::Chunks => { if chunk { start } else { end } }
-        Part::Nothing => end,
+        Part::Headers if is_chunk(id) => end,
+        Part::All | Part::Headers => at,
+        Part::Chunks if is_chunk(id) => start,
+        Part::Chunks | Part::Nothing => end,
     }
 }
 
-// Returns what goes back of the header at `at`, or nothing if there is none.
-fn piece_at(part: Part, packet: &[u8], at: usize) -> Piece
+// Returns what goes back of the header at `at`, or `None` if there is none.
+fn piece_at(part: Part, packet: &[u8], at: usize) -> Option<Piece>
     ensures { result ≡ piece_of part (header_at_of packet.now at) at }
 {
-    match step(packet, at) {
-        HeaderAt::At {
-            id,
-            encoding: _,
-            start,
-            end,
-        } => Piece {
-            from: back_from(part, id, at, start, end),
-            to: end,
-        },
-        HeaderAt::Unreadable => Piece { from: at, to: at },
-        HeaderAt::End => Piece { from: at, to: at },
-    }
+    let HeaderAt::At { id, start, end, .. } = step(packet, at) else {
+        return None;
+    };
+    Some(Piece {
+        from: back_from(part, id, at, start, end),
+        to: end,
+    })
 }
 
 // Returns how many bytes go back of the headers of a packet.
@@ -177,14 +143,12 @@ fn back_len(part: Part, packet: &[u8]) -> usize
 {
     let mut at = 0;
     let mut n = 0;
-    loop {
-        let p = piece_at(part, packet, at);
-        if p.to <= at {
-            return n;
-        }
-        n += p.to - p.from;
-        at = p.to;
+    // Stays a walk from place to place, as in `lead_end`.
+    while let Some(Piece { from, to }) = piece_at(part, packet, at) {
+        n += to - from;
+        at = to;
     }
+    n
 }
 
 // Writes what goes back of the headers of a packet to the front of the store.
@@ -194,13 +158,8 @@ fn put_back(part: Part, packet: &[u8], store: &mut [u8])
 {
     let mut at = 0;
     let mut n = 0;
-    loop {
-        let p = piece_at(part, packet, at);
-        let from = p.from;
-        let to = p.to;
-        if to <= at {
-            return;
-        }
+    // Stays a walk from place to place, as in `lead_end`.
+    while let Some(Piece { from, to }) = piece_at(part, packet, at) {
         copy_into(store, n, &packet[from..to]);
         n += to - from;
         at = to;
@@ -242,22 +201,22 @@ fn both_room(
     body_len: usize,
     pending: usize,
     chunks: usize,
-) -> Rewound
+) -> Option<Rewound>
     ensures { result ≡ both_room len n kept body_len pending chunks }
 {
     let Wrote::Written(headers) = room(len, n, kept, LengthField::TwoBytes, false) else {
-        return Rewound::Short;
+        return None;
     };
     let Wrote::Written(pending) = room(body_len, pending, chunks, LengthField::TwoBytes, false)
     else {
-        return Rewound::Short;
+        return None;
     };
-    Rewound::Back { headers, pending }
+    Some(Rewound { headers, pending })
 }
 
 // Puts the headers of a packet back, so that they can be sent again: the bytes of its chunks in front of the `pending` bytes of the body, if
 // the object has one, and all other headers in front of the `n` bytes of headers that are still to be sent. `packet` is the packet without
-// what stands before its headers. If a store is too short, both stay as they were.
+// what stands before its headers. If a store is too short, both stay as they were, and the answer is `None`.
 pub fn rewind(
     packet: &[u8],
     has_body: bool,
@@ -265,7 +224,7 @@ pub fn rewind(
     n: usize,
     body: &mut [u8],
     pending: usize,
-) -> Rewound
+) -> Option<Rewound>
     ensures { rewinding result headers.new body.new
         ≡ rewound has_body packet.now headers.old n body.old pending }
 {
@@ -273,15 +232,8 @@ pub fn rewind(
     let of_body = body_back(has_body);
     let kept = back_len(of_headers, packet);
     let chunks = back_len(of_body, packet);
-    let answer = both_room(headers.len(), n, kept, body.len(), pending, chunks);
-    let Rewound::Back {
-        headers: _,
-        pending: _,
-    } = answer
-    else {
-        return answer;
-    };
+    let rewound = both_room(headers.len(), n, kept, body.len(), pending, chunks)?;
     put_front(of_headers, packet, kept, headers, n);
     put_front(of_body, packet, chunks, body, pending);
-    answer
+    Some(rewound)
 }

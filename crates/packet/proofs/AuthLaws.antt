@@ -11,20 +11,16 @@ use lib.Dec.{eqb, ltb}
 use lib.Bits.{bit_or, bit_xor, or_add_and, or_comm, xor_add_and, xor_self, and_le_l, and_le_r}
 use borrow.Author.Tests.{ne_eqb, eqb-true, eqb-false, lt-ltb, le-ltb, ltb-true, ltb-false}
 use Rattle.base.specs.Pick.{pick}
+use Rattle.std.specs.Prelude.{Option as Maybe}
+use Rattle.base.specs.Place.{Place, Some, None}
 use Rattle.digest.specs.Md5.{octets16, numbers16, request_digest}
 use Rattle.digest.specs.declared.md5.Octets16.{Octets16}
 use Rattle.digest.proofs.Octets.{numbers-octets, octets-digest, length-digest}
-use Rattle.packet.specs.declared.tlv.Found.{Found}
-use Rattle.packet.specs.declared.tlv.Found.TheVariants as place
-use Rattle.packet.specs.declared.auth.Named.{Named}
-use Rattle.packet.specs.declared.auth.Named.TheVariants as nonce
 use Rattle.packet.specs.declared.auth.DigestResponse.{DigestResponse}
-use Rattle.packet.specs.declared.auth.DigestResponse.TheVariants as response
 use Rattle.packet.specs.declared.auth.DigestChallenge.{DigestChallenge}
-use Rattle.packet.specs.declared.auth.DigestChallenge.TheVariants as challenge
 use Rattle.packet.specs.Tags.{Tag, Tags, unreadable, tag_list, push, tags, counts, last_value, bytes_at, last_bytes, last_of}
 use Rattle.packet.specs.Auth.{Response, Challenge, response_end, named16, response_from, response_in, response_of, challenge_end, challenge_from, challenge_in, challenge_of, realm_place, user_id_required_of, read_only_of, same, matches, has_user, verified}
-use Rattle.packet.specs.AuthRead.{named_of, response_read, read_response, challenge_read, read_challenge, sixteen_or, all_sixteen, sixteen_in, sixteen_at, tag_zero, options_at, is_filled}
+use Rattle.packet.specs.AuthRead.{Named, named_of, digest_response, response_read, read_response, digest_challenge, challenge_read, read_challenge, sixteen_or, all_sixteen, sixteen_in, sixteen_at, tag_zero, options_at, is_filled}
 use Rattle.packet.proofs.SameBytes.{same_self, same-equal}
 use Rattle.packet.proofs.TagLaws.{Here, value-length}
 use Rattle.packet.proofs.TagWrites.{Within, last_within, last-under-bytes}
@@ -65,16 +61,16 @@ options_of none = 0
 options_of (some v) = get_or v 0 0
 
 sixteen-some : (v : List ℕ) (b e : ℕ) (x : Bool) → eqb (e - b) 16 ≡ x → eqb (length (take (e - b) (drop b v))) 16 ≡ x
-    → pick x (nonce.Nonce (numbers16 (take 16 (drop b v)))) nonce.Missing ≡ named_of (pick x (some (take (e - b) (drop b v))) none)
+    → pick x (Some (numbers16 (take 16 (drop b v)))) None ≡ named_of (pick x (some (take (e - b) (drop b v))) none)
 sixteen-some v b e false p q = refl
-sixteen-some v b e true p q = ap (λ (m : ℕ). nonce.Nonce (numbers16 (take m (drop b v)))) (sym (eqb-true (e - b) 16 p))
+sixteen-some v b e true p q = ap (λ (m : ℕ). Some (numbers16 (take m (drop b v)))) (sym (eqb-true (e - b) 16 p))
 
-sixteen-bytes : (v : List ℕ) (f : Found) → Within v f → sixteen_at v f ≡ named_of (only16 (bytes_at v f))
-sixteen-bytes v place.Missing w = refl
-sixteen-bytes v (place.At b e) w =
-    let l : length (take (e - b) (drop b v)) ≡ e - b = length-take-le (e - b) (drop b v) (omega (arith, length-drop b v, w.0, w.1)) in
-    let q : eqb (length (take (e - b) (drop b v))) 16 ≡ eqb (e - b) 16 = ap (λ (m : ℕ). eqb m 16) l in
-    rw q (sixteen-some v b e (eqb (e - b) 16) refl q)
+sixteen-bytes : (v : List ℕ) (f : Place) → Within v f → sixteen_at v f ≡ named_of (only16 (bytes_at v f))
+sixteen-bytes v None w = refl
+sixteen-bytes v (Some p) w =
+    let l : length (take (p.end - p.start) (drop p.start v)) ≡ p.end - p.start = length-take-le (p.end - p.start) (drop p.start v) (omega (arith, length-drop p.start v, w.0, w.1)) in
+    let q : eqb (length (take (p.end - p.start) (drop p.start v))) 16 ≡ eqb (p.end - p.start) 16 = ap (λ (m : ℕ). eqb m 16) l in
+    rw q (sixteen-some v p.start p.end (eqb (p.end - p.start) 16) refl q)
 
 options-some : (v : List ℕ) (b e : ℕ) (x : Bool) → ltb b e ≡ x → pick x (get_or v b 0) 0 ≡ get_or (take (e - b) (drop b v)) 0 0
 options-some v b e true p =
@@ -86,9 +82,9 @@ options-some v b e false p =
     let z : e - b ≡ 0 = omega arith in
     rw z
 
-options-bytes : (v : List ℕ) (f : Found) → options_at v f ≡ options_of (bytes_at v f)
-options-bytes v place.Missing = refl
-options-bytes v (place.At b e) = options-some v b e (ltb b e) refl
+options-bytes : (v : List ℕ) (f : Place) → options_at v f ≡ options_of (bytes_at v f)
+options-bytes v None = refl
+options-bytes v (Some p) = options-some v p.start p.end (ltb p.start p.end) refl
 
 last-bytes : (v : List ℕ) (want : ℕ) → bytes_at v (last_value v want) ≡ last_of want true (tags v)
 unfolding last_value
@@ -142,19 +138,19 @@ response-from [] d u n = refl
 response-from (t ∷ ts) d u n = response-tag t.tag t.value ts d u n (response-from ts)
 
 -- what the reader makes of the parts
-abbrev pub response_by : Named → Found → Named → DigestResponse
-response_by nonce.Missing u n = response.Unreadable
-response_by (nonce.Nonce d) u n = response.Response d u n
+abbrev pub response_by : Named → Place → Named → Maybe DigestResponse
+response_by None u n = None
+response_by (Some d) u n = digest_response d u n
 
-response-ends : (x : Bool) (d u n : Option (List ℕ)) (at : Found)
-    → response_read (pick x (response_end d u n) none) at ≡ response_by (pick x (named_of d) nonce.Missing) at (named_of n)
+response-ends : (x : Bool) (d u n : Option (List ℕ)) (at : Place)
+    → response_read (pick x (response_end d u n) none) at ≡ response_by (pick x (named_of d) None) at (named_of n)
 response-ends false d u n at = refl
 response-ends true none u n at = refl
 response-ends true (some d) u n at = refl
 
-response_in_lem : (r : Tags) (at : Found)
+response_in_lem : (r : Tags) (at : Place)
     → response_read (response_in r) at
-    ≡ response_by (pick (sixteen_in r) (named_of (only16 (last_of 0 true r))) nonce.Missing) at (named_of (only16 (last_of 2 true r)))
+    ≡ response_by (pick (sixteen_in r) (named_of (only16 (last_of 0 true r))) None) at (named_of (only16 (last_of 2 true r)))
 response_in_lem unreadable at = refl
 response_in_lem (tag_list ts) at =
     ap (λ (o : Option Response). response_read o at) (response-from ts none none none)
@@ -182,15 +178,15 @@ pub user_place_lem : (v : List ℕ) (a : Response) → response_of v ≡ some a 
 unfolding response_of
 user_place_lem v a e = last-bytes v 1 ∙ sym (user_in_lem (tags v) a e)
 
-filled-bytes : (v : List ℕ) (f : Found) → Within v f → is_filled f ≡ has_user (bytes_at v f)
-filled-bytes v place.Missing w = refl
-filled-bytes v (place.At b e) w =
-    let l : length (take (e - b) (drop b v)) ≡ e - b = length-take-le (e - b) (drop b v) (omega (arith, length-drop b v, w.0, w.1)) in
-    sym (ap (λ (m : ℕ). ltb 0 m) l ∙ filled_by (ltb b e) refl)
+filled-bytes : (v : List ℕ) (f : Place) → Within v f → is_filled f ≡ has_user (bytes_at v f)
+filled-bytes v None w = refl
+filled-bytes v (Some q) w =
+    let l : length (take (q.end - q.start) (drop q.start v)) ≡ q.end - q.start = length-take-le (q.end - q.start) (drop q.start v) (omega (arith, length-drop q.start v, w.0, w.1)) in
+    sym (ap (λ (m : ℕ). ltb 0 m) l ∙ filled_by (ltb q.start q.end) refl)
   where
-    filled_by : (x : Bool) → ltb b e ≡ x → ltb 0 (e - b) ≡ x
-    filled_by true p = lt-ltb 0 (e - b) (let h = ltb-true b e p in omega arith)
-    filled_by false p = le-ltb 0 (e - b) (let h = ltb-false b e p in omega arith)
+    filled_by : (x : Bool) → ltb q.start q.end ≡ x → ltb 0 (q.end - q.start) ≡ x
+    filled_by true p = lt-ltb 0 (q.end - q.start) (let h = ltb-true q.start q.end p in omega arith)
+    filled_by false p = le-ltb 0 (q.end - q.start) (let h = ltb-false q.start q.end p in omega arith)
 
 -- the user id's place is filled exactly if the response has a user id that is not empty
 pub filled-user : (v : List ℕ) (a : Response) → response_of v ≡ some a → is_filled (last_value v 1) ≡ has_user a.user
@@ -232,19 +228,19 @@ challenge-from [] n o r = refl
 challenge-from (t ∷ ts) n o r = challenge-tag t.tag t.value ts n o r (challenge-from ts)
 
 -- what the reader makes of the parts
-abbrev pub challenge_by : Named → ℕ → Found → DigestChallenge
-challenge_by nonce.Missing o r = challenge.Unreadable
-challenge_by (nonce.Nonce n) o r = challenge.Challenge n (user_id_required_of o) (read_only_of o) r
+abbrev pub challenge_by : Named → ℕ → Place → Maybe DigestChallenge
+challenge_by None o r = None
+challenge_by (Some n) o r = digest_challenge n (user_id_required_of o) (read_only_of o) r
 
-challenge-ends : (x : Bool) (n r : Option (List ℕ)) (o : ℕ) (at : Found)
-    → challenge_read (pick x (challenge_end n o r) none) at ≡ challenge_by (pick x (named_of n) nonce.Missing) o at
+challenge-ends : (x : Bool) (n r : Option (List ℕ)) (o : ℕ) (at : Place)
+    → challenge_read (pick x (challenge_end n o r) none) at ≡ challenge_by (pick x (named_of n) None) o at
 challenge-ends false n r o at = refl
 challenge-ends true none r o at = refl
 challenge-ends true (some n) r o at = refl
 
-challenge_in_lem : (r : Tags) (at : Found)
+challenge_in_lem : (r : Tags) (at : Place)
     → challenge_read (challenge_in r) at
-    ≡ challenge_by (pick (sixteen_in r) (named_of (only16 (last_of 0 true r))) nonce.Missing) (options_of (last_of 1 true r)) at
+    ≡ challenge_by (pick (sixteen_in r) (named_of (only16 (last_of 0 true r))) None) (options_of (last_of 1 true r)) at
 challenge_in_lem unreadable at = refl
 challenge_in_lem (tag_list ts) at =
     ap (λ (o : Option Challenge). challenge_read o at) (challenge-from ts none none none)

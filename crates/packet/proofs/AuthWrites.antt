@@ -14,8 +14,8 @@ use Rattle.base.specs.Pick.{pick}
 use Rattle.digest.specs.Md5.{octets16, request_digest}
 use Rattle.digest.specs.declared.md5.Octets16.{Octets16}
 use Rattle.digest.proofs.Octets.{length-octets16, numbers-octets}
+use Rattle.std.specs.Prelude.{Option as Maybe, Some, None}
 use Rattle.packet.specs.declared.auth.DigestResponse.{DigestResponse}
-use Rattle.packet.specs.declared.auth.DigestResponse.TheVariants.{Response, Unreadable}
 use Rattle.packet.specs.declared.tlv.Wrote.{Wrote}
 use Rattle.packet.specs.Tags.{write_tag, write_tags, put_tag}
 use Rattle.packet.specs.Placed.{putting}
@@ -168,9 +168,9 @@ unfolding user_id_required_of read_only_of
 options-back a b = flags-read a b
 
 -- what a reader's answer is worth for a nonce and a password
-abbrev pub accepts : Octets16 → Bool → List ℕ → DigestResponse → Bool
-accepts n demands p Unreadable = false
-accepts n demands p (Response d user named) = verifies n d user named demands p
+abbrev pub accepts : Octets16 → Bool → List ℕ → Maybe DigestResponse → Bool
+accepts n demands p None = false
+accepts n demands p (Some r) = verifies n r.digest r.user r.nonce demands p
 
 -- an answer to a nonce is right for that nonce and password, with a user id if one is demanded
 pub accepted : (n : Octets16) (demands : Bool) (p : List ℕ) (user : Option (List ℕ)) → n.first < 2 ^ 64 → n.second < 2 ^ 64

@@ -5,6 +5,7 @@ use mathlib.Core.List.{List, map}
 use Prim.Native.Nat.{ℕ, zero, suc, ◌+◌, ◌<◌}
 use native.Mathlib.Nat.{add-zero, zero-add, add-suc, suc-add, le_of_suc-le-suc, not-suc-le-zero}
 use lib.ListN.{get_or, get_or-map}
+use Rattle.std.specs.Prelude.{Option}
 use Rattle.packet.specs.declared.opcode.FirstByte.{FirstByte}
 use Rattle.packet.specs.FirstByte.{named, first_byte, entry_says, numbers_from, first_byte_table}
 
@@ -26,7 +27,7 @@ zero-says = refl
 pub entry-says : (b : ℕ) → b < 256 → entry_says (get_or first_byte_table b 0) ≡ first_byte b
 entry-says b h =
     sym (get_or-map entry_says first_byte_table b 0)
-    ∙ ap (λ (l : List FirstByte). get_or l b (entry_says 0)) table-says
+    ∙ ap (λ (l : List (Option FirstByte)). get_or l b (entry_says 0)) table-says
     ∙ ap (get_or (map first_byte (numbers_from 0x00 256)) b) zero-says
     ∙ get_or-map first_byte (numbers_from 0x00 256) b 0
     ∙ ap first_byte (number_at 0x00 256 b h ∙ zero-add b)

@@ -20,7 +20,7 @@ use Rattle.packet.specs.declared.header.HeaderAt.{HeaderAt}
 use Rattle.packet.specs.declared.header.HeaderAt.TheVariants.{At, Unreadable, End}
 use Rattle.packet.specs.declared.opcode.Opcode.{Opcode}
 use Rattle.packet.specs.declared.opcode.FirstByte.{FirstByte}
-use Rattle.packet.specs.declared.opcode.FirstByte.TheVariants.{Known, Unknown}
+use Rattle.std.specs.Prelude.{Option as Maybe, Some, None}
 use Rattle.packet.specs.FirstByte.{first_byte}
 use Rattle.packet.specs.Header.{encoding_of, lead_of, size_at, allowed, part, encoded_at, header_at_of, Header, push, walk_from, walk, read_headers, length_field, bytes_of, all_bytes}
 use Rattle.packet.specs.Packet.{Request, prefix_of, request_with, request_by, request_of}
@@ -200,8 +200,8 @@ request-headers p r o e = go (first_byte (get_or p 0 0)) e
         let a : r ≡ record { opcode = c; final = f; bytes = p; headers = hs } = cc in
         rw a (omega (arith, header-length p (prefix_of c) hs o h e))
 
-    go : (b : FirstByte) → request_by b p ≡ some r → length (all_bytes r.headers) ≤ length p
-    go Unknown w = absurd (none-some w)
-    go (Known c f) w =
-        let q = pick_no (ltb (length p) (prefix_of c)) none _ (some r) w none-some in
-        with_headers_lem c f (read_headers p (prefix_of c)) refl (ltb-false _ _ q.0) q.1
+    go : (b : Maybe FirstByte) → request_by b p ≡ some r → length (all_bytes r.headers) ≤ length p
+    go None w = absurd (none-some w)
+    go (Some b) w =
+        let q = pick_no (ltb (length p) (prefix_of b.opcode)) none _ (some r) w none-some in
+        with_headers_lem b.opcode b.is_final (read_headers p (prefix_of b.opcode)) refl (ltb-false _ _ q.0) q.1

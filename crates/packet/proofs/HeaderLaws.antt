@@ -10,13 +10,14 @@ use lib.ListN.{length}
 use lib.Dec.{eqb}
 use borrow.Author.Tests.{eqb-true, le-ltb}
 use Rattle.base.specs.Pick.{pick}
+use Rattle.std.specs.Prelude.{is_some}
+use Rattle.base.specs.Place.{Place, span, Some, None}
+use Rattle.base.proofs.Spans.{span_start, span_end}
 use Rattle.packet.specs.declared.header.HeaderEncoding.{HeaderEncoding}
 use Rattle.packet.specs.declared.header.HeaderAt.{HeaderAt}
 use Rattle.packet.specs.declared.header.HeaderAt.TheVariants.{At, Unreadable, End}
-use Rattle.packet.specs.declared.tlv.Found.{Found}
-use Rattle.packet.specs.declared.tlv.Found.TheVariants as place
 use Rattle.packet.specs.Tags.{bytes_at}
-use Rattle.packet.specs.Header.{encoding_of, lead_of, size_at, allowed, part, encoded_at, header_at_of, Header, push, walk_from, walk, read_headers, first, first_at, first_from, first_place}
+use Rattle.packet.specs.Header.{encoding_of, lead_of, size_at, allowed, part, encoded_at, header_at_of, Header, push, walk_from, walk, read_headers, first, present, first_at, first_from, first_place}
 use Rattle.packet.specs.HeaderList.{is_read}
 use Rattle.packet.proofs.HeaderBytes.{Stands, stands, header_at_within, header_at_end}
 
@@ -90,12 +91,12 @@ push-read h (some hs) = refl
 
 -- ---- the first header of an id
 
-first_on : (id : ℕ) (s : List ℕ) (at : ℕ) (f g : ℕ → Found) → ((n : ℕ) → length s - n < length s - at → f n ≡ g n)
+first_on : (id : ℕ) (s : List ℕ) (at : ℕ) (f g : ℕ → Place) → ((n : ℕ) → length s - n < length s - at → f n ≡ g n)
     → (a : HeaderAt) → header_at_of s at ≡ a → first_at a id f ≡ first_at a id g
 first_on id s at f g same End e = refl
 first_on id s at f g same Unreadable e = refl
 first_on id s at f g same (At i c from to) e =
-    ap (pick (eqb i id) (place.At from to)) (same to (omega (arith, header_at_within s at i c from to e)))
+    ap (pick (eqb i id) (span from to)) (same to (omega (arith, header_at_within s at i c from to e)))
 
 first_enough : (j k id : ℕ) (s : List ℕ) (at : ℕ) → length s - at < j → length s - at < k → first_from j id s at ≡ first_from k id s at
 unfolding first_from
@@ -122,7 +123,7 @@ pub first_of : (h : Header) (r : Option (List Header)) (hs : List Header) → pu
 first_of h none hs e = let z : ◌≡◌ {A = ℕ} 0 1 = cc in absurd (omega arith)
 first_of h (some rs) hs e = record { rest = rs; is = cc; of = refl }
 
-pick-bytes : (s : List ℕ) (b e : ℕ) (r : Found) (x : Bool) → bytes_at s (pick x (place.At b e) r) ≡ pick x (some (part s b e)) (bytes_at s r)
+pick-bytes : (s : List ℕ) (b e : ℕ) (r : Place) (x : Bool) → bytes_at s (pick x (span b e) r) ≡ pick x (some (part s b e)) (bytes_at s r)
 pick-bytes s b e r true = refl
 pick-bytes s b e r false = refl
 
@@ -157,23 +158,28 @@ pub first-agrees : (id : ℕ) (s : List ℕ) (from : ℕ) (hs : List Header) →
     → bytes_at s (first_place id s from) ≡ first id hs
 first-agrees id s from hs e = agrees (suc (length s)) id s from hs (omega arith) e
 
+-- it is there exactly where there is a value
+pub is_some-present : (s : List ℕ) (f : Place) → is_some f ≡ present (bytes_at s f)
+is_some-present s (Some p) = refl
+is_some-present s None = refl
+
 -- and a whole header of that id stands around it
 pub record FoundIn (id : ℕ) (s : List ℕ) (b e : ℕ) : Type 0 where
   pub at : ℕ
   pub stands : Stands s at id (encoding_of id) b e
 
-found_here : (id i : ℕ) (s : List ℕ) (at b e f t : ℕ) (c : HeaderEncoding) (r : Found) (x : Bool) → eqb i id ≡ x → Stands s at i c f t
-    → (r ≡ place.At b e → FoundIn id s b e) → pick x (place.At f t) r ≡ place.At b e → FoundIn id s b e
+found_here : (id i : ℕ) (s : List ℕ) (at b e f t : ℕ) (c : HeaderEncoding) (r : Place) (x : Bool) → eqb i id ≡ x → Stands s at i c f t
+    → (r ≡ span b e → FoundIn id s b e) → pick x (span f t) r ≡ span b e → FoundIn id s b e
 found_here id i s at b e f t c r true p w on q =
     let j : i ≡ id = eqb-true i id p in
-    let k : f ≡ b = cc in
-    let l : t ≡ e = cc in
+    let k : f ≡ b = span_start f t b e q in
+    let l : t ≡ e = span_end f t b e q in
     let m : c ≡ encoding_of id = w.encoding ∙ ap encoding_of j in
     record { at = at; stands = rw (m, j, k, l) at w }
 found_here id i s at b e f t c r false p w on q = on q
 
-found_by : (id : ℕ) (s : List ℕ) (at b e : ℕ) → first_place id s at ≡ place.At b e
-    → ((to : ℕ) → length s - to < length s - at → first_place id s to ≡ place.At b e → FoundIn id s b e)
+found_by : (id : ℕ) (s : List ℕ) (at b e : ℕ) → first_place id s at ≡ span b e
+    → ((to : ℕ) → length s - to < length s - at → first_place id s to ≡ span b e → FoundIn id s b e)
     → (a : HeaderAt) → header_at_of s at ≡ a → FoundIn id s b e
 found_by id s at b e q on End h =
     let w = first_step id s at End h in
@@ -189,9 +195,9 @@ found_by id s at b e q on (At i c f t) h =
     (on t (omega (arith, w.next, w.stands.fits)))
     (sym (first_step id s at (At i c f t) h) ∙ q)
 
-finds : (n id : ℕ) (s : List ℕ) (at b e : ℕ) → length s - at < n → first_place id s at ≡ place.At b e → FoundIn id s b e
+finds : (n id : ℕ) (s : List ℕ) (at b e : ℕ) → length s - at < n → first_place id s at ≡ span b e → FoundIn id s b e
 finds zero id s at b e l q = absurd (omega arith)
 finds (suc n) id s at b e l q = found_by id s at b e q (λ to m. finds n id s to b e (omega arith)) (header_at_of s at) refl
 
-pub first_found : (id : ℕ) (s : List ℕ) (from b e : ℕ) → first_place id s from ≡ place.At b e → FoundIn id s b e
+pub first_found : (id : ℕ) (s : List ℕ) (from b e : ℕ) → first_place id s from ≡ span b e → FoundIn id s b e
 first_found id s from b e q = finds (suc (length s)) id s from b e (omega arith) q

@@ -8,33 +8,77 @@ use lib.Dec.{T, eqb, leb, leb→le}
 use Rattle.base.specs.Pick.{pick}
 use Rattle.base.proofs.Below.{and_left, and_right}
 use Rattle.packet.specs.declared.opcode.FirstByte.{FirstByte}
-use Rattle.packet.specs.declared.opcode.FirstByte.TheVariants.{Known, Unknown}
+use Rattle.std.specs.Prelude.{Option, Some, None, Ok, Err}
+use Rattle.std.specs.Result.{result_ok}
+use Rattle.packet.specs.declared.opcode.UnknownOpcode.{UnknownOpcode}
 use Rattle.packet.specs.declared.opcode.Opcode.{Opcode}
 use Rattle.packet.specs.declared.opcode.Opcode.TheVariants.{Connect, Disconnect, Put, Get, SetPath, Action, Session, Abort, UserDefined}
-use Rattle.packet.specs.FirstByte.{named, first_byte, value_of, always_final, top_bit, byte_of, kind_of, same_opcode}
+use Rattle.packet.specs.FirstByte.{known_byte, named, opcode_numbered, first_byte, entry_says, value_of, always_final, top_bit, byte_of, kind_of, same_opcode}
 use Rattle.base.proofs.Below.{at_each}
 
 -- ---- proved cases P1 and P2 (docs/PROTOCOL.md#first-byte)
 
-p1 : first_byte 0xE2 ≡ Known Put true
+p1 : first_byte 0xE2 ≡ known_byte Put true
 unfolding first_byte named
 p1 = refl
 
-p1_not-final : first_byte 0x22 ≡ Known Put false
+p1_not-final : first_byte 0x22 ≡ known_byte Put false
 unfolding first_byte named
 p1_not-final = refl
 
-p2 : first_byte 0x7F ≡ Known Abort false
+p2 : first_byte 0x7F ≡ known_byte Abort false
 unfolding first_byte named
 p2 = refl
 
-p2_final : first_byte 0xFF ≡ Known Abort true
+p2_final : first_byte 0xFF ≡ known_byte Abort true
 unfolding first_byte named
 p2_final = refl
 
-p2_user : first_byte 0x1F ≡ Known (UserDefined 0x1F) false
+p2_user : first_byte 0x1F ≡ known_byte (UserDefined 0x1F) false
 unfolding first_byte named
 p2_user = refl
+
+-- ---- what an entry of the table says, by the opcode with its number
+
+abbrev pub told : Bool → Option Opcode → Option FirstByte
+told final (Some o) = known_byte o final
+told final None = None
+
+pub entry-told : (n : ℕ) → entry_says n ≡ told (leb 0x80 n) (result_ok (opcode_numbered (n % 128)))
+unfolding entry_says named opcode_numbered
+entry-told n =
+    let x = n % 128 in
+    go (leb 0x80 n) x (eqb x 0x7F) (eqb x 0x00) (eqb x 0x01) (eqb x 0x02) (eqb x 0x03) (eqb x 0x05) (eqb x 0x06) (eqb x 0x07) (leb 0x10 x && leb x 0x1F)
+  where
+    go : (z : Bool) (y : ℕ) (i a b c d e f g u : Bool)
+        → pick i (known_byte Abort z)
+        (pick a (known_byte Connect z)
+        (pick b (known_byte Disconnect z)
+        (pick c (known_byte Put z)
+        (pick d (known_byte Get z)
+        (pick e (known_byte SetPath z)
+        (pick f (known_byte Action z)
+        (pick g (known_byte Session z)
+        (pick u (known_byte (UserDefined y) z) None))))))))
+        ≡ told z (result_ok {E = UnknownOpcode} (pick i (Ok Abort)
+        (pick a (Ok Connect)
+        (pick b (Ok Disconnect)
+        (pick c (Ok Put)
+        (pick d (Ok Get)
+        (pick e (Ok SetPath)
+        (pick f (Ok Action)
+        (pick g (Ok Session)
+        (pick u (Ok (UserDefined y)) (Err (record {}))))))))))))
+    go z y true a b c d e f g u = refl
+    go z y false true b c d e f g u = refl
+    go z y false false true c d e f g u = refl
+    go z y false false false true d e f g u = refl
+    go z y false false false false true e f g u = refl
+    go z y false false false false false true f g u = refl
+    go z y false false false false false false true g u = refl
+    go z y false false false false false false false true u = refl
+    go z y false false false false false false false false true = refl
+    go z y false false false false false false false false false = refl
 
 -- ---- what is read and written
 
@@ -42,16 +86,16 @@ p2_user = refl
 abbrev pub fair : Opcode → Bool
 fair o = eqb (kind_of o) 0 || (leb 0x10 (value_of o) && leb (value_of o) 0x1F)
 
-abbrev fair_in : FirstByte → Bool
-fair_in (Known o final) = fair o
-fair_in Unknown = true
+abbrev fair_in : Option FirstByte → Bool
+fair_in (Some b) = fair b.opcode
+fair_in None = true
 
 -- an opcode that was read has such a value: one test over the 256 bytes
-pub read-fair : (b : ℕ) → b < 256 → (o : Opcode) (final : Bool) → first_byte b ≡ Known o final → T (fair o)
+pub read-fair : (b : ℕ) → b < 256 → (o : Opcode) (final : Bool) → first_byte b ≡ known_byte o final → T (fair o)
 unfolding first_byte named
-read-fair b h o final e = subst (λ (r : FirstByte). T (fair_in r)) e (at_each (λ b. fair_in (first_byte b)) 256 tt b h)
+read-fair b h o final e = subst (λ (r : Option FirstByte). T (fair_in r)) e (at_each (λ b. fair_in (first_byte b)) 256 tt b h)
 
-user-named : (x : ℕ) (final : Bool) → 0x10 ≤ x → x ≤ 0x1F → named x final ≡ Known (UserDefined x) final
+user-named : (x : ℕ) (final : Bool) → 0x10 ≤ x → x ≤ 0x1F → named x final ≡ known_byte (UserDefined x) final
 unfolding named
 user-named x final a b =
     simp (
@@ -66,20 +110,20 @@ user-named x final a b =
       le-leb x 0x1F b,
     )
 
-user-read : (x b : ℕ) → b % 128 ≡ x → 0x10 ≤ x → x ≤ 0x1F → first_byte b ≡ Known (UserDefined x) (leb 0x80 b)
+user-read : (x b : ℕ) → b % 128 ≡ x → 0x10 ≤ x → x ≤ 0x1F → first_byte b ≡ known_byte (UserDefined x) (leb 0x80 b)
 unfolding first_byte
 user-read x b e l h =
     let m : b % 32 ≡ x = omega arith in
     rw (e, ne_eqb x 0x7F (λ (q : x ≡ 0x7F). omega arith), m, user-named x (leb 0x80 b) l h)
 
 user-back : (x : ℕ) (final : Bool) → 0x10 ≤ x → x ≤ 0x1F
-    → first_byte (byte_of (UserDefined x) final) ≡ Known (UserDefined x) (final || false)
+    → first_byte (byte_of (UserDefined x) final) ≡ known_byte (UserDefined x) (final || false)
 unfolding byte_of
-user-back x true l h = user-read x (top_bit x) (omega arith) l h ∙ ap (Known (UserDefined x)) (le-leb 0x80 (top_bit x) (omega arith))
-user-back x false l h = user-read x x (omega arith) l h ∙ ap (Known (UserDefined x)) (lt-leb 0x80 x (omega arith))
+user-back x true l h = user-read x (top_bit x) (omega arith) l h ∙ ap (known_byte (UserDefined x)) (le-leb 0x80 (top_bit x) (omega arith))
+user-back x false l h = user-read x x (omega arith) l h ∙ ap (known_byte (UserDefined x)) (lt-leb 0x80 x (omega arith))
 
 -- what was written reads as the opcode, final where it was written so or is always so
-pub read_back : (o : Opcode) (final : Bool) → T (fair o) → first_byte (byte_of o final) ≡ Known o (final || always_final o)
+pub read_back : (o : Opcode) (final : Bool) → T (fair o) → first_byte (byte_of o final) ≡ known_byte o (final || always_final o)
 unfolding first_byte named byte_of
 read_back Connect true t = refl
 read_back Connect false t = refl

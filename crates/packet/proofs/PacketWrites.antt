@@ -7,21 +7,23 @@ use Prim.Native.Nat.{ℕ, ◌+◌, ◌-◌, ◌≤◌}
 use native.Mathlib.Omega.{arith}
 use lib.ListN.{length, get_or, take, drop, replicate, length-append}
 use lib.Seq.{take_at, drop_at, take-append_seam}
-use lib.Dec.{T, eqb}
+use lib.Dec.{T}
 use borrow.Author.Tests.{le-ltb}
-use Rattle.base.specs.Pick.{pick}
 use Rattle.base.specs.Bytes.{be16, bytes16}
 use Rattle.text.specs.Unicode.{Octets}
 use Rattle.packet.specs.declared.opcode.Opcode.{Opcode}
 use Rattle.packet.specs.declared.opcode.Opcode.TheVariants.{Connect, Disconnect, Put, Get, SetPath, Action, Session, Abort, UserDefined}
+use Rattle.packet.specs.declared.packet.ConnectParameters.{ConnectParameters}
+use Rattle.packet.specs.declared.packet.SetPathFlags.{SetPathFlags}
 use Rattle.packet.specs.declared.packet.Fields.{Fields}
 use Rattle.packet.specs.declared.packet.Fields.TheVariants as fields
+use Rattle.std.specs.Prelude.{Option as Maybe}
 use Rattle.packet.specs.declared.opcode.FirstByte.{FirstByte}
 use Rattle.packet.specs.FirstByte.{first_byte, always_final, byte_of}
 use Rattle.packet.specs.Header.{Header, read_headers}
 use Rattle.packet.specs.Packet.{fields_of, prefix_of, request_by, request_of, request_at, connect_limit, backup, no_create_of, packet_bytes}
 use Rattle.packet.specs.Placed.{laid}
-use Rattle.packet.specs.PacketWrite.{connect_bytes, set_path_byte, field_bytes, filled4, write_packet}
+use Rattle.packet.specs.PacketWrite.{connect_bytes, field_bytes, filled4, write_packet}
 use Rattle.packet.proofs.OpcodeLaws.{fair, read_back}
 use Rattle.packet.proofs.HeaderBytes.{header-bytes}
 use Rattle.packet.proofs.HeaderWrites.{read-written, read_shaped}
@@ -49,27 +51,10 @@ packet-laid d s₁ s₂ s₃ f h b l e₁ e₂ e₃ =
 
 -- ---- the fields
 
-pub fields_by : (o : Opcode) (f : Fields)
-    → field_bytes o f ≡ pick (eqb (fields_of o) 4) (connect_bytes f) (pick (eqb (fields_of o) 2) (set_path_byte f ∷ 0 ∷ []) [])
-fields_by Connect f = refl
-fields_by Disconnect f = refl
-fields_by Put f = refl
-fields_by Get f = refl
-fields_by SetPath f = refl
-fields_by Action f = refl
-fields_by Session f = refl
-fields_by Abort f = refl
-fields_by (UserDefined x) f = refl
-
-pub connect_four : (f : Fields) → filled4 (connect_bytes f) ≡ connect_bytes f
-connect_four fields.Default = refl
-connect_four (fields.Connect v g m) = refl
-connect_four (fields.SetPath b n) = refl
-
 connect_length_lem : (f : Fields) → length (connect_bytes f) ≡ 4
 connect_length_lem fields.Default = refl
-connect_length_lem (fields.Connect v g m) = refl
-connect_length_lem (fields.SetPath b n) = refl
+connect_length_lem (fields.Connect c) = refl
+connect_length_lem (fields.SetPath s) = refl
 
 pub fields_length : (o : Opcode) (f : Fields) → length (field_bytes o f) ≡ fields_of o
 fields_length Connect f = connect_length_lem f
@@ -124,7 +109,7 @@ packet-back : (o : Opcode) (final : Bool) (f : Fields) (h : List ℕ) (hs : List
 unfolding request_of
 packet-back o final f h hs t oct e =
     let p = packet_bytes (byte_of o final) (field_bytes o f) h in
-    ap (λ (b : FirstByte). request_by b p) (first_back (byte_of o final) (field_bytes o f) h ∙ read_back o final t)
+    ap (λ (b : Maybe FirstByte). request_by b p) (first_back (byte_of o final) (field_bytes o f) h ∙ read_back o final t)
     ∙ rw (
       le-ltb (length p) (prefix_of o) (omega (arith, packet-length (byte_of o final) (field_bytes o f) h, fields_length o f)),
       headers-back o f (byte_of o final) h hs oct e,
@@ -152,10 +137,12 @@ request-back o final f h rest hs t oct e =
     ) (packet-back o final f h hs t oct e)
 
 -- Connect's limit and SetPath's flags
-pub limit-back : (b v g m : ℕ) (h : List ℕ) → connect_limit (packet_bytes b (field_bytes Connect (fields.Connect v g m)) h) ≡ m
+pub limit-back : (b : ℕ) (c : ConnectParameters) (h : List ℕ)
+    → connect_limit (packet_bytes b (field_bytes Connect (fields.Connect c)) h) ≡ c.max_packet_length
 unfolding connect_limit packet_bytes
-limit-back b v g m h = omega arith
+limit-back b c h = omega arith
 
-pub flags-back : (b : ℕ) (x y : Bool) (h : List ℕ) → let p = packet_bytes b (field_bytes SetPath (fields.SetPath x y)) h in (backup p ≡ x) × (no_create_of p ≡ y)
+pub flags-back : (b : ℕ) (f : SetPathFlags) (h : List ℕ)
+    → let p = packet_bytes b (field_bytes SetPath (fields.SetPath f)) h in (backup p ≡ f.backup) × (no_create_of p ≡ f.no_create)
 unfolding backup no_create_of packet_bytes
-flags-back b x y h = flags-read x y
+flags-back b f h = flags-read f.backup f.no_create

@@ -10,10 +10,9 @@ use lib.Seq.{drop-cons, drop-drop, length-take-le}
 use lib.Dec.{leb, ltb}
 use borrow.Author.Tests.{leb-true, leb-false, ltb-true, ltb-false, le-leb, lt-leb}
 use Rattle.base.specs.Pick.{pick}
+use Rattle.base.specs.Place.{Place, span}
 use Rattle.packet.specs.declared.tlv.TagAt.{TagAt}
 use Rattle.packet.specs.declared.tlv.TagAt.TheVariants.{At, Bad, End}
-use Rattle.packet.specs.declared.tlv.Found.{Found}
-use Rattle.packet.specs.declared.tlv.Found.TheVariants as found
 use Rattle.packet.specs.Tags.{Tag, Tags, unreadable, tag_list, push, tags_by, tags, is_readable, tag_at, counts, last_from, last_in}
 use Rattle.packet.specs.Placed.{laid}
 use Rattle.packet.proofs.Laid.{set-laid, set_more, laid-append}
@@ -121,17 +120,17 @@ push-readable t (tag_list ts) = refl
 pub value-length : (s : List ℕ) (at t b n : ℕ) → Here s at t b n → length (take (n - b) (drop b s)) ≡ n - b
 value-length s at t b n h = length-take-le (n - b) (drop b s) (omega (arith, length-drop b s, h.past, h.fits))
 
-last-push : (want : ℕ) (empty : Bool) (at : ℕ) (before : Found) (t : Tag) (r : Tags)
+last-push : (want : ℕ) (empty : Bool) (at : ℕ) (before : Place) (t : Tag) (r : Tags)
     → last_in want empty at before (push t r)
     ≡ last_in want empty (at + 2 + length t.value)
-    (pick (counts want empty t.tag (length t.value)) (found.At (at + 2) (at + 2 + length t.value)) before) r
+    (pick (counts want empty t.tag (length t.value)) (span (at + 2) (at + 2 + length t.value)) before) r
 unfolding last_from
 last-push want empty at before t unreadable = refl
 last-push want empty at before t (tag_list ts) = refl
 
 -- a step of the cursor
-pub last-here : (s : List ℕ) (at t b n want : ℕ) (empty : Bool) (before : Found) → Here s at t b n
-    → last_in want empty at before (tags (drop at s)) ≡ last_in want empty n (pick (counts want empty t (n - b)) (found.At b n) before) (tags (drop n s))
+pub last-here : (s : List ℕ) (at t b n want : ℕ) (empty : Bool) (before : Place) → Here s at t b n
+    → last_in want empty at before (tags (drop at s)) ≡ last_in want empty n (pick (counts want empty t (n - b)) (span b n) before) (tags (drop n s))
 last-here s at t b n want empty before h =
     let v = take (n - b) (drop b s) in
     let e : b + (n - b) ≡ n = omega (arith, h.past) in

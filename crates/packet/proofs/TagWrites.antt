@@ -11,10 +11,9 @@ use lib.Seq.{paste, length-take-le, take-append_seam, drop-append_seam, take-pas
 use lib.Dec.{leb, ltb}
 use borrow.Author.Tests.{leb-true, ltb-false, le-leb}
 use Rattle.base.specs.Pick.{pick}
+use Rattle.base.specs.Place.{Place, span, Some, None}
 use Rattle.packet.specs.declared.tlv.TagAt.{TagAt}
 use Rattle.packet.specs.declared.tlv.TagAt.TheVariants.{At, Bad, End}
-use Rattle.packet.specs.declared.tlv.Found.{Found}
-use Rattle.packet.specs.declared.tlv.Found.TheVariants as found
 use Rattle.packet.specs.declared.tlv.Wrote.TheVariants.{Written, BadValue, Short}
 use Rattle.packet.specs.Tags.{Tag, Tags, unreadable, tag_list, push, tags_by, tags, tag_at, counts, last_from, last_in, last_under, bytes_at, last_bytes, last_of, write_tag, write_tags, put_tag}
 use Rattle.packet.specs.Placed.{Putting, putting, numbered, laid, placed}
@@ -99,12 +98,12 @@ walk-tags s = walked (suc (length s)) s 0 (omega arith)
 
 -- ---- the last value's bytes
 
-pick-bytes : (s v : List ℕ) (b e : ℕ) (before : Found) (x : Bool) → take (e - b) (drop b s) ≡ v
-    → bytes_at s (pick x (found.At b e) before) ≡ pick x (some v) (bytes_at s before)
+pick-bytes : (s v : List ℕ) (b e : ℕ) (before : Place) (x : Bool) → take (e - b) (drop b s) ≡ v
+    → bytes_at s (pick x (span b e) before) ≡ pick x (some v) (bytes_at s before)
 pick-bytes s v b e before true q = ap some q
 pick-bytes s v b e before false q = refl
 
-tied_by : (s : List ℕ) (want : ℕ) (empty : Bool) (ts : List Tag) (at : ℕ) (before : Found) → drop at s ≡ write_tags ts
+tied_by : (s : List ℕ) (want : ℕ) (empty : Bool) (ts : List Tag) (at : ℕ) (before : Place) → drop at s ≡ write_tags ts
     → bytes_at s (last_from want empty at before ts) ≡ last_bytes want empty (bytes_at s before) ts
 unfolding last_from last_bytes write_tags
 tied_by s want empty [] at before e = refl
@@ -117,13 +116,13 @@ tied_by s want empty (t ∷ ts) at before e =
     let m : n - (at + 2) ≡ length v = omega arith in
     let e₄ : take (n - (at + 2)) (drop (at + 2) s) ≡ v = rw (m, e₂) (take-append_seam v w) in
     let x = counts want empty t.tag (length v) in
-    tied_by s want empty ts n (pick x (found.At (at + 2) n) before) e₃
+    tied_by s want empty ts n (pick x (span (at + 2) n) before) e₃
     ∙ ap (λ (o : Option (List ℕ)). last_bytes want empty o ts) (pick-bytes s v (at + 2) n before x e₄)
 
 last_by : (s : List ℕ) (want : ℕ) (empty : Bool) (r : Tags) → tags s ≡ r
-    → bytes_at s (last_in want empty 0 found.Missing r) ≡ last_of want empty r
+    → bytes_at s (last_in want empty 0 None r) ≡ last_of want empty r
 last_by s want empty unreadable e = refl
-last_by s want empty (tag_list ts) e = tied_by s want empty ts 0 found.Missing (sym (read_write s ts e))
+last_by s want empty (tag_list ts) e = tied_by s want empty ts 0 None (sym (read_write s ts e))
 
 -- the place that `last_under` gives holds the value of the list's last tag that counts
 pub last-under-bytes : (s : List ℕ) (want : ℕ) (empty : Bool) → bytes_at s (last_under s want empty) ≡ last_of want empty (tags s)
@@ -132,15 +131,15 @@ last-under-bytes s want empty = last_by s want empty (tags s) refl
 
 -- ---- and its place lies within the list
 
-abbrev pub Within : List ℕ → Found → Type 0
-Within s (found.At b e) = (b ≤ e) × (e ≤ length s)
-Within s found.Missing = Unit {0}
+abbrev pub Within : List ℕ → Place → Type 0
+Within s (Some p) = (p.start ≤ p.end) × (p.end ≤ length s)
+Within s None = Unit {0}
 
-pick-within : (s : List ℕ) (x : Bool) (b e : ℕ) (before : Found) → b ≤ e → e ≤ length s → Within s before → Within s (pick x (found.At b e) before)
+pick-within : (s : List ℕ) (x : Bool) (b e : ℕ) (before : Place) → b ≤ e → e ≤ length s → Within s before → Within s (pick x (span b e) before)
 pick-within s true b e before l h w = (l, h)
 pick-within s false b e before l h w = w
 
-within-from : (s : List ℕ) (want : ℕ) (empty : Bool) (ts : List Tag) (at : ℕ) (before : Found) → at + length (write_tags ts) ≡ length s
+within-from : (s : List ℕ) (want : ℕ) (empty : Bool) (ts : List Tag) (at : ℕ) (before : Place) → at + length (write_tags ts) ≡ length s
     → Within s before → Within s (last_from want empty at before ts)
 unfolding last_from write_tags
 within-from s want empty [] at before e w = w
@@ -150,9 +149,9 @@ within-from s want empty (t ∷ ts) at before e w =
     within-from s want empty ts (at + 2 + length v) _ (omega arith)
     (pick-within s (counts want empty t.tag (length v)) (at + 2) (at + 2 + length v) before (omega arith) (omega arith) w)
 
-within_by : (s : List ℕ) (want : ℕ) (empty : Bool) (r : Tags) → tags s ≡ r → Within s (last_in want empty 0 found.Missing r)
+within_by : (s : List ℕ) (want : ℕ) (empty : Bool) (r : Tags) → tags s ≡ r → Within s (last_in want empty 0 None r)
 within_by s want empty unreadable e = tt
-within_by s want empty (tag_list ts) e = within-from s want empty ts 0 found.Missing (let l = ap length (read_write s ts e) in omega arith) tt
+within_by s want empty (tag_list ts) e = within-from s want empty ts 0 None (let l = ap length (read_write s ts e) in omega arith) tt
 
 pub last_within : (s : List ℕ) (want : ℕ) (empty : Bool) → Within s (last_under s want empty)
 unfolding last_under

@@ -11,21 +11,21 @@ use lib.Seq.{drop-drop, take-length}
 use borrow.Author.Tests.{le-ltb, ltb-true, ltb-false}
 use Rattle.text.specs.Unicode.{lossy, utf16be}
 use Rattle.text.specs.Text.{unicode_bytes, Stored, stored, store_text}
-use Rattle.text.specs.declared.Decoded.{Decoded}
-use Rattle.text.specs.declared.Decoded.TheVariants.{Written}
+use Rattle.std.specs.Prelude.{Result, Ok}
+use Rattle.base.specs.declared.Short.{Short}
 use Rattle.packet.specs.Canonical.{terminated16}
 use Rattle.packet.specs.Placed.{laid}
 use Rattle.packet.proofs.Laid.{laid-nothing, set_more}
 use Rattle.packet.proofs.TextForms.{terminated_none, terminated_some}
 
 -- a part of the store that the text fills
-pub part-text : (d t p : List ℕ) (from end : ℕ) (r : Decoded) → from + length t ≡ end → end ≤ length d
+pub part-text : (d t p : List ℕ) (from end : ℕ) (r : Result ℕ Short) → from + length t ≡ end → end ≤ length d
     → stored r p ≡ store_text t (take (end - from) (drop from d)) → take from d ++ (p ++ drop (end - from) (drop from d)) ≡ laid d from t
 unfolding store_text
 part-text d t p from end r h l q =
     let m = take (end - from) (drop from d) in
     let k : length m ≡ length t = omega (arith, length-take (end - from) (drop from d), length-drop from d) in
-    let s : stored r p ≡ stored (Written (length t)) (t ++ drop (length t) m) = q ∙ simp (le-ltb (length m) (length t) (omega arith)) in
+    let s : stored r p ≡ stored (Ok (length t)) (t ++ drop (length t) m) = q ∙ simp (le-ltb (length m) (length t) (omega arith)) in
     let w : p ≡ t = ap (λ (x : Stored). x.store) s ∙ ap (λ (l : List ℕ). t ++ l) (drop_of_length-le m {i = length t} (omega arith))
     ∙ append-nil t in
     let e : from + (end - from) ≡ from + length t = omega arith in

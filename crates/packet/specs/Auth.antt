@@ -3,8 +3,8 @@
 use Rattle.std.specs.Prelude.{ℕ, ◌/◌, ◌%◌, List, [], ◌∷◌, ◌++◌, Bool, true, false, not, ◌&&◌, ◌||◌, length, get_or, eqb, ltb}
 use Rattle.std.proofs.Math.Option.{Option, none, some}
 use Rattle.base.specs.Pick.{pick}
+use Rattle.base.specs.Place.{Place}
 use Rattle.digest.specs.Md5.{request_digest}
-use Rattle.packet.specs.declared.tlv.Found.{Found}
 use Rattle.packet.specs.Tags.{Tag, Tags, unreadable, tag_list, tags, last_under}
 
 -- ---- the response: tag 0 the request digest, 1 the user id, 2 the nonce that it answers
@@ -76,7 +76,7 @@ unfoldable pub challenge_of : List ℕ → Option Challenge
 challenge_of v = challenge_in (tags v)
 
 -- Where the realm stands in a payload, its charset byte included.
-unfoldable pub realm_place : List ℕ → Found
+unfoldable pub realm_place : List ℕ → Place
 realm_place v = last_under v 2 false
 
 -- Option bit 0: the responder must send a user id.

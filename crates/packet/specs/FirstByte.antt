@@ -1,10 +1,10 @@
 -- The first byte of a request (IrOBEX 1.5, section 3.4; docs/PROTOCOL.md#first-byte): its opcode and the Final bit.
-use Rattle.std.specs.Prelude.{Bool, true, false, ◌&&◌, ◌||◌, List, [], ◌∷◌, map, ℕ, zero, suc, ◌+◌, ◌%◌, eqb, leb}
+use Rattle.std.specs.Prelude.{Bool, true, false, ◌&&◌, ◌||◌, List, [], ◌∷◌, map, ℕ, zero, suc, ◌+◌, ◌%◌, eqb, leb, Option, Some, None, Result, Ok, Err, codes}
 use Rattle.base.specs.Pick.{pick}
 use Rattle.packet.specs.declared.opcode.Opcode.{Opcode}
 use Rattle.packet.specs.declared.opcode.Opcode.TheVariants.{Connect, Disconnect, Put, Get, SetPath, Action, Session, Abort, UserDefined}
 use Rattle.packet.specs.declared.opcode.FirstByte.{FirstByte}
-use Rattle.packet.specs.declared.opcode.FirstByte.TheVariants.{Known, Unknown}
+use Rattle.packet.specs.declared.opcode.UnknownOpcode.{UnknownOpcode}
 
 -- The number of an opcode, without the Final bit.
 abbrev pub value_of : Opcode → ℕ
@@ -18,33 +18,63 @@ value_of Session = 0x07
 value_of Abort = 0x7F
 value_of (UserDefined x) = x
 
--- What a value of five bits names.
-unfoldable pub named : ℕ → Bool → FirstByte
+-- The name of an operation, as programs print it; those that an application defines have one name.
+abbrev pub name_of : Opcode → List ℕ
+name_of Connect = codes "connect"
+name_of Disconnect = codes "disconnect"
+name_of Put = codes "put"
+name_of Get = codes "get"
+name_of SetPath = codes "set_path"
+name_of Action = codes "action"
+name_of Session = codes "session"
+name_of Abort = codes "abort"
+name_of (UserDefined x) = codes "user_defined"
+
+-- A first byte that names the opcode `o`, with the Final bit or without it.
+abbrev pub known_byte : Opcode → Bool → Option FirstByte
+known_byte o final = Some (record { opcode = o; is_final = final })
+
+-- What a value of five bits names, if it names an opcode.
+unfoldable pub named : ℕ → Bool → Option FirstByte
 named x final =
-    pick (eqb x (value_of Connect)) (Known Connect final)
-    (pick (eqb x (value_of Disconnect)) (Known Disconnect final)
-    (pick (eqb x (value_of Put)) (Known Put final)
-    (pick (eqb x (value_of Get)) (Known Get final)
-    (pick (eqb x (value_of SetPath)) (Known SetPath final)
-    (pick (eqb x (value_of Action)) (Known Action final)
-    (pick (eqb x (value_of Session)) (Known Session final)
-    (pick (leb 0x10 x && leb x 0x1F) (Known (UserDefined x) final)
-    Unknown)))))))
+    pick (eqb x (value_of Connect)) (known_byte Connect final)
+    (pick (eqb x (value_of Disconnect)) (known_byte Disconnect final)
+    (pick (eqb x (value_of Put)) (known_byte Put final)
+    (pick (eqb x (value_of Get)) (known_byte Get final)
+    (pick (eqb x (value_of SetPath)) (known_byte SetPath final)
+    (pick (eqb x (value_of Action)) (known_byte Action final)
+    (pick (eqb x (value_of Session)) (known_byte Session final)
+    (pick (leb 0x10 x && leb x 0x1F) (known_byte (UserDefined x) final)
+    None)))))))
+
+-- The opcode with the number `x`, or an error if there is none.
+unfoldable pub opcode_numbered : ℕ → Result Opcode UnknownOpcode
+opcode_numbered x =
+    pick (eqb x (value_of Abort)) (Ok Abort)
+    (pick (eqb x (value_of Connect)) (Ok Connect)
+    (pick (eqb x (value_of Disconnect)) (Ok Disconnect)
+    (pick (eqb x (value_of Put)) (Ok Put)
+    (pick (eqb x (value_of Get)) (Ok Get)
+    (pick (eqb x (value_of SetPath)) (Ok SetPath)
+    (pick (eqb x (value_of Action)) (Ok Action)
+    (pick (eqb x (value_of Session)) (Ok Session)
+    (pick (leb 0x10 x && leb x 0x1F) (Ok (UserDefined x))
+    (Err (record {}))))))))))
 
 -- What the first byte of a request says: the top bit is the Final bit; low seven bits that are all ones are Abort; any other byte names an
--- opcode by its low five bits.
-unfoldable pub first_byte : ℕ → FirstByte
-first_byte b = pick (eqb (b % 128) (value_of Abort)) (Known Abort (leb 0x80 b)) (named (b % 32) (leb 0x80 b))
+-- opcode by its low five bits, or none.
+unfoldable pub first_byte : ℕ → Option FirstByte
+first_byte b = pick (eqb (b % 128) (value_of Abort)) (known_byte Abort (leb 0x80 b)) (named (b % 32) (leb 0x80 b))
 
 -- The number that stands for what a first byte says: the opcode's, with the Final bit if the packet is final; 0x40, which is the number of
 -- no opcode, if the byte is unknown.
-abbrev pub entry_of : FirstByte → ℕ
-entry_of (Known o final) = pick final (value_of o + 0x80) (value_of o)
-entry_of Unknown = 0x40
+abbrev pub entry_of : Option FirstByte → ℕ
+entry_of (Some b) = pick b.is_final (value_of b.opcode + 0x80) (value_of b.opcode)
+entry_of None = 0x40
 
 -- What such a number says: the top bit is the Final bit, and the other seven are the number of the opcode.
-unfoldable pub entry_says : ℕ → FirstByte
-entry_says n = pick (eqb (n % 128) (value_of Abort)) (Known Abort (leb 0x80 n)) (named (n % 128) (leb 0x80 n))
+unfoldable pub entry_says : ℕ → Option FirstByte
+entry_says n = pick (eqb (n % 128) (value_of Abort)) (known_byte Abort (leb 0x80 n)) (named (n % 128) (leb 0x80 n))
 
 -- The `n` numbers from `b` on.
 unfoldable pub numbers_from : ℕ → ℕ → List ℕ

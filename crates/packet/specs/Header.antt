@@ -4,6 +4,7 @@ use Rattle.std.specs.Prelude.{ℕ, zero, suc, ◌+◌, ◌-◌, List, [], ◌∷
 use Rattle.std.proofs.Math.Option.{Option, none, some}
 use Rattle.base.specs.Pick.{pick}
 use Rattle.base.specs.Bytes.{be16, bytes16}
+use Rattle.base.specs.Place.{Place, span, None}
 use Rattle.packet.specs.HeaderIds as header_id
 use Rattle.packet.specs.Modes.{is_mode, is_parameter, is_action}
 use Rattle.packet.specs.Tags.{is_tag_list}
@@ -11,8 +12,6 @@ use Rattle.packet.specs.declared.header.HeaderEncoding.{HeaderEncoding}
 use Rattle.packet.specs.declared.header.HeaderEncoding.TheVariants.{Unicode, Bytes, U8, U32}
 use Rattle.packet.specs.declared.header.HeaderAt.{HeaderAt}
 use Rattle.packet.specs.declared.header.HeaderAt.TheVariants.{At, Unreadable, End}
-use Rattle.packet.specs.declared.tlv.Found.{Found}
-use Rattle.packet.specs.declared.tlv.Found.TheVariants as place
 
 -- ---- the encoding
 
@@ -110,18 +109,18 @@ present none = false
 present (some v) = true
 
 -- Where the value of the first header with an id stands, from what stands at a place.
-abbrev pub first_at : HeaderAt → ℕ → (ℕ → Found) → Found
-first_at End id rest = place.Missing
-first_at Unreadable id rest = place.Missing
-first_at (At i e from to) id rest = pick (eqb i id) (place.At from to) (rest to)
+abbrev pub first_at : HeaderAt → ℕ → (ℕ → Place) → Place
+first_at End id rest = None
+first_at Unreadable id rest = None
+first_at (At i e from to) id rest = pick (eqb i id) (span from to) (rest to)
 
 -- Where the value of the first header with an id stands, from `at` on.
-unfoldable pub first_from : ℕ → ℕ → List ℕ → ℕ → Found
-first_from zero id s at = place.Missing
+unfoldable pub first_from : ℕ → ℕ → List ℕ → ℕ → Place
+first_from zero id s at = None
 first_from (suc k) id s at = first_at (header_at_of s at) id (λ n. first_from k id s n)
 
 -- Where the value of the first header with an id stands in a packet; the search ends at what cannot be read.
-unfoldable pub first_place : ℕ → List ℕ → ℕ → Found
+unfoldable pub first_place : ℕ → List ℕ → ℕ → Place
 first_place id s from = first_from (suc (length s)) id s from
 
 -- ---- bytes

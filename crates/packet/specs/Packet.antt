@@ -1,6 +1,7 @@
 -- Packets (IrOBEX 1.5, sections 3.1 and 3.2; docs/PROTOCOL.md#packets): a first byte, the 16-bit length of the whole, Connect's four bytes
 -- or SetPath's two, and headers up to the end.
 use Rattle.std.specs.Prelude.{ℕ, ◌+◌, ◌/◌, ◌%◌, List, ◌∷◌, ◌++◌, Bool, length, get_or, take, ltb, eqb}
+use Rattle.std.specs.Prelude.{Option as Maybe, Some, None}
 use Rattle.std.proofs.Math.Option.{Option, none, some}
 use Rattle.base.specs.Pick.{pick}
 use Rattle.base.specs.Bytes.{be16, bytes16}
@@ -9,7 +10,6 @@ use Rattle.packet.specs.Header.{Header, read_headers}
 use Rattle.packet.specs.declared.opcode.Opcode.{Opcode}
 use Rattle.packet.specs.declared.opcode.Opcode.TheVariants.{Connect, Disconnect, Put, Get, SetPath, Action, Session, Abort, UserDefined}
 use Rattle.packet.specs.declared.opcode.FirstByte.{FirstByte}
-use Rattle.packet.specs.declared.opcode.FirstByte.TheVariants.{Known, Unknown}
 
 -- How many bytes stand between length and headers.
 abbrev pub fields_of : Opcode → ℕ
@@ -40,9 +40,10 @@ request_with o f p none = none
 request_with o f p (some hs) = some (record { opcode = o; final = f; bytes = p; headers = hs })
 
 -- A whole packet as a request, by its first byte; `none` is unreadable.
-abbrev pub request_by : FirstByte → List ℕ → Option Request
-request_by Unknown p = none
-request_by (Known o f) p = pick (ltb (length p) (prefix_of o)) none (request_with o f p (read_headers p (prefix_of o)))
+abbrev pub request_by : Maybe FirstByte → List ℕ → Option Request
+request_by None p = none
+request_by (Some b) p =
+    pick (ltb (length p) (prefix_of b.opcode)) none (request_with b.opcode b.is_final p (read_headers p (prefix_of b.opcode)))
 
 -- A whole packet as a request, whatever its length field says; `none` is unreadable.
 unfoldable pub request_of : List ℕ → Option Request

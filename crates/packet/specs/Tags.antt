@@ -3,11 +3,10 @@
 use Rattle.std.specs.Prelude.{Bool, true, false, ◌&&◌, ◌||◌, List, [], ◌∷◌, ◌++◌, ℕ, zero, suc, ◌+◌, ◌-◌, eqb, ltb, leb, length, get_or, take, drop}
 use Rattle.std.proofs.Math.Option.{Option, none, some}
 use Rattle.base.specs.Pick.{pick}
+use Rattle.base.specs.Place.{Place, span, Some, None}
 use Rattle.packet.specs.Limits.{max_tag_value}
 use Rattle.packet.specs.declared.tlv.TagAt.{TagAt}
 use Rattle.packet.specs.declared.tlv.TagAt.TheVariants as at_a_place
-use Rattle.packet.specs.declared.tlv.Found.{Found}
-use Rattle.packet.specs.declared.tlv.Found.TheVariants as found
 use Rattle.packet.specs.declared.store.LengthField.TheVariants.{OneByte}
 use Rattle.packet.specs.Placed.{Putting, placed}
 
@@ -69,29 +68,29 @@ abbrev pub counts : ℕ → Bool → ℕ → ℕ → Bool
 counts want empty t n = eqb t want && (empty || ltb 0 n)
 
 -- Where the value of the last tag that counts stands among the tags that start at `at`, or what was found before them.
-unfoldable pub last_from : ℕ → Bool → ℕ → Found → List Tag → Found
+unfoldable pub last_from : ℕ → Bool → ℕ → Place → List Tag → Place
 last_from want empty at before [] = before
 last_from want empty at before (t ∷ ts) =
     last_from want empty (at + 2 + length t.value)
-    (pick (counts want empty t.tag (length t.value)) (found.At (at + 2) (at + 2 + length t.value)) before) ts
+    (pick (counts want empty t.tag (length t.value)) (span (at + 2) (at + 2 + length t.value)) before) ts
 
 -- Where the value of the last tag that counts stands; nothing is found in what is unreadable.
-abbrev pub last_in : ℕ → Bool → ℕ → Found → Tags → Found
-last_in want empty at before unreadable = found.Missing
+abbrev pub last_in : ℕ → Bool → ℕ → Place → Tags → Place
+last_in want empty at before unreadable = None
 last_in want empty at before (tag_list ts) = last_from want empty at before ts
 
 -- Where the last value under a tag stands in a payload; `empty` says whether an empty one counts.
-unfoldable pub last_under : List ℕ → ℕ → Bool → Found
-last_under s want empty = last_in want empty 0 found.Missing (tags s)
+unfoldable pub last_under : List ℕ → ℕ → Bool → Place
+last_under s want empty = last_in want empty 0 None (tags s)
 
 -- Where the last value under a tag stands, even an empty one.
-unfoldable pub last_value : List ℕ → ℕ → Found
+unfoldable pub last_value : List ℕ → ℕ → Place
 last_value s want = last_under s want true
 
 -- The bytes that stand at a place.
-abbrev pub bytes_at : List ℕ → Found → Option (List ℕ)
-bytes_at s (found.At b e) = some (take (e - b) (drop b s))
-bytes_at s found.Missing = none
+abbrev pub bytes_at : List ℕ → Place → Option (List ℕ)
+bytes_at s (Some p) = some (take (p.end - p.start) (drop p.start s))
+bytes_at s None = none
 
 -- The value of the last tag that counts, or what was before the list.
 unfoldable pub last_bytes : ℕ → Bool → Option (List ℕ) → List Tag → Option (List ℕ)

@@ -15,14 +15,14 @@ pub const SET_PERMISSIONS: u8 = 0x02;
 pub const FIRST_VENDOR_SPECIFIC: u8 = 0x80;
 
 // Tells whether `b` is an action. A reader refuses an Action Id header with any other value.
+#[tactic(auto, unfolding(crate::specs::Modes::is_action))]
 pub fn is_action(b: u8) -> bool
     ensures { result ≡ is_action b }
 {
-    match b {
-        COPY | MOVE_RENAME | SET_PERMISSIONS => true,
-        FIRST_VENDOR_SPECIFIC..=0xFF => true,
-        _ => false,
-    }
+    matches!(
+        b,
+        COPY | MOVE_RENAME | SET_PERMISSIONS | FIRST_VENDOR_SPECIFIC..=0xFF
+    )
 }
 
 // Returns the Permissions that the four bytes of `n` say: user, group and other in the low three. The source drops the top byte when it

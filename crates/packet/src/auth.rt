@@ -15,8 +15,8 @@ ghost use Rattle.packet.specs.AuthRead.{bytes_named, sixteen_or, sixteen_in, six
 use crate::flags::flag_bits;
 use crate::limits::MAX_TAG_VALUE;
 use crate::store::{LengthField, room};
-use crate::tlv::{Found, TagAt, Wrote, last_under, last_value, put_tag, tag_at};
-use base::copy_into;
+use crate::tlv::{TagAt, Wrote, last_under, last_value, put_tag, tag_at};
+use base::{Span, copy_into};
 use digest::md5::{Octets16, octets, octets16_at, request_digest};
 
 // The tag of the nonce in a challenge.
@@ -43,44 +43,31 @@ const OPTION_USER_ID_REQUIRED: u8 = 0x01;
 // The option bit by which the challenger offers read-only access.
 const OPTION_READ_ONLY: u8 = 0x02;
 
-// The nonce that a response names: the standard lets it name one if several challenges were sent.
-#[derive(Clone, Copy)]
-pub enum Named {
-    Nonce(Octets16),
-    Missing,
-}
-
 // The digest-response that an Authenticate Response header carries.
 #[derive(Clone, Copy)]
-pub enum DigestResponse {
-    Response {
-        digest: Octets16,
-        user: Found,
-        nonce: Named,
-    },
-    Unreadable,
+pub struct DigestResponse {
+    pub digest: Octets16,
+    // Where the user id stands.
+    pub user: Option<Span>,
+    // The nonce that it answers: the standard lets it name one if several challenges were sent.
+    pub nonce: Option<Octets16>,
 }
 
 // The digest-challenge that an Authenticate Challenge header carries.
 #[derive(Clone, Copy)]
-pub enum DigestChallenge {
-    Challenge {
-        nonce: Octets16,
-        user_id_required: bool,
-        read_only: bool,
-        realm: Found,
-    },
-    Unreadable,
+pub struct DigestChallenge {
+    pub nonce: Octets16,
+    pub user_id_required: bool,
+    pub read_only: bool,
+    // Where the realm stands, its charset byte first.
+    pub realm: Option<Span>,
 }
 
 // Tells whether `tag` is not tag 0, or `n` is 16: a digest and a challenge's nonce are 16 bytes long.
 fn is_sixteen(tag: u8, n: usize) -> bool
     ensures { result ≡ sixteen_or tag n }
 {
-    if tag != RESPONSE_DIGEST_TAG {
-        return true;
-    }
-    n == 16
+    tag != RESPONSE_DIGEST_TAG || n == 16
 }
 
 // Tells whether tags fill the payload and each tag 0, a digest or a challenge's nonce, is 16 bytes long.
@@ -107,24 +94,24 @@ fn all_sixteen(v: &[u8]) -> bool
 }
 
 // Reads the last value under `tag`. A value that is not 16 bytes long counts as missing.
-fn sixteen(v: &[u8], tag: u8) -> Named
+fn sixteen(v: &[u8], tag: u8) -> Option<Octets16>
     ensures { result ≡ sixteen_at v.now (last_value v.now tag) }
 {
-    let Found::At { start, end } = last_value(v, tag) else {
-        return Named::Missing;
+    let Some(value) = last_value(v, tag) else {
+        return None;
     };
-    if end - start != 16 {
-        return Named::Missing;
+    if value.size() != 16 {
+        return None;
     }
-    Named::Nonce(octets16_at(v, start))
+    Some(octets16_at(v, value.start))
 }
 
 // Reads the value under tag 0, a response's digest or a challenge's nonce, which is missing if any tag 0 is not 16 bytes long.
-fn tag_zero(v: &[u8]) -> Named
+fn tag_zero(v: &[u8]) -> Option<Octets16>
     ensures { result ≡ tag_zero v.now }
 {
     if !all_sixteen(v) {
-        return Named::Missing;
+        return None;
     }
     sixteen(v, RESPONSE_DIGEST_TAG)
 }
@@ -133,50 +120,46 @@ fn tag_zero(v: &[u8]) -> Named
 fn options(v: &[u8]) -> u8
     ensures { result ≡ options_at v.now (last_value v.now 1) }
 {
-    let Found::At { start, end } = last_value(v, CHALLENGE_OPTIONS_TAG) else {
+    let Some(value) = last_value(v, CHALLENGE_OPTIONS_TAG) else {
         return 0;
     };
-    if end <= start {
+    if value.end <= value.start {
         return 0;
     }
-    v[start]
+    v[value.start]
 }
 
 // Finds the last realm that is not empty, its charset byte included.
-pub fn realm(v: &[u8]) -> Found
+pub fn realm(v: &[u8]) -> Option<Span>
     ensures { result ≡ realm_place v.now }
 {
     last_under(v, CHALLENGE_REALM_TAG, false)
 }
 
 // Reads a digest-response, ignoring unknown tags. Of a repeated tag the last holds.
-pub fn read_response(v: &[u8]) -> DigestResponse
+pub fn read_response(v: &[u8]) -> Option<DigestResponse>
     ensures { result ≡ read_response v.now }
 {
-    let Named::Nonce(digest) = tag_zero(v) else {
-        return DigestResponse::Unreadable;
-    };
-    DigestResponse::Response {
+    let digest = tag_zero(v)?;
+    Some(DigestResponse {
         digest,
         user: last_value(v, RESPONSE_USER_ID_TAG),
         nonce: sixteen(v, RESPONSE_NONCE_TAG),
-    }
+    })
 }
 
 // Reads a digest-challenge, ignoring unknown tags. Of a repeated tag the last holds.
-pub fn read_challenge(v: &[u8]) -> DigestChallenge
+pub fn read_challenge(v: &[u8]) -> Option<DigestChallenge>
     ensures { result ≡ read_challenge v.now }
 {
-    let Named::Nonce(nonce) = tag_zero(v) else {
-        return DigestChallenge::Unreadable;
-    };
+    let nonce = tag_zero(v)?;
     let bits = options(v);
-    DigestChallenge::Challenge {
+    Some(DigestChallenge {
         nonce,
         user_id_required: bits & OPTION_USER_ID_REQUIRED != 0,
         read_only: bits & OPTION_READ_ONLY != 0,
         realm: realm(v),
-    }
+    })
 }
 
 // Tells whether `a` and `b` are the same sixteen bytes. As in the source the comparison does not stop at the first difference, so that its
@@ -188,33 +171,30 @@ fn same_octets(a: Octets16, b: Octets16) -> bool
 }
 
 // Tells whether a response that names `named` answers the challenge with `nonce`, as it does if it names that nonce or none.
-fn answers_nonce(nonce: Octets16, named: Named) -> bool
+fn answers_nonce(nonce: Octets16, named: Option<Octets16>) -> bool
     ensures { result ≡ answers (octets16 nonce) (bytes_named named) }
 {
     match named {
-        Named::Nonce(n) => same_octets(n, nonce),
-        Named::Missing => true,
+        Some(n) => same_octets(n, nonce),
+        None => true,
     }
 }
 
 // Tells whether a value was found and is not empty.
-fn is_filled(found: Found) -> bool
+fn is_filled(found: Option<Span>) -> bool
     ensures { result ≡ is_filled found }
 {
     match found {
-        Found::At { start, end } => start < end,
-        Found::Missing => false,
+        Some(value) => value.start < value.end,
+        None => false,
     }
 }
 
 // Tells whether a response whose user id stands at `user` may pass: if the server `demands` a user id, one must be there and not empty.
-fn brings_user(demands: bool, user: Found) -> bool
+fn brings_user(demands: bool, user: Option<Span>) -> bool
     ensures { result ≡ (not demands || is_filled user) }
 {
-    if !demands {
-        return true;
-    }
-    is_filled(user)
+    !demands || is_filled(user)
 }
 
 // Checks a response with `digest`, which has its user id at `user` and names `named`, against the challenge's `nonce` and the expected
@@ -222,8 +202,8 @@ fn brings_user(demands: bool, user: Found) -> bool
 pub fn verify(
     nonce: Octets16,
     digest: Octets16,
-    user: Found,
-    named: Named,
+    user: Option<Span>,
+    named: Option<Octets16>,
     demands: bool,
     password: &[u8],
 ) -> bool
@@ -253,10 +233,7 @@ fn tag_len(there: bool, n: usize) -> usize
 pub fn is_long(there: bool, n: usize) -> bool
     ensures { result ≡ (there && ltb max_tag_value n) }
 {
-    if !there {
-        return false;
-    }
-    MAX_TAG_VALUE < n
+    there && MAX_TAG_VALUE < n
 }
 
 // Writes the realm with its charset in front, if there is one.
@@ -293,6 +270,7 @@ fn put_challenge(
     at: usize,
     nonce: Octets16,
     bits: u8,
+    // Stays a flag beside the bytes: so the settings hold the realm, from C too (`server::Settings`).
     has_realm: bool,
     charset: u8,
     value: &[u8],
@@ -316,6 +294,7 @@ pub fn write_challenge(
     nonce: Octets16,
     user_id_required: bool,
     read_only: bool,
+    // Stays a flag beside the bytes: so the settings hold the realm, from C too (`server::Settings`).
     has_realm: bool,
     charset: u8,
     value: &[u8],
@@ -346,6 +325,7 @@ fn put_response(
     store: &mut [u8],
     at: usize,
     digest: Octets16,
+    // Stays a flag beside the bytes: so a host hands a user id over, from C too (`engine::calls::credentials_given`).
     has_user: bool,
     user: &[u8],
     nonce: Octets16,
@@ -374,6 +354,7 @@ pub fn respond(
     store: &mut [u8],
     at: usize,
     nonce: Octets16,
+    // Stays a flag beside the bytes: so a host hands a user id over, from C too (`engine::calls::credentials_given`).
     has_user: bool,
     user: &[u8],
     password: &[u8],

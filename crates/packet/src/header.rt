@@ -20,8 +20,8 @@ use crate::header_id::{
 };
 use crate::limits::MAX_CAPACITY;
 use crate::srm::{is_mode, is_parameter};
-use crate::tlv::{Found, Wrote, is_tag_list};
-use base::{be16_at, copy_into, wide32};
+use crate::tlv::{Wrote, is_tag_list};
+use base::{Span, be16_at, copy_into, wide32};
 use text::{
     ascii_len, decode_ascii, encode_unicode, encoded_unicode_len, is_well_formed8, is_well_formed16,
 };
@@ -40,6 +40,8 @@ pub enum HeaderEncoding {
 }
 
 // What stands at a place of a packet.
+//
+// Stays an enum of its own: the packet's end is neither a header nor an error, and an Option of a Result says the same three cases in two layers.
 #[derive(Clone, Copy)]
 pub enum HeaderAt {
     // A whole header, whose value stands from `start` up to `end`; the next header starts at `end`.
@@ -71,6 +73,8 @@ pub fn encoding(id: u8) -> HeaderEncoding
     HeaderEncoding::U32
 }
 
+// Stays a number: it is how many bytes, and no code of a kind.
+//
 // Returns how many bytes stand before the value: the id, and for two encodings a length.
 fn lead(e: HeaderEncoding) -> usize
     ensures { (result ≡ lead_of e) × (result ≤ 3) }
@@ -107,16 +111,14 @@ fn first_byte(value: &[u8]) -> u8
 }
 
 // Tells whether the value under `id` is a tag list.
+#[tactic(auto, unfolding(crate::specs::Header::tagged))]
 fn is_tagged(id: u8) -> bool
     ensures { result ≡ tagged id }
 {
-    match id {
-        APPLICATION_PARAMETERS
-        | AUTHENTICATE_CHALLENGE
-        | AUTHENTICATE_RESPONSE
-        | SESSION_PARAMETERS => true,
-        _ => false,
-    }
+    matches!(
+        id,
+        APPLICATION_PARAMETERS | AUTHENTICATE_CHALLENGE | AUTHENTICATE_RESPONSE | SESSION_PARAMETERS
+    )
 }
 
 // Tells whether `id` allows `value`. Ids that the standard does not define allow any, so that such headers survive.
@@ -227,7 +229,7 @@ pub fn is_readable(s: &[u8], from: usize) -> bool
 }
 
 // Finds the value of the first header with `id`, in list order. The search ends at a header that cannot be read.
-pub fn first_header(s: &[u8], from: usize, id: u8) -> Found
+pub fn first_header(s: &[u8], from: usize, id: u8) -> Option<Span>
     ensures { result ≡ first_place id s.now from }
 {
     let mut at = from;
@@ -240,15 +242,15 @@ pub fn first_header(s: &[u8], from: usize, id: u8) -> Found
                 end,
             } => {
                 if i == id {
-                    return Found::At { start, end };
+                    return Some(Span { start, end });
                 }
                 at = end;
             }
             HeaderAt::Unreadable => {
-                return Found::Missing;
+                return None;
             }
             HeaderAt::End => {
-                return Found::Missing;
+                return None;
             }
         }
     }
@@ -404,12 +406,14 @@ fn text_size(text: &[u8], form: TextForm) -> usize
     }
 }
 
+// Stays beside `write_bare`: each is one call, of another function of `text`, and a common one would take that function as a parameter.
+//
 // Writes `text` in UTF-16 from `from` up to `end`.
 fn write_units(store: &mut [u8], from: usize, end: usize, text: &[u8])
     requires { (from + length (unicode_bytes text.now) ≡ end) × (end ≤ length store.old) }
     ensures { store.new ≡ laid store.old from (unicode_bytes text.now) }
 {
-    encode_unicode(text, &mut store[from..end]);
+    let _ = encode_unicode(text, &mut store[from..end]);
 }
 
 // Writes `text` in UTF-16 and a zero unit behind it, unless the text is empty.
@@ -431,7 +435,7 @@ fn write_bare(store: &mut [u8], from: usize, end: usize, text: &[u8])
     requires { (from + length (ascii_text text.now) ≡ end) × (end ≤ length store.old) }
     ensures { store.new ≡ laid store.old from (ascii_text text.now) }
 {
-    decode_ascii(text, &mut store[from..end]);
+    let _ = decode_ascii(text, &mut store[from..end]);
 }
 
 // Writes `text` in UTF-8, up to its first zero byte, and a zero byte behind it.

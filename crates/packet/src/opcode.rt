@@ -1,7 +1,9 @@
 // The first byte of a request (IrOBEX 1.5, section 3.4; docs/PROTOCOL.md#first-byte): its opcode, and in the top bit the Final bit, which
 // marks the last packet of a request.
-ghost use Rattle.std.specs.Prelude.{◌≡◌};
-ghost use Rattle.packet.specs.FirstByte.{named, first_byte, first_byte_table, entry_says, value_of, always_final, byte_of, kind_of, same_opcode};
+ghost use Rattle.std.specs.Prelude.{◌≡◌, Some};
+ghost use Rattle.packet.specs.FirstByte.{name_of, opcode_numbered, first_byte, first_byte_table, entry_says, value_of, always_final, byte_of, kind_of, same_opcode};
+
+use std::fmt;
 
 // The operation that a request belongs to.
 #[derive(Clone, Copy)]
@@ -18,11 +20,15 @@ pub enum Opcode {
     UserDefined(u8),
 }
 
-// What the first byte of a request says: an opcode and the Final bit, or nothing that is known.
+// A number that no opcode has.
 #[derive(Clone, Copy)]
-pub enum FirstByte {
-    Known { opcode: Opcode, is_final: bool },
-    Unknown,
+pub struct UnknownOpcode;
+
+// What the first byte of a request says: an opcode and the Final bit.
+#[derive(Clone, Copy)]
+pub struct FirstByte {
+    pub opcode: Opcode,
+    pub is_final: bool,
 }
 
 // The Final bit of an opcode or a response code.
@@ -86,43 +92,59 @@ fn table() -> [u8; 256]
     FIRST_BYTES
 }
 
-// Names the opcode whose number is `value`.
-fn try_from(value: u8, is_final: bool) -> FirstByte
-    ensures { result ≡ named value is_final }
-{
-    let opcode = match value {
-        CONNECT => Opcode::Connect,
-        DISCONNECT => Opcode::Disconnect,
-        PUT => Opcode::Put,
-        GET => Opcode::Get,
-        SET_PATH => Opcode::SetPath,
-        ACTION => Opcode::Action,
-        SESSION => Opcode::Session,
-        FIRST_USER_DEFINED..=LAST_USER_DEFINED => Opcode::UserDefined(value),
-        _ => {
-            return FirstByte::Unknown;
+impl TryFrom<u8> for Opcode {
+    type Error = UnknownOpcode;
+
+    ghost try_from_gives = { λ value r. r ≡ opcode_numbered value };
+
+    // Returns the opcode whose number is `value`.
+    fn try_from(value: u8) -> Result<Self, UnknownOpcode> {
+        Ok(match value {
+            CONNECT => Opcode::Connect,
+            DISCONNECT => Opcode::Disconnect,
+            PUT => Opcode::Put,
+            GET => Opcode::Get,
+            SET_PATH => Opcode::SetPath,
+            ACTION => Opcode::Action,
+            SESSION => Opcode::Session,
+            ABORT => Opcode::Abort,
+            FIRST_USER_DEFINED..=LAST_USER_DEFINED => Opcode::UserDefined(value),
+            _ => return Err(UnknownOpcode),
+        })
+    }
+}
+
+impl From<Opcode> for u8 {
+    ghost from_gives = { λ op n. n ≡ value_of op };
+
+    // Returns the number of the opcode `op`, without the Final bit.
+    fn from(op: Opcode) -> u8 {
+        match op {
+            Opcode::Connect => CONNECT,
+            Opcode::Disconnect => DISCONNECT,
+            Opcode::Put => PUT,
+            Opcode::Get => GET,
+            Opcode::SetPath => SET_PATH,
+            Opcode::Action => ACTION,
+            Opcode::Session => SESSION,
+            Opcode::Abort => ABORT,
+            Opcode::UserDefined(value) => value,
         }
-    };
-    FirstByte::Known { opcode, is_final }
+    }
 }
 
 // Reads an entry of the table: the Final bit, and the opcode whose number the other bits are.
-fn from_entry(entry: u8) -> FirstByte
+fn from_entry(entry: u8) -> Option<FirstByte>
     ensures { result ≡ entry_says entry }
 {
     let is_final = FINAL_BIT <= entry;
     let value = entry % FINAL_BIT;
-    if value == ABORT {
-        return FirstByte::Known {
-            opcode: Opcode::Abort,
-            is_final,
-        };
-    }
-    try_from(value, is_final)
+    let opcode = Opcode::try_from(value).ok()?;
+    Some(FirstByte { opcode, is_final })
 }
 
-// Decodes the first byte of a request, by looking it up.
-pub fn from_byte(byte: u8) -> FirstByte
+// Decodes the first byte of a request, by looking it up. Nothing comes of a byte that names no opcode.
+pub fn from_byte(byte: u8) -> Option<FirstByte>
     ensures { result ≡ first_byte byte }
 {
     let entries = table();
@@ -133,48 +155,30 @@ pub fn from_byte(byte: u8) -> FirstByte
 pub fn value(op: Opcode) -> u8
     ensures { result ≡ value_of op }
 {
-    match op {
-        Opcode::Connect => CONNECT,
-        Opcode::Disconnect => DISCONNECT,
-        Opcode::Put => PUT,
-        Opcode::Get => GET,
-        Opcode::SetPath => SET_PATH,
-        Opcode::Action => ACTION,
-        Opcode::Session => SESSION,
-        Opcode::Abort => ABORT,
-        Opcode::UserDefined(value) => value,
-    }
+    u8::from(op)
 }
 
 // Tells whether the opcode `op` must always be sent with the Final bit set.
 pub fn is_always_final(op: Opcode) -> bool
     ensures { result ≡ always_final op }
 {
-    match op {
-        Opcode::Connect => true,
-        Opcode::Disconnect => true,
-        Opcode::SetPath => true,
-        Opcode::Session => true,
-        Opcode::Abort => true,
-        Opcode::Put => false,
-        Opcode::Get => false,
-        Opcode::Action => false,
-        Opcode::UserDefined(_) => false,
-    }
+    matches!(
+        op,
+        Opcode::Connect | Opcode::Disconnect | Opcode::SetPath | Opcode::Session | Opcode::Abort,
+    )
 }
 
 // Returns the byte that is sent: with the Final bit if `is_final` asks for it or the opcode `op` always has it.
+#[tactic(auto, using(crate::proofs::TopBit::set_top), unfolding(crate::specs::FirstByte::byte_of))]
 pub fn to_byte(op: Opcode, is_final: bool) -> u8
     ensures { result ≡ byte_of op is_final }
 {
     let v = value(op);
-    if is_final {
-        return v | FINAL_BIT;
+    if is_final || is_always_final(op) {
+        v | FINAL_BIT
+    } else {
+        v
     }
-    if is_always_final(op) {
-        return v | FINAL_BIT;
-    }
-    v
 }
 
 // Returns 1 for a UserDefined and 0 for a named opcode: the value that a UserDefined holds can be that of a named one.
@@ -182,24 +186,35 @@ fn kind(op: Opcode) -> u8
     ensures { result ≡ kind_of op }
 {
     match op {
-        Opcode::Connect => 0,
-        Opcode::Disconnect => 0,
-        Opcode::Put => 0,
-        Opcode::Get => 0,
-        Opcode::SetPath => 0,
-        Opcode::Action => 0,
-        Opcode::Session => 0,
-        Opcode::Abort => 0,
         Opcode::UserDefined(_) => 1,
+        _ => 0,
     }
 }
 
 // Tells whether `a` and `b` are the same opcode; of two UserDefined, whether they hold the same value.
+// Stays a comparison of kinds and values: that a derived `==` is `same_opcode` takes 81 cases, in which the search gave up.
+#[tactic(auto, unfolding(crate::specs::FirstByte::same_opcode))]
 pub fn same(a: Opcode, b: Opcode) -> bool
     ensures { result ≡ same_opcode a b }
 {
-    if kind(a) != kind(b) {
-        return false;
+    kind(a) == kind(b) && value(a) == value(b)
+}
+
+impl fmt::Display for Opcode {
+    ghost output = { λ op. Some (name_of op) };
+
+    // Writes the name of an operation; those that an application defines have one name.
+    fn fmt<W: fmt::Write>(&self, f: &mut fmt::Formatter<W>) -> fmt::Result {
+        f.write_str(match self {
+            Opcode::Connect => "connect",
+            Opcode::Disconnect => "disconnect",
+            Opcode::Put => "put",
+            Opcode::Get => "get",
+            Opcode::SetPath => "set_path",
+            Opcode::Action => "action",
+            Opcode::Session => "session",
+            Opcode::Abort => "abort",
+            Opcode::UserDefined(_) => "user_defined",
+        })
     }
-    value(a) == value(b)
 }

@@ -4,7 +4,7 @@ ghost use Rattle.std.specs.Prelude.{◌≡◌, ◌∷◌, ◌+◌, ◌≤◌, �
 ghost use Rattle.base.specs.Bytes.{bytes16};
 ghost use Rattle.packet.specs.Placed.{laid, putting};
 ghost use Rattle.packet.specs.Packet.{fields_of, prefix_of, connect_limit, packet_bytes};
-ghost use Rattle.packet.specs.PacketWrite.{connect_bytes, set_path_byte, field_bytes, filled4, parameter_bytes, write_packet, write_request, write_response};
+ghost use Rattle.packet.specs.PacketWrite.{encoded_connect, connect_bytes, set_path_byte, field_bytes, filled4, parameter_bytes, write_packet, write_request, write_response};
 ghost use Rattle.packet.specs.PacketRead.{packet_head, packet_length, parse_packet, parse_front, flags_of, parse_response};
 ghost use Rattle.packet.specs.ResponsePacket.{response_prefix};
 
@@ -29,48 +29,30 @@ const BACKUP: u8 = 0x01;
 // The bit by which SetPath does not create a folder.
 const NO_CREATE: u8 = 0x02;
 
-// The length of a packet, or that its length field has not come.
-#[derive(Clone, Copy)]
-pub enum Length {
-    Known(usize),
-    Missing,
-}
-
 // What stands before a packet's headers, which start at `headers`.
 #[derive(Clone, Copy)]
-pub enum Head {
-    Known {
-        opcode: Opcode,
-        is_final: bool,
-        headers: usize,
-    },
-    Unreadable,
+pub struct Head {
+    pub opcode: Opcode,
+    pub is_final: bool,
+    pub headers: usize,
 }
 
-// A packet as read.
+// A request as read. Its headers stand from `headers` up to the packet's end at `length`.
 #[derive(Clone, Copy)]
-pub enum Parsed {
-    // The headers stand from `headers` up to the packet's end at `length`.
-    Request {
-        opcode: Opcode,
-        is_final: bool,
-        headers: usize,
-        length: usize,
-    },
-    Unreadable,
+pub struct Request {
+    pub opcode: Opcode,
+    pub is_final: bool,
+    pub headers: usize,
+    pub length: usize,
 }
 
-// A response as read.
+// A response as read. The code stands without the Final bit; the headers stand from `headers` up to the packet's end at `length`.
 #[derive(Clone, Copy)]
-pub enum ParsedResponse {
-    // The code stands without the Final bit; the headers stand from `headers` up to the packet's end at `length`.
-    Response {
-        code: u8,
-        is_final: bool,
-        headers: usize,
-        length: usize,
-    },
-    Unreadable,
+pub struct Response {
+    pub code: u8,
+    pub is_final: bool,
+    pub headers: usize,
+    pub length: usize,
 }
 
 // The flags of a SetPath request.
@@ -86,13 +68,13 @@ pub struct SetPathFlags {
 
 // Returns the length of the packet at the start of `buf`, once its length field has come. This is all that a stream transport needs to
 // split bytes into packets.
-pub fn packet_length(buf: &[u8]) -> Length
+pub fn packet_length(buf: &[u8]) -> Option<usize>
     ensures { result ≡ packet_length buf.now }
 {
     if buf.len() < PACKET_PREFIX_LENGTH {
-        return Length::Missing;
+        return None;
     }
-    Length::Known(be16_at(buf, 1))
+    Some(be16_at(buf, 1))
 }
 
 // Returns how many bytes stand between the length and the headers.
@@ -102,13 +84,7 @@ fn fields_len(opcode: Opcode) -> usize
     match opcode {
         Opcode::Connect => 4,
         Opcode::SetPath => 2,
-        Opcode::Disconnect => 0,
-        Opcode::Put => 0,
-        Opcode::Get => 0,
-        Opcode::Action => 0,
-        Opcode::Session => 0,
-        Opcode::Abort => 0,
-        Opcode::UserDefined(_) => 0,
+        _ => 0,
     }
 }
 
@@ -121,74 +97,60 @@ pub fn prefix_len(opcode: Opcode) -> usize
 
 // Reads what stands before the headers of packet `p`. Whether its headers can be read is not looked at, so that a caller who walks them
 // anyway need not walk them twice.
-pub fn packet_head(p: &[u8]) -> Head
+pub fn packet_head(p: &[u8]) -> Option<Head>
     ensures { result ≡ packet_head p.now }
 {
     if p.len() < PACKET_PREFIX_LENGTH {
-        return Head::Unreadable;
+        return None;
     }
-    let FirstByte::Known { opcode, is_final } = from_byte(p[0]) else {
-        return Head::Unreadable;
-    };
+    let FirstByte { opcode, is_final } = from_byte(p[0])?;
     let headers = prefix_len(opcode);
     if p.len() < headers {
-        return Head::Unreadable;
+        return None;
     }
-    Head::Known {
+    Some(Head {
         opcode,
         is_final,
         headers,
-    }
+    })
 }
 
 // Reads `p` as one packet, whatever its length field says.
-pub fn parse_packet(p: &[u8]) -> Parsed
+pub fn parse_packet(p: &[u8]) -> Option<Request>
     ensures { result ≡ parse_packet p.now }
 {
-    let Head::Known {
+    let Head {
         opcode,
         is_final,
         headers,
-    } = packet_head(p)
-    else {
-        return Parsed::Unreadable;
-    };
+    } = packet_head(p)?;
     if !is_readable(p, headers) {
-        return Parsed::Unreadable;
+        return None;
     }
-    Parsed::Request {
+    Some(Request {
         opcode,
         is_final,
         headers,
         length: p.len(),
-    }
+    })
 }
 
 // Reads the packet at the front of `s`, by its length field.
-pub fn parse(s: &[u8]) -> Parsed
+pub fn parse(s: &[u8]) -> Option<Request>
     ensures { result ≡ parse_front s.now }
 {
-    if s.len() < PACKET_PREFIX_LENGTH {
-        return Parsed::Unreadable;
-    }
-    let n = be16_at(s, 1);
+    let n = packet_length(s)?;
     if n < PACKET_PREFIX_LENGTH {
-        return Parsed::Unreadable;
+        return None;
     }
-    if s.len() < n {
-        return Parsed::Unreadable;
-    }
-    parse_packet(&s[..n])
+    parse_packet(s.get(..n)?)
 }
 
 // Returns the byte at `at` of a packet, or 0 past its end.
 fn byte_at(p: &[u8], at: usize) -> u8
     ensures { result ≡ get_or p.now at 0 }
 {
-    if p.len() <= at {
-        return 0;
-    }
-    p[at]
+    p.get(at).copied().unwrap_or(0)
 }
 
 // Returns how many bytes stand before the headers of a response: Connect's fields stand there only if it answers a Connect.
@@ -196,34 +158,35 @@ fn response_prefix(connect: bool) -> usize
     ensures { result ≡ response_prefix connect }
 {
     if connect {
-        return PACKET_PREFIX_LENGTH + 4;
+        PACKET_PREFIX_LENGTH + 4
+    } else {
+        PACKET_PREFIX_LENGTH
     }
-    PACKET_PREFIX_LENGTH
 }
 
 // Reads `p` as one response, to a Connect or to another request, whatever its length field says. As in the source, the Final bit is read
 // and not demanded.
-pub fn parse_response(p: &[u8], connect: bool) -> ParsedResponse
+pub fn parse_response(p: &[u8], connect: bool) -> Option<Response>
     ensures { result ≡ parse_response connect p.now }
 {
     let first = byte_at(p, 0);
     let code = first % 128;
     if !response::is_code(code) {
-        return ParsedResponse::Unreadable;
+        return None;
     }
     let start = response_prefix(connect);
     if p.len() < start {
-        return ParsedResponse::Unreadable;
+        return None;
     }
     if !is_readable(p, start) {
-        return ParsedResponse::Unreadable;
+        return None;
     }
-    ParsedResponse::Response {
+    Some(Response {
         code,
         is_final: 128 <= first,
         headers: start,
         length: p.len(),
-    }
+    })
 }
 
 // Returns the limit that a Connect names: the largest packet that its sender can receive.
@@ -251,26 +214,16 @@ pub fn set_path_flags(p: &[u8]) -> SetPathFlags
 #[derive(Clone, Copy)]
 pub enum Fields {
     Default,
-    Connect {
-        version: u8,
-        flags: u8,
-        max_packet_length: u16,
-    },
-    SetPath {
-        backup: bool,
-        no_create: bool,
-    },
+    Connect(ConnectParameters),
+    SetPath(SetPathFlags),
 }
 
-// The fields of a response to a Connect. Such a response cannot be told from any other by its bytes alone.
+// The fields of a Connect, and of a response to one. Such a response cannot be told from any other by its bytes alone.
 #[derive(Clone, Copy)]
-pub enum ConnectParameters {
-    Parameters {
-        version: u8,
-        flags: u8,
-        max_packet_length: u16,
-    },
-    Missing,
+pub struct ConnectParameters {
+    pub version: u8,
+    pub flags: u8,
+    pub max_packet_length: u16,
 }
 
 // Writes the first byte and the length of a packet at the front of the store.
@@ -317,9 +270,14 @@ fn write_packet(store: &mut [u8], byte: u8, fields: [u8; 4], n: usize, headers: 
 }
 
 // Returns Connect's four bytes: version, flags and limit.
-fn encode_connect(version: u8, flags: u8, limit: u16) -> [u8; 4]
-    ensures { result ≡ version ∷ flags ∷ bytes16 limit }
+fn encode_connect(connect: ConnectParameters) -> [u8; 4]
+    ensures { result ≡ encoded_connect connect }
 {
+    let ConnectParameters {
+        version,
+        flags,
+        max_packet_length: limit,
+    } = connect;
     [version, flags, (limit / 256) as u8, (limit % 256) as u8]
 }
 
@@ -328,16 +286,12 @@ fn connect_bytes(fields: Fields) -> [u8; 4]
     ensures { result ≡ connect_bytes fields }
 {
     match fields {
-        Fields::Connect {
-            version,
-            flags,
-            max_packet_length,
-        } => encode_connect(version, flags, max_packet_length),
-        Fields::Default => encode_connect(OBEX_VERSION, 0, MIN_PACKET),
-        Fields::SetPath {
-            backup: _,
-            no_create: _,
-        } => encode_connect(OBEX_VERSION, 0, MIN_PACKET),
+        Fields::Connect(connect) => encode_connect(connect),
+        _ => encode_connect(ConnectParameters {
+            version: OBEX_VERSION,
+            flags: 0,
+            max_packet_length: MIN_PACKET,
+        }),
     }
 }
 
@@ -346,13 +300,8 @@ fn set_path_byte(fields: Fields) -> u8
     ensures { result ≡ set_path_byte fields }
 {
     match fields {
-        Fields::SetPath { backup, no_create } => flag_bits(backup, no_create),
-        Fields::Default => 0,
-        Fields::Connect {
-            version: _,
-            flags: _,
-            max_packet_length: _,
-        } => 0,
+        Fields::SetPath(flags) => flag_bits(flags.backup, flags.no_create),
+        _ => 0,
     }
 }
 
@@ -360,14 +309,11 @@ fn set_path_byte(fields: Fields) -> u8
 fn field_bytes(opcode: Opcode, fields: Fields) -> [u8; 4]
     ensures { result ≡ filled4 (field_bytes opcode fields) }
 {
-    let n = fields_len(opcode);
-    if n == 4 {
-        return connect_bytes(fields);
+    match opcode {
+        Opcode::Connect => connect_bytes(fields),
+        Opcode::SetPath => [set_path_byte(fields), 0, 0, 0],
+        _ => [0, 0, 0, 0],
     }
-    if n == 2 {
-        return [set_path_byte(fields), 0, 0, 0];
-    }
-    [0, 0, 0, 0]
 }
 
 // Writes a request at the front of the store. The Final bit is set if `is_final` asks for it or the opcode always has it.
@@ -386,38 +332,27 @@ pub fn write_request(
 }
 
 // Returns the four bytes of a response to a Connect, or four zeros, of which none is written, for any other.
-fn parameter_bytes(connect: ConnectParameters) -> [u8; 4]
+fn parameter_bytes(connect: Option<ConnectParameters>) -> [u8; 4]
     ensures { result ≡ filled4 (parameter_bytes connect) }
 {
     match connect {
-        ConnectParameters::Parameters {
-            version,
-            flags,
-            max_packet_length,
-        } => encode_connect(version, flags, max_packet_length),
-        ConnectParameters::Missing => [0, 0, 0, 0],
+        Some(connect) => encode_connect(connect),
+        None => [0, 0, 0, 0],
     }
 }
 
 // Returns how many of those four bytes are written.
-fn parameters_len(connect: ConnectParameters) -> usize
+fn parameters_len(connect: Option<ConnectParameters>) -> usize
     ensures { (result ≡ length (parameter_bytes connect)) × (result ≤ 4) }
 {
-    match connect {
-        ConnectParameters::Parameters {
-            version: _,
-            flags: _,
-            max_packet_length: _,
-        } => 4,
-        ConnectParameters::Missing => 0,
-    }
+    if connect.is_some() { 4 } else { 0 }
 }
 
 // Writes a response at the front of the store.
 pub fn write_response(
     store: &mut [u8],
     code: u8,
-    connect: ConnectParameters,
+    connect: Option<ConnectParameters>,
     headers: &[u8],
 ) -> Wrote
     ensures { putting result store.new ≡ write_response store.old code connect headers.now }

@@ -135,24 +135,22 @@ pub const INTERNAL_SERVER_ERROR_BYTE: u8 = INTERNAL_SERVER_ERROR | FINAL_BIT;
 pub fn is_code(b: u8) -> bool
     ensures { result ≡ is_code b }
 {
-    match b {
-        CONTINUE => true,
-        SUCCESS..=PARTIAL_CONTENT => true,
-        MULTIPLE_CHOICES..=USE_PROXY => true,
-        BAD_REQUEST..=HTTP_VERSION_NOT_SUPPORTED => true,
-        DATABASE_FULL..=DATABASE_LOCKED => true,
-        _ => false,
-    }
+    matches!(
+        b,
+        CONTINUE
+            | SUCCESS..=PARTIAL_CONTENT
+            | MULTIPLE_CHOICES..=USE_PROXY
+            | BAD_REQUEST..=HTTP_VERSION_NOT_SUPPORTED
+            | DATABASE_FULL..=DATABASE_LOCKED,
+    )
 }
 
 // Tells whether `b` lies in the range of the success codes, as the source tests it; not every number of the range is a code.
+#[tactic(auto, unfolding(crate::specs::Codes::is_success))]
 pub fn is_success(b: u8) -> bool
     ensures { result ≡ is_success b }
 {
-    if b < SUCCESS {
-        return false;
-    }
-    b <= 0x2F
+    matches!(b, SUCCESS..=0x2F)
 }
 
 // Returns the byte that is sent for `code`: the code with the Final bit, which OBEX responses always set.

@@ -23,41 +23,35 @@ pub const WAIT: u8 = 0x01;
 pub const ADDITIONAL_PACKET_AND_WAIT: u8 = 0x02;
 
 // Tells whether `b` is a value of the Single Response Mode header.
+#[tactic(auto, unfolding(crate::specs::Modes::is_mode))]
 pub fn is_mode(b: u8) -> bool
     ensures { result ≡ is_mode b }
 {
-    match b {
-        DISABLE | ENABLE | SUPPORTED => true,
-        _ => false,
-    }
+    matches!(b, DISABLE | ENABLE | SUPPORTED)
 }
 
+// Stays beside the three tests like it: a common function would take the list of values, and each caller would write it.
+//
 // Tells whether `b` is a value of the Single Response Mode Parameters header.
+#[tactic(auto, unfolding(crate::specs::Modes::is_parameter))]
 pub fn is_parameter(b: u8) -> bool
     ensures { result ≡ is_parameter b }
 {
-    match b {
-        ADDITIONAL_PACKET | WAIT | ADDITIONAL_PACKET_AND_WAIT => true,
-        _ => false,
-    }
+    matches!(b, ADDITIONAL_PACKET | WAIT | ADDITIONAL_PACKET_AND_WAIT)
 }
 
 // Tells whether the parameter `b` asks for an additional packet.
+#[tactic(auto, unfolding(crate::specs::Modes::additional))]
 pub fn requests_additional_packet(b: u8) -> bool
     ensures { result ≡ additional b }
 {
-    match b {
-        ADDITIONAL_PACKET | ADDITIONAL_PACKET_AND_WAIT => true,
-        _ => false,
-    }
+    matches!(b, ADDITIONAL_PACKET | ADDITIONAL_PACKET_AND_WAIT)
 }
 
 // Tells whether the parameter `b` asks the other side to wait.
+#[tactic(auto, unfolding(crate::specs::Modes::wait))]
 pub fn requests_wait(b: u8) -> bool
     ensures { result ≡ wait b }
 {
-    match b {
-        WAIT | ADDITIONAL_PACKET_AND_WAIT => true,
-        _ => false,
-    }
+    matches!(b, WAIT | ADDITIONAL_PACKET_AND_WAIT)
 }

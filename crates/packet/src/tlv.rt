@@ -7,9 +7,11 @@ ghost use Rattle.packet.specs.Placed.{putting};
 
 use crate::limits::MAX_TAG_VALUE;
 use crate::store::{LengthField, room};
-use base::{copy_into, wide};
+use base::{Span, copy_into, wide};
 
 // What stands at a place of a payload.
+//
+// Stays an enum of its own: the payload's end is neither a tag nor an error, and an Option of a Result says the same three cases in two layers.
 #[derive(Clone, Copy)]
 pub enum TagAt {
     // A whole tag, with the places where its value starts and where the next tag does.
@@ -18,13 +20,6 @@ pub enum TagAt {
     Bad,
     // The payload ends here.
     End,
-}
-
-// Where a value stands.
-#[derive(Clone, Copy)]
-pub enum Found {
-    At { start: usize, end: usize },
-    Missing,
 }
 
 // What became of bytes that were to be written. Each case has its number in `wrote_number` (specs/Placed).
@@ -90,21 +85,15 @@ pub fn is_tag_list(s: &[u8]) -> bool
 fn is_wanted(tag: u8, empty: bool, t: u8, n: usize) -> bool
     ensures { result ≡ counts tag empty t n }
 {
-    if t != tag {
-        return false;
-    }
-    if empty {
-        return true;
-    }
-    0 < n
+    t == tag && (empty || 0 < n)
 }
 
 // Finds the last value under `tag`; `empty` says whether an empty value counts. If the payload is no tag list, nothing is found.
-pub fn last_under(s: &[u8], tag: u8, empty: bool) -> Found
+pub fn last_under(s: &[u8], tag: u8, empty: bool) -> Option<Span>
     ensures { result ≡ last_under s.now tag empty }
 {
     let mut at = 0;
-    let mut found = Found::Missing;
+    let mut found = None;
     loop {
         match tag_at(s, at) {
             TagAt::At {
@@ -113,12 +102,12 @@ pub fn last_under(s: &[u8], tag: u8, empty: bool) -> Found
                 next,
             } => {
                 if is_wanted(tag, empty, t, next - start) {
-                    found = Found::At { start, end: next };
+                    found = Some(Span { start, end: next });
                 }
                 at = next;
             }
             TagAt::Bad => {
-                return Found::Missing;
+                return None;
             }
             TagAt::End => {
                 return found;
@@ -128,7 +117,7 @@ pub fn last_under(s: &[u8], tag: u8, empty: bool) -> Found
 }
 
 // Finds the last value under `tag`, even an empty one.
-pub fn last_value(s: &[u8], tag: u8) -> Found
+pub fn last_value(s: &[u8], tag: u8) -> Option<Span>
     ensures { result ≡ last_value s.now tag }
 {
     last_under(s, tag, true)

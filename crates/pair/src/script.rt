@@ -1,9 +1,21 @@
 // Lines of a script: which command each of them is, and what it names.
-use crate::state::{Abort, Call, Due, Lent, Moment, State, no_abort, with_content, with_due};
 use check::same;
-use lines::output::least;
-use lines::word::{byte_at, line_number, number, unhex, value, word_of};
+use client_model::Outcome;
+use lines::queue::Queue;
+use lines::word::{byte_at, number, unhex, value, word_of};
 use server::{Settings, default_settings};
+use std::alloc::{AllocError, Global};
+use std::fmt;
+use std::num::wrapping_add_usize;
+
+// How many bytes a line hands over at most: headers, and behind them a body of 1 MiB and more.
+pub const WORDS: usize = 1245184;
+
+// How long the server's body store is, and so the largest Put limit.
+pub const BODY: usize = 1048576;
+
+// How long each other store is.
+pub const STORE: usize = 65536;
 
 #[derive(Clone, Copy)]
 pub enum Command {
@@ -12,71 +24,179 @@ pub enum Command {
     Server,
     Host,
     Stores,
-    // A call on the client.
-    Call(Call),
-    // A line that is none of these is passed over.
-    Other,
+    Call(Name),
 }
 
-// Which words of a line are the headers and the body bytes that a call hands over. A number that no word has stands for no bytes.
+// The calls on the client, as a line names them. The last six are calls that a user makes at a wrong moment, but for the end of the stream
+// between two operations.
 #[derive(Clone, Copy)]
-pub struct Places {
+pub enum Name {
+    Connect,
+    Disconnect,
+    Put,
+    Get,
+    Sent,
+    Body,
+    Bytes,
+    Taken,
+    Abort,
+    Ended,
+}
+
+// A call on the client. The bytes of a body are the next ones of the content, and those of a response wait on the way down.
+#[derive(Drop)]
+pub enum Call {
+    Connect(Vec<u8>),
+    Disconnect(Vec<u8>),
+    Put { headers: Vec<u8>, has_body: bool },
+    Get(Vec<u8>),
+    Sent,
+    Body,
+    Bytes(usize),
+    Taken,
+    Abort,
+    Ended,
+}
+
+// The moments at which a user may abort: what the client waits for.
+#[derive(Clone, Copy, PartialEq, Eq)]
+pub enum Moment {
+    Sent,
+    Bytes,
+    Body,
+    Taken,
+}
+
+// When the user aborts: at the moment with the number `number`, counted from 0 in the operation, if there is one. `seen` is how many of them
+// there were, `is_due` that the user aborts now.
+#[derive(Clone, Copy)]
+pub struct Abort {
+    pub moment: Option<Moment>,
+    pub number: usize,
+    pub seen: usize,
+    pub is_due: bool,
+}
+
+// The body bytes that are still to be given, by the user in a Put and by the host in a Get. `piece` is how many the user gives at a time, 0
+// for as many as are asked for. If `fails`, the host cannot read on behind them.
+#[derive(Drop)]
+pub struct Content {
+    pub left: Queue,
+    pub piece: usize,
+    pub fails: bool,
+}
+
+// How much of each store is lent to the client.
+#[derive(Clone, Copy)]
+pub struct Lent {
+    pub packet: usize,
     pub headers: usize,
     pub body: usize,
+    pub request: usize,
 }
 
-// How long the word store is: headers, and behind them a body of 1 MiB and more.
-pub const WORDS: usize = 1245184;
+// ---- commands
 
-// A number that no word of a line has.
-pub const NO_WORD: usize = 9;
-
-// Returns the call that a word names. The last six are calls that a user makes at a wrong moment, but for the end of the stream between
-// two operations.
-fn call_of(k: usize) -> Command {
-    match k {
-        5 => Command::Call(Call::Connect),
-        6 => Command::Call(Call::Disconnect),
-        7 => Command::Call(Call::Put(true)),
-        8 => Command::Call(Call::Get),
-        9 => Command::Call(Call::Sent),
-        10 => Command::Call(Call::Body),
-        11 => Command::Call(Call::Bytes(0)),
-        12 => Command::Call(Call::Taken),
-        13 => Command::Call(Call::Abort),
-        14 => Command::Call(Call::Ended),
-        _ => Command::Other,
+impl Command {
+    // Returns the command that a line's first word names. A line that has none is passed over.
+    pub(crate) fn parse(word: &[u8]) -> Option<Command> {
+        match word {
+            b"session" => Some(Command::Session),
+            b"client" => Some(Command::Client),
+            b"server" => Some(Command::Server),
+            b"host" => Some(Command::Host),
+            b"stores" => Some(Command::Stores),
+            _ => Name::parse(word).map(Command::Call),
+        }
     }
 }
 
-// Returns the command that a line's first word names.
-pub(crate) fn command_of(w: &[u8]) -> Command {
-    let names =
-        b"session\nclient\nserver\nhost\nstores\nconnect\ndisconnect\nput\nget\nsent\nbody\nbytes\ntaken\nabort\nend\n";
-    let k = line_number(names, w);
-    match k {
-        0 => Command::Session,
-        1 => Command::Client,
-        2 => Command::Server,
-        3 => Command::Host,
-        4 => Command::Stores,
-        _ => call_of(k),
+impl Name {
+    fn parse(word: &[u8]) -> Option<Name> {
+        match word {
+            b"connect" => Some(Name::Connect),
+            b"disconnect" => Some(Name::Disconnect),
+            b"put" => Some(Name::Put),
+            b"get" => Some(Name::Get),
+            b"sent" => Some(Name::Sent),
+            b"body" => Some(Name::Body),
+            b"bytes" => Some(Name::Bytes),
+            b"taken" => Some(Name::Taken),
+            b"abort" => Some(Name::Abort),
+            b"end" => Some(Name::Ended),
+            _ => None,
+        }
+    }
+
+    // Returns which word of a call's line may say when the user aborts.
+    pub(crate) fn abort_word(self) -> usize {
+        match self {
+            Name::Put => 4,
+            Name::Get => 2,
+            _ => 9,
+        }
+    }
+
+    // Returns the call, with its headers. `has_body` is of a Put.
+    pub(crate) fn with(self, headers: Vec<u8>, has_body: bool) -> Call {
+        match self {
+            Name::Connect => Call::Connect(headers),
+            Name::Disconnect => Call::Disconnect(headers),
+            Name::Put => Call::Put { headers, has_body },
+            Name::Get => Call::Get(headers),
+            Name::Sent => Call::Sent,
+            Name::Body => Call::Body,
+            Name::Bytes => Call::Bytes(0),
+            Name::Taken => Call::Taken,
+            Name::Abort => Call::Abort,
+            Name::Ended => Call::Ended,
+        }
     }
 }
 
-fn is_on(w: &[u8]) -> bool {
-    same(w, b"on")
+// The line of a call that a line of the script names.
+impl fmt::Display for Call {
+    fn fmt<W: fmt::Write>(&self, f: &mut fmt::Formatter<W>) -> fmt::Result {
+        f.write_str(match self {
+            Call::Connect(_) => "call connect",
+            Call::Disconnect(_) => "call disconnect",
+            Call::Put { .. } => "call put",
+            Call::Get(_) => "call get",
+            Call::Sent => "call sent",
+            Call::Body => "call body",
+            Call::Bytes(_) => "call bytes",
+            Call::Taken => "call taken",
+            Call::Abort => "call abort",
+            Call::Ended => "end of stream",
+        })
+    }
 }
 
-// Returns the limit of packets that a word names. One of over 65,535 is cut down to that.
-fn limit_of(w: &[u8]) -> u16 {
-    least(number(w), 65535) as u16
+// ---- words
+
+// Returns the bytes that a word stands for in hexadecimal, at most `room` of them.
+pub(crate) fn bytes_of(alloc: Global, word: &[u8], room: usize) -> Result<Vec<u8>, AllocError> {
+    let mut bytes = vec![in alloc; 0u8; room]?;
+    let n = unhex(word, bytes.as_mut_slice());
+    bytes.truncate(n);
+    Ok(bytes)
 }
 
 // Returns the byte that two hexadecimal digits stand for.
-pub(crate) fn byte_of(w: &[u8]) -> u8 {
-    value(byte_at(w, 0)) * 16 + value(byte_at(w, 1))
+pub(crate) fn byte_of(word: &[u8]) -> u8 {
+    value(byte_at(word, 0)) * 16 + value(byte_at(word, 1))
 }
+
+fn is_on(word: &[u8]) -> bool {
+    same(word, b"on")
+}
+
+// Returns the limit of packets that a word names. One of over 65,535 is cut down to that.
+fn limit_of(word: &[u8]) -> u16 {
+    number(word).min(65535) as u16
+}
+
+// ---- settings
 
 // Returns the settings of `client LIMIT on|off`.
 pub(crate) fn client_of(line: &[u8]) -> client_model::Settings {
@@ -86,123 +206,153 @@ pub(crate) fn client_of(line: &[u8]) -> client_model::Settings {
     }
 }
 
-// Whether one of the words of a `server` line behind its limits is `w`.
-fn has_word(line: &[u8], w: &[u8]) -> bool {
-    if same(word_of(line, 4), w) {
-        return true;
-    }
-    same(word_of(line, 5), w)
+// Whether one of the words of a `server` line behind its limits is `word`.
+fn has_word(line: &[u8], word: &[u8]) -> bool {
+    same(word_of(line, 4), word) || same(word_of(line, 5), word)
 }
 
-// Returns the settings of `server LIMIT on|off PUTLIMIT`, behind which `password` and `trailing` may stand. A Put limit above the body
-// store's 1 MiB is cut down to that.
-pub(crate) fn server_of(line: &[u8]) -> Settings {
-    let mut s = default_settings(least(number(word_of(line, 3)), 1048576) as u32);
+// Returns the settings of `server LIMIT on|off PUTLIMIT`, behind which `password` and `trailing` may stand, or none if the line says that the
+// session has no server. A Put limit above the body store is cut down to that.
+pub(crate) fn server_of(line: &[u8]) -> Option<Settings> {
+    if same(word_of(line, 1), b"none") {
+        return None;
+    }
+    let mut s = default_settings(number(word_of(line, 3)).min(BODY) as u32);
     s.max_packet_length = limit_of(word_of(line, 1));
     s.srm_supported = is_on(word_of(line, 2));
     s.authentication = has_word(line, b"password");
     s.refuse_trailing = has_word(line, b"trailing");
-    s
+    Some(s)
 }
 
-// Whether a `server` line says that the session has no server.
-pub(crate) fn is_alone(line: &[u8]) -> bool {
-    same(word_of(line, 1), b"none")
+// The settings of a client that a session begins with.
+pub(crate) const CLIENT: client_model::Settings = client_model::Settings {
+    max_packet_length: 65535,
+    srm_wanted: false,
+};
+
+// Returns the settings of a server that a session begins with. The body store is the Put limit.
+pub(crate) fn server_settings() -> Settings {
+    default_settings(BODY as u32)
 }
 
-// Returns how much of each store is lent to the client, by four numbers.
-pub(crate) fn lent_of(line: &[u8]) -> Lent {
-    Lent {
-        packet: number(word_of(line, 1)),
-        headers: number(word_of(line, 2)),
-        body: number(word_of(line, 3)),
-        request: number(word_of(line, 4)),
+impl Lent {
+    pub(crate) const WHOLE: Lent = Lent {
+        packet: STORE,
+        headers: STORE,
+        body: STORE,
+        request: STORE,
+    };
+
+    // Returns how much of each store is lent, by the four numbers of a line.
+    pub(crate) fn parse(line: &[u8]) -> Lent {
+        Lent {
+            packet: number(word_of(line, 1)),
+            headers: number(word_of(line, 2)),
+            body: number(word_of(line, 3)),
+            request: number(word_of(line, 4)),
+        }
     }
 }
 
-// ---- calls
+// ---- aborts
 
-// Returns the moment that a word names.
-fn moment_at(w: &[u8]) -> Moment {
-    match line_number(b"sent\nbytes\nbody\ntaken\n", w) {
-        0 => Moment::Sent,
-        1 => Moment::Bytes,
-        2 => Moment::Body,
-        3 => Moment::Taken,
-        _ => Moment::Never,
+impl Moment {
+    fn parse(word: &[u8]) -> Option<Moment> {
+        match word {
+            b"sent" => Some(Moment::Sent),
+            b"bytes" => Some(Moment::Bytes),
+            b"body" => Some(Moment::Body),
+            b"taken" => Some(Moment::Taken),
+            _ => None,
+        }
+    }
+
+    // Returns the moment at which the client stands in an operation.
+    pub(crate) fn of(outcome: Outcome) -> Option<Moment> {
+        match outcome {
+            Outcome::Send { .. } => Some(Moment::Sent),
+            Outcome::WantsBytes => Some(Moment::Bytes),
+            Outcome::Read { .. } => Some(Moment::Body),
+            Outcome::Part { .. } => Some(Moment::Taken),
+            _ => None,
+        }
     }
 }
 
-// Returns when the user aborts, by the words `abort MOMENT K` from the word with the number `at` on.
-fn abort_at(line: &[u8], at: usize) -> Abort {
-    if !same(word_of(line, least(at, 9)), b"abort") {
-        return no_abort();
+impl fmt::Display for Moment {
+    fn fmt<W: fmt::Write>(&self, f: &mut fmt::Formatter<W>) -> fmt::Result {
+        f.write_str(match self {
+            Moment::Sent => "sent",
+            Moment::Bytes => "bytes",
+            Moment::Body => "body",
+            Moment::Taken => "taken",
+        })
     }
-    Abort {
-        moment: moment_at(word_of(line, least(at, 9) + 1)),
-        number: number(word_of(line, least(at, 9) + 2)),
+}
+
+impl Abort {
+    pub(crate) const NEVER: Abort = Abort {
+        moment: None,
+        number: 0,
         seen: 0,
         is_due: false,
+    };
+
+    // Returns when the user aborts, by the words `abort MOMENT K` from the word with the number `at` on.
+    pub(crate) fn parse(line: &[u8], at: usize) -> Abort {
+        if !same(word_of(line, at), b"abort") {
+            return Abort::NEVER;
+        }
+        Abort {
+            moment: Moment::parse(word_of(line, at.saturating_add(1))),
+            number: number(word_of(line, at.saturating_add(2))),
+            ..Abort::NEVER
+        }
+    }
+
+    // The user looks at the client's outcome: if it is the moment to abort, the Abort is due.
+    pub(crate) fn look(&mut self, outcome: Outcome) {
+        if self.moment == Moment::of(outcome) {
+            self.is_due = self.seen == self.number;
+            self.seen = wrapping_add_usize(self.seen, 1);
+        }
     }
 }
 
-// Returns which word of a call's line may say when the user aborts.
-fn abort_word(call: Call) -> usize {
-    match call {
-        Call::Put(_) => 4,
-        Call::Get => 2,
-        _ => NO_WORD,
+// ---- content
+
+impl Content {
+    // Returns what a Get without an object and a Put without a body have to give: nothing.
+    pub(crate) fn empty(alloc: Global) -> Content {
+        Content {
+            left: Queue::new(alloc),
+            piece: 0,
+            fails: false,
+        }
     }
-}
 
-// Returns the call, once it is known whether a Put has a body.
-fn with_body(call: Call, has_body: bool) -> Call {
-    match call {
-        Call::Put(_) => Call::Put(has_body),
-        _ => call,
+    // Returns the bytes that are given if `room` are asked for.
+    pub(crate) fn front(&self, room: usize) -> &[u8] {
+        self.left.front(self.size(room))
     }
-}
 
-fn body_word(has_body: bool) -> usize {
-    if has_body { 2 } else { NO_WORD }
-}
-
-// Returns which words a call hands over.
-fn places_of(call: Call) -> Places {
-    match call {
-        Call::Put(has_body) => Places {
-            headers: 1,
-            body: body_word(has_body),
-        },
-        _ => Places {
-            headers: 1,
-            body: NO_WORD,
-        },
+    // The bytes that are given if `room` are asked for are given.
+    pub(crate) fn give(&mut self, room: usize) {
+        let n = self.size(room);
+        self.left.take(n);
     }
-}
 
-// Puts the bytes of two words of a line into `words`, the second behind the first, and returns how many bytes each has.
-pub(crate) fn unhex_both(line: &[u8], places: Places, words: &mut [u8]) -> Places {
-    let headers = unhex(word_of(line, places.headers), words);
-    let body = unhex(word_of(line, places.body), &mut words[headers..]);
-    Places { headers, body }
-}
+    fn size(&self, room: usize) -> usize {
+        if self.piece == 0 {
+            room
+        } else {
+            room.min(self.piece)
+        }
+    }
 
-// Returns the state with the call of a line that is due, and with what the call hands over in `words`.
-pub(crate) fn with_call(s: State, call: Call, line: &[u8], words: &mut [u8; WORDS]) -> State {
-    let due = with_body(call, !same(word_of(line, 2), b"none"));
-    let sizes = unhex_both(line, places_of(due), words);
-    let end = least(sizes.headers, WORDS) + least(sizes.body, WORDS);
-    let mut r = with_content(
-        with_due(s, Due::Call(due)),
-        sizes.headers,
-        end,
-        number(word_of(line, 3)),
-        false,
-    );
-    r.headers = sizes.headers;
-    let abort = abort_at(line, abort_word(due));
-    r.abort = abort;
-    r.is_open = true;
-    r
+    // Whether no more can be read.
+    pub(crate) fn is_failing(&self) -> bool {
+        self.fails && self.left.is_empty()
+    }
 }

@@ -2,11 +2,11 @@
 -- the model's step. So one turn more is one step more of a run, and a run from an accepted start is one of which the theorem speaks. Assumes nothing.
 use Rattle.std.proofs.Common.{◌≡◌, ℕ, Bool, true, false, ◌||◌, List, [], ◌∷◌, ◌++◌, sym, refl, ap, ◌∙◌, subst}
 use mathlib.Core.Option.{Option}
+use Rattle.std.specs.Prelude.{Some, None}
 use Rattle.base.specs.Pick.{pick}
 use Rattle.table.specs.Targets.{target_bytes, unnamed}
 use Rattle.connection.specs.Peer.{fresh_peer}
 use Rattle.journal.specs.Calls.{Call}
-use Rattle.server.specs.declared.Body.TheVariants as body
 use Rattle.server.specs.declared.CallResult.{CallResult}
 use Rattle.server.specs.declared.HostRequest.{HostRequest}
 use Rattle.server.specs.declared.HostRequest.TheVariants as request
@@ -53,8 +53,8 @@ answer_in (Leave n) = answer.End
 -- what is decided on a request may be done with the record that it hands over
 on_request : (q : HostRequest) (s : Stores) (n : Option (List ℕ)) (t : Tried) (a : Answer) (lent : List ℕ) → DecidesOn q t (Make a)
     → Decided (handed_under n (handed_by q s)) (attempts_by t (handed_under n (handed_by q s))) (call_of a lent)
-on_request (request.Put k (body.Bytes m)) s n t a lent h = filed _ (call_of a lent) (ap (λ (d : Decision). call_of (answer_in d) lent) h)
-on_request (request.Put k body.Missing) s n t a lent h = filed _ (call_of a lent) (ap (λ (d : Decision). call_of (answer_in d) lent) h)
+on_request (request.Put k (Some m)) s n t a lent h = filed _ (call_of a lent) (ap (λ (d : Decision). call_of (answer_in d) lent) h)
+on_request (request.Put k None) s n t a lent h = filed _ (call_of a lent) (ap (λ (d : Decision). call_of (answer_in d) lent) h)
 on_request (request.Connect m) s n t a lent h = free (call_of a lent)
 on_request (request.Disconnect m) s n t a lent h = free (call_of a lent)
 on_request (request.SetPath m u c) s n t a lent h = free (call_of a lent)

@@ -1,10 +1,9 @@
 -- How a filing comes out: the steps of the plan, each only if the one before went well (docs/ARCHIVE.md, "Filing a record"). A call of the system
 -- answers 0 if it went well, and otherwise the number of an error.
-use Rattle.std.specs.Prelude.{◌≡◌, Bool, true, false, List, [], ◌∷◌, take, replicate, ℤ, pos}
+use Rattle.std.specs.Prelude.{◌≡◌, Bool, true, false, List, [], ◌∷◌, take, replicate, ℤ, pos, Some, None}
+use Rattle.incoming.specs.Gather.{Body}
 use Rattle.base.specs.Pick.{pick}
 use Rattle.files.specs.Errors.{is_error, is_full}
-use Rattle.server.specs.declared.Body.{Body}
-use Rattle.server.specs.declared.Body.TheVariants as body
 use Rattle.server.specs.declared.HostRequest.{HostRequest}
 use Rattle.server.specs.declared.HostRequest.TheVariants as request
 use Rattle.filing.specs.declared.plan.Filing.{Filing}
@@ -32,8 +31,8 @@ is_filed Filed = true
 
 -- Whether there is a body.
 abbrev pub body_there : Body → Bool
-body_there (body.Bytes n) = true
-body_there body.Missing = false
+body_there (Some n) = true
+body_there None = false
 
 -- What the steps answered that were carried out.
 abbrev pub answers_of : Outcome → List ℤ

@@ -10,16 +10,16 @@ use crate::rules::Opened;
 use crate::session::Session;
 use crate::system::{Held, Text, read_some, read_whole};
 use crate::{checks, record, rules, tell};
+use base::Span;
 use digest::md5::octets16_of;
 use files::path::front;
 use filing::paths::SessionId;
 use filing::users::{first_user, password_for};
 use lines::output::put;
-use packet::tlv::Found;
 use reception::answer::{Answer, Decision, Secret};
 use reception::call::BODY;
 use reception::decide::{after_draw, after_filing, plain_answer};
-use server::{Body, HostRequest};
+use server::HostRequest;
 use std::env::Env;
 use std::fs::Files;
 use std::io::Read;
@@ -124,26 +124,15 @@ fn read_file<R: Env + Files + Clock>(
 }
 
 // Returns what is known of a password.
-fn secret_of(found: Found) -> Secret {
+fn secret_of(found: Option<Span>) -> Secret {
     match found {
-        Found::At { start: _, end: _ } => Secret::Known,
-        Found::Missing => Secret::Unknown,
+        Some(_) => Secret::Known,
+        None => Secret::Unknown,
     }
 }
 
-fn start_of(found: Found) -> usize {
-    match found {
-        Found::At { start, end: _ } => start,
-        Found::Missing => 0,
-    }
-}
-
-fn end_of(found: Found) -> usize {
-    match found {
-        Found::At { start: _, end } => end,
-        Found::Missing => 0,
-    }
-}
+// What no place names: no bytes, at the front.
+const NO_PART: Span = Span { start: 0, end: 0 };
 
 // Decides on a request for a password: whether it may be checked, by the letters of all connections, and then what the user's password is.
 fn password<R: Env + Files + Clock>(
@@ -168,10 +157,11 @@ fn password<R: Env + Files + Clock>(
     }
     let n = read_file(rt, err, id, b"users", work);
     let found = password_for(front(work, n), user);
+    let place = found.unwrap_or(NO_PART);
     Decided {
         decision: Decision::Make(Answer::Password(secret_of(found))),
-        from: start_of(found),
-        to: end_of(found),
+        from: place.start,
+        to: place.end,
         check,
         session: s,
         tried: no_record(),
@@ -197,7 +187,7 @@ fn nonce(rt: &impl RandomSource, s: Session, said: Said, work: &mut [u8; WORK]) 
 #[derive(Clone, Copy)]
 struct OwnLine {
     user: usize,
-    password: Found,
+    password: Option<Span>,
 }
 
 // Finds user id and password in the text of `own`.
@@ -221,16 +211,16 @@ fn credentials<R: Env + Files + Clock>(
     let own = own_line(front(work, n));
     let found = own.password;
     match found {
-        Found::At { start, end } => join_own(s, own.user, start, end, work),
-        Found::Missing => make(Answer::NoCredentials, 0, 0, s),
+        Some(password) => join_own(s, own.user, password, work),
+        None => make(Answer::NoCredentials, 0, 0, s),
     }
 }
 
 // Puts a user id of `k` bytes and the password, which stand in the work store, one behind the other at its front.
-fn join_own(s: Session, k: usize, start: usize, end: usize, work: &mut [u8; WORK]) -> Decided {
+fn join_own(s: Session, k: usize, password: Span, work: &mut [u8; WORK]) -> Decided {
     let mut own = [0u8; 512];
     let a = put(&mut own, 0, part(work, 0, k));
-    let n = put(&mut own, a, part(work, start, end));
+    let n = put(&mut own, a, part(work, password.start, password.end));
     let to = put(work, 0, front(&own, n));
     make(Answer::Credentials(a), 0, to, s)
 }
@@ -245,7 +235,7 @@ fn put_record<R: Env + Files + Clock>(
     s: Session,
     said: Said,
     kept: usize,
-    content: Body,
+    content: Option<usize>,
     target: Target,
     headers: &[u8; 65535],
     body: &[u8; BODY],
@@ -322,15 +312,15 @@ pub(crate) fn decide<R: Env + Files + Clock + RandomSource>(
 }
 
 // Returns where the user id of a request for a password stands in the packet.
-fn user_id_in(request: HostRequest) -> Found {
+fn user_id_in(request: HostRequest) -> Option<Span> {
     match request {
         HostRequest::Password { user_id } => user_id,
-        _ => Found::Missing,
+        _ => None,
     }
 }
 
 // Returns the user id of a request for a password, or none.
 pub(crate) fn user_of(request: HostRequest, packet: &[u8; 65535]) -> &[u8] {
-    let user_id = user_id_in(request);
-    part(packet, start_of(user_id), end_of(user_id))
+    let user_id = user_id_in(request).unwrap_or(NO_PART);
+    part(packet, user_id.start, user_id.end)
 }

@@ -5,7 +5,7 @@ ghost use Rattle.archive.specs.Writing.{writing};
 ghost use Rattle.receiver.specs.Log.{frame_laid, framed_by};
 
 use crate::system::{EBADF, EFBIG, Held, answer_of};
-use archive::block::Wrote;
+use archive::block::WriteError;
 use digest::md5::{Octets16, octets16_at, put_octets16};
 use files::path::front;
 use filing::content::{Event, content_for, kind_of};
@@ -65,7 +65,13 @@ pub(crate) enum Framed {
 }
 
 // Lays the next frame behind the last check at the front of the store.
-fn lay_frame(log: Log, kind: Kind, clock: u32, payload: &[u8], work: &mut [u8]) -> Wrote
+fn lay_frame(
+    log: Log,
+    kind: Kind,
+    clock: u32,
+    payload: &[u8],
+    work: &mut [u8],
+) -> Result<usize, WriteError>
     requires { 16 ≤ length work.old }
     ensures { writing result work.new ≡ frame_laid log kind clock payload.now work.old }
 {
@@ -85,8 +91,8 @@ pub(crate) fn lay(log: Log, kind: Kind, clock: u32, payload: &[u8], work: &mut [
     ensures store { work.new ≡ (frame_laid log kind clock payload.now work.old).target }
 {
     match lay_frame(log, kind, clock, payload, work) {
-        Wrote::Written(n) => Framed::Bytes(n),
-        _ => Framed::TooLong,
+        Ok(n) => Framed::Bytes(n),
+        Err(_) => Framed::TooLong,
     }
 }
 
@@ -171,7 +177,7 @@ pub(crate) fn append_event<F: Write>(
     work: &mut [u8; WORK],
 ) -> Log {
     let mut payload = [0u8; SHORT];
-    let Wrote::Written(n) = content_for(&mut payload, event, first, second, third) else {
+    let Ok(n) = content_for(&mut payload, event, first, second, third) else {
         return failed(log, EFBIG);
     };
     append(held, log, kind_of(event), clock, front(&payload, n), work)

@@ -9,7 +9,7 @@ use crate::session::{Session, note, sync_place, with_log, with_record};
 use crate::system::{EFBIG, Held};
 use crate::{clock, log, system, tell};
 use archive::block;
-use archive::block::Wrote;
+use archive::block::WriteError;
 use digest::md5::{digest, octets};
 use files::error::is_full;
 use files::path::front;
@@ -20,7 +20,6 @@ use filing::note::{LogPlace, write_note};
 use filing::paths::{Place, SessionId};
 use filing::plan::{Filing, Step, next_step};
 use lines::output::put;
-use server::Body;
 use std::env::Env;
 use std::fs::Files;
 use std::io::Write;
@@ -210,27 +209,27 @@ pub(crate) fn no_record() -> Tried {
 #[derive(Clone, Copy)]
 pub(crate) struct Handed {
     pub kept: usize,
-    pub body: Body,
+    pub body: Option<usize>,
     pub target: Target,
     pub number: u32,
     pub clock: u32,
 }
 
 // Tells whether a record has a body.
-fn has_body(body: Body) -> bool
+fn has_body(body: Option<usize>) -> bool
     ensures { result ≡ body_there body }
 {
     match body {
-        Body::Bytes(_) => true,
-        Body::Missing => false,
+        Some(_) => true,
+        None => false,
     }
 }
 
 // Returns how many bytes a body has.
-fn body_length(body: Body) -> usize {
+fn body_length(body: Option<usize>) -> usize {
     match body {
-        Body::Bytes(n) => n,
-        Body::Missing => 0,
+        Some(n) => n,
+        None => 0,
     }
 }
 
@@ -289,7 +288,7 @@ fn put_note(
     clock: u32,
     payload: &[u8],
     blocks: &[u8],
-) -> Wrote {
+) -> Result<usize, WriteError> {
     let name = session_name(id.clock, id.high, id.low);
     let check = octets(log.check);
     let sum = digest(blocks);
@@ -320,11 +319,11 @@ fn file_steps<R: Env + Files>(
     if log.error != 0 {
         return not_begun(Step::SyncLog, log.error);
     }
-    let Wrote::Written(n) = block::write(body, work) else {
+    let Ok(n) = block::write(body, work) else {
         return not_begun(Step::WriteBody, EFBIG);
     };
     let mut text = [0u8; 1024];
-    let Wrote::Written(k) = put_note(&mut text, id, log, r.clock, payload, front(work, n)) else {
+    let Ok(k) = put_note(&mut text, id, log, r.clock, payload, front(work, n)) else {
         return not_begun(Step::WriteNote, EFBIG);
     };
     carry_all(
@@ -423,7 +422,7 @@ pub(crate) fn file<R: Env + Files + Clock>(
     s: Session,
     is_taken: bool,
     kept: usize,
-    content: Body,
+    content: Option<usize>,
     target: Target,
     headers: &[u8],
     body: &[u8],

@@ -12,7 +12,6 @@ use lines::arguments::argument;
 use lines::output;
 use lines::output::{print, put};
 use packet::response::SUCCESS;
-use server::Body;
 use std::env::Env;
 use std::time::Clock;
 use table::targets::{Target, is_named};
@@ -71,7 +70,7 @@ fn put_peer(rt: &impl Env, out: &mut [u8], n: usize) -> usize {
 // Puts the time.
 fn put_time(rt: &impl Clock, out: &mut [u8], n: usize) -> usize {
     let mut time = [b'-'; 16];
-    write_time(clock::now(rt), &mut time);
+    let _ = write_time(clock::now(rt), &mut time);
     put(out, n, &time)
 }
 
@@ -226,10 +225,10 @@ fn put_target(out: &mut [u8], n: usize, target: Target) -> usize {
 }
 
 // Puts how long a body is.
-fn put_length(out: &mut [u8], n: usize, body: Body) -> usize {
+fn put_length(out: &mut [u8], n: usize, body: Option<usize>) -> usize {
     match body {
-        Body::Bytes(k) => output::put_number(out, n, k),
-        Body::Missing => put(out, n, b"none"),
+        Some(k) => output::put_number(out, n, k),
+        None => put(out, n, b"none"),
     }
 }
 

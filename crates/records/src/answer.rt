@@ -11,43 +11,34 @@ pub(crate) fn bad_question(rt: &impl Print) {
     print(rt, b"bad question\n");
 }
 
-// Puts the line of an answer: its number, and the target's bytes.
-fn put_answer(out: &mut [u8], number: usize, target: &[u8]) -> usize
+// Puts numbers with a blank between them into `out`, and returns where they end.
+fn put_numbers(out: &mut [u8], numbers: &[usize]) -> usize
     ensures { result ≤ length out.new }
 {
-    let a = put_number(out, 0, number);
-    let b = put(out, a, b" ");
-    let c = put_hex(out, b, target, SHOWN);
-    put(out, c, b"\n")
+    let mut n = 0;
+    for (k, number) in numbers.iter().enumerate() {
+        if 0 < k {
+            n = put(out, n, b" ");
+        }
+        n = put_number(out, n, *number);
+    }
+    n
 }
 
-// Answers with a number and the target's bytes.
-pub(crate) fn number_and_target(rt: &impl Print, number: usize, target: &[u8]) {
+// Answers with numbers.
+pub(crate) fn show_numbers(rt: &impl Print, numbers: &[usize]) {
+    let mut out = [0u8; 128];
+    let a = put_numbers(&mut out, numbers);
+    let b = put(&mut out, a, b"\n");
+    write(rt, &out, b);
+}
+
+// Answers with numbers and the target's bytes.
+pub(crate) fn show_target(rt: &impl Print, numbers: &[usize], target: &[u8]) {
     let mut out = [0u8; 1100];
-    let n = put_answer(&mut out, number, target);
-    write(rt, &out, n);
-}
-
-// Puts the line of an answer: its number, a length, and the target's bytes.
-fn put_long_answer(out: &mut [u8], number: usize, size: usize, target: &[u8]) -> usize
-    ensures { result ≤ length out.new }
-{
-    let a = put_number(out, 0, number);
-    let b = put(out, a, b" ");
-    let c = put_number(out, b, size);
-    let d = put(out, c, b" ");
-    let e = put_hex(out, d, target, SHOWN);
-    put(out, e, b"\n")
-}
-
-// Answers with a number, a length and the target's bytes.
-pub(crate) fn number_length_and_target(
-    rt: &impl Print,
-    number: usize,
-    length: usize,
-    target: &[u8],
-) {
-    let mut out = [0u8; 1100];
-    let n = put_long_answer(&mut out, number, length, target);
-    write(rt, &out, n);
+    let a = put_numbers(&mut out, numbers);
+    let b = put(&mut out, a, b" ");
+    let c = put_hex(&mut out, b, target, SHOWN);
+    let d = put(&mut out, c, b"\n");
+    write(rt, &out, d);
 }

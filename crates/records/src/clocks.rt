@@ -1,182 +1,89 @@
 // The questions on clocks: `time ROOM SECONDS`, answered `NUMBER TARGET`, where ROOM is the target's length in bytes, and the target is
 // filled with ee first and shown whole; `legacy TEXT`, where TEXT is bytes in hexadecimal, answered `NUMBER SECONDS`; `roll YEAR MONTH
 // DAY`, answered `NUMBER YEAR MONTH DAY`.
-ghost use Rattle.std.specs.Prelude.{◌≤◌, length};
+ghost use Rattle.std.specs.Prelude.{◌<◌, ◌^◌};
 
-use crate::answer::{bad_question, number_and_target};
-use crate::question::{Number, is_bytes, number_of};
-use calendar::date::{Date, Rolling, roll_copy};
-use calendar::time::{Legacy, legacy_number, read_time, write_time, wrote_number};
-use lines::output::{least, put, put_number, write};
+use crate::answer::{bad_question, show_numbers, show_target};
+use crate::question::{is_bytes, number_of};
+use calendar::date::{Date, roll_copy, roll_number};
+use calendar::time::{legacy_number, read_time, write_time, wrote_number};
 use lines::word::{after, find, unhex};
 
 // The largest target that is asked about, in bytes: 1 MiB.
 const LARGEST: usize = 1048576;
 
-// Returns the seconds of an answer of `read_time`, or 0 if it has none.
-fn seconds_of(answer: Legacy) -> usize {
-    match answer {
-        Legacy::Seconds(n) => n as usize,
-        Legacy::Malformed => 0,
-        Legacy::Nonexistent => 0,
-        Legacy::Outside => 0,
-    }
+// Writes the time into the first `room` places of a store of `ROOM`, and shows the answer's number and these places.
+fn show_time<const ROOM: usize>(rt: &impl Print, seconds: u32, room: usize)
+    requires { ROOM < 2 ^ 32 }
+{
+    let mut store = [0xEEu8; ROOM];
+    let size = room.min(ROOM);
+    let answer = write_time(seconds, &mut store[..size]);
+    show_target(rt, &[wrote_number(answer)], &store[..size]);
 }
 
-// Writes the time into the first `room` places of `store`, and shows the answer's number and these places.
-fn show_time(rt: &impl Print, seconds: u32, room: usize, store: &mut [u8]) {
-    let size = least(room, store.len());
-    let answer = write_time(seconds, &mut store[0..size]);
-    number_and_target(rt, wrote_number(answer), &store[0..size]);
-}
-
-// Answers a question on a small target, in a store that is made quickly.
-fn show_time_short(rt: &impl Print, seconds: u32, room: usize) {
-    let mut store = [0xEEu8; 512];
-    show_time(rt, seconds, room, &mut store);
-}
-
-// Answers a question on any target.
-fn show_time_long(rt: &impl Print, seconds: u32, room: usize) {
-    let mut store = [0xEEu8; 1048576];
-    show_time(rt, seconds, room, &mut store);
-}
-
-// Answers `ROOM SECONDS`.
-pub(crate) fn time(rt: &impl Print, s: &[u8]) {
+// Returns the room and the seconds of `ROOM SECONDS`, if both are numbers and not too large.
+fn room_and_seconds(s: &[u8]) -> Option<(usize, u32)> {
     let gap = find(s, 0, b' ');
-    let start = after(s, gap);
-    let Number::Known(room) = number_of(&s[0..gap]) else {
-        bad_question(rt);
-        return;
-    };
-    let Number::Known(seconds) = number_of(&s[start..]) else {
-        bad_question(rt);
-        return;
-    };
-    if LARGEST < room {
-        bad_question(rt);
-        return;
-    }
-    if 0xFFFFFFFF < seconds {
-        bad_question(rt);
-        return;
-    }
-    if room <= 512 {
-        show_time_short(rt, seconds as u32, room);
-        return;
-    }
-    show_time_long(rt, seconds as u32, room);
+    let room = number_of(&s[..gap])?;
+    let seconds = u32::try_from(number_of(&s[after(s, gap)..])?).ok()?;
+    (room <= LARGEST).then_some((room, seconds))
 }
 
-// Puts a blank and a number behind the first `n` bytes of `out`, and returns where they end.
-fn put_next(out: &mut [u8], n: usize, number: usize) -> usize
-    ensures { result ≤ length out.new }
-{
-    let a = put(out, n, b" ");
-    put_number(out, a, number)
-}
-
-// Puts the line of an answer into `out`: its number, and the seconds.
-fn put_seconds(out: &mut [u8], answer: Legacy) -> usize
-    ensures { result ≤ length out.new }
-{
-    let a = put_number(out, 0, legacy_number(answer));
-    let b = put_next(out, a, seconds_of(answer));
-    put(out, b, b"\n")
-}
-
-// Converts the text of `digits`, whose bytes go into `octets`.
-fn convert(digits: &[u8], octets: &mut [u8]) -> Legacy {
-    let n = unhex(digits, octets);
-    read_time(&octets[0..n])
+// Answers `ROOM SECONDS`. A small target goes through a store that is made quickly.
+pub(crate) fn time(rt: &impl Print, s: &[u8]) {
+    match room_and_seconds(s) {
+        None => bad_question(rt),
+        Some((room, seconds)) if room <= 512 => show_time::<512>(rt, seconds, room),
+        Some((room, seconds)) => show_time::<1048576>(rt, seconds, room),
+    }
 }
 
 // Converts the text of `digits`, and shows the answer. No line has digits for more bytes than the store.
 fn show_legacy(rt: &impl Print, digits: &[u8]) {
     let mut octets = [0u8; 131072];
-    let mut out = [0u8; 64];
-    let answer = convert(digits, &mut octets);
-    let n = put_seconds(&mut out, answer);
-    write(rt, &out, n);
+    let n = unhex(digits, &mut octets);
+    let answer = read_time(&octets[..n]);
+    show_numbers(rt, &[legacy_number(answer), answer.unwrap_or(0) as usize]);
 }
 
 // Answers `TEXT`.
 pub(crate) fn legacy(rt: &impl Print, digits: &[u8]) {
-    if !is_bytes(digits, 2) {
+    if is_bytes(digits, 2) {
+        show_legacy(rt, digits);
+    } else {
         bad_question(rt);
-        return;
     }
-    show_legacy(rt, digits);
 }
 
-// What three words name: a date, or none if a word is no number or a number is too large for its field.
-#[derive(Clone, Copy)]
-enum Asked {
-    Day(Date),
-    Malformed,
-}
-
-// Returns the date that three words name.
-fn date_of(year: Number, month: Number, day: Number) -> Asked {
-    let Number::Known(y) = year else {
-        return Asked::Malformed;
-    };
-    let Number::Known(m) = month else {
-        return Asked::Malformed;
-    };
-    let Number::Known(d) = day else {
-        return Asked::Malformed;
-    };
-    if 0xFFFF < y {
-        return Asked::Malformed;
-    }
-    if 0xFF < m {
-        return Asked::Malformed;
-    }
-    if 0xFF < d {
-        return Asked::Malformed;
-    }
-    Asked::Day(Date {
-        year: y as u16,
-        month: m as u8,
-        day: d as u8,
-    })
-}
-
-// Puts the line of an answer into `out`: its number, and the date afterwards.
-fn put_date(out: &mut [u8], answer: Rolling) -> usize
-    ensures { result ≤ length out.new }
-{
-    let date = answer.date;
-    let a = put_number(out, 0, answer.number as usize);
-    let b = put_next(out, a, date.year as usize);
-    let c = put_next(out, b, date.month as usize);
-    let d = put_next(out, c, date.day as usize);
-    put(out, d, b"\n")
-}
-
-// Rolls the date forward, and shows the answer.
-fn show_date(rt: &impl Print, date: Date) {
-    let mut out = [0u8; 64];
-    let n = put_date(&mut out, roll_copy(date));
-    write(rt, &out, n);
-}
-
-// Answers `YEAR MONTH DAY`.
-pub(crate) fn roll(rt: &impl Print, s: &[u8]) {
+// Returns the date of `YEAR MONTH DAY`, or nothing if a word is no number or a number is too large for its field.
+fn date_of(s: &[u8]) -> Option<Date> {
     let first = find(s, 0, b' ');
     let month = after(s, first);
     let second = find(s, month, b' ');
     let day = after(s, second);
-    let asked = date_of(
-        number_of(&s[0..first]),
-        number_of(&s[month..second]),
-        number_of(&s[day..]),
-    );
-    let Asked::Day(date) = asked else {
+    Some(Date {
+        year: u16::try_from(number_of(&s[..first])?).ok()?,
+        month: u8::try_from(number_of(&s[month..second])?).ok()?,
+        day: u8::try_from(number_of(&s[day..])?).ok()?,
+    })
+}
+
+// Answers `YEAR MONTH DAY`.
+pub(crate) fn roll(rt: &impl Print, s: &[u8]) {
+    let Some(date) = date_of(s) else {
         bad_question(rt);
         return;
     };
-    show_date(rt, date);
+    let rolled = roll_copy(date);
+    let after = rolled.date;
+    show_numbers(
+        rt,
+        &[
+            roll_number(rolled.answer),
+            usize::from(after.year),
+            usize::from(after.month),
+            usize::from(after.day),
+        ],
+    );
 }

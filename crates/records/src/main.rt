@@ -10,48 +10,32 @@ mod readings;
 
 use crate::answer::bad_question;
 use crate::question::{Question, question_of};
-use lines::input::{before_first, bytes_of, next_line};
+use lines::input::lines_of;
 use lines::word::{after, find};
-use std::io::Read;
 
-// Answers one line.
+// Answers one line. One that was cut, as longer than the store, is no question.
 fn line(rt: &impl Print, s: &[u8], is_cut: bool) {
     let gap = find(s, 0, b' ');
-    let rest = after(s, gap);
-    if is_cut {
-        bad_question(rt);
-        return;
-    }
-    match question_of(&s[0..gap]) {
-        Question::Write => blocks::answer(rt, true, &s[rest..]),
-        Question::Read => blocks::answer(rt, false, &s[rest..]),
-        Question::Store => readings::answer(rt, true, &s[rest..]),
-        Question::Restore => readings::answer(rt, false, &s[rest..]),
-        Question::Time => clocks::time(rt, &s[rest..]),
-        Question::Legacy => clocks::legacy(rt, &s[rest..]),
-        Question::Roll => clocks::roll(rt, &s[rest..]),
-        Question::Unknown => bad_question(rt),
-    }
-}
-
-// Answers the lines of standard input, which is read into `s`.
-fn lines_of(rt: &impl Print, input: &mut impl Read, s: &mut [u8]) {
-    let mut steps = u64::MAX;
-    let mut at = before_first();
-    while steps > 0 {
-        at = next_line(input, s, at);
-        if at.is_over {
-            return;
-        }
-        if at.is_there {
-            line(rt, bytes_of(s, at), at.is_cut);
-        }
-        steps -= 1;
+    let rest = &s[after(s, gap)..];
+    let asked = if is_cut { None } else { question_of(&s[..gap]) };
+    match asked {
+        Some(Question::Write) => blocks::answer(rt, blocks::write, rest),
+        Some(Question::Read) => blocks::answer(rt, blocks::read, rest),
+        Some(Question::Store) => readings::answer(rt, samples::encode, rest),
+        Some(Question::Restore) => readings::answer(rt, samples::decode, rest),
+        Some(Question::Time) => clocks::time(rt, rest),
+        Some(Question::Legacy) => clocks::legacy(rt, rest),
+        Some(Question::Roll) => clocks::roll(rt, rest),
+        None => bad_question(rt),
     }
 }
 
 // Answers the lines of standard input. A line of 262,144 bytes and its end fit in the store.
 fn main(rt: HostRuntime) {
     let mut input = [0u8; 262145];
-    lines_of(&rt, &mut rt.stdin(), &mut input);
+    lines_of(
+        &mut rt.stdin(),
+        &mut input,
+        |s, is_cut| line(&rt, s, is_cut),
+    );
 }

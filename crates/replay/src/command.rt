@@ -1,35 +1,85 @@
-// Lines of a transcript as commands: which call each of them is, and what it hands over.
-use crate::state::bare;
+// Lines of a transcript as commands, and the calls on the engine that they name, with what each call hands over.
 use check::same;
 use digest::md5::{Octets16, octets16_at};
-use lines::output::least;
-use lines::word::{after, byte_at, find, line_number, number, unhex, value, word_of};
+use lines::word::{after, byte_at, find, number, piece_at, unhex, value, word_of};
 use server::{Settings, default_settings};
+use std::alloc::{AllocError, Global};
 
+// How many bytes an answer hands over at most.
+const WORDS: usize = 262144;
+
+// How many bytes of a realm are kept: more than 254, so that a realm that is too long reaches the engine, which refuses it.
+const REALM: usize = 1024;
+
+// How many ids of connections are looked at, so that more than 64 reach the engine.
+const IDS: usize = 128;
+
+// How long each store is, and so the most that is lent of it.
+pub const TABLES: usize = 320;
+
+pub const STORE: usize = 65536;
+
+pub const BODY: usize = 1048576;
+
+// A line with the words behind its first one. A line that tells what the original did is no command.
 #[derive(Clone, Copy)]
-pub enum Command {
-    Longest,
-    Start,
-    Sent,
-    Read,
-    Nonce,
-    Answer,
-    Stores,
+pub enum Command<'a> {
+    Longest(usize),
+    Start(&'a [u8]),
+    Sent(&'a [u8]),
+    Read(usize),
+    Nonce(&'a [u8]),
+    Answer(&'a [u8]),
+    // None if the line is one that `show` has printed.
+    Stores(Option<Lent>),
     Hold,
     Taken,
     Acknowledge,
     Show,
     Inspect,
-    Close,
-    // A line that tells what the original did, or no command.
-    Other,
+    Close(&'a [u8]),
 }
 
-// What a start names: the engine's settings, and what the program does. The realm's bytes stand in the realm store.
+// How much of each store is lent to the engine.
 #[derive(Clone, Copy)]
+pub struct Lent {
+    pub packet: usize,
+    pub headers: usize,
+    pub body: usize,
+    pub reply: usize,
+    pub tables: usize,
+}
+
+impl Lent {
+    pub const WHOLE: Lent = Lent {
+        packet: STORE,
+        headers: STORE,
+        body: BODY,
+        reply: STORE,
+        tables: TABLES,
+    };
+
+    // Returns how much is lent by four numbers and, if there is a fifth, by that for the tables.
+    fn parse(words: &[u8]) -> Lent {
+        let tables = piece_at(words, 4, b' ').start;
+        Lent {
+            packet: number(word_of(words, 0)),
+            headers: number(word_of(words, 1)),
+            body: number(word_of(words, 2)),
+            reply: number(word_of(words, 3)),
+            tables: match &words[tables..] {
+                [] => TABLES,
+                digits => number(digits),
+            },
+        }
+    }
+}
+
+// What a start names: the engine's settings, and what the program does.
+#[derive(Drop)]
 pub struct Options {
     pub settings: Settings,
-    pub realm_length: usize,
+    pub realm: Vec<u8>,
     // Whether the Target of each request is printed.
     pub targets: bool,
     // Whether the stores are filled with zeros.
@@ -38,8 +88,15 @@ pub struct Options {
     pub counter: u32,
 }
 
-// A call on the engine.
-#[derive(Clone, Copy)]
+// The credentials that answer a client's challenge.
+#[derive(Drop)]
+pub struct Credentials {
+    pub user: Option<Vec<u8>>,
+    pub password: Vec<u8>,
+}
+
+// A call on the engine, with what it hands over.
+#[derive(Drop)]
 pub enum Call {
     Start(Options),
     Bytes,
@@ -47,282 +104,179 @@ pub enum Call {
     Taken,
     Acknowledge,
     Nonce(Octets16),
-    Reply(u8),
-    Object(bool),
-    Body,
+    Reply { code: u8, headers: Vec<u8> },
+    Object { headers: Vec<u8>, has_body: bool },
+    Body(Vec<u8>),
     BodyFailed,
-    Password(bool),
-    Credentials {
-        has_credentials: bool,
-        has_user: bool,
-    },
-    // The ids are the first byte string, four bytes each.
-    Close,
-    Nothing,
+    Password(Option<Vec<u8>>),
+    Credentials(Option<Credentials>),
+    Close(Vec<u32>),
 }
 
-// A call with the lengths of the two byte strings that it hands over, of which the second stands behind the first.
-#[derive(Clone, Copy)]
-pub struct Decoded {
-    pub call: Call,
-    pub first: usize,
-    pub second: usize,
-}
-
-#[derive(Clone, Copy)]
-enum Key {
-    MaxPacketLength,
-    MaxObjectSize,
-    Srm,
-    Auth,
-    Realm,
-    Charset,
-    UserIdRequired,
-    ReadOnly,
-    UserIdEnforced,
-    RefuseTrailing,
-    Targets,
-    Clear,
-    Counter,
-    Other,
-}
-
-// Returns the command that a word names. The first six are those of the original's transcripts.
-pub(crate) fn command_of(w: &[u8]) -> Command {
-    let names =
-        b"read\nsent\nanswer\nstart\nnonce\nlongest\nstores\nhold\ntaken\nacknowledge\nshow\ninspect\nclose\n";
-    match line_number(names, w) {
-        0 => Command::Read,
-        1 => Command::Sent,
-        2 => Command::Answer,
-        3 => Command::Start,
-        4 => Command::Nonce,
-        5 => Command::Longest,
-        6 => Command::Stores,
-        7 => Command::Hold,
-        8 => Command::Taken,
-        9 => Command::Acknowledge,
-        10 => Command::Show,
-        11 => Command::Inspect,
-        12 => Command::Close,
-        _ => Command::Other,
+impl<'a> Command<'a> {
+    // Returns the command that a line is.
+    pub(crate) fn parse(line: &'a [u8]) -> Option<Command<'a>> {
+        let end = find(line, 0, b' ');
+        let words = &line[after(line, end)..];
+        match &line[..end] {
+            b"read" => Some(Command::Read(number(words))),
+            b"sent" => Some(Command::Sent(words)),
+            b"answer" => Some(Command::Answer(words)),
+            b"start" => Some(Command::Start(words)),
+            b"nonce" => Some(Command::Nonce(words)),
+            b"longest" => Some(Command::Longest(number(words))),
+            b"stores" => Some(Command::Stores(stores_of(words))),
+            b"hold" => Some(Command::Hold),
+            b"taken" => Some(Command::Taken),
+            b"acknowledge" => Some(Command::Acknowledge),
+            b"show" => Some(Command::Show),
+            b"inspect" => Some(Command::Inspect),
+            b"close" => Some(Command::Close(words)),
+            _ => None,
+        }
     }
+}
+
+fn stores_of(words: &[u8]) -> Option<Lent> {
+    if words.first() == Some(&b'#') {
+        None
+    } else {
+        Some(Lent::parse(words))
+    }
+}
+
+// Returns the bytes that a word stands for in hexadecimal, at most `room` of them.
+pub(crate) fn bytes_of(alloc: Global, word: &[u8], room: usize) -> Result<Vec<u8>, AllocError> {
+    let mut bytes = vec![in alloc; 0u8; room]?;
+    let n = unhex(word, bytes.as_mut_slice());
+    bytes.truncate(n);
+    Ok(bytes)
+}
+
+// Returns the byte that two hexadecimal digits stand for.
+fn byte_of(word: &[u8]) -> u8 {
+    value(byte_at(word, 0)) * 16 + value(byte_at(word, 1))
 }
 
 // ---- the settings of a start
 
-fn key_of(w: &[u8]) -> Key {
-    let names = b"max_packet_length\n\
-        max_object_size\n\
-        srm\n\
-        auth\n\
-        realm\n\
-        charset\n\
-        user_id_required\n\
-        read_only\n\
-        user_id_enforced\n\
-        refuse_trailing\n\
-        targets\n\
-        clear\n\
-        counter\n";
-    match line_number(names, w) {
-        0 => Key::MaxPacketLength,
-        1 => Key::MaxObjectSize,
-        2 => Key::Srm,
-        3 => Key::Auth,
-        4 => Key::Realm,
-        5 => Key::Charset,
-        6 => Key::UserIdRequired,
-        7 => Key::ReadOnly,
-        8 => Key::UserIdEnforced,
-        9 => Key::RefuseTrailing,
-        10 => Key::Targets,
-        11 => Key::Clear,
-        12 => Key::Counter,
-        _ => Key::Other,
+fn is_set(word: &[u8]) -> bool {
+    word.first() == Some(&b'1')
+}
+
+impl Options {
+    // Returns the options that the words of a start name.
+    pub(crate) fn parse(alloc: Global, words: &[u8]) -> Result<Options, AllocError> {
+        let mut options = Options::new(alloc);
+        for word in words.split(|&b| b == b' ') {
+            let end = find(word, 0, b'=');
+            options.set(alloc, &word[..end], &word[after(word, end)..])?;
+        }
+        Ok(options)
+    }
+
+    // Returns the options with which the original starts. The body store is the Put limit.
+    fn new(alloc: Global) -> Options {
+        Options {
+            settings: default_settings(BODY as u32),
+            realm: Vec::new(alloc),
+            targets: false,
+            clear: false,
+            counter: 1,
+        }
+    }
+
+    // Changes one of the options.
+    fn set(&mut self, alloc: Global, key: &[u8], word: &[u8]) -> Result<(), AllocError> {
+        match key {
+            b"realm" => {
+                self.settings.has_realm = true;
+                self.realm = bytes_of(alloc, word, REALM)?;
+            }
+            b"targets" => self.targets = is_set(word),
+            b"clear" => self.clear = is_set(word),
+            b"counter" => self.counter = (number(word) % 4294967296) as u32,
+            _ => set(&mut self.settings, key, word),
+        }
+        Ok(())
     }
 }
 
-// Returns the options with which the original starts. The body store holds 1 MiB, so the Put limit is cut down to that.
-fn default_options() -> Options {
-    Options {
-        settings: default_settings(1048576),
-        realm_length: 0,
-        targets: false,
-        clear: false,
-        counter: 1,
-    }
-}
-
-// Returns the byte that two hexadecimal digits stand for.
-fn byte_of(w: &[u8]) -> u8 {
-    value(byte_at(w, 0)) * 16 + value(byte_at(w, 1))
-}
-
-fn is_set(w: &[u8]) -> bool {
-    byte_at(w, 0) == b'1'
-}
-
-// Returns the settings with one of them changed. A limit above the body store's 1 MiB is cut down to that.
-fn with_setting(s: Settings, key: Key, w: &[u8]) -> Settings {
-    let mut r = s;
+// Changes one of the engine's settings. A limit above the body store is cut down to that.
+fn set(settings: &mut Settings, key: &[u8], word: &[u8]) {
     match key {
-        Key::MaxPacketLength => r.max_packet_length = (number(w) % 65536) as u16,
-        Key::MaxObjectSize => r.max_object_size = least(number(w), 1048576) as u32,
-        Key::Srm => r.srm_supported = is_set(w),
-        Key::Auth => r.authentication = is_set(w),
-        Key::Realm => r.has_realm = true,
-        Key::Charset => r.charset = byte_of(w),
-        Key::UserIdRequired => r.user_id_required = is_set(w),
-        Key::ReadOnly => r.read_only = is_set(w),
-        Key::UserIdEnforced => r.user_id_enforced = is_set(w),
-        Key::RefuseTrailing => r.refuse_trailing = is_set(w),
+        b"max_packet_length" => settings.max_packet_length = (number(word) % 65536) as u16,
+        b"max_object_size" => settings.max_object_size = number(word).min(BODY) as u32,
+        b"srm" => settings.srm_supported = is_set(word),
+        b"auth" => settings.authentication = is_set(word),
+        b"charset" => settings.charset = byte_of(word),
+        b"user_id_required" => settings.user_id_required = is_set(word),
+        b"read_only" => settings.read_only = is_set(word),
+        b"user_id_enforced" => settings.user_id_enforced = is_set(word),
+        b"refuse_trailing" => settings.refuse_trailing = is_set(word),
         _ => {}
     }
-    r
-}
-
-// Returns the options with one of them changed. A realm's bytes, as many as `realm` says, stand in their store already.
-fn with_option(o: Options, key: Key, w: &[u8], realm: usize) -> Options {
-    let mut r = o;
-    let settings = with_setting(o.settings, key, w);
-    r.settings = settings;
-    match key {
-        Key::Realm => r.realm_length = realm,
-        Key::Targets => r.targets = is_set(w),
-        Key::Clear => r.clear = is_set(w),
-        Key::Counter => r.counter = (number(w) % 4294967296) as u32,
-        _ => {}
-    }
-    r
-}
-
-fn is_realm(key: Key) -> bool {
-    if let Key::Realm = key { true } else { false }
-}
-
-// Stores the realm's bytes if the setting is a realm, and returns how many there are. The store keeps 1,024 of them, so that a realm of
-// over 254 bytes reaches the engine, which refuses it.
-fn realm(key: Key, w: &[u8], store: &mut [u8]) -> usize {
-    if is_realm(key) {
-        return unhex(w, store);
-    }
-    0
-}
-
-fn option(o: Options, w: &[u8], store: &mut [u8]) -> Options {
-    let end = find(w, 0, b'=');
-    let key = key_of(&w[0..end]);
-    let from = after(w, end);
-    let n = realm(key, &w[from..], store);
-    with_option(o, key, &w[from..], n)
-}
-
-// Returns the settings that the words of a start name.
-fn options_of(s: &[u8], store: &mut [u8]) -> Options {
-    let mut o = default_options();
-    let mut at = 0;
-    while at < s.len() {
-        let end = find(s, at, b' ');
-        o = option(o, &s[at..end], store);
-        at = end + 1;
-    }
-    o
 }
 
 // ---- what the host answers
 
-// Returns the call of an answer, by its name and the two words behind the name.
-fn answer_of(name: &[u8], first: &[u8], second: &[u8]) -> Call {
-    match line_number(
-        b"reply\nobject\nread\nreadfail\npassword\ncredentials\n",
-        name,
-    ) {
-        0 => Call::Reply(byte_of(first)),
-        1 => Call::Object(same(second, b"body")),
-        2 => Call::Body,
-        3 => Call::BodyFailed,
-        4 => Call::Password(!same(first, b"none")),
-        5 => Call::Credentials {
-            has_credentials: !same(first, b"none"),
-            has_user: !same(first, b"nouser"),
-        },
-        _ => Call::Nothing,
+impl Call {
+    // Returns the call of an answer: its name and two words, of which one or both are bytes.
+    pub(crate) fn answer(alloc: Global, words: &[u8]) -> Result<Option<Call>, AllocError> {
+        let one = word_of(words, 1);
+        let two = word_of(words, 2);
+        let first = bytes_of(alloc, one, WORDS)?;
+        let second = bytes_of(alloc, two, WORDS.saturating_sub(first.len()))?;
+        Ok(match word_of(words, 0) {
+            b"reply" => Some(Call::Reply {
+                code: byte_of(one),
+                headers: second,
+            }),
+            b"object" => Some(Call::Object {
+                headers: first,
+                has_body: same(two, b"body"),
+            }),
+            b"read" => Some(Call::Body(first)),
+            b"readfail" => Some(Call::BodyFailed),
+            b"password" => Some(Call::Password(unless(same(one, b"none"), first))),
+            b"credentials" => Some(Call::Credentials(unless(
+                same(one, b"none"),
+                Credentials {
+                    user: unless(same(one, b"nouser"), first),
+                    password: second,
+                },
+            ))),
+            _ => None,
+        })
+    }
+
+    // Returns the call with a nonce, or none if that is not sixteen bytes long.
+    pub(crate) fn nonce(alloc: Global, word: &[u8]) -> Result<Option<Call>, AllocError> {
+        let bytes = bytes_of(alloc, word, WORDS)?;
+        if bytes.len() != 16 {
+            return Ok(None);
+        }
+        Ok(Some(Call::Nonce(octets16_at(bytes.as_slice(), 0))))
+    }
+
+    // Returns the call that closes ids, of eight digits each; what stands between two of them is passed over.
+    pub(crate) fn close(alloc: Global, word: &[u8]) -> Result<Call, AllocError> {
+        let bytes = bytes_of(alloc, word, WORDS)?;
+        let (ids, _) = bytes.as_slice().as_chunks::<4>();
+        let ids = ids.iter().take(IDS).map(|id| u32::from_be_bytes(*id));
+        Ok(Call::Close(ids.collect(alloc)?))
+    }
+
+    // Returns the call of a read of `n` bytes: of none it is the end of the stream.
+    pub(crate) fn read(n: usize) -> Call {
+        if n == 0 {
+            Call::EndOfStream
+        } else {
+            Call::Bytes
+        }
     }
 }
 
-// Decodes an answer: its name and two words, of which one or both are bytes.
-fn answer(s: &[u8], store: &mut [u8]) -> Decoded {
-    let first = unhex(word_of(s, 1), store);
-    let second = unhex(word_of(s, 2), &mut store[first..]);
-    Decoded {
-        call: answer_of(word_of(s, 0), word_of(s, 1), word_of(s, 2)),
-        first,
-        second,
-    }
-}
-
-// Returns the call with the nonce `s`, or none if that is not sixteen bytes long.
-fn nonce_of(s: &[u8]) -> Call {
-    if s.len() == 16 {
-        return Call::Nonce(octets16_at(s, 0));
-    }
-    Call::Nothing
-}
-
-// Decodes the ids that are to be closed, of eight digits each; what stands between two of them is passed over.
-fn close(s: &[u8], store: &mut [u8]) -> Decoded {
-    let first = unhex(s, store);
-    Decoded {
-        call: Call::Close,
-        first,
-        second: 0,
-    }
-}
-
-fn nonce(s: &[u8], store: &mut [u8]) -> Call {
-    let n = unhex(s, store);
-    nonce_of(&store[0..n])
-}
-
-// ---- calls
-
-// Returns the call of a read: a read of no bytes is the end of the stream.
-fn read_of(n: usize) -> Call {
-    if n == 0 {
-        return Call::EndOfStream;
-    }
-    Call::Bytes
-}
-
-// Returns the call of a command that hands over no bytes, by the words `s` behind its name.
-fn call_alone(c: Command, s: &[u8]) -> Call {
-    match c {
-        Command::Read => read_of(number(s)),
-        Command::Taken => Call::Taken,
-        Command::Acknowledge => Call::Acknowledge,
-        _ => Call::Nothing,
-    }
-}
-
-// Returns the call of a command, by the words `s` behind its name. The bytes of an answer go into `words`.
-fn decode_answer(c: Command, s: &[u8], words: &mut [u8]) -> Decoded {
-    match c {
-        Command::Nonce => bare(nonce(s, words)),
-        Command::Answer => answer(s, words),
-        Command::Close => close(s, words),
-        _ => bare(call_alone(c, s)),
-    }
-}
-
-fn is_start(c: Command) -> bool {
-    if let Command::Start = c { true } else { false }
-}
-
-// Returns the call of any command. The realm of a start goes into `realm`.
-pub(crate) fn decode(c: Command, s: &[u8], words: &mut [u8], realm: &mut [u8]) -> Decoded {
-    if is_start(c) {
-        return bare(Call::Start(options_of(s, realm)));
-    }
-    decode_answer(c, s, words)
+fn unless<T: Drop>(is_missing: bool, x: T) -> Option<T> {
+    if is_missing { None } else { Some(x) }
 }

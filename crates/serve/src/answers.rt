@@ -5,7 +5,7 @@ use crate::{file, log};
 use engine::calls;
 use files::path::front;
 use packet::response::SUCCESS;
-use server::{Body, CallResult, Engine, HostRequest};
+use server::{CallResult, Engine, HostRequest};
 use std::env::Env;
 use std::fs::Files;
 use std::io;
@@ -25,7 +25,7 @@ fn put<R: Env + Files + RandomSource>(
     process: u32,
     e: Engine,
     kept: usize,
-    content: Body,
+    content: Option<usize>,
     tables: &mut [u64; 320],
     packet: &mut [u8; 65535],
     headers: &mut [u8; 65535],

@@ -12,7 +12,6 @@ use files::path::{Folder, front};
 use files::system;
 use lines::arguments::has_argument;
 use packet::response::{CONFLICT, FORBIDDEN, INTERNAL_SERVER_ERROR, NOT_IMPLEMENTED, SUCCESS};
-use server::Body;
 use std::env::Env;
 use std::fs::{Files, OpenFile, Permissions};
 use std::io;
@@ -235,12 +234,12 @@ pub(crate) fn put_body<R: Env + Files + RandomSource>(
     process: u32,
     folder: Folder,
     headers: &[u8],
-    content: Body,
+    content: Option<usize>,
     body: &[u8],
 ) -> u8 {
     match content {
-        Body::Bytes(n) => put(rt, err, process, folder, headers, front(body, n)),
-        Body::Missing => {
+        Some(n) => put(rt, err, process, folder, headers, front(body, n)),
+        None => {
             log::put(err, b"", 0, NOT_IMPLEMENTED);
             NOT_IMPLEMENTED
         }

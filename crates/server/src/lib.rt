@@ -85,7 +85,7 @@ pub enum Operation {
     // waits for credentials. `front` is the ConnectionID that the engine puts in front of them.
     Connecting {
         code: u8,
-        front: connection::peer::ConnectionId,
+        front: Option<u32>,
         length: usize,
     },
     // A Put or Get that the engine turned away under SRM. The client keeps sending without waiting, so the engine reads the packets up to
@@ -158,13 +158,6 @@ pub struct Engine {
     pub target: table::targets::Target,
 }
 
-// The body of a Put: so many bytes of the body store, or none if no body header came, which differs from a body of 0 bytes.
-#[derive(Clone, Copy)]
-pub enum Body {
-    Bytes(usize),
-    Missing,
-}
-
 // What the engine asks the host, by the names of the source's handler methods. docs/EMBEDDING.md says which call answers each request.
 // A `length` is that of the client's packet at the front of the packet store, a `kept` that of the kept headers at the front of the
 // header store; a user id and a realm are places in the packet store.
@@ -184,10 +177,11 @@ pub enum HostRequest {
     Abort {
         length: usize,
     },
-    // The Put is whole: its record is handed over here. The body stands in the body store.
+    // The Put is whole: its record is handed over here. The body is so many bytes of the body store; none if no body header
+    // came, which differs from a body of 0 bytes.
     Put {
         kept: usize,
-        body: Body,
+        body: Option<usize>,
     },
     Get {
         kept: usize,
@@ -204,7 +198,7 @@ pub enum HostRequest {
     },
     // The password of this user; the user id is missing if the client named none.
     Password {
-        user_id: packet::tlv::Found,
+        user_id: Option<base::Span>,
     },
     // Sixteen fresh bytes for a challenge, none of the last 32 that were taken (docs/PROTOCOL.md#nonces).
     Nonce,
@@ -213,7 +207,7 @@ pub enum HostRequest {
         nonce: digest::md5::Octets16,
         user_id_required: bool,
         read_only: bool,
-        realm: packet::tlv::Found,
+        realm: Option<base::Span>,
     },
     // At most `room` bytes of the object's body.
     Read {
@@ -282,6 +276,8 @@ pub struct CallResult {
     pub outcome: Outcome,
 }
 
+// Stays a function of this name: docs/EMBEDDING.md names it, and the definition `end_number` states its numbers.
+//
 // Returns the number of `end` (docs/PROTOCOL.md#ends), which logs and the C interface give instead of its name.
 pub fn end_number(end: End) -> u8
     ensures { result ≡ end_number end }
@@ -297,6 +293,8 @@ pub fn end_number(end: End) -> u8
     }
 }
 
+// Stays a function of this name: docs/EMBEDDING.md names it, and the definition `refusal_number` states its numbers.
+//
 // Returns the number of `refusal` (docs/PROTOCOL.md#refusals), which logs and the C interface give instead of its name.
 pub fn refusal_number(refusal: Refusal) -> u8
     ensures { result ≡ refusal_number refusal }
@@ -312,6 +310,8 @@ pub fn refusal_number(refusal: Refusal) -> u8
     }
 }
 
+// Stays a function of this name: the C interface passes the number, and the definition `await_of` leads back from it.
+//
 // Returns the number of `a`, what the engine waits for. Two such things are told apart by it.
 pub fn await_number(a: Await) -> u8
     ensures { result ≡ await_number a }

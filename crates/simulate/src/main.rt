@@ -8,126 +8,45 @@
 mod answer;
 mod question;
 
-use crate::answer::{bad_question, ranged, row, simulated};
-use crate::question::{Mode, Number, Question, is_last, mode_of, number_of, question_of};
-use lines::input::{before_first, bytes_of, next_line};
-use lines::word::word_of;
+use crate::answer::Answer;
+use crate::question::Question;
+use lines::input::lines_of;
 use simulator::{simulate, simulate_range};
-use std::io::Read;
+use std::io;
 
-// Answers `get N M on|off`.
-fn get(rt: &impl Print, s: &[u8]) {
-    let Number::Known(n) = number_of(word_of(s, 1)) else {
-        bad_question(rt);
-        return;
-    };
-    let Number::Known(m) = number_of(word_of(s, 2)) else {
-        bad_question(rt);
-        return;
-    };
-    let Mode::Known(srm) = mode_of(word_of(s, 3)) else {
-        bad_question(rt);
-        return;
-    };
-    if !is_last(s, 3) {
-        bad_question(rt);
-        return;
-    }
-    simulated(rt, simulate(n, m, srm));
-}
+// The limits of a table: each that is a power of two, the least and the greatest of all, and 672.
+const LIMITS: [u32; 10] = [255, 512, 672, 1024, 2048, 4096, 8192, 16384, 32768, 65535];
 
-// Answers `range N N M M on|off`.
-fn range(rt: &impl Print, s: &[u8]) {
-    let Number::Known(n0) = number_of(word_of(s, 1)) else {
-        bad_question(rt);
-        return;
-    };
-    let Number::Known(n1) = number_of(word_of(s, 2)) else {
-        bad_question(rt);
-        return;
-    };
-    let Number::Known(m0) = number_of(word_of(s, 3)) else {
-        bad_question(rt);
-        return;
-    };
-    let Number::Known(m1) = number_of(word_of(s, 4)) else {
-        bad_question(rt);
-        return;
-    };
-    let Mode::Known(srm) = mode_of(word_of(s, 5)) else {
-        bad_question(rt);
-        return;
-    };
-    if !is_last(s, 5) {
-        bad_question(rt);
-        return;
-    }
-    ranged(rt, simulate_range(n0, n1, m0, m1, srm));
-}
-
-// Plays the Get of a body of `n` bytes under the limit `m`, and answers with a row of the table.
-fn play_row(rt: &impl Print, n: u32, m: u32, srm: bool) {
-    row(rt, m as usize, simulate(n, m, srm));
-}
-
-// Answers `table N on|off`: a row for each limit that is a power of two, for the least and the greatest of all, and for 672.
-fn table(rt: &impl Print, s: &[u8]) {
-    let Number::Known(n) = number_of(word_of(s, 1)) else {
-        bad_question(rt);
-        return;
-    };
-    let Mode::Known(srm) = mode_of(word_of(s, 2)) else {
-        bad_question(rt);
-        return;
-    };
-    if !is_last(s, 2) {
-        bad_question(rt);
-        return;
-    }
-    play_row(rt, n, 255, srm);
-    play_row(rt, n, 512, srm);
-    play_row(rt, n, 672, srm);
-    play_row(rt, n, 1024, srm);
-    play_row(rt, n, 2048, srm);
-    play_row(rt, n, 4096, srm);
-    play_row(rt, n, 8192, srm);
-    play_row(rt, n, 16384, srm);
-    play_row(rt, n, 32768, srm);
-    play_row(rt, n, 65535, srm);
-}
-
-// Answers one line.
-fn line(rt: &impl Print, s: &[u8], is_cut: bool) {
-    if is_cut {
-        bad_question(rt);
-        return;
-    }
-    match question_of(word_of(s, 0)) {
-        Question::Get => get(rt, s),
-        Question::Range => range(rt, s),
-        Question::Table => table(rt, s),
-        Question::Unknown => bad_question(rt),
-    }
-}
-
-// Answers the lines of standard input, which is read into `s`.
-fn lines_of(rt: &impl Print, input: &mut impl Read, s: &mut [u8]) {
-    let mut steps = u64::MAX;
-    let mut at = before_first();
-    while steps > 0 {
-        at = next_line(input, s, at);
-        if at.is_over {
-            return;
+// Answers one line. A line that is longer than the store is no question.
+fn line(rt: &impl Print, s: &[u8], is_cut: bool) -> io::Result<()> {
+    let question = if is_cut { None } else { Question::parse(s) };
+    match question {
+        Some(Question::Get { n, m, srm }) => {
+            print!(rt; "{}", Answer::simulated(simulate(n, m, srm)))
         }
-        if at.is_there {
-            line(rt, bytes_of(s, at), at.is_cut);
+        Some(
+            Question::Range {
+                n0,
+                n1,
+                m0,
+                m1,
+                srm,
+            },
+        ) => print!(rt; "{}", Answer::ranged(simulate_range(n0, n1, m0, m1, srm))),
+        Some(Question::Table { n, srm }) => {
+            for m in LIMITS {
+                print!(rt; "{}", Answer::row(m, simulate(n, m, srm)))?;
+            }
+            Ok(())
         }
-        steps -= 1;
+        None => rt.println("bad question"),
     }
 }
 
-// Answers the lines of standard input. Every question fits in the store.
+// Answers the lines of standard input. Every question fits in the store. What cannot be written is left out.
 fn main(rt: HostRuntime) {
     let mut input = [0u8; 4096];
-    lines_of(&rt, &mut rt.stdin(), &mut input);
+    lines_of(&mut rt.stdin(), &mut input, |s, is_cut| {
+        let _ = line(&rt, s, is_cut);
+    });
 }

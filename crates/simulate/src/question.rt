@@ -1,86 +1,71 @@
-// The words of a question: which one is asked, 32-bit numbers, and Single Response Mode (SRM) on or off.
-use lines::word::{line_number, number, piece_at};
+// The questions of planners: which one is asked, with its 32-bit numbers, and Single Response Mode (SRM) on or off.
+use lines::word::{number, piece_at, word_of};
 
 #[derive(Clone, Copy)]
 pub enum Question {
-    Get,
-    Range,
-    Table,
-    Unknown,
+    Get {
+        n: u32,
+        m: u32,
+        srm: bool,
+    },
+    Range {
+        n0: u32,
+        n1: u32,
+        m0: u32,
+        m1: u32,
+        srm: bool,
+    },
+    Table {
+        n: u32,
+        srm: bool,
+    },
 }
 
-// A decimal number of 32 bits, or a word that is none.
-#[derive(Clone, Copy)]
-pub enum Number {
-    Known(u32),
-    Malformed,
-}
-
-// SRM on or off, or a word that is neither.
-#[derive(Clone, Copy)]
-pub enum Mode {
-    Known(bool),
-    Malformed,
-}
-
-// Returns the question that `word` names.
-pub(crate) fn question_of(word: &[u8]) -> Question {
-    match line_number(b"get\nrange\ntable\n", word) {
-        0 => Question::Get,
-        1 => Question::Range,
-        2 => Question::Table,
-        _ => Question::Unknown,
+impl Question {
+    // Returns the question that a line asks, or none if it is no question or has not its form.
+    pub(crate) fn parse(line: &[u8]) -> Option<Question> {
+        match word_of(line, 0) {
+            b"get" if is_last(line, 3) => Some(Question::Get {
+                n: number_at(line, 1)?,
+                m: number_at(line, 2)?,
+                srm: mode_at(line, 3)?,
+            }),
+            b"range" if is_last(line, 5) => Some(Question::Range {
+                n0: number_at(line, 1)?,
+                n1: number_at(line, 2)?,
+                m0: number_at(line, 3)?,
+                m1: number_at(line, 4)?,
+                srm: mode_at(line, 5)?,
+            }),
+            b"table" if is_last(line, 2) => Some(Question::Table {
+                n: number_at(line, 1)?,
+                srm: mode_at(line, 2)?,
+            }),
+            _ => None,
+        }
     }
 }
 
 // Whether the word with the number `k` is the last one of `line`: the line ends with it.
-pub(crate) fn is_last(line: &[u8], k: usize) -> bool {
+fn is_last(line: &[u8], k: usize) -> bool {
     piece_at(line, k, b' ').end == line.len()
 }
 
-// Returns the mode that `word` names.
-pub(crate) fn mode_of(word: &[u8]) -> Mode {
-    match line_number(b"on\noff\n", word) {
-        0 => Mode::Known(true),
-        1 => Mode::Known(false),
-        _ => Mode::Malformed,
+// Returns whether SRM is on, by the word with the number `k`.
+fn mode_at(line: &[u8], k: usize) -> Option<bool> {
+    match word_of(line, k) {
+        b"on" => Some(true),
+        b"off" => Some(false),
+        _ => None,
     }
 }
 
-// Whether `c` is a decimal digit.
-fn is_digit(c: u8) -> bool {
-    if c < b'0' {
-        return false;
+// Returns the number that the word with the number `k` is, unless that has another sign than digits, more than ten of them, or none, or the
+// number more than 32 bits.
+fn number_at(line: &[u8], k: usize) -> Option<u32> {
+    let word = word_of(line, k);
+    if word.is_empty() || 10 < word.len() || !word.iter().all(u8::is_ascii_digit) {
+        return None;
     }
-    c <= b'9'
-}
-
-// Whether each sign of `word` is a decimal digit.
-fn is_decimal(word: &[u8]) -> bool {
-    let mut i = 0;
-    while i < word.len() {
-        if !is_digit(word[i]) {
-            return false;
-        }
-        i += 1;
-    }
-    true
-}
-
-// Returns the number that `word` names. A number of more than 32 bits is malformed, and so is one of more than ten digits.
-pub(crate) fn number_of(word: &[u8]) -> Number {
-    if word.len() == 0 {
-        return Number::Malformed;
-    }
-    if 10 < word.len() {
-        return Number::Malformed;
-    }
-    if !is_decimal(word) {
-        return Number::Malformed;
-    }
-    let n = number(word);
-    if 4294967295 < n {
-        return Number::Malformed;
-    }
-    Number::Known(n as u32)
+    u32::try_from(number(word)).ok()
 }

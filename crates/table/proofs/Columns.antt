@@ -1,37 +1,58 @@
 -- A column of the table store, from which what stands beside an id is taken out. Assumes nothing.
 use mathlib.Core.Path.{◌≡◌, refl, sym, ap, ◌∙◌}
-use mathlib.Core.Bool.{Bool, true, false}
+use mathlib.Core.Bool.{Bool, true, false, cond, true≢false}
 use mathlib.Core.List.{List, [], ◌∷◌, ◌++◌, append-nil}
 use Prim.Native.Nat.{ℕ, suc, ◌+◌, ◌≤◌, ◌<◌}
 use native.Mathlib.Omega.{arith}
 use native.Mathlib.Numerals.{add-one}
-use borrow.Author.Tests.{eq-eqb, ne_eqb}
-use lib.Dec.{eqb}
+use borrow.Author.Tests.{eq-eqb, ne_eqb, eqb-true, ltb-true, ltb-false}
+use lib.Dec.{eqb, ltb}
 use lib.ListN.{length, get_or, set, take, drop, length-take, length-append, drop_of_length-le}
 use lib.Seq.{sets, length-sets, take-suc, drop-cons, get_or-take, length-take-le}
+use Rattle.std.specs.Prelude.{Option, Some, None, MatchOption}
+use Rattle.std.specs.List.{position, position_or_len}
+use Rattle.std.proofs.lemmas.List.Recursion.{is_position_or_len}
 use Rattle.base.specs.Pick.{pick}
 use Rattle.table.specs.Targets.{place_of, beside, column_closed, targets_closed}
 use Rattle.table.proofs.Stored.{stored-before, stored-behind, stored_more, stored-front}
 
--- ---- the place of an id, from `i` on
+-- ---- the place of an id
 
-module _ (x : ℕ) (t : List ℕ) (n i : ℕ) (h : i < n) (r : n ≤ length t) where
-  at_place : place_of x (drop i (take n t)) ≡ place_of x (get_or t i 0 ∷ drop (i + 1) (take n t))
-  at_place =
-      let b : i < length (take n t) = omega (arith, length-take-le n t r) in
-      ap (place_of x) (drop-cons (take n t) i 0 b) ∙ rw (add-one i, get_or-take n t i 0 h)
+pub eqb-turned : (x y : ℕ) → eqb x y ≡ eqb y x
+eqb-turned x y = go (eqb x y) refl
+  where
+    go : (b : Bool) → eqb x y ≡ b → b ≡ eqb y x
+    go true e = sym (eq-eqb y x (sym (eqb-true x y e)))
+    go false e = sym (ne_eqb y x (λ q. absurd (true≢false (sym (eq-eqb x y (sym q)) ∙ e))))
 
-  pub place_found : x ≡ get_or t i 0 → place_of x (drop i (take n t)) ≡ 0
-  unfolding place_of
-  place_found e = at_place ∙ rw (eq-eqb x (get_or t i 0) e)
+pick_next : (b : Bool) (n : ℕ) → pick b 0 (suc n) ≡ cond b 0 (1 + n)
+pick_next true n = refl
+pick_next false n = omega arith
 
-  pub place_turn : (x ≡ get_or t i 0 → ⊥) → place_of x (drop i (take n t)) ≡ suc (place_of x (drop (i + 1) (take n t)))
-  unfolding place_of
-  place_turn ne = at_place ∙ rw (ne_eqb x (get_or t i 0) ne)
-
-pub place_end : (x : ℕ) (t : List ℕ) (n i : ℕ) → n ≤ i → n ≤ length t → place_of x (drop i (take n t)) ≡ 0
+first_place : (x : ℕ) (l : List ℕ) → place_of x l ≡ position_or_len (λ (y : ℕ). eqb y x) l
 unfolding place_of
-place_end x t n i h r = ap (place_of x) (drop_of_length-le (take n t) {i = i} (omega (arith, length-take-le n t r)))
+first_place x = is_position_or_len (place_of x) (λ (y : ℕ). eqb y x) refl (λ y ys. rw (eqb-turned x y) (pick_next (eqb y x) (place_of x ys)))
+
+place_within : (x : ℕ) (l : List ℕ) → place_of x l ≤ length l
+unfolding place_of
+place_within x [] = omega arith
+place_within x (y ∷ l) = go (eqb x y) (place_within x l)
+  where
+    go : (b : Bool) → place_of x l ≤ length l → pick b 0 (suc (place_of x l)) ≤ suc (length l)
+    go true h = omega arith
+    go false h = omega arith
+
+-- what `position` of the numbers gives
+pub place_found : (x n : ℕ) (l : List ℕ) (r : Option ℕ) → r ≡ position (λ (y : ℕ). eqb y x) l → n ≡ length l
+    → MatchOption r (place_of x l ≡ n) (λ p. (p ≡ place_of x l) × (p < n))
+place_found x n l r e h = rw e (go (ltb q (length l)) refl)
+  where
+    q : ℕ
+    q = position_or_len (λ (y : ℕ). eqb y x) l
+
+    go : (b : Bool) → ltb q (length l) ≡ b → MatchOption (cond b (Some q) None) (place_of x l ≡ n) (λ p. (p ≡ place_of x l) × (p < n))
+    go true t = (sym (first_place x l), omega (arith, ltb-true q (length l) t))
+    go false t = omega (arith, first_place x l, place_within x l, ltb-false q (length l) t)
 
 -- ---- what stands beside ids
 

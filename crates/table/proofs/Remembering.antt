@@ -1,49 +1,28 @@
 -- The nonces that the table store remembers are those taken last: one more stands in front, and the oldest of 32 falls out. What stands
 -- in front of place 64 does not count. Assumes nothing.
 use mathlib.Core.Path.{◌≡◌, refl, sym, ap, ap₂, ◌∙◌}
-use mathlib.Core.Bool.{Bool, true, false, ◌||◌}
+use mathlib.Core.Bool.{Bool, true, false, ◌||◌, ◌&&◌}
 use mathlib.Core.List.{List, [], ◌∷◌, ◌++◌}
 use Prim.Native.Nat.{ℕ, zero, suc, ◌+◌, ◌-◌, ◌≤◌, ◌<◌}
 use native.Mathlib.Omega.{arith}
 use native.Mathlib.Numerals.{add-one}
 use borrow.Author.Tests.{ltb-true, ltb-false}
-use lib.Dec.{ltb}
+use lib.Dec.{eqb, ltb}
 use lib.ListN.{length, get_or, take, drop, length-append, length-drop, length-take}
 use lib.Seq.{drop-cons, drop-drop, take-take, take_all, take-add, take_at, drop_at, take-append-le, length-take-le}
+use Rattle.std.specs.List.{list_any, zip}
 use Rattle.base.specs.Pick.{pick}
 use Rattle.digest.specs.declared.md5.Octets16.{Octets16}
 use Rattle.table.specs.Nonces.{pushed, pushed_at, remembered_with, counted, joined, remembered, nonce_at, same_nonce, among}
 
--- ---- a search, place by place
+-- ---- a search among the pairs of their halves
 
--- what is left to search from the place `i` on
-abbrev pub left_from : ℕ → ℕ → List ℕ → List Octets16
-left_from n i t = joined (take (n - i) (drop (64 + i) t)) (take (n - i) (drop (96 + i) t))
-
--- the first of `m` numbers from a place on
-part-cons : (m at : ℕ) (t : List ℕ) → at < length t → take (suc m) (drop at t) ≡ get_or t at 0 ∷ take m (drop (suc at) t)
-part-cons m at t h = ap (take (suc m)) (drop-cons t at 0 h)
-
-pub among-turn : (x : Octets16) (t : List ℕ) (n i : ℕ) → i < n → n ≤ 32 → 128 ≤ length t
-    → among x (left_from n i t) ≡ same_nonce (nonce_at t i) x || among x (left_from n (i + 1) t)
+pub among_pairs : (n : Octets16) (xs ys : List ℕ)
+    → list_any (λ (p : ℕ × ℕ). eqb p.0 n.first && eqb p.1 n.second) (zip xs ys) ≡ among n (joined xs ys)
 unfolding among
-among-turn x t n i h l r =
-    let m : n - i ≡ suc (n - (i + 1)) = omega arith in
-    let a : suc (64 + i) ≡ 64 + (i + 1) = omega arith in
-    let b : suc (96 + i) ≡ 96 + (i + 1) = omega arith in
-    ap (among x)
-    (ap (λ (k : ℕ). joined (take k (drop (64 + i) t)) (take k (drop (96 + i) t))) m
-    ∙ ap₂ joined (part-cons (n - (i + 1)) (64 + i) t (omega arith)) (part-cons (n - (i + 1)) (96 + i) t (omega arith)))
-    ∙ ap₂ (λ (p q : ℕ). same_nonce (nonce_at t i) x || among x (joined (take (n - (i + 1)) (drop p t)) (take (n - (i + 1)) (drop q t)))) a b
-
--- at the first place all is left
-pub among-all : (x : Octets16) (t : List ℕ) (n : ℕ) → among x (left_from n 0 t) ≡ among x (remembered n t)
-unfolding remembered
-among-all x t n = let m : n - 0 ≡ n = omega arith in ap (λ (k : ℕ). among x (joined (take k (drop 64 t)) (take k (drop 96 t)))) m
-
-pub among_none : (x : Octets16) (t : List ℕ) (n i : ℕ) → n ≤ i → among x (left_from n i t) ≡ false
-unfolding among
-among_none x t n i h = let m : n - i ≡ 0 = omega arith in ap (λ (k : ℕ). among x (joined (take k (drop (64 + i) t)) (take k (drop (96 + i) t)))) m
+among_pairs n [] ys = refl
+among_pairs n (x ∷ xs) [] = refl
+among_pairs n (x ∷ xs) (y ∷ ys) = ap (λ (b : Bool). (eqb x n.first && eqb y n.second) || b) (among_pairs n xs ys)
 
 -- ---- one more
 

@@ -1,8 +1,8 @@
 // The nonces that the engine took last (docs/PROTOCOL.md#nonces): the latest stands in front, and the oldest of 32 falls out. The source
 // has no such rule.
-ghost use Rattle.std.specs.Prelude.{◌≡◌, ◌≤◌, ◌<◌, length};
+ghost use Rattle.std.specs.Prelude.{◌≡◌, ◌≤◌, length};
 ghost use Rattle.table.specs.Places.{max_nonces, table_length};
-ghost use Rattle.table.specs.Nonces.{pushed, remembered_with, nonce_at, same_nonce, remembered, among, counted as countedAs};
+ghost use Rattle.table.specs.Nonces.{pushed, remembered_with, remembered, among, counted as countedAs};
 
 use digest::md5::Octets16;
 
@@ -21,13 +21,9 @@ const END_OF_NONCES: usize = 128;
 fn push_front(s: &mut [u64], x: u64)
     ensures { s.new ≡ pushed x s.old }
 {
-    let mut carry = x;
-    let mut i = 0;
-    while i < s.len() {
-        let y = s[i];
-        s[i] = carry;
-        carry = y;
-        i += 1;
+    if !s.is_empty() {
+        s.rotate_right(1);
+        s[0] = x;
     }
 }
 
@@ -40,30 +36,15 @@ pub fn remember(tables: &mut [u64], nonce: Octets16)
     push_front(&mut tables[SECOND_HALVES..END_OF_NONCES], nonce.second);
 }
 
-// Tells whether `nonce` stands at the `i`-th of the 32 places.
-fn is_at(tables: &[u64], i: usize, nonce: Octets16) -> bool
-    requires { (i < max_nonces) × (table_length ≤ length tables.now) }
-    ensures { result ≡ same_nonce (nonce_at tables.now i) nonce }
-{
-    if tables[FIRST_HALVES + i] != nonce.first {
-        return false;
-    }
-    tables[SECOND_HALVES + i] == nonce.second
-}
-
 // Tells whether `nonce` is one of the `count` nonces that `tables` remembers.
 pub fn is_used(tables: &[u64], count: usize, nonce: Octets16) -> bool
     requires { (count ≤ max_nonces) × (table_length ≤ length tables.now) }
     ensures { result ≡ among nonce (remembered count tables.now) }
 {
-    let mut i = 0;
-    while i < count {
-        if is_at(tables, i, nonce) {
-            return true;
-        }
-        i += 1;
-    }
-    false
+    let firsts = &tables[FIRST_HALVES..FIRST_HALVES + count];
+    let seconds = &tables[SECOND_HALVES..SECOND_HALVES + count];
+    firsts.iter().zip(seconds.iter()).any(|(first, second)| *first == nonce.first
+        && *second == nonce.second)
 }
 
 // Returns how many nonces are remembered after one more.

@@ -1,5 +1,5 @@
 // The Targets of the open ids, beside the ids in the table store (docs/PROTOCOL.md#targets).
-ghost use Rattle.std.specs.Prelude.{◌≡◌, ◌+◌, ◌≤◌, ◌<◌, length, take};
+ghost use Rattle.std.specs.Prelude.{◌≡◌, ◌+◌, ◌≤◌, ◌<◌, length, take, MatchOption};
 ghost use Rattle.table.specs.Targets.{unnamed as unnamedTarget, is_named, target_by, place_of, target_at, target_set, column_closed, targets_closed};
 ghost use Rattle.table.specs.Places.{table_length};
 
@@ -15,6 +15,8 @@ const FIRSTS: usize = 192;
 
 const SECONDS: usize = 256;
 
+// Stays a length that is over 16 for no Target: the table store holds it so (`target_at`), and so it goes to a host in C.
+//
 // The Target of a connection: `length` bytes of the sixteen, which are filled up with zeros. A `length` over 16 is the mark: the Connect
 // had no Target, or one of over 16 bytes.
 #[derive(Clone, Copy)]
@@ -57,20 +59,13 @@ pub fn target_of(s: &[u8]) -> Target
     Target { length, bytes }
 }
 
-// Finds the place of `id` among the first `count` numbers; `count` if it is none of them.
-pub fn find_place(tables: &[u64], count: usize, id: u32) -> usize
+// Finds the place of `id` among the first `count` numbers; there is none if it is none of them.
+pub fn find_place(tables: &[u64], count: usize, id: u32) -> Option<usize>
     requires { (count ≤ 64) × (count ≤ length tables.now) }
-    ensures { result ≡ place_of id (take count tables.now) }
+    ensures { MatchOption result (place_of id (take count tables.now) ≡ count)
+        (λ p. (p ≡ place_of id (take count tables.now)) × (p < count)) }
 {
-    let wanted = id as u64;
-    let mut i = 0;
-    while i < count {
-        if tables[i] == wanted {
-            return i;
-        }
-        i += 1;
-    }
-    count
+    tables[..count].iter().position(|x| *x == u64::from(id))
 }
 
 // Returns the Target at `place`.
@@ -102,17 +97,13 @@ fn close_column(tables: &mut [u64], at: usize, count: usize, id: u32)
     requires { (count ≤ 64) × (64 ≤ at) × (at + count ≤ length tables.old) }
     ensures { tables.new ≡ column_closed id count at tables.old }
 {
-    let closed = id as u64;
     let mut kept: usize = 0;
-    let mut i = 0;
-    while i < count {
-        let x = tables[i];
-        let number = tables[at + i];
-        if x != closed {
-            tables[at + kept] = number;
+    // Stays a loop over an index: it writes at or in front of the place that it reads, and slices have no `retain`.
+    for i in 0..count {
+        if tables[i] != u64::from(id) {
+            tables[at + kept] = tables[at + i];
             kept += 1;
         }
-        i += 1;
     }
 }
 

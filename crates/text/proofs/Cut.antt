@@ -1,13 +1,14 @@
 -- What stands before the first zero, element by element. Assumes nothing.
 use mathlib.Core.Path.{◌≡◌, refl, ap, ◌∙◌}
 use mathlib.Core.List.{List, [], ◌∷◌}
-use Prim.Native.Nat.{ℕ, zero, suc, ◌+◌, ◌≤◌, ◌<◌}
-use native.Mathlib.Numerals.{add-one}
+use Prim.Native.Nat.{ℕ, zero, suc, ◌+◌, ◌≤◌}
 use native.Mathlib.Omega.{arith}
-use lib.ListN.{length, get_or, take, drop, drop_of_length-le}
-use lib.Seq.{drop-cons}
+use lib.ListN.{length, take}
+use Rattle.std.specs.Prelude.{Option, Some, None, unwrap_or}
+use Rattle.std.specs.List.{position_or_len}
+use Rattle.std.proofs.lemmas.List.Recursion.{is_position_or_len}
+use Rattle.std.proofs.Common.{Bool, true, false, cond, eqb, ltb, ltb-false, ne_eqb, sym}
 use Rattle.text.specs.Unicode.{up_to_zero_of}
-use Rattle.text.proofs.Pairs.{up_some}
 
 pub cut-take : (s : List ℕ) → take (length (up_to_zero_of s)) s ≡ up_to_zero_of s
 unfolding up_to_zero_of
@@ -21,17 +22,25 @@ cut-within [] = omega arith
 cut-within (zero ∷ r) = omega arith
 cut-within (suc u ∷ r) = let h = cut-within r in omega arith
 
--- at a place of a list: a zero, another element, the end
-module _ (s : List ℕ) (i : ℕ) where
-  pub cut-zero : i < length s → get_or s i 0 ≡ 0 → length (up_to_zero_of (drop i s)) ≡ 0
-  unfolding up_to_zero_of
-  cut-zero h e = ap (λ (l : List ℕ). length (up_to_zero_of l)) (drop-cons s i 0 h) ∙ rw e
+-- the place of the first zero, as the library finds it
+before_zero : (s : List ℕ) → length (up_to_zero_of s) ≡ position_or_len (λ b. eqb b 0) s
+unfolding up_to_zero_of
+before_zero s = is_position_or_len (λ l. length (up_to_zero_of l)) (λ b. eqb b 0) refl (λ x xs. step x xs) s
+  where
+    step : (x : ℕ) (xs : List ℕ) → length (up_to_zero_of (x ∷ xs)) ≡ cond (eqb x 0) 0 (1 + length (up_to_zero_of xs))
+    step zero xs = refl
+    step (suc u) xs = rw (ne_eqb (suc u) 0 (λ e. omega arith)) (omega arith)
 
-  pub cut-more : i < length s → (get_or s i 0 ≡ 0 → ⊥) → length (up_to_zero_of (drop i s)) ≡ 1 + length (up_to_zero_of (drop (i + 1) s))
-  cut-more h e =
-      ap (λ (l : List ℕ). length (up_to_zero_of l)) (drop-cons s i 0 h) ∙ ap length (up_some (get_or s i 0) (drop (suc i) s) e)
-      ∙ rw (add-one i) (omega arith)
-
-  pub cut-end : length s ≤ i → length (up_to_zero_of (drop i s)) ≡ 0
-  unfolding up_to_zero_of
-  cut-end h = ap (λ (l : List ℕ). length (up_to_zero_of l)) (drop_of_length-le s h)
+pub zero_found : (s : List ℕ) (r : Option ℕ) (n : ℕ)
+    → r ≡ cond (ltb (position_or_len (λ b. eqb b 0) s) (length s)) (Some (position_or_len (λ b. eqb b 0) s)) None
+    → n ≡ unwrap_or r (length s) → n ≡ length (up_to_zero_of s)
+zero_found s r n e h =
+    let p = before_zero s in
+    let within = cut-within s in
+    go (ltb (position_or_len (λ b. eqb b 0) s) (length s)) refl
+  where
+    go : (t : Bool) → ltb (position_or_len (λ b. eqb b 0) s) (length s) ≡ t → n ≡ length (up_to_zero_of s)
+    go true q = rw (e, q) at h ∙ sym (before_zero s)
+    go false q =
+        let all = rw (e, q) at h in
+        omega (arith, all, before_zero s, cut-within s, ltb-false _ _ q)

@@ -5,10 +5,11 @@ use Prim.Native.Nat.{ℕ, ◌+◌, ◌≤◌, ◌<◌}
 use native.Mathlib.Omega.{arith}
 use borrow.Author.Tests.{le-ltb, lt-ltb}
 use lib.ListN.{length, take, drop, length-append, take-append-drop}
-use lib.Seq.{sets, sets-eq, length-sets, length-take-le, take_at, drop_at, drop-drop}
+use lib.Seq.{paste, take-length, sets, sets-eq, length-sets, length-take-le, take_at, drop_at, drop-drop}
 use Rattle.text.specs.declared.Piece.{Piece}
 use Rattle.text.specs.declared.Form.{Form}
-use Rattle.text.specs.declared.Decoded.TheVariants.{Written, Short}
+use Rattle.std.specs.Prelude.{Ok, Err}
+use Rattle.base.specs.Store.{short}
 use Rattle.text.specs.Unicode.{codes, joined}
 use Rattle.text.specs.Text.{pieces_of, encoded, recoded, stored, store_text}
 use Rattle.text.specs.Pieces.{ReadsOne}
@@ -72,13 +73,17 @@ module _ (text d₀ d : List ℕ) (n : ℕ) (fits : length text ≤ length d₀)
               ∙ sym (drop-drop (length u) n d) ∙ ap (drop (length u)) h.kept ∙ drop-drop (length u) n d₀;
         }
 
+-- bytes pasted are bytes stored one after the other
+pub paste_sets : (d vs : List ℕ) (n : ℕ) → n + length vs ≤ length d → paste d n vs (length vs) ≡ sets d n vs
+paste_sets d vs n h = rw (take-length vs) (append_assoc (take n d) vs (drop (n + length vs) d) ∙ sym (append_assoc (take n d) vs (drop (n + length vs) d)) ∙ sym (sets-eq vs d n h))
+
 -- ---- the answers
 
 pub stored-whole : (text d₀ d : List ℕ) (n : ℕ) → length text ≤ length d₀ → n ≡ length text → d ≡ text ++ drop n d₀
-    → stored (Written n) d ≡ store_text text d₀
+    → stored (Ok n) d ≡ store_text text d₀
 unfolding store_text
 stored-whole text d₀ d n fits e q = rw (q, e, le-ltb (length d₀) (length text) fits)
 
-pub stored_short : (text d : List ℕ) → length d < length text → stored Short d ≡ store_text text d
+pub stored_short : (text d : List ℕ) → length d < length text → stored (Err short) d ≡ store_text text d
 unfolding store_text
 stored_short text d h = rw (lt-ltb (length d) (length text) h)

@@ -1,9 +1,7 @@
 -- What the reader of text promises of what it finds at a place, by cases. Unicode has the pieces.
-use Rattle.std.specs.Prelude.{◌≡◌, List, [], ◌∷◌, ℕ, ◌+◌, ◌<◌, ◌≤◌, length, drop}
+use Rattle.std.specs.Prelude.{◌≡◌, List, [], ◌∷◌, ℕ, ◌+◌, ◌<◌, ◌≤◌, length, drop, Option, Some, None}
 use Rattle.text.specs.declared.Piece.{Piece}
 use Rattle.text.specs.declared.Form.{Form}
-use Rattle.text.specs.declared.Next.{Next}
-use Rattle.text.specs.declared.Next.TheVariants.{End, One}
 use Rattle.text.specs.Text.{pieces_of}
 
 -- The piece `p` stands at `at`, and the other pieces behind it.
@@ -14,6 +12,6 @@ pub record ReadsOne (f : Form) (s : List ℕ) (at : ℕ) (p : Piece) : Type 0 wh
   pub scalar : p.code < 0x110000
 
 -- What the reader found at `at` stands there.
-abbrev pub Reads : Form → List ℕ → ℕ → Next → Type 0
-Reads f s at End = pieces_of f (drop at s) ≡ []
-Reads f s at (One p) = ReadsOne f s at p
+abbrev pub Reads : Form → List ℕ → ℕ → Option Piece → Type 0
+Reads f s at None = pieces_of f (drop at s) ≡ []
+Reads f s at (Some p) = ReadsOne f s at p

@@ -1,12 +1,12 @@
 -- The text of a header's bytes (IrOBEX 1.5, section 2.1; docs/PROTOCOL.md#text), and what a lent store gets: the whole text, or nothing if
 -- the store is too short (refusal 10).
-use Rattle.std.specs.Prelude.{List, ◌++◌, ℕ, ltb, length, drop}
+use Rattle.std.specs.Prelude.{List, ◌++◌, ℕ, ltb, length, drop, Result, Ok, Err}
 use Rattle.base.specs.Pick.{pick}
 use Rattle.text.specs.declared.Piece.{Piece}
 use Rattle.text.specs.declared.Form.{Form}
 use Rattle.text.specs.declared.Form.TheVariants.{Utf8, Utf16}
-use Rattle.text.specs.declared.Decoded.{Decoded}
-use Rattle.text.specs.declared.Decoded.TheVariants.{Written, Short}
+use Rattle.base.specs.declared.Short.{Short}
+use Rattle.base.specs.Store.{short}
 use Rattle.text.specs.Unicode.{codes, pieces16, scalars16, pieces8, lossy, scalars8, utf8, utf16, joined, text8, utf16be}
 
 -- The UTF-16 text of a header, as UTF-8.
@@ -36,24 +36,24 @@ unfoldable pub recoded : Form → Form → List ℕ → List ℕ
 recoded from to s = joined (encoded to) (codes (pieces_of from s))
 
 -- The number of an answer: 10, the store is too short; none (0) if the text was written.
-abbrev pub decoded_number : Decoded → ℕ
-decoded_number (Written n) = 0
-decoded_number Short = 10
+abbrev pub decoded_number : Result ℕ Short → ℕ
+decoded_number (Ok n) = 0
+decoded_number (Err e) = 10
 
 -- A writer's answer, its number, and the store afterwards.
 pub record Stored : Type 0 where
-  pub answer : Decoded
+  pub answer : Result ℕ Short
   pub number : ℕ
   pub store : List ℕ
 
 -- What a writer promises, by its answer `a` and the store `d` afterwards.
-abbrev pub stored : Decoded → List ℕ → Stored
+abbrev pub stored : Result ℕ Short → List ℕ → Stored
 stored a d = record { answer = a; number = decoded_number a; store = d }
 
 -- What the definition says: the answer `a` with the number `n`, and the store `d`.
-abbrev pub numbered : ℕ → Decoded → List ℕ → Stored
+abbrev pub numbered : ℕ → Result ℕ Short → List ℕ → Stored
 numbered n a d = record { answer = a; number = n; store = d }
 
 -- The text `t` goes to the front of the store `d`; if `d` is too short, nothing changes.
 unfoldable pub store_text : List ℕ → List ℕ → Stored
-store_text t d = pick (ltb (length d) (length t)) (numbered 10 Short d) (numbered 0 (Written (length t)) (t ++ drop (length t) d))
+store_text t d = pick (ltb (length d) (length t)) (numbered 10 (Err short) d) (numbered 0 (Ok (length t)) (t ++ drop (length t) d))

@@ -8,7 +8,10 @@ ghost use Rattle.text.specs.Unicode.{up_to_zero_of, keeps, replaces, units, is_p
 ghost use Rattle.text.specs.Text.{pieces_of, encoded, recoded, unicode_text, ascii_text, unicode_bytes, stored, store_text};
 ghost use Rattle.text.specs.Pieces.{Reads};
 
+use base::{Short, copy_into};
+
 // How text is laid out in bytes. UTF-16 has the high-order byte of a unit first and ends before a zero unit.
+// Stays an enum: the definitions of specs/Text are over it by cases, and a trait would compile each loop three times.
 #[derive(Clone, Copy)]
 enum Form {
     Utf8,
@@ -24,59 +27,34 @@ struct Piece {
     kept: bool,
 }
 
-// What a reader finds at a place: the text's end, or a scalar value.
-#[derive(Clone, Copy)]
-enum Next {
-    End,
-    One(Piece),
-}
-
-// What became of a text that was to be stored: its length, or `Short` if the store is shorter than the text, and then nothing was written.
-#[derive(Clone, Copy)]
-pub enum Decoded {
-    Written(usize),
-    Short,
-}
-
 // ---- reading
 
 // Returns the byte at `i`, or 0 past the end.
 fn byte_at(s: &[u8], i: usize) -> u32
     ensures { (result ≡ get_or s.now i 0) × (result < 256) }
 {
-    if s.len() <= i {
-        return 0;
+    match s.get(i) {
+        Some(b) => u32::from(*b),
+        None => 0,
     }
-    base::wide32(s[i])
 }
 
 // Returns the UTF-16 unit at `at`, or 0 past the last whole unit: an odd last byte is dropped.
 fn unit_at(s: &[u8], at: usize) -> u32
     ensures { (result ≡ get_or (units (drop at s.now)) 0 0) × (result < 65536) }
 {
-    if s.len() < 2 {
+    if s.len() < 2 || s.len() - 2 < at {
         return 0;
     }
-    if s.len() - 2 < at {
-        return 0;
-    }
-    base::wide32(s[at]) * 256 + base::wide32(s[at + 1])
+    u32::from(u16::from_be_bytes([s[at], s[at + 1]]))
 }
 
 // Tells whether `u` is a high surrogate and `v` a low one.
+#[tactic(auto, unfolding(crate::specs::Unicode::is_pair))]
 fn is_pair(u: u32, v: u32) -> bool
     ensures { result ≡ is_pair u v }
 {
-    if u < 0xD800 {
-        return false;
-    }
-    if 0xDC00 <= u {
-        return false;
-    }
-    if v < 0xDC00 {
-        return false;
-    }
-    v < 0xE000
+    0xD800 <= u && u < 0xDC00 && 0xDC00 <= v && v < 0xE000
 }
 
 // Makes the piece of the scalar value `code`, which `size` well-formed bytes say.
@@ -108,59 +86,56 @@ fn first16(u: u32, v: u32) -> Piece
     if is_pair(u, v) {
         return kept(0x10000 + (u - 0xD800) * 0x400 + (v - 0xDC00), 4);
     }
-    if u < 0xD800 {
-        return kept(u, 2);
+    match u {
+        0xD800..=0xDFFF => replaced(2),
+        _ => kept(u, 2),
     }
-    if u < 0xE000 { replaced(2) } else { kept(u, 2) }
 }
 
 // Returns how many bytes a UTF-8 sequence has by its first byte `b`, or 0 if no sequence starts with `b`.
+#[tactic(auto, unfolding(crate::specs::Unicode::need))]
 fn needed(b: u32) -> u32
     ensures { result ≡ need b }
 {
-    if b < 0x80 {
-        return 1;
+    match b {
+        0..=0x7F => 1,
+        0xC2..=0xDF => 2,
+        0xE0..=0xEF => 3,
+        0xF0..=0xF4 => 4,
+        _ => 0,
     }
-    if b < 0xC2 {
-        return 0;
-    }
-    if b < 0xE0 {
-        return 2;
-    }
-    if b < 0xF0 {
-        return 3;
-    }
-    if b < 0xF5 { 4 } else { 0 }
 }
 
 // Returns the smallest second byte that may follow the first byte `b`.
+#[tactic(auto, unfolding(crate::specs::Unicode::low))]
 fn lowest(b: u32) -> u32
     ensures { result ≡ low b }
 {
-    if b == 0xE0 {
-        return 0xA0;
+    match b {
+        0xE0 => 0xA0,
+        0xF0 => 0x90,
+        _ => 0x80,
     }
-    if b == 0xF0 { 0x90 } else { 0x80 }
 }
 
 // Returns the largest second byte that may follow the first byte `b`.
+#[tactic(auto, unfolding(crate::specs::Unicode::high))]
 fn highest(b: u32) -> u32
     ensures { result ≡ high b }
 {
-    if b == 0xED {
-        return 0x9F;
+    match b {
+        0xED => 0x9F,
+        0xF4 => 0x8F,
+        _ => 0xBF,
     }
-    if b == 0xF4 { 0x8F } else { 0xBF }
 }
 
 // Tells whether `x` lies between `lo` and `hi`.
+#[tactic(auto, unfolding(crate::specs::Unicode::inside))]
 fn is_inside(lo: u32, hi: u32, x: u32) -> bool
     ensures { result ≡ inside lo hi x }
 {
-    if x < lo {
-        return false;
-    }
-    x <= hi
+    lo <= x && x <= hi
 }
 
 // Reads the scalar value that the bytes `b`, `c`, `d`, `e` start, or replaces the longest part of a sequence that they start (Unicode,
@@ -196,25 +171,25 @@ fn first8(b: u32, c: u32, d: u32, e: u32) -> Piece
     )
 }
 
-// Reads the next scalar value of UTF-16 at `at`.
-fn next16(s: &[u8], at: usize) -> Next
+// Reads the next scalar value of UTF-16 at `at`, if the text has not ended there.
+fn next16(s: &[u8], at: usize) -> Option<Piece>
     ensures { Reads Form.Utf16 s.now at result }
 {
     let u = unit_at(s, at);
     if u == 0 {
-        return Next::End;
+        return None;
     }
-    Next::One(first16(u, unit_at(s, at + 2)))
+    Some(first16(u, unit_at(s, at + 2)))
 }
 
-// Reads the next scalar value of UTF-8 at `at`.
-fn next8(s: &[u8], at: usize) -> Next
+// Reads the next scalar value of UTF-8 at `at`, if the text has not ended there.
+fn next8(s: &[u8], at: usize) -> Option<Piece>
     ensures { Reads Form.Utf8 s.now at result }
 {
     if s.len() <= at {
-        return Next::End;
+        return None;
     }
-    Next::One(first8(
+    Some(first8(
         byte_at(s, at),
         byte_at(s, at + 1),
         byte_at(s, at + 2),
@@ -222,8 +197,8 @@ fn next8(s: &[u8], at: usize) -> Next
     ))
 }
 
-// Reads the next scalar value at `at`, in the given form.
-fn next_piece(s: &[u8], at: usize, form: Form) -> Next
+// Reads the next scalar value at `at`, in the given form, if the text has not ended there.
+fn next_piece(s: &[u8], at: usize, form: Form) -> Option<Piece>
     ensures { Reads form s.now at result }
 {
     match form {
@@ -236,29 +211,22 @@ fn next_piece(s: &[u8], at: usize, form: Form) -> Next
 fn zero_at(s: &[u8]) -> usize
     ensures { result ≡ length (up_to_zero_of s.now) }
 {
-    let mut i = 0;
-    while i < s.len() {
-        if s[i] == 0 {
-            return i;
-        }
-        i += 1;
-    }
-    i
+    s.iter().position(|b| *b == 0).unwrap_or(s.len())
 }
 
 // ---- writing
 
 // Returns how many bytes UTF-8 takes for the scalar value `c`.
+#[tactic(auto, unfolding(crate::specs::Unicode::utf8))]
 fn width8(c: u32) -> usize
     ensures { (result ≡ length (utf8 c)) × (result ≤ 4) }
 {
-    if c < 0x80 {
-        return 1;
+    match c {
+        0..=0x7F => 1,
+        0x80..=0x7FF => 2,
+        0x800..=0xFFFF => 3,
+        _ => 4,
     }
-    if c < 0x800 {
-        return 2;
-    }
-    if c < 0x10000 { 3 } else { 4 }
 }
 
 // Returns how many bytes UTF-16 takes for the scalar value `c`.
@@ -278,50 +246,60 @@ fn width(c: u32, form: Form) -> usize
     }
 }
 
+// Stores `bytes` from `n` on, and returns the place behind them.
+#[tactic(auto, using(crate::proofs::TextRoom::paste_sets))]
+fn put_bytes(d: &mut [u8], n: usize, bytes: &[u8]) -> usize
+    requires { n + length bytes.now ≤ length d.old }
+    ensures { (result ≡ n + length bytes.now) × (d.new ≡ sets d.old n bytes.now) }
+{
+    copy_into(d, n, bytes);
+    n + bytes.len()
+}
+
 // Stores the scalar value `c` in UTF-8 from `n` on, and returns the place behind it.
+#[tactic(auto, unfolding(crate::specs::Unicode::utf8))]
 fn put8(d: &mut [u8], n: usize, c: u32) -> usize
     requires { (n + length (utf8 c) ≤ length d.old) × (c < 0x110000) }
     ensures { (result ≡ n + length (utf8 c)) × (d.new ≡ sets d.old n (utf8 c)) }
 {
-    if c < 0x80 {
-        d[n] = c as u8;
-        return n + 1;
+    let last = (0x80 + c % 0x40) as u8;
+    let before_last = (0x80 + c / 0x40 % 0x40) as u8;
+    match c {
+        0..=0x7F => put_bytes(d, n, &[c as u8]),
+        0x80..=0x7FF => put_bytes(d, n, &[(0xC0 + c / 0x40) as u8, last]),
+        0x800..=0xFFFF => put_bytes(d, n, &[(0xE0 + c / 0x1000) as u8, before_last, last]),
+        _ => {
+            let second = (0x80 + c / 0x1000 % 0x40) as u8;
+            put_bytes(
+                d,
+                n,
+                &[(0xF0 + c / 0x40000) as u8, second, before_last, last],
+            )
+        }
     }
-    if c < 0x800 {
-        d[n] = (0xC0 + c / 0x40) as u8;
-        d[n + 1] = (0x80 + c % 0x40) as u8;
-        return n + 2;
-    }
-    if c < 0x10000 {
-        d[n] = (0xE0 + c / 0x1000) as u8;
-        d[n + 1] = (0x80 + c / 0x40 % 0x40) as u8;
-        d[n + 2] = (0x80 + c % 0x40) as u8;
-        return n + 3;
-    }
-    d[n] = (0xF0 + c / 0x40000) as u8;
-    d[n + 1] = (0x80 + c / 0x1000 % 0x40) as u8;
-    d[n + 2] = (0x80 + c / 0x40 % 0x40) as u8;
-    d[n + 3] = (0x80 + c % 0x40) as u8;
-    n + 4
 }
 
 // Stores the scalar value `c` in UTF-16 from `n` on, and returns the place behind it.
+#[tactic(auto, unfolding(crate::specs::Unicode::utf16))]
 fn put16(d: &mut [u8], n: usize, c: u32) -> usize
     requires { (n + length (utf16 c) ≤ length d.old) × (c < 0x110000) }
     ensures { (result ≡ n + length (utf16 c)) × (d.new ≡ sets d.old n (utf16 c)) }
 {
     if c < 0x10000 {
-        d[n] = (c / 0x100) as u8;
-        d[n + 1] = (c % 0x100) as u8;
-        return n + 2;
+        return put_bytes(d, n, &[(c / 0x100) as u8, (c % 0x100) as u8]);
     }
     let u = 0xD800 + (c - 0x10000) / 0x400;
     let v = 0xDC00 + (c - 0x10000) % 0x400;
-    d[n] = (u / 0x100) as u8;
-    d[n + 1] = (u % 0x100) as u8;
-    d[n + 2] = (v / 0x100) as u8;
-    d[n + 3] = (v % 0x100) as u8;
-    n + 4
+    put_bytes(
+        d,
+        n,
+        &[
+            (u / 0x100) as u8,
+            (u % 0x100) as u8,
+            (v / 0x100) as u8,
+            (v % 0x100) as u8,
+        ],
+    )
 }
 
 // Stores the scalar value `c` in the given form from `n` on, and returns the place behind it.
@@ -340,52 +318,37 @@ fn text_len(s: &[u8], from: Form, to: Form) -> usize
     ensures { result ≡ min (length (recoded from to s.now)) (2 ^ 64 - 1) }
 {
     let mut at = 0;
-    let mut n = 0;
-    loop {
-        match next_piece(s, at, from) {
-            Next::One(p) => {
-                let w = width(p.code, to);
-                if 0xFFFF_FFFF_FFFF_FFFF - w < n {
-                    return 0xFFFF_FFFF_FFFF_FFFF;
-                }
-                n += w;
-                at += p.size;
-            }
-            Next::End => {
-                return n;
-            }
-        }
+    let mut n: usize = 0;
+    // Stays `while let`, here and below: an iterator over pieces would need a state and laws of its own in place of `at`.
+    while let Some(p) = next_piece(s, at, from) {
+        n = n.saturating_add(width(p.code, to));
+        at += p.size;
     }
+    n
 }
 
 // Stores the text `s` in the form `to` at the front of `d`, which holds it, and returns its length.
 fn write_text(s: &[u8], from: Form, to: Form, d: &mut [u8]) -> usize
     requires { length (recoded from to s.now) ≤ length d.old }
-    ensures { stored (Decoded.Written result) d.new ≡ store_text (recoded from to s.now) d.old }
+    ensures { stored (Ok result) d.new ≡ store_text (recoded from to s.now) d.old }
 {
     let mut at = 0;
     let mut n = 0;
-    loop {
-        match next_piece(s, at, from) {
-            Next::One(p) => {
-                n = put(d, n, p.code, to);
-                at += p.size;
-            }
-            Next::End => {
-                return n;
-            }
-        }
+    while let Some(p) = next_piece(s, at, from) {
+        n = put(d, n, p.code, to);
+        at += p.size;
     }
+    n
 }
 
-// Stores the text `s` in the form `to` at the front of `d`, or nothing at all if `d` is too short.
-fn recode(s: &[u8], from: Form, to: Form, d: &mut [u8]) -> Decoded
+// Stores the text `s` in the form `to` at the front of `d`, and returns its length; nothing at all is stored if `d` is too short.
+fn recode(s: &[u8], from: Form, to: Form, d: &mut [u8]) -> Result<usize, Short>
     ensures { stored result d.new ≡ store_text (recoded from to s.now) d.old }
 {
     if d.len() < text_len(s, from, to) {
-        return Decoded::Short;
+        return Err(Short);
     }
-    Decoded::Written(write_text(s, from, to, d))
+    Ok(write_text(s, from, to, d))
 }
 
 // ---- the text of headers
@@ -399,7 +362,7 @@ pub fn unicode_len(payload: &[u8]) -> usize
 
 // Stores the UTF-16 text of a header in UTF-8 (the source's decode_unicode): up to the first zero unit, and each unpaired surrogate as
 // U+FFFD.
-pub fn decode_unicode(payload: &[u8], store: &mut [u8]) -> Decoded
+pub fn decode_unicode(payload: &[u8], store: &mut [u8]) -> Result<usize, Short>
     ensures { stored result store.new ≡ store_text (unicode_text payload.now) store.old }
 {
     recode(payload, Form::Utf16, Form::Utf8, store)
@@ -414,7 +377,7 @@ pub fn ascii_len(payload: &[u8]) -> usize
 }
 
 // Stores the text of Type or Time (the source's decode_ascii): up to the first zero byte, and what is ill-formed as U+FFFD.
-pub fn decode_ascii(payload: &[u8], store: &mut [u8]) -> Decoded
+pub fn decode_ascii(payload: &[u8], store: &mut [u8]) -> Result<usize, Short>
     ensures { stored result store.new ≡ store_text (ascii_text payload.now) store.old }
 {
     let end = zero_at(payload);
@@ -429,7 +392,7 @@ pub fn encoded_unicode_len(text: &[u8]) -> usize
 }
 
 // Stores the UTF-8 text `text` in UTF-16, without a zero unit behind it.
-pub fn encode_unicode(text: &[u8], store: &mut [u8]) -> Decoded
+pub fn encode_unicode(text: &[u8], store: &mut [u8]) -> Result<usize, Short>
     ensures { stored result store.new ≡ store_text (unicode_bytes text.now) store.old }
 {
     recode(text, Form::Utf8, Form::Utf16, store)
@@ -442,19 +405,13 @@ fn is_whole(s: &[u8], form: Form) -> bool
     ensures { result ≡ whole (pieces_of form s.now) (length s.now) }
 {
     let mut at = 0;
-    loop {
-        match next_piece(s, at, form) {
-            Next::One(p) => {
-                if !p.kept {
-                    return false;
-                }
-                at += p.size;
-            }
-            Next::End => {
-                return at == s.len();
-            }
+    while let Some(p) = next_piece(s, at, form) {
+        if !p.kept {
+            return false;
         }
+        at += p.size;
     }
+    at == s.len()
 }
 
 // Tells whether the bytes are UTF-16 as a writer leaves it: no zero unit, each surrogate in a pair, no odd byte.
@@ -468,8 +425,5 @@ pub fn is_well_formed16(s: &[u8]) -> bool
 pub fn is_well_formed8(s: &[u8]) -> bool
     ensures { result ≡ well_formed8 s.now }
 {
-    if zero_at(s) < s.len() {
-        return false;
-    }
-    is_whole(s, Form::Utf8)
+    zero_at(s) == s.len() && is_whole(s, Form::Utf8)
 }

@@ -10,7 +10,7 @@ mod words;
 
 use crate::words::{Demand, HEADERS};
 use client::calls;
-use client_model::{Body, CallResult, Client, Outcome, Settings};
+use client_model::{CallResult, Client, Outcome, Settings};
 use digest::md5::Octets16;
 use files::fault::fail;
 use lines::input::read;
@@ -196,10 +196,10 @@ fn unless_aborted(rt: &impl Env, s: State, step: Step) -> Step {
     step
 }
 
-fn size_of(body: Body) -> usize {
+fn size_of(body: Option<usize>) -> usize {
     match body {
-        Body::Bytes(n) => n,
-        Body::Missing => 0,
+        Some(n) => n,
+        None => 0,
     }
 }
 

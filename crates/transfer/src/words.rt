@@ -1,12 +1,13 @@
 // The headers of the requests: Target, Name, and the answer to a challenge.
 use crate::order;
 use crate::order::WORD;
+use base::Span;
 use digest::md5::Octets16;
 use lines::output::least;
-use packet::auth::{DigestChallenge, read_challenge, respond};
+use packet::auth::{read_challenge, respond};
 use packet::header::{first_header, put_bytes, put_unicode};
 use packet::header_id;
-use packet::tlv::{Found, Wrote};
+use packet::tlv::Wrote;
 use std::env::Env;
 
 // How long the store of the headers is.
@@ -52,19 +53,14 @@ pub enum Demand {
 // Reads the challenge `value` of a header.
 fn demand_of(value: &[u8]) -> Demand {
     match read_challenge(value) {
-        DigestChallenge::Challenge {
-            nonce,
-            user_id_required: _,
-            read_only: _,
-            realm: _,
-        } => Demand::Nonce(nonce),
-        DigestChallenge::Unreadable => Demand::Nothing,
+        Some(challenge) => Demand::Nonce(challenge.nonce),
+        None => Demand::Nothing,
     }
 }
 
 // Returns what the response to a Connect asks for.
 pub(crate) fn demand_in(response: &[u8]) -> Demand {
-    let Found::At { start, end } = first_header(
+    let Some(Span { start, end }) = first_header(
         response,
         CONNECT_HEADERS,
         header_id::AUTHENTICATE_CHALLENGE,

@@ -1,13 +1,11 @@
 -- The walk over a packet's headers, which holds the packet's bytes and its place: what its functions give, the list of headers that they
 -- give from a place up to the end, and the same list by the cursor, which is passed the bytes each time.
-use Rattle.std.specs.Prelude.{ℕ, zero, suc, ◌+◌, List, length}
+use Rattle.std.specs.Prelude.{ℕ, zero, suc, ◌+◌, List, length, Option as Maybe, Some, None}
 use Rattle.std.proofs.Math.Option.{Option, none, some}
 use Rattle.std.specs.Borrow.{Bor}
 use Rattle.packet.specs.declared.header.Cursor.{Cursor}
 use Rattle.packet.specs.Header.{Header, header_at_of, walk_from}
 use Rattle.walk.specs.declared.Walk.{Walk}
-use Rattle.walk.specs.declared.Count.{Count}
-use Rattle.walk.specs.declared.Count.TheVariants.{Headers, Unreadable}
 
 -- ---- what the functions give
 
@@ -20,12 +18,12 @@ abbrev pub walk_to : Walk → ℕ → Walk
 walk_to w at = walk_at w.packet at
 
 -- `n` headers, and then those of a list; `none` is unreadable.
-abbrev pub count_from : ℕ → Option (List Header) → Count
-count_from n none = Unreadable
-count_from n (some hs) = Headers (n + length hs)
+abbrev pub count_from : ℕ → Option (List Header) → Maybe ℕ
+count_from n none = None
+count_from n (some hs) = Some (n + length hs)
 
 -- `len`: how many headers a list has.
-abbrev pub count_of : Option (List Header) → Count
+abbrev pub count_of : Option (List Header) → Maybe ℕ
 count_of r = count_from 0 r
 
 -- ---- the list

@@ -36,15 +36,8 @@ pub fn step(packet: &[u8], at: usize) -> HeaderAt
     next(new(packet, at))
 }
 
-// How many headers there are, or that they cannot be read.
-#[derive(Clone, Copy)]
-pub enum Count {
-    Headers(usize),
-    Unreadable,
-}
-
-// Counts the headers of a packet from `from` up to its end (the source's Headers::parse and Headers::len).
-pub fn len(packet: &[u8], from: usize) -> Count
+// Counts the headers of a packet from `from` up to its end, if they can be read (the source's Headers::parse and Headers::len).
+pub fn len(packet: &[u8], from: usize) -> Option<usize>
     ensures { result ≡ count_of (read_headers packet.now from) }
 {
     let mut at = from;
@@ -61,10 +54,10 @@ pub fn len(packet: &[u8], from: usize) -> Count
                 n = n + 1;
             }
             HeaderAt::Unreadable => {
-                return Count::Unreadable;
+                return None;
             }
             HeaderAt::End => {
-                return Count::Headers(n);
+                return Some(n);
             }
         }
     }

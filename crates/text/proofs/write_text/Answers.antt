@@ -23,28 +23,28 @@ pub put-n-requires : goal.put-n-requires
 put-n-requires c =
     let x = c.args in
     let l = c.loop-p in
-    let p = c.in-One.p in (
+    let p = c.in-Some.p in (
       half_room (recoded x.from x.to x.s.now) x.d.now l.d l.n c.requires (encoded x.to p.code) (rest x.from x.to x.s.now (l.at + p.size))
-          (half x.s.now x.d.now l.d x.from x.to l.at l.n p c.in-One.ensures l.invariant.1),
-      c.in-One.ensures.scalar,
+          (half x.s.now x.d.now l.d x.from x.to l.at l.n p c.in-Some.ensures l.invariant.1),
+      c.in-Some.ensures.scalar,
     )
 
 pub loop-p-preserved : goal.loop-p-preserved
 loop-p-preserved c =
     let x = c.args in
     let l = c.loop-p in
-    let p = c.in-One.p in
+    let p = c.in-Some.p in
     let e = c.put-n.ensures in (
-      c.in-One.ensures.within,
+      c.in-Some.ensures.within,
       rw (e.1, e.0)
           (half_more (recoded x.from x.to x.s.now) x.d.now l.d l.n c.requires (encoded x.to p.code) (rest x.from x.to x.s.now (l.at + p.size))
-          (half x.s.now x.d.now l.d x.from x.to l.at l.n p c.in-One.ensures l.invariant.1)),
+          (half x.s.now x.d.now l.d x.from x.to l.at l.n p c.in-Some.ensures l.invariant.1)),
     )
 
-pub returns-in-End : goal.returns-in-End
-returns-in-End c =
+pub returns : goal.returns
+returns c =
     let x = c.args in
     let l = c.loop-p in
     let t = recoded x.from x.to x.s.now in
-    let h = half_end t x.d.now l.d l.n c.requires (rw (rest_end x.from x.to x.s.now l.at c.in-End.ensures) at l.invariant.1) in
+    let h = half_end t x.d.now l.d l.n c.requires (rw (rest_end x.from x.to x.s.now l.at c.in_default.ensures) at l.invariant.1) in
     stored-whole t x.d.now l.d l.n c.requires h.0 h.1

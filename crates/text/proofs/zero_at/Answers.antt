@@ -1,19 +1,13 @@
--- `text::zero_at` meets its contract. The invariant: what stands before the first zero is i elements, and what stands before it from i on. Assumes
--- nothing.
-use native.Mathlib.Omega.{arith}
-use Rattle.text.proofs.Cut.{cut-zero, cut-more, cut-end}
+-- `text::zero_at` meets its contract: the first zero stands where what stands before it ends. Assumes nothing.
+use Rattle.std.proofs.Common.{eqb, rules, tests}
+use Rattle.std.proofs.lemmas.Iterator.{YieldsList-from_slice}
+use Rattle.std.proofs.lemmas.Iterator.Search.{position_from_yields_List}
+use Rattle.text.proofs.Cut.{zero_found}
 use Rattle.text.proofs.zero_at.Goals as goal
 
-pub loop-i-init : goal.loop-i-init
-loop-i-init c = (omega arith, omega arith)
-
-pub returns-then-s-i-eq0 : goal.returns-then-s-i-eq0
-returns-then-s-i-eq0 c =
-    omega (arith, cut-zero c.args.s.now c.loop-i.i c.loop-i-test.true c.if-s-i-eq0.true)
-
-pub loop-i-preserved : goal.loop-i-preserved
-loop-i-preserved c =
-    (omega arith, omega (arith, cut-more c.args.s.now c.loop-i.i c.loop-i-test.true c.if-s-i-eq0.false))
-
 pub returns : goal.returns
-returns c = let l = c in omega (arith, cut-end c.args.s.now c.loop-i.i c.loop-i-test.false)
+returns c =
+    let s = c.args.s.now in
+    zero_found s _ _
+    (position_from_yields_List (λ b. eqb b 0) _ _ _ c.position.ensures.ran (YieldsList-from_slice s cc) (λ x b q k. search (rules, tests)))
+    c.unwrap_or.ensures

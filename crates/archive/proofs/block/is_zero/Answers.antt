@@ -1,31 +1,15 @@
--- `archive::block::is_zero` meets its contract. The invariant: what is left is all zero if and only if the whole is. Assumes nothing.
-use mathlib.Core.Path.{◌≡◌, refl, sym, ◌∙◌}
-use mathlib.Core.List.{[]}
-use native.Mathlib.Omega.{arith}
-use lib.ListN.{drop, drop_of_length-le}
-use Rattle.archive.specs.Block.{all_zero}
-use Rattle.archive.proofs.Compare.{zero-next, zero-not}
+-- `archive::block::is_zero` meets its contract: each byte is tested. Assumes nothing.
+use Rattle.std.proofs.Common.{rules, tests, ◌≡◌, ◌∙◌, eqb, ℕ}
+use Rattle.std.specs.List.{list_all}
+use Rattle.std.proofs.lemmas.Iterator.{YieldsList-from_slice}
+use Rattle.std.proofs.lemmas.Iterator.Search.{all_from_yields_List}
+use Rattle.archive.proofs.Compare.{all_zeros}
 use Rattle.archive.proofs.block.is_zero.Goals as goal
 
-pub loop-i-init : goal.loop-i-init
-loop-i-init c = (omega arith, refl)
-
-pub returns-then-s-i-ne0 : goal.returns-then-s-i-ne0
-returns-then-s-i-ne0 c =
-    let x = c in
-    let l = c.loop-i in
-    sym (l.invariant.1 ∙ zero-not c.args.s.now l.i (omega arith) c.if-s-i-ne0.true)
-
-pub loop-i-preserved : goal.loop-i-preserved
-loop-i-preserved c =
-    let x = c in
-    let l = c.loop-i in
-    (omega arith, l.invariant.1 ∙ zero-next c.args.s.now l.i (omega arith) c.if-s-i-ne0.false)
-
 pub returns : goal.returns
-unfolding all_zero
 returns c =
-    let x = c in
     let s = c.args.s.now in
-    let e : drop c.loop-i.i s ≡ [] = drop_of_length-le s {i = c.loop-i.i} (omega arith) in
-    sym (rw e at c.loop-i.invariant.1)
+    let r : c.all.result ≡ list_all (λ (x : ℕ). eqb x 0) s =
+    all_from_yields_List (λ (x : ℕ). eqb x 0) _ _ _ c.all.ensures.ran (YieldsList-from_slice s cc) (λ y b q k. search (rules, tests))
+    in
+    r ∙ all_zeros s

@@ -1,7 +1,9 @@
 -- `archive::block::read` meets its contract: its tests are those of `read_into`, in their order. Assumes nothing.
-use mathlib.Core.Path.{sym, ◌∙◌}
+use mathlib.Core.Path.{◌≡◌, sym, ◌∙◌}
 use native.Mathlib.Omega.{arith}
-use Rattle.archive.proofs.AllRead.{read_short, read-refused, read_done}
+use Rattle.std.proofs.Common.{rules, Ok, Err}
+use Rattle.archive.specs.Reading.{body_in}
+use Rattle.archive.proofs.AllRead.{read_short, read-refused, read_done, body_sound, body_faulty}
 use Rattle.archive.proofs.block.read.Goals as goal
 
 pub returns-then-body-blocks : goal.returns-then-body-blocks
@@ -9,22 +11,17 @@ returns-then-body-blocks c =
     let a = c.args in
     read_short a.blocks.now a.body.now (omega arith)
 
-pub returns-then-fault-ne-SOUND : goal.returns-then-fault-ne-SOUND
-returns-then-fault-ne-SOUND c =
-    let j = c in
+pub returns-in_err-total : goal.returns-in_err-total
+returns-in_err-total c =
     let a = c.args in
-    rw (c.refused_for.ensures, c.judge-judgement.ensures.0)
-    (read-refused a.blocks.now a.body.now (omega arith) (rw c.judge-judgement.ensures.0 at c.if-fault-ne-SOUND.true))
-
-pub copy_body-requires : goal.copy_body-requires
-copy_body-requires c =
-    let j = c in
-    (sym c.judge-judgement.ensures.0 ∙ c.if-fault-ne-SOUND.false, omega arith)
+    let x = c.in_err-total.field-0.0 in
+    let r : c.from_residual.result ≡ Err x = search rules in
+    let d = body_faulty a.blocks.now x (sym c.judge-judgement.ensures.body ∙ c.in_err-total.was) in
+    rw (r, d.1) (read-refused a.blocks.now a.body.now (omega arith) d.0)
 
 pub returns : goal.returns
 returns c =
-    let j = c in
     let a = c.args in
-    let f = c.if-fault-ne-SOUND.false in
-    rw (c.judge-judgement.ensures.2 f, c.copy_body.ensures)
-    (read_done a.blocks.now a.body.now (omega arith) (sym c.judge-judgement.ensures.0 ∙ f))
+    let e : body_in a.blocks.now ≡ Ok c.in_ok-total.total = sym c.judge-judgement.ensures.body ∙ c.in_ok-total.was in
+    let s = body_sound a.blocks.now c.in_ok-total.total e in
+    rw (← s.1, c.copy_body.ensures) (read_done a.blocks.now a.body.now (omega arith) s.0)

@@ -1,11 +1,8 @@
 -- `calendar::date::days_before_month` meets its contract. The invariant: the days of the months before `m` are counted. Assumes nothing.
 use mathlib.Core.Path.{◌≡◌}
-use Prim.Native.Nat.{◌-◌, ◌*◌, ◌≤◌}
+use Prim.Native.Nat.{◌*◌, ◌≤◌}
 use Rattle.calendar.specs.Day.{days_before_month}
 use Rattle.calendar.proofs.date.days_before_month.Given as goal
 
 abbrev pub invariant-loop-m : goal.invariant-loop-m
-invariant-loop-m l = (l.m ≤ l.month) × (l.days ≡ days_before_month l.year l.m) × (l.days ≤ 31 * l.m)
-
-abbrev pub decreases-loop-m : goal.decreases-loop-m
-decreases-loop-m l = l.month - l.m
+invariant-loop-m l = (l.days ≡ days_before_month l.year l.m) × (l.days ≤ 31 * l.m)

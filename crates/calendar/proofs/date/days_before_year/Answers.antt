@@ -6,6 +6,6 @@ use Rattle.calendar.proofs.date.days_before_year.Goals as goal
 pub returns : goal.returns
 returns c =
     record {
-      value = closed-form c.args.year;
+      value = rw c.from-y.ensures (closed-form c.args.year);
       small = omega arith;
     }

@@ -5,10 +5,6 @@ use Rattle.calendar.proofs.time.text_of.Goals as goal
 
 pub returns : goal.returns
 returns c =
-    let d = c in
-    let a = c in
-    let b = c in
-    let s = c in
     rw (
       c.digit.ensures,
       c.digit-2.ensures,
@@ -24,5 +20,10 @@ returns c =
       c.digit-12.ensures,
       c.digit-13.ensures,
       c.digit-14.ensures,
+      c.from-month.ensures,
+      c.from-day.ensures,
+      c.from-hour.ensures,
+      c.from-minute.ensures,
+      c.from-second.ensures,
     )
     (sym (text_digits c.args.at))

@@ -1,5 +1,6 @@
 -- `client::answer::connected` meets its contract. Each `return` rewrites with the tests that led there. Assumes nothing.
 use mathlib.Core.Path.{sym, ◌∙◌}
+use Rattle.client_model.specs.Step.{client_with}
 use Rattle.client.specs.Answer.{connected_by}
 use Rattle.client.proofs.answer.connected.Goals as goal
 
@@ -9,6 +10,5 @@ returns-then-not-is_success c =
     simp (sym c.is_success.ensures ∙ c.if-not-is_success.true, c.goes.ensures)
 
 pub returns : goal.returns
-unfolding connected_by
-returns c =
-    simp (sym c.is_success.ensures ∙ c.if-not-is_success.false, c.client_with.ensures)
+unfolding connected_by client_with
+returns c = simp (sym c.is_success.ensures ∙ c.if-not-is_success.false)

@@ -33,9 +33,10 @@ act-requires c =
     let args = c.args in
     let lent = stores args.packet.now args.headers.now args.body.now args.request.now in
     let pre = c.requires in
+    let answer = c.in-Some.answer in
     let arrived-says = c.arrived-at.ensures in (
       reads args.c args.n lent _ c.is_connecting.ensures _ c.parse_response.ensures _
-          c.arrived-at.ensures _ _ _ _ c.in-Response.is,
+          c.arrived-at.ensures answer c.in-Some.is,
       omega (arith, pre.1, arrived-remote args.c _ args.n arrived-says),
       ap sound_operation (arrived-operation args.c _ args.n arrived-says) ∙ pre.2,
       pre.3,
@@ -46,7 +47,8 @@ act-requires c =
 pub returns : goal.returns
 returns c =
     let args = c.args in
+    let answer = c.in-Some.answer in
     let lent = stores args.packet.now args.headers.now args.body.now args.request.now in
     answered args.c args.n lent _ c.is_connecting.ensures _ c.parse_response.ensures _
-    c.arrived-at.ensures _ _ _ _ c.in-Response.is _ _
+    c.arrived-at.ensures answer c.in-Some.is _ _
     c.read_heading-h.ensures (c.act.ensures args.packet.now)

@@ -8,13 +8,13 @@ use Rattle.client.proofs.Guards.{refused-call, passed_call}
 use Rattle.client.proofs.Called.{abort_called}
 use Rattle.client.proofs.calls.abort.Goals as goal
 
-pub returns-in-Refuse : goal.returns-in-Refuse
+pub returns-in-Err : goal.returns-in-Err
 unfolding abort_step
-returns-in-Refuse c =
+returns-in-Err c =
     let args = c.args in
     let lent = stores args.packet.now args.headers.now args.body.now args.request.now in
     refused-call _ (abort_fits args.c) args.c lent _ _ _ _ c.is_abortable-fits.ensures c.refuse.ensures
-    c.guard.ensures c.in-Refuse.is
+    c.guard.ensures c.in-Err.is
 
 pub send_abort-requires : goal.send_abort-requires
 send_abort-requires c =

@@ -15,13 +15,13 @@ use Rattle.client.proofs.Guards.{refused-call, passed_call}
 use Rattle.client.proofs.Called.{body-other, request_bounds, body_much, body-goes}
 use Rattle.client.proofs.calls.body_given.Goals as goal
 
-pub returns-in-Refuse : goal.returns-in-Refuse
+pub returns-in-Err : goal.returns-in-Err
 unfolding body_given_step
-returns-in-Refuse c =
+returns-in-Err c =
     let args = c.args in
     let lent = stores args.packet.now args.headers.now args.body.now args.request.now in
     refused-call _ (awaiting args.c await.Body) args.c lent _ _ _ _ c.same_await-fits.ensures c.refuse.ensures c.guard.ensures
-    c.in-Refuse.is
+    c.in-Err.is
 
 pub returns-in_default-operation : goal.returns-in_default-operation
 unfolding body_given_step

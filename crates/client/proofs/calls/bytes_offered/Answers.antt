@@ -11,13 +11,13 @@ use Rattle.client.proofs.Guards.{refused-call, passed_call}
 use Rattle.client.proofs.Answers.{framed-call, taken-after, more-call, short-call}
 use Rattle.client.proofs.calls.bytes_offered.Goals as goal
 
-pub returns-in-Refuse-clause-step : goal.returns-in-Refuse-clause-step
+pub returns-in-Err-clause-step : goal.returns-in-Err-clause-step
 unfolding bytes_offered_step
-returns-in-Refuse-clause-step c =
+returns-in-Err-clause-step c =
     let args = c.args in
     let lent = stores args.packet.now args.headers.now args.body.now args.request.now in
     refused-call _ (awaiting args.c await.Bytes) args.c lent _ _ _ _ c.same_await-fits.ensures c.refuse.ensures c.guard.ensures
-    c.in-Refuse.is
+    c.in-Err.is
 
 pub read_packet-f-requires : goal.read_packet-f-requires
 read_packet-f-requires c =

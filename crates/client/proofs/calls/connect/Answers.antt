@@ -22,25 +22,25 @@ use Rattle.client.proofs.Guards.{refused-call, passed_call, unchecked, checks}
 use Rattle.client.proofs.Called.{nothing-leads, passes}
 use Rattle.client.proofs.calls.connect.Goals as goal
 
-pub returns-in-Refuse : goal.returns-in-Refuse
+pub returns-in-Err : goal.returns-in-Err
 unfolding connect_step
-returns-in-Refuse c =
+returns-in-Err c =
     let args = c.args in
     let lent = stores args.packet.now args.headers.now args.body.now args.request.now in
     refused-call _ (awaiting args.c await.Call) args.c lent _ _ _ _ c.same_await-fits.ensures c.refuse.ensures c.guard.ensures
-    c.in-Refuse.is
+    c.in-Err.is
 
-pub returns-in-Refuse-check_connect : goal.returns-in-Refuse-check_connect
+pub returns-in-Err-check_connect : goal.returns-in-Err-check_connect
 unfolding connect_step
-returns-in-Refuse-check_connect c =
+returns-in-Err-check_connect c =
     let args = c.args in
     let lent = stores args.packet.now args.headers.now args.body.now args.request.now in
     let guarded = passed_call _ (awaiting args.c await.Call) args.c lent _ c.same_await-fits.ensures c.guard.ensures c.in_default.is in
     let hs = args.header_bytes.now in
     let k = c.check_connect.ensures ∙ ap (λ (n : ℕ). checked_by (bad_headers hs) (ltb 248 n)) (nothing-leads (length hs)) in
     let d = sends args.c Connecting (packet_bytes (byte_of op.Connect true) (fields_of args.c.settings.max_packet_length) hs) lent in
-    ap (λ (r : CallResult). stepped r lent) c.refuse-in-Refuse-check_connect.ensures
-    ∙ unchecked (bad_headers hs) (ltb 248 (length hs)) args.c lent d _ _ k c.in-Refuse-check_connect.is ∙ sym (guarded.whole _)
+    ap (λ (r : CallResult). stepped r lent) c.refuse-in-Err-check_connect.ensures
+    ∙ unchecked (bad_headers hs) (ltb 248 (length hs)) args.c lent d _ _ k c.in-Err-check_connect.is ∙ sym (guarded.whole _)
 
 pub send_connect-requires : goal.send_connect-requires
 send_connect-requires c =

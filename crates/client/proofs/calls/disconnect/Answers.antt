@@ -24,17 +24,17 @@ use Rattle.client.proofs.Guards.{refused-call, passed_call, unchecked, checks}
 use Rattle.client.proofs.Called.{leads_in, passes}
 use Rattle.client.proofs.calls.disconnect.Goals as goal
 
-pub returns-in-Refuse : goal.returns-in-Refuse
+pub returns-in-Err : goal.returns-in-Err
 unfolding disconnect_step
-returns-in-Refuse c =
+returns-in-Err c =
     let args = c.args in
     let lent = stores args.packet.now args.headers.now args.body.now args.request.now in
     refused-call _ (awaiting args.c await.Call) args.c lent _ _ _ _ c.same_await-fits.ensures c.refuse.ensures c.guard.ensures
-    c.in-Refuse.is
+    c.in-Err.is
 
-pub returns-in-Refuse-check_connect : goal.returns-in-Refuse-check_connect
+pub returns-in-Err-check_connect : goal.returns-in-Err-check_connect
 unfolding disconnect_step
-returns-in-Refuse-check_connect c =
+returns-in-Err-check_connect c =
     let args = c.args in
     let lent = stores args.packet.now args.headers.now args.body.now args.request.now in
     let guarded = passed_call _ (awaiting args.c await.Call) args.c lent _ c.same_await-fits.ensures c.guard.ensures c.in_default.is in
@@ -42,8 +42,8 @@ returns-in-Refuse-check_connect c =
     let id = id_bytes args.c.connection_id in
     let k = c.check_connect.ensures ∙ ap (λ (n : ℕ). checked_by (bad_headers hs) (ltb 248 n)) (leads_in _ id hs c.id_length.ensures.0) in
     let d = sends args.c Disconnecting (packet_bytes (byte_of op.Disconnect true) [] (id ++ hs)) lent in
-    ap (λ (r : CallResult). stepped r lent) c.refuse-in-Refuse-check_connect.ensures
-    ∙ unchecked (bad_headers hs) (ltb 248 (length (id ++ hs))) args.c lent d _ _ k c.in-Refuse-check_connect.is ∙ sym (guarded.whole _)
+    ap (λ (r : CallResult). stepped r lent) c.refuse-in-Err-check_connect.ensures
+    ∙ unchecked (bad_headers hs) (ltb 248 (length (id ++ hs))) args.c lent d _ _ k c.in-Err-check_connect.is ∙ sym (guarded.whole _)
 
 pub send_disconnect-requires : goal.send_disconnect-requires
 send_disconnect-requires c =

@@ -10,14 +10,14 @@ use Rattle.client.proofs.Guards.{refused-call, passed_call}
 use Rattle.client.proofs.Called.{part-call}
 use Rattle.client.proofs.calls.part_taken.Goals as goal
 
-pub returns-in-Refuse : goal.returns-in-Refuse
+pub returns-in-Err : goal.returns-in-Err
 unfolding part_taken_step
-returns-in-Refuse c =
+returns-in-Err c =
     let args = c.args in
     let lent = stores args.packet.now args.headers.now args.body.now args.request.now in
     refused-call _ (awaiting args.c await.Taken) args.c lent _ _ _ _ c.same_await-fits.ensures c.refuse.ensures
     c.guard.ensures
-    c.in-Refuse.is
+    c.in-Err.is
 
 pub ask_part-requires : goal.ask_part-requires
 ask_part-requires c =

@@ -7,14 +7,14 @@ use Rattle.client_model.specs.Guard.{awaiting}
 use Rattle.client.proofs.Guards.{refused-call, passed_call}
 use Rattle.client.proofs.calls.request_sent.Goals as goal
 
-pub returns-in-Refuse : goal.returns-in-Refuse
+pub returns-in-Err : goal.returns-in-Err
 unfolding request_sent_step
-returns-in-Refuse c =
+returns-in-Err c =
     let args = c.args in
     let lent = stores args.packet.now args.headers.now args.body.now args.request.now in
     refused-call _ (awaiting args.c await.Sent) args.c lent _ _ _ _ c.same_await-fits.ensures c.refuse.ensures
     c.guard.ensures
-    c.in-Refuse.is
+    c.in-Err.is
 
 pub goes_on-requires : goal.goes_on-requires
 goes_on-requires c =

@@ -15,13 +15,13 @@ use Rattle.client.proofs.Walks.{good}
 use Rattle.client.proofs.Called.{passes}
 use Rattle.client.proofs.calls.start_request.Goals as goal
 
-pub returns-in-Refuse : goal.returns-in-Refuse
+pub returns-in-Err : goal.returns-in-Err
 unfolding request_step
-returns-in-Refuse c =
+returns-in-Err c =
     let args = c.args in
     let lent = stores args.packet.now args.headers.now args.body.now args.request.now in
     refused-call _ (awaiting args.c await.Call) args.c lent _ _ _ _ c.same_await-fits.ensures c.refuse.ensures c.guard.ensures
-    c.in-Refuse.is
+    c.in-Err.is
 
 pub capacity_of-requires : goal.capacity_of-requires
 capacity_of-requires c =
@@ -30,17 +30,17 @@ capacity_of-requires c =
     let guarded = passed_call _ (awaiting args.c await.Call) args.c lent _ c.same_await-fits.ensures c.guard.ensures c.in_default.is in
     guarded.bounds.remote
 
-pub returns-in-Refuse-check_request : goal.returns-in-Refuse-check_request
+pub returns-in-Err-check_request : goal.returns-in-Err-check_request
 unfolding request_step
-returns-in-Refuse-check_request c =
+returns-in-Err-check_request c =
     let args = c.args in
     let lent = stores args.packet.now args.headers.now args.body.now args.request.now in
     let guarded = passed_call _ (awaiting args.c await.Call) args.c lent _ c.same_await-fits.ensures c.guard.ensures c.in_default.is in
     let hs = args.header_bytes.now in
     let k = c.check_request.ensures ∙ ap (λ (n : ℕ). checked_by (bad_headers hs) (too_long_of n hs)) c.capacity_of.ensures.0 in
     let d = requests_first args.c args.kind hs args.has_body lent in
-    ap (λ (r : CallResult). stepped r lent) c.refuse-in-Refuse-check_request.ensures
-    ∙ unchecked (bad_headers hs) (too_long_of (capacity_of args.c) hs) args.c lent d _ _ k c.in-Refuse-check_request.is
+    ap (λ (r : CallResult). stepped r lent) c.refuse-in-Err-check_request.ensures
+    ∙ unchecked (bad_headers hs) (too_long_of (capacity_of args.c) hs) args.c lent d _ _ k c.in-Err-check_request.is
     ∙ sym (guarded.whole _)
 
 pub requests_first-requires : goal.requests_first-requires

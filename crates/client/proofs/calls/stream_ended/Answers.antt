@@ -14,14 +14,14 @@ use Rattle.client.specs.Step.{took_by}
 use Rattle.client.proofs.Guards.{refused-call, passed_call}
 use Rattle.client.proofs.calls.stream_ended.Goals as goal
 
-pub returns-in-Refuse : goal.returns-in-Refuse
+pub returns-in-Err : goal.returns-in-Err
 unfolding stream_ended_step
-returns-in-Refuse c =
+returns-in-Err c =
     let args = c.args in
     let lent = stores args.packet.now args.headers.now args.body.now args.request.now in
     refused-call _ (awaiting args.c await.Bytes || awaiting args.c await.Call) args.c lent _ _ _ _
     c.awaits_stream-fits.ensures c.refuse.ensures
-    c.guard.ensures c.in-Refuse.is
+    c.guard.ensures c.in-Err.is
 
 pub returns : goal.returns
 unfolding stream_ended_step

@@ -14,8 +14,8 @@ pub loop-end-init : goal.loop-end-init
 unfolding too_long_of
 loop-end-init c = record { readable = c.requires; gives = refl }
 
-pub returns-in_default : goal.returns-in_default
-returns-in_default c = ends _ _ _ _ c.loop-end.invariant _ c.step.ensures (opened c.in_default.in_default-own.keys2)
+pub returns : goal.returns
+returns c = ends _ _ _ _ c.loop-end.invariant _ c.step.ensures (opened c.in_default.in_default-own.keys2)
 
 pub overflow_sub-end : goal.overflow_sub-end
 overflow_sub-end c =

@@ -10,8 +10,8 @@ use Rattle.client.proofs.guard.has_reserved.Goals as goal
 pub loop-id-init : goal.loop-id-init
 loop-id-init c = record { readable = c.requires; gives = refl }
 
-pub returns-in_default : goal.returns-in_default
-returns-in_default c = ends _ _ _ _ c.loop-id.invariant _ c.step.ensures (opened c.in_default.in_default-own.keys2)
+pub returns : goal.returns
+returns c = ends _ _ _ _ c.loop-id.invariant _ c.step.ensures (opened c.in_default.in_default-own.keys2)
 
 pub returns-then-is_reserved : goal.returns-then-is_reserved
 returns-then-is_reserved c =

@@ -1,10 +1,6 @@
--- `codec::headers::each_header` meets its contract. Each turn passes a header.
-use Prim.Native.Nat.{◌-◌, ◌≤◌}
-use lib.ListN.{length}
+-- The loop of `codec::headers::each_header`: each piece ends behind the place where it was looked for.
+use Rattle.std.proofs.Common.{◌-◌, length}
 use Rattle.codec.proofs.headers.each_header.Given as goal
 
-abbrev pub invariant-loop-at : goal.invariant-loop-at
-invariant-loop-at g l = l.at ≤ length l.s
-
-abbrev pub decreases-loop-at : goal.decreases-loop-at
-decreases-loop-at g l = length l.s - l.at
+abbrev pub decreases-loop-header : goal.decreases-loop-header
+decreases-loop-header g l = length l.s - l.at

@@ -1,10 +1,6 @@
--- `codec::headers::put_tags` meets its contract. Each turn passes a tag.
-use Prim.Native.Nat.{◌-◌, ◌≤◌}
-use lib.ListN.{length}
+-- The loop of `codec::headers::put_tags`: each piece ends behind the place where it was looked for.
+use Rattle.std.proofs.Common.{◌-◌, length}
 use Rattle.codec.proofs.headers.put_tags.Given as goal
 
-abbrev pub invariant-loop-at : goal.invariant-loop-at
-invariant-loop-at g l = l.at ≤ length l.s
-
-abbrev pub decreases-loop-at : goal.decreases-loop-at
-decreases-loop-at g l = length l.s - l.at
+abbrev pub decreases-loop-tag : goal.decreases-loop-tag
+decreases-loop-tag g l = length l.s - l.at

@@ -3,7 +3,7 @@ use Rattle.std.proofs.Common.{◌≤◌, arith}
 use Rattle.connection.proofs.connect_reply.answer_size.Goals as goal
 
 pub returns-then-not-has_user : goal.returns-then-not-has_user
-returns-then-not-has_user c = rw (c.in_default.is, c.if-not-has_user.true)
+returns-then-not-has_user c = rw (c.in-Some.is, c.if-not-has_user.true)
 
 pub overflow_add-result : goal.overflow_add-result
 overflow_add-result c =
@@ -18,4 +18,4 @@ overflow_add-result-2 c =
     omega arith
 
 pub returns : goal.returns
-returns c = rw (c.in_default.is, c.if-not-has_user.false)
+returns c = rw (c.in-Some.is, c.if-not-has_user.false)

@@ -1,8 +1,8 @@
 -- `connection::connect_reply::connect_reply` meets its contract. The pieces are the bytes of the headers (`connect_as`). Assumes nothing.
 use Rattle.std.proofs.Common.{◌≡◌, ℕ, ◌≤◌, List, length, take, sym, ap, ◌∙◌, arith, length-take, length-take-le, rules}
+use Rattle.base.specs.Place.{Place}
 use Rattle.packet.specs.AuthWrite.{given}
 use Rattle.connection.specs.Reply.{fields_of, send_bytes, sent_into}
-use Rattle.packet.specs.declared.tlv.Found.{Found}
 use Rattle.connection.specs.Pieces.{first_in, readable, who_place}
 use Rattle.connection.proofs.ConnectBytes.{readable-take, connect_as, who-inside}
 use Rattle.connection.proofs.connect_reply.connect_reply.Statement.{statement}
@@ -15,9 +15,9 @@ short : (x : tie.Start) (n : ℕ) → n ≡ length (readable x.args.headers.now)
 short x n e = omega (arith, e, ap length (readable-take x.args.headers.now n e), length-take n x.args.headers.now)
 
 -- Who gives back the first Target of the packet
-who-of : (x : tie.Start) (n : ℕ) (who : Found) → who ≡ who_place x.args.target (first_in 0x4A (take n x.args.headers.now) 0)
+who-of : (x : tie.Start) (n : ℕ) (who : Place) → who ≡ who_place x.args.target (first_in 0x4A (take n x.args.headers.now) 0)
     → who ≡ who_place (first_in 0x46 x.args.packet.now x.args.from) (first_in 0x4A (take n x.args.headers.now) 0)
-who-of x n who e = e ∙ ap (λ (f : Found). who_place f (first_in 0x4A (take n x.args.headers.now) 0)) x.requires.4
+who-of x n who e = e ∙ ap (λ (f : Place). who_place f (first_in 0x4A (take n x.args.headers.now) 0)) x.requires.4
 
 slice-aggregate-answer : tie.Need-slice_bounds-answer-end
 slice-aggregate-answer c =

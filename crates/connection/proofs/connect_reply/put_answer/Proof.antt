@@ -26,7 +26,7 @@ room : (c : tie.After-answer_size-size) → let x = c.before.before.before.befor
 room c =
     let f = c.before in
     let x = f.before.before.before.before in
-    answer-room x.args.reply.now x.args.user.now x.args.password.now x.args.at _ x.args.has_user x.args.nonce f.in-Nonce.is
+    answer-room x.args.reply.now x.args.user.now x.args.password.now x.args.at _ x.args.has_user x.args.nonce f.in-Some.is
     x.requires.0 c.answer_size-size.result c.answer_size-size.ensures
 
 sub-put-lead : tie.Need-overflow_sub-size
@@ -52,7 +52,7 @@ returns-2 c =
     let s = c.before.before.before.before.before.before.before.before in
     let f = s.before in
     let x = f.before.before.before.before in
-    answer-puts x.args.reply.now x.args.user.now x.args.password.now x.args.at _ x.args.has_user x.args.nonce f.in-Nonce.is
+    answer-puts x.args.reply.now x.args.user.now x.args.password.now x.args.at _ x.args.has_user x.args.nonce f.in-Some.is
     x.requires.0 s.answer_size-size.result s.answer_size-size.ensures _ _ _ x.requires.1 c.put_lead.ensures
     c.respond.ensures
 

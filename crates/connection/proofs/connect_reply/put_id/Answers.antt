@@ -11,4 +11,4 @@ pub returns : goal.returns
 returns c =
     let f = c in
     let x = c in
-    id_puts c.args.reply.now _ c.args.at _ c.args.front _ c.in-Id.is c.requires c.put_u32.ensures
+    id_puts c.args.reply.now _ c.args.at _ c.args.front _ c.in-Some.is c.requires c.put_u32.ensures

@@ -4,4 +4,4 @@ use Rattle.connection.proofs.peer.challenged.Goals as goal
 
 pub returns : goal.returns
 unfolding peer_with
-returns c = rw (c.counted.ensures, c.with_authentication-r.ensures)
+returns c = rw (c.counted.ensures, c.with_authentication.ensures)

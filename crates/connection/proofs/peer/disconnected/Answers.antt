@@ -7,4 +7,4 @@ returns-in_default c = rw (c.in_default.is, c.cleared.ensures)
 pub returns : goal.returns
 returns c =
     let s = c in
-    rw (c.in-Id.is, c.with_left.ensures, c.close_link-count.ensures.value, c.close_link-count.ensures.store)
+    rw (c.in-Some.is, c.with_left.ensures, c.close_link-count.ensures.value, c.close_link-count.ensures.store)

@@ -5,5 +5,5 @@ use Rattle.connection.proofs.peer.is_taken.Goals as goal
 pub returns-then-id-eq-INVALID_ID : goal.returns-then-id-eq-INVALID_ID
 returns-then-id-eq-INVALID_ID c = rw (eq-eqb c.args.id 0xFFFFFFFF c.if-id-eq-INVALID_ID.true)
 
-pub returns : goal.returns
-returns c = rw (ne_eqb c.args.id 0xFFFFFFFF c.if-id-eq-INVALID_ID.false) c.is_open.ensures
+pub returns-else-id-eq-INVALID_ID : goal.returns-else-id-eq-INVALID_ID
+returns-else-id-eq-INVALID_ID c = rw (ne_eqb c.args.id 0xFFFFFFFF c.if-id-eq-INVALID_ID.false) c.is_open.ensures

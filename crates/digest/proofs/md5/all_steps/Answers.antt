@@ -1,8 +1,10 @@
 -- `digest::md5::all_steps` meets its contract. The four rounds follow one another. Assumes nothing.
-use Rattle.std.proofs.Common.{refl, rules}
+use Rattle.std.proofs.Common.{refl}
 use Rattle.digest.specs.Md5.{steps}
 use Rattle.digest.proofs.md5.all_steps.Goals as goal
 
-pub round0-a-requires : goal.round0-a-requires
+pub returns : goal.returns
 unfolding steps
-round0-a-requires c = (search rules, search rules, refl)
+returns c =
+    let s = c.args.s in
+    c.round.ensures s (c.round-c.ensures s (c.round-b.ensures s (c.round-a.ensures s refl)))

@@ -1,5 +1,5 @@
 -- `digest::md5::digest` meets its contract. The message has no prefix, and the bytes of the digest's value are the digest. Assumes nothing.
-use Rattle.std.proofs.Common.{ap, ◌∙◌, rules}
+use Rattle.std.proofs.Common.{ap, ◌∙◌}
 use Rattle.digest.specs.Md5.{digest_of, octets16, numbers16, output_of}
 use Rattle.digest.specs.declared.md5.Regs.{Regs}
 use Rattle.digest.proofs.Octets.{octets-digest}

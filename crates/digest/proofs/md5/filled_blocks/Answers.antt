@@ -1,6 +1,6 @@
 -- `digest::md5::filled_blocks` meets its contract. The invariant: s is the registers after k blocks. Assumes nothing.
-use Rattle.std.proofs.Common.{◌≡◌, ◌-◌, ◌≤◌, ◌++◌, sym, add-one, arith, length-append, rules}
-use Rattle.digest.specs.Md5.{padded, blocks}
+use Rattle.std.proofs.Common.{◌≡◌, ◌++◌, sym, add-one, arith, length-append}
+use Rattle.digest.specs.Md5.{blocks}
 use Rattle.digest.proofs.Padded.{length-padded}
 use Rattle.digest.proofs.md5.filled_blocks.Goals as goal
 
@@ -18,9 +18,7 @@ pub fill-p-requires : goal.fill-p-requires
 fill-p-requires c = (omega arith, omega arith)
 
 pub block-s-requires : goal.block-s-requires
-block-s-requires c =
-    let turn = c in
-    (sym c.fill-p.ensures.0, c.requires.4)
+block-s-requires c = sym c.fill-p.ensures.0
 
 pub loop-k-preserved : goal.loop-k-preserved
 unfolding blocks

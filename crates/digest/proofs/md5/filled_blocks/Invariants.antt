@@ -1,7 +1,6 @@
 -- `digest::md5::filled_blocks` meets its contract. The invariant: s is the registers after k blocks. Assumes nothing.
-use Rattle.std.proofs.Common.{◌≡◌, ◌-◌, ◌≤◌, ◌++◌, sym, add-one, arith, length-append, rules}
+use Rattle.std.proofs.Common.{◌≡◌, ◌-◌, ◌≤◌, ◌++◌}
 use Rattle.digest.specs.Md5.{padded, blocks}
-use Rattle.digest.proofs.Padded.{length-padded}
 use Rattle.digest.proofs.md5.filled_blocks.Given as goal
 
 abbrev pub invariant-loop-k : goal.invariant-loop-k

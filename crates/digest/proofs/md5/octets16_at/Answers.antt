@@ -1,6 +1,5 @@
 -- `digest::md5::octets16_at` meets its contract. The halves of 16 bytes are the 8 bytes at the place and the 8 after them. Assumes nothing.
 use Rattle.digest.proofs.Octets.{numbers_at}
-use Rattle.std.proofs.Common.{rules}
 use Rattle.digest.proofs.md5.octets16_at.Goals as goal
 
 pub returns : goal.returns

@@ -1,6 +1,5 @@
 -- `digest::md5::output` meets its contract. Two registers in a row are one number (`numbers_output`). Assumes nothing.
 use Rattle.digest.proofs.Octets.{numbers_output}
-use Rattle.std.proofs.Common.{rules}
 use Rattle.digest.proofs.md5.output.Goals as goal
 
 pub returns : goal.returns

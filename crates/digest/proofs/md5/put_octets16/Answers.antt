@@ -1,6 +1,5 @@
 -- `digest::md5::put_octets16` meets its contract. It is a copy of the 16 bytes. Assumes nothing.
 use Rattle.digest.proofs.Octets.{length-octets16}
-use Rattle.std.proofs.Common.{rules}
 use Rattle.digest.proofs.md5.put_octets16.Goals as goal
 
 pub returns : goal.returns

@@ -1,5 +1,5 @@
 -- `digest::md5::put_part` meets its contract. One copy of the part's bytes that fall into the block. Assumes nothing.
-use Rattle.std.proofs.Common.{◌∙◌, rules}
+use Rattle.std.proofs.Common.{◌∙◌}
 use Rattle.digest.proofs.Blocks.{laid_copy}
 use Rattle.digest.proofs.md5.put_part.Goals as goal
 

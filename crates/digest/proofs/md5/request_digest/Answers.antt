@@ -1,5 +1,5 @@
 -- `digest::md5::request_digest` meets its contract. The prefix is the nonce and the colon. Assumes nothing.
-use Rattle.std.proofs.Common.{ℕ, List, [], ◌∷◌, ◌++◌, ap, ◌∙◌, append_assoc, rules}
+use Rattle.std.proofs.Common.{ℕ, List, [], ◌∷◌, ◌++◌, ap, ◌∙◌, append_assoc}
 use Rattle.digest.specs.Md5.{digest_of, output_of, request_digest, numbers16, octets16}
 use Rattle.digest.specs.declared.md5.Regs.{Regs}
 use Rattle.digest.proofs.Octets.{colon_prefix}

@@ -1,5 +1,5 @@
 -- `digest::md5::span_in` meets its contract. The code is the definition, and the bounds are `span_fits` and `span_within`. Assumes nothing.
-use Rattle.std.proofs.Common.{◌≡◌, ◌+◌, ◌≤◌, sym, subst, rules}
+use Rattle.std.proofs.Common.{◌≡◌, ◌+◌, ◌≤◌, sym, subst}
 use Rattle.digest.specs.declared.md5.Span.{Span}
 use Rattle.digest.specs.Turn.{span_of}
 use Rattle.digest.proofs.Blocks.{span_fits, span_within}
@@ -10,15 +10,9 @@ unfolding span_of
 returns c =
     let x = c.args in
     let e : ◌≡◌ {A = Span}
-    (record { place = c.least-place.result; skip = c.least-skip.result; count = c.least.result })
+    (record { place = c.min-place.result; skip = c.min-skip.result; count = c.min.result })
     (span_of x.at x.from x.n) =
-    rw (
-      c.least.ensures,
-      c.least-skip.ensures,
-      c.less-2.ensures,
-      c.least-place.ensures,
-      c.less.ensures,
-    ) in (
+    rw (c.min.ensures, c.min-skip.ensures, c.saturating_sub-2.ensures, c.min-place.ensures, c.saturating_sub.ensures) in (
       e,
       subst (λ (s : Span). s.place + s.count ≤ 64) (sym e) (span_fits x.at x.from x.n),
       subst (λ (s : Span). s.skip + s.count ≤ x.n) (sym e) (span_within x.at x.from x.n),

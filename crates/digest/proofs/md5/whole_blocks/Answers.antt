@@ -1,7 +1,7 @@
 -- `digest::md5::whole_blocks` meets its contract. The invariant: s is the registers after k blocks. A block that lies in rest is one of the padded message.
 -- Assumes nothing.
-use Rattle.std.proofs.Common.{◌≡◌, ◌+◌, ◌-◌, ◌*◌, ◌≤◌, max, ◌++◌, length, drop, sym, add-one, arith, length-drop, length-take}
-use Rattle.digest.specs.Md5.{padded, blocks}
+use Rattle.std.proofs.Common.{◌≡◌, ◌+◌, ◌-◌, ◌*◌, max, length, drop, sym, add-one, arith, length-drop, length-take}
+use Rattle.digest.specs.Md5.{blocks}
 use Rattle.digest.proofs.Blocks.{in_rest}
 use Rattle.digest.proofs.md5.whole_blocks.Goals as goal
 
@@ -14,7 +14,7 @@ block-s-requires c =
     let start = c in
     let r = c.args.rest.now in
     let at = 64 * c.loop-k.k - length c.args.prefix.now in
-    (omega (arith, length-take (at + 64 - at) (drop at r), length-drop at r), c.requires.4)
+    omega (arith, length-take (at + 64 - at) (drop at r), length-drop at r)
 
 pub loop-k-preserved : goal.loop-k-preserved
 unfolding blocks

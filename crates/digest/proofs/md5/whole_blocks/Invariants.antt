@@ -1,8 +1,7 @@
 -- `digest::md5::whole_blocks` meets its contract. The invariant: s is the registers after k blocks. A block that lies in rest is one of the padded message.
 -- Assumes nothing.
-use Rattle.std.proofs.Common.{◌≡◌, ◌+◌, ◌-◌, ◌*◌, ◌≤◌, max, ◌++◌, length, drop, sym, add-one, arith, length-drop, length-take}
+use Rattle.std.proofs.Common.{◌≡◌, ◌-◌, ◌≤◌, max, ◌++◌}
 use Rattle.digest.specs.Md5.{padded, blocks}
-use Rattle.digest.proofs.Blocks.{in_rest}
 use Rattle.digest.proofs.md5.whole_blocks.Given as goal
 
 abbrev pub invariant-loop-k : goal.invariant-loop-k

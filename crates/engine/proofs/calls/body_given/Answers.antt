@@ -11,12 +11,12 @@ use Rattle.engine.proofs.Carried.{refused-call}
 use Rattle.engine.proofs.Objects.{body-other, sending_bounds, body_much, body-goes, packet-sent, packet-call}
 use Rattle.engine.proofs.calls.body_given.Goals as goal
 
-pub returns-in-Refuse : goal.returns-in-Refuse
+pub returns-in-Err : goal.returns-in-Err
 unfolding body_given_step
-returns-in-Refuse c =
+returns-in-Err c =
     let k = c.args in
     let s = stores k.packet.now k.headers.now k.body.now k.reply.now in
-    refused-call kind.FromBody k.e s _ _ _ _ c.refuse.ensures c.guard.ensures c.in-Refuse.is
+    refused-call kind.FromBody k.e s _ _ _ _ c.refuse.ensures c.guard.ensures c.in-Err.is
 
 pub returns-in_default-operation : goal.returns-in_default-operation
 unfolding body_given_step

@@ -13,15 +13,15 @@ use Rattle.engine.proofs.Guards.{GoesLent, turned-lent, going-lent}
 use Rattle.engine.proofs.Arrivals.{framed-call, taken-after, short-took}
 use Rattle.engine.proofs.calls.bytes_offered.Goals as goal
 
-pub returns-in-Refuse : goal.returns-in-Refuse
+pub returns-in-Err : goal.returns-in-Err
 unfolding bytes_offered_step
-returns-in-Refuse c =
+returns-in-Err c =
     let k = c.args in
     let s = stores k.packet.now k.headers.now k.body.now k.reply.now in
     record {
       step =
           ap (λ (r : CallResult). stepped r s) c.refuse.ensures
-          ∙ turned-lent kind.FromPeer k.e s _ (λ (q : Refusal). refuse q k.e s) _ _ _ c.guard_lent.ensures c.in-Refuse.is;
+          ∙ turned-lent kind.FromPeer k.e s _ (λ (q : Refusal). refuse q k.e s) _ _ _ c.guard_lent.ensures c.in-Err.is;
       octets = octets-coming k.packet.now k.e.begun k.placed k.input.now (λ i. (c.slice_known-1.given i).fits) (λ i. (c.shared_slice_known-1.given i).fits);
     }
 

@@ -21,14 +21,14 @@ use Rattle.engine.proofs.Carried.{sent-stepped}
 use Rattle.engine.proofs.Challenged.{nonce-refused, nonce-taken, realm-short}
 use Rattle.engine.proofs.calls.nonce_given.Goals as goal
 
-pub returns-in-Refuse : goal.returns-in-Refuse
+pub returns-in-Err : goal.returns-in-Err
 unfolding nonce_given_step
-returns-in-Refuse c =
+returns-in-Err c =
     let k = c.args in
     let s = stores k.packet.now k.headers.now k.body.now k.reply.now in
     ap (λ (r : CallResult). called (stepped r s) k.tables.now) c.refuse.ensures
     ∙ turned-lent kind.NonceGiven k.e s k.tables.now (λ (q : Refusal). called (refuse q k.e s) k.tables.now) _ _ _
-    c.guard_lent.ensures c.in-Refuse.is
+    c.guard_lent.ensures c.in-Err.is
 
 pub is_used-used-requires : goal.is_used-used-requires
 is_used-used-requires c =
@@ -37,14 +37,14 @@ is_used-used-requires c =
     let g : GoesLent kind.NonceGiven k.e s k.tables.now = going-lent kind.NonceGiven _ _ _ _ c.guard_lent.ensures c.in_default.is in
     (g.goes.bounds.nonces, g.tables)
 
-pub returns-in-Refuse-guard_nonce : goal.returns-in-Refuse-guard_nonce
+pub returns-in-Err-guard_nonce : goal.returns-in-Err-guard_nonce
 unfolding long_realm
-returns-in-Refuse-guard_nonce c =
+returns-in-Err-guard_nonce c =
     let k = c.args in
     let s = stores k.packet.now k.headers.now k.body.now k.reply.now in
     let g : GoesLent kind.NonceGiven k.e s k.tables.now = going-lent kind.NonceGiven _ _ _ _ c.guard_lent.ensures c.in_default.is in
     nonce-refused k.e k.nonce k.realm.now s k.tables.now g _ c.is_used-used.ensures _
-    c.guard_nonce.ensures _ _ c.in-Refuse-guard_nonce.is c.refuse-in-Refuse-guard_nonce.ensures
+    c.guard_nonce.ensures _ _ c.in-Err-guard_nonce.is c.refuse-in-Err-guard_nonce.ensures
 
 pub remember-requires : goal.remember-requires
 remember-requires c =

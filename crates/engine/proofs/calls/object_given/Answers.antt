@@ -1,7 +1,8 @@
 -- `engine::calls::object_given` meets its contract. The guard refuses as the model does; then the ways of the code are those of `object_for`.
 use borrow.Enum.Refused.{opened}
 use native.Mathlib.Omega.{arith}
-use mathlib.Core.Path.{sym, ap, ◌∙◌}
+use mathlib.Core.Bool.{◌||◌}
+use mathlib.Core.Path.{◌≡◌, sym, ap, ◌∙◌}
 use mathlib.Core.List.{List}
 use Prim.Native.Nat.{ℕ, ◌≤◌}
 use lib.ListN.{length}
@@ -15,13 +16,14 @@ use Rattle.engine.proofs.Guards.{Goes, going}
 use Rattle.engine.proofs.Carried.{refused-call}
 use Rattle.engine.proofs.Objects.{object-other, object-bad, object-goes, good_length, store-front}
 use Rattle.engine.proofs.calls.object_given.Goals as goal
+use Rattle.engine.proofs.calls.object_given.Goals.{then-srm, else-srm}
 
-pub returns-in-Refuse : goal.returns-in-Refuse
+pub returns-in-Err : goal.returns-in-Err
 unfolding object_given_step
-returns-in-Refuse c =
+returns-in-Err c =
     let k = c.args in
     let s = stores k.packet.now k.headers.now k.body.now k.reply.now in
-    refused-call kind.ObjectGiven k.e s _ _ _ _ c.refuse.ensures c.guard.ensures c.in-Refuse.is
+    refused-call kind.ObjectGiven k.e s _ _ _ _ c.refuse.ensures c.guard.ensures c.in-Err.is
 
 pub returns-in_default-operation : goal.returns-in_default-operation
 unfolding object_given_step
@@ -69,12 +71,15 @@ pub returns : goal.returns
 unfolding object_given_step
 returns c =
     let k = c.args in
+    let b : c.if-srm.granted ≡ c.in-Getting.srm || c.in-Getting.confirm_srm =
+    elim c.if-srm.branch [ then-srm w ↦ w.granted-is ∙ rw w.if-srm.true | else-srm w ↦ rw w.if-srm.false w.granted-is ] in
     let s = stores k.packet.now k.headers.now k.body.now k.reply.now in
     let g : Goes kind.ObjectGiven k.e s = going kind.ObjectGiven _ _ _ c.guard.ensures c.in_default.is in
     let fits : length k.header_bytes.now ≤ length k.headers.now
     = omega (arith, good_length k.header_bytes.now _ c.is_bad_headers.ensures c.if-is_bad_headers.false, g.room.headers) in
     object-goes k.e.operation _ _ _ _ c.in-Getting.is
     k.e k.header_bytes.now _ c.is_bad_headers.ensures k.has_body s c.if-is_bad_headers.false _ _ _ _
-    c.sends_next.ensures c.object_of-o.ensures c.either.ensures
+    c.sends_next.ensures c.object_of-o.ensures
+    b
     (c.copy_into.ensures ∙ store-front k.header_bytes.now k.headers.now fits)
     ∙ sym (g.whole _)

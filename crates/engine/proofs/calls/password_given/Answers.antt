@@ -7,12 +7,12 @@ use Rattle.engine.proofs.Carried.{refused-call}
 use Rattle.engine.proofs.LastPacket.{password-call}
 use Rattle.engine.proofs.calls.password_given.Goals as goal
 
-pub returns-in-Refuse : goal.returns-in-Refuse
+pub returns-in-Err : goal.returns-in-Err
 unfolding password_given_step
-returns-in-Refuse c =
+returns-in-Err c =
     let k = c.args in
     let s = stores k.packet.now k.headers.now k.body.now k.reply.now in
-    refused-call kind.PasswordGiven k.e s _ _ _ _ c.refuse.ensures c.guard.ensures c.in-Refuse.is
+    refused-call kind.PasswordGiven k.e s _ _ _ _ c.refuse.ensures c.guard.ensures c.in-Err.is
 
 pub slice_bounds-is_right-end : goal.slice_bounds-is_right-end
 slice_bounds-is_right-end c =

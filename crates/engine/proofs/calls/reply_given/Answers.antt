@@ -12,14 +12,14 @@ use Rattle.engine.proofs.Guards.{GoesLent, turned-lent, going-lent}
 use Rattle.engine.proofs.Accepts.{reply-bad, reply_connect, reply_another, good-reply}
 use Rattle.engine.proofs.calls.reply_given.Goals as goal
 
-pub returns-in-Refuse : goal.returns-in-Refuse
+pub returns-in-Err : goal.returns-in-Err
 unfolding reply_given_step
-returns-in-Refuse c =
+returns-in-Err c =
     let k = c.args in
     let s = stores k.packet.now k.headers.now k.body.now k.reply.now in
     ap (λ (r : CallResult). called (stepped r s) k.tables.now) c.refuse.ensures
     ∙ turned-lent kind.ReplyGiven k.e s k.tables.now (λ (q : Refusal). called (refuse q k.e s) k.tables.now) _ _ _
-    c.guard_lent.ensures c.in-Refuse.is
+    c.guard_lent.ensures c.in-Err.is
 
 pub returns-then-is_bad_reply : goal.returns-then-is_bad_reply
 returns-then-is_bad_reply c =

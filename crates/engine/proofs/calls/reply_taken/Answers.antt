@@ -9,12 +9,12 @@ use Rattle.engine.proofs.Carried.{refused-call}
 use Rattle.engine.proofs.Turns.{taken-call}
 use Rattle.engine.proofs.calls.reply_taken.Goals as goal
 
-pub returns-in-Refuse : goal.returns-in-Refuse
+pub returns-in-Err : goal.returns-in-Err
 unfolding reply_taken_step
-returns-in-Refuse c =
+returns-in-Err c =
     let k = c.args in
     let s = stores k.packet.now k.headers.now k.body.now k.reply.now in
-    refused-call kind.ReplyTaken k.e s _ _ _ _ c.refuse.ensures c.guard.ensures c.in-Refuse.is
+    refused-call kind.ReplyTaken k.e s _ _ _ _ c.refuse.ensures c.guard.ensures c.in-Err.is
 
 pub turn_plan-plan-requires : goal.turn_plan-plan-requires
 turn_plan-plan-requires c =

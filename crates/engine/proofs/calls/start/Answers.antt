@@ -3,12 +3,12 @@ use Rattle.model.specs.Step.{stores}
 use Rattle.engine.proofs.Objects.{start-refused, start-goes}
 use Rattle.engine.proofs.calls.start.Goals as goal
 
-pub returns-in-Refuse : goal.returns-in-Refuse
-returns-in-Refuse c =
+pub returns-in-Err : goal.returns-in-Err
+returns-in-Err c =
     let k = c.args in
     let s = stores k.packet.now k.headers.now k.body.now k.reply.now in
     start-refused k.settings k.realm.now s k.tables.now _ c.is_long_realm.ensures _ _ c.guard_start.ensures
-    c.fresh.ensures _ c.in-Refuse.is _ c.refuse.ensures
+    c.fresh.ensures _ c.in-Err.is _ c.refuse.ensures
 
 pub returns : goal.returns
 returns c =

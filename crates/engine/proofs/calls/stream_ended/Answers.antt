@@ -10,12 +10,12 @@ use Rattle.engine.proofs.Carried.{refused-call, silent-call}
 use Rattle.engine.proofs.Plans.{ends-planned}
 use Rattle.engine.proofs.calls.stream_ended.Goals as goal
 
-pub returns-in-Refuse : goal.returns-in-Refuse
+pub returns-in-Err : goal.returns-in-Err
 unfolding stream_ended_step
-returns-in-Refuse c =
+returns-in-Err c =
     let k = c.args in
     let s = stores k.packet.now k.headers.now k.body.now k.reply.now in
-    refused-call kind.FromPeer k.e s _ _ _ _ c.refuse.ensures c.guard.ensures c.in-Refuse.is
+    refused-call kind.FromPeer k.e s _ _ _ _ c.refuse.ensures c.guard.ensures c.in-Err.is
 
 pub returns : goal.returns
 unfolding stream_ended_step ends_plan

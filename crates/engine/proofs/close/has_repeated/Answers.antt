@@ -1,26 +1,20 @@
--- `engine::close::has_repeated` meets its contract. What is left of the ids decides, as none that was passed occurs behind it. Assumes nothing.
-use mathlib.Core.Path.{refl, sym, ◌∙◌}
-use native.Mathlib.Omega.{arith}
+-- `engine::close::has_repeated` meets its contract: `contains` asks whether an id is a member of those behind it. Assumes nothing.
+use Rattle.std.proofs.Common.{refl, sym, ◌∙◌}
 use Rattle.journal.specs.Ids.{repeats}
-use Rattle.engine.proofs.Closes.{repeats-from, none-behind}
+use Rattle.engine.proofs.Closes.{repeats_by, none-behind}
 use Rattle.engine.proofs.close.has_repeated.Goals as goal
 
 pub loop-i-init : goal.loop-i-init
-loop-i-init c = (omega arith, refl)
+loop-i-init c = refl
 
-pub returns-then-is_among : goal.returns-then-is_among
-returns-then-is_among c =
-    rw (sym c.is_among.ensures ∙ c.if-is_among.true) at
-    (sym (repeats-from c.args.ids.now c.loop-i.i (omega arith)) ∙ c.loop-i.invariant.1)
+pub returns-then-contains : goal.returns-then-contains
+returns-then-contains c =
+    rw c.if-contains.true at (sym (repeats_by c.args.ids.now c.loop-i.i _ c.loop-i-test.true c.contains.ensures.value) ∙ c.loop-i.invariant)
 
 pub loop-i-preserved : goal.loop-i-preserved
-loop-i-preserved c = (
-  omega arith,
-  rw (sym c.is_among.ensures ∙ c.if-is_among.false) at
-      (sym (repeats-from c.args.ids.now c.loop-i.i (omega arith)) ∙ c.loop-i.invariant.1),
-)
+loop-i-preserved c =
+    rw c.if-contains.false at (sym (repeats_by c.args.ids.now c.loop-i.i _ c.loop-i-test.true c.contains.ensures.value) ∙ c.loop-i.invariant)
 
 pub returns : goal.returns
 unfolding repeats
-returns c =
-    rw (none-behind c.args.ids.now c.loop-i.i c.loop-i-test.false) at c.loop-i.invariant.1
+returns c = rw (none-behind c.args.ids.now c.loop-i.i c.loop-i-test.false) at c.loop-i.invariant

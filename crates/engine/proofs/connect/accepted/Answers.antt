@@ -17,7 +17,7 @@ pub returns : goal.returns
 returns c =
     let k = c.args in
     let w = c.requires in
-    challenged k.e k.peer k.code k.front k.packet.now k.header_bytes.now k.reply.now k.headers.now _ _ _ _ _ _ _ _
-    (sym c.in-Challenge.is ∙ c.challenge_in.ensures)
+    challenged k.e k.peer k.code k.front k.packet.now k.header_bytes.now k.reply.now k.headers.now _ _ _ _ _
+    (sym c.in-Some.is ∙ c.challenge_in.ensures)
     c.took.ensures c.asks.ensures c.challenge_realm.ensures
     (c.copy_into.ensures ∙ store-front k.header_bytes.now k.headers.now (omega (arith, w.1, w.3)))

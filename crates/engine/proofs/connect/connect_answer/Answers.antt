@@ -10,16 +10,16 @@ returns-then-not-is_success c =
     c.is_success.ensures
     c.if-not-is_success.true _ c.sends_connect.ensures
 
-pub returns-then-opening : goal.returns-then-opening
-returns-then-opening c =
+pub returns-in_default : goal.returns-in_default
+returns-in_default c =
     let k = c.args in
     answer-full k.e k.tables.now k.code k.header_bytes.now k.packet.now k.headers.now k.reply.now _ c.is_success.ensures
-    c.if-not-is_success.false (answers c.opens-answer.result _) c.opens-answer.ensures c.if-opening.true _
-    c.sends_connect-then-opening.ensures
+    c.if-not-is_success.false (answers c.opens.result _) c.opens.ensures c.in_default.is _
+    c.sends_connect-in_default.ensures
 
 pub returns : goal.returns
 returns c =
     let k = c.args in
     answer-accepted k.e k.tables.now k.code k.header_bytes.now k.packet.now k.headers.now k.reply.now _
     c.is_success.ensures
-    c.if-not-is_success.false (answers c.opens-answer.result _) c.opens-answer.ensures c.if-opening.false _ c.accepted.ensures
+    c.if-not-is_success.false (answers c.opens.result _) c.opens.ensures c.in-Some.answer c.in-Some.is _ c.accepted.ensures

@@ -10,4 +10,4 @@ challenge_reply-requires c =
 pub returns : goal.returns
 returns c =
     let k = c.args in
-    c.challenge_reply.ensures ∙ simp (c.wide16.ensures.0, options_are k.settings, realm_is k.settings k.realm.now)
+    c.challenge_reply.ensures ∙ simp (options_are k.settings, realm_is k.settings k.realm.now)

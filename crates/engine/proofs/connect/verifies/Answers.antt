@@ -10,4 +10,4 @@ returns-in_default-a c =
     c.nonce_question-in_default-a.ensures ∙ sym (not-read x.challenge x.a (opened c.in_default-a.in_default-a-own.keys2))
 
 pub returns : goal.returns
-returns c = simp (c.in-Stored.is, c.in-User.is)
+returns c = simp (c.in-Some.is, c.in-User.is)

@@ -1,10 +1,11 @@
 -- `engine::dispatch::packet_target` meets its contract: its tests are those of the definition, in its order. Assumes nothing.
 use mathlib.Core.Path.{◌≡◌, sym, ◌∙◌}
-use mathlib.Core.Bool.{true}
+use mathlib.Core.Bool.{true, true≢false}
 use native.Mathlib.Omega.{arith}
-use lib.ListN.{take, length-take}
+use lib.ListN.{length, take}
+use lib.Seq.{length-take-le}
 use Rattle.journal.specs.Ids.{member}
-use Rattle.connection.proofs.Carrying.{placed}
+use Rattle.connection.proofs.Carrying.{none-open}
 use Rattle.model.proofs.Fit.{and_right}
 use Rattle.engine.proofs.dispatch.packet_target.Goals as goal
 
@@ -15,30 +16,24 @@ pub returns-then-is_busy : goal.returns-then-is_busy
 returns-then-is_busy c =
     rw (sym c.is_marked.ensures ∙ c.if-is_marked.false, sym c.is_busy.ensures ∙ c.if-is_busy.true)
 
-pub target_at-requires : goal.target_at-requires
-target_at-requires c =
-    let x = c.args in
-    let m : member x.v.id (take x.e.peer.count x.tables.now) ≡ true =
-    and_right x.v.has_id _ (sym c.requires.2 ∙ c.if-known.true) in (
-      omega (
-        arith,
-        c.find_place.ensures,
-        placed x.v.id (take x.e.peer.count x.tables.now) m,
-        length-take x.e.peer.count x.tables.now,
-        c.requires.0,
-      ),
-      c.requires.1,
-    )
-
-pub returns-then-known : goal.returns-then-known
-returns-then-known c =
+pub returns-in-Some : goal.returns-in-Some
+returns-in-Some c =
     rw (
       sym c.is_marked.ensures ∙ c.if-is_marked.false,
       sym c.is_busy.ensures ∙ c.if-is_busy.false,
       sym c.requires.2 ∙ c.if-known.true,
       c.target_at.ensures,
-      c.find_place.ensures,
+      c.in-Some.ensures.0,
     )
+
+-- an id that is known is in the list, and has a place there
+pub returns-in-None : goal.returns-in-None
+returns-in-None c =
+    let x = c.args in
+    let ids = take x.e.peer.count x.tables.now in
+    let n : length ids ≡ x.e.peer.count = length-take-le x.e.peer.count x.tables.now (omega arith) in
+    let m : member x.v.id ids ≡ true = and_right x.v.has_id _ (sym c.requires.2 ∙ c.if-known.true) in
+    absurd (true≢false (sym m ∙ none-open x.v.id ids (c.in-None.ensures ∙ sym n)))
 
 pub returns : goal.returns
 returns c =

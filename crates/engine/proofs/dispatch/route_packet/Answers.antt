@@ -13,7 +13,7 @@ returns-in_default c =
 pub returns-then-not-survey : goal.returns-then-not-survey
 returns-then-not-survey c =
     c.unreadable_route-then-not-survey.ensures
-    ∙ sym (unreadable_way _ _ _ _ _ _ (sym c.packet_head.ensures ∙ c.in-Known.is)
+    ∙ sym (unreadable_way _ _ _ c.in-Some.head (sym c.packet_head.ensures ∙ c.in-Some.is)
     (ap (λ (s : Survey). s.readable) (sym c.survey_headers-survey.ensures) ∙ not-true _ c.if-not-survey.true))
 
 pub returns : goal.returns
@@ -26,5 +26,5 @@ returns c =
       c.set_path_flags-flags.ensures,
       c.survey_headers-survey.ensures,
     )
-    (sym (heading_way _ _ _ _ _ _ (sym c.packet_head.ensures ∙ c.in-Known.is)
+    (sym (heading_way _ _ _ c.in-Some.head (sym c.packet_head.ensures ∙ c.in-Some.is)
     (ap (λ (s : Survey). s.readable) (sym c.survey_headers-survey.ensures) ∙ not-false _ c.if-not-survey.false)))

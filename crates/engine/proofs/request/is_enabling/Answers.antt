@@ -4,15 +4,15 @@ use Rattle.engine.proofs.LastPacket.{last_finds, mode-inside, enabling_at, enabl
 use native.Mathlib.Omega.{arith}
 use Rattle.engine.proofs.request.is_enabling.Goals as goal
 
-pub returns-in_default : goal.returns-in_default
-returns-in_default c =
-    enabling_missing c.args.q.now (sym (last_finds _ _ c.requires).mode ∙ c.in_default.is)
+pub returns-in-None : goal.returns-in-None
+returns-in-None c =
+    enabling_missing c.args.q.now (sym (last_finds _ _ c.requires).mode ∙ c.in-None.is)
 
-pub bounds-q-start : goal.bounds-q-start
-bounds-q-start c =
-    let w = mode-inside c.args.q.now _ _ (sym (last_finds _ _ c.requires).mode ∙ c.in-At.is) in
+pub bounds-q-value : goal.bounds-q-value
+bounds-q-value c =
+    let w = mode-inside c.args.q.now _ _ (sym (last_finds _ _ c.requires).mode ∙ c.in-Some.is) in
     omega (arith, w.0, w.1)
 
-pub returns : goal.returns
-returns c =
-    enabling_at c.args.q.now _ _ (sym (last_finds _ _ c.requires).mode ∙ c.in-At.is)
+pub returns-in-Some : goal.returns-in-Some
+returns-in-Some c =
+    enabling_at c.args.q.now _ _ (sym (last_finds _ _ c.requires).mode ∙ c.in-Some.is)

@@ -7,14 +7,14 @@ use Rattle.engine.specs.Request.{last_from}
 use Rattle.engine.proofs.LastPacket.{from-head, from_headless}
 use Rattle.engine.proofs.request.last_from.Goals as goal
 
-pub returns-in_default : goal.returns-in_default
+pub returns-in-None : goal.returns-in-None
 unfolding last_from packet_head
-returns-in_default c =
+returns-in-None c =
     let q = c.args.q.now in
-    from_headless (first_byte (get_or q 0 0)) q (sym c.packet_head.ensures ∙ c.in_default.is)
+    from_headless (first_byte (get_or q 0 0)) q (sym c.packet_head.ensures ∙ c.in-None.is)
 
-pub returns : goal.returns
+pub returns-in-Some : goal.returns-in-Some
 unfolding last_from packet_head
-returns c =
+returns-in-Some c =
     let q = c.args.q.now in
-    from-head (first_byte (get_or q 0 0)) q _ _ _ (sym c.packet_head.ensures ∙ c.in-Known.is)
+    from-head (first_byte (get_or q 0 0)) q c.in-Some.head (sym c.packet_head.ensures ∙ c.in-Some.is)

@@ -3,33 +3,33 @@
 use Rattle.engine_c.specs.Words.{operation_of}
 use Rattle.engine_c.proofs.words.connecting_numbers.Goals as goal
 
-pub returns-in-Id : goal.returns-in-Id
+pub returns-in-Some : goal.returns-in-Some
 unfolding operation_of
-returns-in-Id c =
+returns-in-Some c =
     record {
       numbers = simp (
-        c.in-Id.is,
+        c.in-Some.is,
         c.wide32.ensures.0,
         c.wide.ensures,
         c.few-r.ensures,
         c.wide8.ensures.0,
       );
       back = simp (
-        c.in-Id.is,
+        c.in-Some.is,
         c.wide32.ensures.1,
         c.wide8.ensures.1,
       );
     }
 
-pub returns-in-Missing : goal.returns-in-Missing
+pub returns-in-None : goal.returns-in-None
 unfolding operation_of
-returns-in-Missing c =
+returns-in-None c =
     record {
       numbers = simp (
-        c.in-Missing.is,
+        c.in-None.is,
         c.wide.ensures,
         c.few-r.ensures,
         c.wide8.ensures.0,
       );
-      back = simp (c.in-Missing.is, c.wide8.ensures.1);
+      back = simp (c.in-None.is, c.wide8.ensures.1);
     }

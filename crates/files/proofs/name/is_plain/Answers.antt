@@ -1,41 +1,25 @@
--- files::name::is_plain meets its contract: as long as it goes on, the name is plain exactly where the rest of it is. Assumes nothing.
-use borrow.Author.Rules.{rules}
-use mathlib.Core.Path.{◌≡◌, sym, ap, ◌∙◌}
-use mathlib.Core.Bool.{true, false}
-use mathlib.Core.List.{List}
-use Prim.Native.Nat.{ℕ, ◌+◌, ◌≤◌, ◌<◌}
-use native.Mathlib.Numerals.{add-one}
-use lib.ListN.{length, get_or, drop, drop_of_length-le}
-use lib.Seq.{drop-cons}
+-- `files::name::is_plain` meets its contract: each byte may stand in a name. Assumes nothing.
+use Rattle.std.proofs.Common.{rules, tests, ◌≡◌, ◌&&◌, ◌∙◌, refl, ap, Bool, true, false, ℕ, List, [], ◌∷◌}
+use Rattle.std.specs.List.{list_all}
+use Rattle.std.proofs.lemmas.Iterator.{YieldsList-from_slice}
+use Rattle.std.proofs.lemmas.Iterator.Search.{all_from_yields_List}
+use Rattle.base.specs.Pick.{pick}
 use Rattle.files.specs.Name.{part, plain}
 use Rattle.files.proofs.name.is_plain.Goals as goal
 
-module _ (s : List ℕ) (i : ℕ) (e : plain s ≡ plain (drop i s)) where
-  more : i < length s → part (get_or s i 0) ≡ true → plain s ≡ plain (drop (i + 1) s)
-  unfolding plain
-  more h t = e ∙ ap plain (drop-cons s i 0 h) ∙ rw (t, add-one i)
+both : (a b : Bool) → (a && b) ≡ pick a b false
+both true b = refl
+both false b = refl
 
-  stop : i < length s → part (get_or s i 0) ≡ false → false ≡ plain s
-  unfolding plain
-  stop h f = sym (e ∙ ap plain (drop-cons s i 0 h) ∙ rw f)
-
-  end : length s ≤ i → true ≡ plain s
-  unfolding plain
-  end h = sym (e ∙ ap plain (drop_of_length-le s h))
-
-pub loop-i-preserved : goal.loop-i-preserved
-loop-i-preserved c =
-    let k = c in (
-      search rules,
-      more c.args.s.now c.loop-i.i c.loop-i.invariant.1 c.loop-i-test.true (sym
-          c.is_part.ensures ∙ c.if-is_part.true),
-    )
-
-pub returns-else-is_part : goal.returns-else-is_part
-returns-else-is_part c =
-    let k = c in
-    stop c.args.s.now c.loop-i.i c.loop-i.invariant.1 c.loop-i-test.true (sym
-    c.is_part.ensures ∙ c.if-is_part.false)
+all_plain : (s : List ℕ) → list_all part s ≡ plain s
+unfolding plain
+all_plain [] = refl
+all_plain (b ∷ s) = ap (λ (t : Bool). part b && t) (all_plain s) ∙ both (part b) (plain s)
 
 pub returns : goal.returns
-returns c = let k = c in end c.args.s.now c.loop-i.i c.loop-i.invariant.1 c.loop-i-test.false
+returns c =
+    let s = c.args.s.now in
+    let r : c.all.result ≡ list_all part s =
+    all_from_yields_List part _ _ _ c.all.ensures.ran (YieldsList-from_slice s cc) (λ y b q k. search (rules, tests))
+    in
+    r ∙ all_plain s

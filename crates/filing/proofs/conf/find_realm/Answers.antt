@@ -3,18 +3,15 @@ use lib.ListN.{length}
 use Rattle.filing.proofs.Configured.{said-none, said-some, place_in, realm-none, realm-some}
 use Rattle.filing.proofs.conf.find_realm.Goals as goal
 
-pub returns-in_default : goal.returns-in_default
-returns-in_default c =
+pub returns-in-None : goal.returns-in-None
+returns-in-None c =
     let t = c.args.text.now in
-    realm-none t (said-none t _ c.value_of.result c.value_of.ensures.value c.in_default.is)
+    realm-none t (said-none t _ c.value_of.result c.value_of.ensures.value c.in-None.is)
 
-pub overflow_sub-end : goal.overflow_sub-end
-overflow_sub-end c =
-    (place_in _ c.value_of.result _ _ c.value_of.ensures.room c.in-At.is).0
-
-pub returns : goal.returns
-returns c =
+pub returns-in-Some : goal.returns-in-Some
+returns-in-Some c =
     let t = c.args.text.now in
-    let i = place_in (length t) c.value_of.result _ _ c.value_of.ensures.room c.in-At.is in
-    realm-some t _ _ c.realm_length.result i.0 i.1 (said-some t _ c.value_of.result _ _ c.value_of.ensures.value
-    c.in-At.is) c.realm_length.ensures
+    let i = place_in (length t) c.value_of.result _ _ c.value_of.ensures.room c.in-Some.is in
+    realm-some t _ _ c.realm_length.result i.0 i.1
+    (said-some t _ c.value_of.result _ _ c.value_of.ensures.value c.in-Some.is)
+    (rw c.size.ensures at c.realm_length.ensures)

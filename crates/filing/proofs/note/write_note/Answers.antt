@@ -43,7 +43,7 @@ returns c =
     rw (
       le-ltb (length a.store.now) 1024 (omega arith),
       sym c.are_lengths_right.ensures ∙ c.if-not-are_lengths_right.false,
-      sym c.read_file.ensures ∙ c.in-Row.is,
+      sym c.read_file.ensures ∙ c.in-Some.is,
     )
-    (note_done a.store.now a.name.now a.place (frame_with c.in-Row.numbers a.payload.now) a.check.now a.body.now
+    (note_done a.store.now a.name.now a.place (frame_with c.in-Some.numbers a.payload.now) a.check.now a.body.now
     c.put_note.ensures.value)

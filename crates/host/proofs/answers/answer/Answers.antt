@@ -41,14 +41,14 @@ returns-in-NoCredentials g c =
     due x.request x.e (stores x.packet.now x.headers.now x.body.now x.reply.now) x.tables.now c.kind_of.result kind.NoCredentials _
     c.kind_of.ensures c.in-NoCredentials.is (ap (λ (m : Stepped). called m x.tables.now) c.credentials_given.ensures)
 
-pub returns-in-Fresh : goal.returns-in-Fresh
-returns-in-Fresh g c =
+pub returns-in-Some : goal.returns-in-Some
+returns-in-Some g c =
     let x = c.args in
     due x.request x.e (stores x.packet.now x.headers.now x.body.now x.reply.now) x.tables.now c.kind_of.result kind.Nonce _
     c.kind_of.ensures c.in-Nonce.is (_, (true, c.nonce_given.ensures))
 
-pub returns-in-Missing : goal.returns-in-Missing
-returns-in-Missing g c =
+pub returns-in-None : goal.returns-in-None
+returns-in-None g c =
     let x = c.args in
     due x.request x.e (stores x.packet.now x.headers.now x.body.now x.reply.now) x.tables.now c.kind_of.result kind.Nonce _
     c.kind_of.ensures c.in-Nonce.is

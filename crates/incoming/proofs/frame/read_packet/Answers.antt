@@ -53,14 +53,8 @@ returns-in_default c =
       model = stays x.packet.now x.input.now x.begun x.placed r.result r.ensures.model c.in_default.not-More;
     }
 
-pub read_offered-g-requires : goal.read_offered-g-requires
-read_offered-g-requires c =
-    let r = c.read_placed-f in
-    (r.ensures.more c.in-More.is, c.requires.1)
-
 pub overflow_add-result : goal.overflow_add-result
 overflow_add-result c =
-    let o = c in
     let r = c.read_placed-f in
     let x = c.args in
     sum_fits x.packet.now x.input.now _ x.begun x.placed r.result c.read_offered-g.result r.ensures.model
@@ -68,8 +62,6 @@ overflow_add-result c =
 
 pub returns : goal.returns
 returns c =
-    let o = c in
-    let e = c in
     let r = c.read_placed-f in
     let x = c.args in record {
       whole = c.read_offered-g.ensures.whole;

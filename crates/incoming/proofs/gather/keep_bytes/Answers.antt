@@ -3,11 +3,11 @@ use native.Mathlib.Omega.{arith}
 use Rattle.incoming.proofs.Stored.{keeps, keeps-not}
 use Rattle.incoming.proofs.gather.keep_bytes.Goals as goal
 
-pub returns-then-kept-bytes : goal.returns-then-kept-bytes
-returns-then-kept-bytes c =
+pub returns-then-g-bytes : goal.returns-then-g-bytes
+returns-then-g-bytes c =
     record {
       model = λ b. let x = c.args in
-          keeps-not x.g x.headers.now b x.bytes.now (omega arith) c.if-kept-bytes.true;
+          keeps-not x.g x.headers.now b x.bytes.now (omega arith) c.if-g-bytes.true;
     }
 
 pub returns : goal.returns
@@ -15,5 +15,5 @@ returns c =
     record {
       model = λ b. let k = c in
           let x = c.args in
-          rw c.copy_into.ensures (keeps x.g x.headers.now b x.bytes.now (omega arith) c.if-kept-bytes.false);
+          rw c.copy_into.ensures (keeps x.g x.headers.now b x.bytes.now (omega arith) c.if-g-bytes.false);
     }

@@ -3,11 +3,11 @@ use native.Mathlib.Omega.{arith}
 use Rattle.incoming.proofs.Stored.{stores, stores-not}
 use Rattle.incoming.proofs.gather.store_bytes.Goals as goal
 
-pub returns-then-limit-stored : goal.returns-then-limit-stored
-returns-then-limit-stored c =
+pub returns-then-limit-g : goal.returns-then-limit-g
+returns-then-limit-g c =
     record {
       model = λ h. let x = c.args in
-          stores-not x.g h x.body.now x.bytes.now x.limit (omega arith) c.if-limit-stored.true;
+          stores-not x.g h x.body.now x.bytes.now x.limit (omega arith) c.if-limit-g.true;
     }
 
 pub returns : goal.returns
@@ -15,5 +15,5 @@ returns c =
     record {
       model = λ h. let k = c in
           let x = c.args in
-          rw c.copy_into.ensures (stores x.g h x.body.now x.bytes.now x.limit (omega arith) c.if-limit-stored.false);
+          rw c.copy_into.ensures (stores x.g h x.body.now x.bytes.now x.limit (omega arith) c.if-limit-g.false);
     }

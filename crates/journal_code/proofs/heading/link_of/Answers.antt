@@ -1,11 +1,12 @@
--- `journal_code::heading::link_of` meets its contract: it goes by the id's presence and by whether it is open, as the definition does.
+-- `journal_code::heading::link_of` meets its contract: it goes by the id's presence and by its place, if it has one, as the definition does.
 use mathlib.Core.Path.{◌≡◌, sym, ◌∙◌}
-use mathlib.Core.Bool.{true}
+use mathlib.Core.Bool.{true, false}
 use native.Mathlib.Omega.{arith}
-use lib.ListN.{take, length-take}
+use lib.ListN.{length, take}
+use lib.Seq.{length-take-le}
 use borrow.Author.Tests.{not-true, not-false}
 use Rattle.journal.specs.Ids.{member}
-use Rattle.connection.proofs.Carrying.{placed}
+use Rattle.connection.proofs.Carrying.{found-open, none-open}
 use Rattle.journal_code.specs.Heading.{link_by}
 use Rattle.journal_code.proofs.heading.link_of.Goals as goal
 
@@ -13,40 +14,21 @@ pub returns-then-not-v : goal.returns-then-not-v
 unfolding link_by
 returns-then-not-v c = rw (not-true c.args.v.has_id c.if-not-v.true, c.unnamed.ensures)
 
-pub returns-then-not-is_open : goal.returns-then-not-is_open
+pub returns-in-Some : goal.returns-in-Some
 unfolding link_by
-returns-then-not-is_open c =
-    let k = c in
-    rw (
-      not-false c.args.v.has_id c.if-not-v.false,
-      sym c.is_open.ensures
-          ∙ c.if-not-is_open.true,
-      c.unnamed-then-not-is_open.ensures,
-    )
-
-pub target_at-requires : goal.target_at-requires
-target_at-requires c =
-    let k = c in
+returns-in-Some c =
     let x = c.args in
-    let m : member x.v.id (take x.count x.tables.now) ≡ true = sym c.is_open.ensures
-    ∙ c.if-not-is_open.false in (
-      omega (
-        arith,
-        c.find_place-place.ensures,
-        placed x.v.id (take x.count x.tables.now) m,
-        length-take x.count x.tables.now,
-        c.requires.0,
-      ),
-      c.requires.1,
-    )
+    let ids = take x.count x.tables.now in
+    let n : length ids ≡ x.count = length-take-le x.count x.tables.now (omega arith) in
+    let e = c.in-Some.ensures in
+    let m : member x.v.id ids ≡ true = found-open x.v.id ids (omega (arith, e.0, e.1, n)) in
+    rw (not-false x.v.has_id c.if-not-v.false, m, c.target_at.ensures, e.0)
 
-pub returns : goal.returns
+pub returns-in-None : goal.returns-in-None
 unfolding link_by
-returns c =
-    let k = c in
-    rw (
-      not-false c.args.v.has_id c.if-not-v.false,
-      sym c.is_open.ensures ∙ c.if-not-is_open.false,
-      c.target_at.ensures,
-      c.find_place-place.ensures,
-    )
+returns-in-None c =
+    let x = c.args in
+    let ids = take x.count x.tables.now in
+    let n : length ids ≡ x.count = length-take-le x.count x.tables.now (omega arith) in
+    let m : member x.v.id ids ≡ false = none-open x.v.id ids (c.in-None.ensures ∙ sym n) in
+    rw (not-false x.v.has_id c.if-not-v.false, m, c.unnamed-in-None.ensures)

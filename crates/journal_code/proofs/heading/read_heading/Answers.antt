@@ -13,8 +13,8 @@ returns-in_default c =
 pub returns-then-not-v : goal.returns-then-not-v
 returns-then-not-v c =
     let k = c in
-    unreadable c.args.p.now _ _ _ _ _
-    (sym c.packet_head.ensures ∙ c.in-Known.is) _ c.survey_headers-v.ensures
+    unreadable c.args.p.now c.in-Some.head _ _
+    (sym c.packet_head.ensures ∙ c.in-Some.is) _ c.survey_headers-v.ensures
     (not-true c.survey_headers-v.result.readable c.if-not-v.true)
 
 pub returns : goal.returns
@@ -22,9 +22,8 @@ returns c =
     let k = c in
     let l = c in
     let j = c in
-    heading_is c.args.p.now _ _ _ _ _ (sym c.packet_head.ensures ∙ c.in-Known.is) _
+    heading_is c.args.p.now c.in-Some.head _ _ (sym c.packet_head.ensures ∙ c.in-Some.is) _
     c.survey_headers-v.ensures
     (not-false c.survey_headers-v.result.readable c.if-not-v.false) _
-    c.link_of-link.ensures _ _ _ _ c.has_header.ensures
-    c.has_header-2.ensures
-    c.has_header-3.ensures c.target_in.ensures
+    c.link_of-link.ensures _ _ _ c.has_header.ensures
+    c.has_header-2.ensures c.target_in.ensures

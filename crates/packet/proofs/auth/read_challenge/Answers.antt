@@ -6,9 +6,9 @@ use Rattle.packet.proofs.LowBits.{bit_0, bit_1}
 use Rattle.packet.proofs.AuthLaws.{challenge-parts}
 use Rattle.packet.proofs.auth.read_challenge.Goals as goal
 
-pub returns-in_default : goal.returns-in_default
-returns-in_default c =
-    sym (challenge-parts c.args.v.now ∙ rw (sym c.tag_zero.ensures ∙ c.in_default.is))
+pub returns-in_err-nonce : goal.returns-in_err-nonce
+returns-in_err-nonce c =
+    sym (challenge-parts c.args.v.now ∙ rw (sym c.tag_zero.ensures ∙ c.in_err-nonce.was, c.from_residual.ensures))
 
 pub returns : goal.returns
 unfolding user_id_required_of read_only_of
@@ -17,7 +17,7 @@ returns c =
     sym
     (challenge-parts c.args.v.now
     ∙ rw (
-      sym c.tag_zero.ensures ∙ c.in-Nonce.is,
+      sym c.tag_zero.ensures ∙ c.in_ok-nonce.was,
       ← c.options-bits.ensures,
       ← c.realm.ensures,
       bit_0 bits (search rules),

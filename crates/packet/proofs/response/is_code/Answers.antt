@@ -20,23 +20,23 @@ low b h n = rw (ne_eqb b 0x10 n) at (low-test b h)
 
 pub returns-in-16 : goal.returns-in-16
 unfolding codes is_code
-returns-in-16 c = rw c.in-16.is
+returns-in-16 c = sym (run is_code true 0x10 0x10 tt c.args.b (omega arith) (omega arith))
 
-pub returns-in-32-to-38 : goal.returns-in-32-to-38
+pub returns-in-16-2 : goal.returns-in-16-2
 unfolding codes is_code
-returns-in-32-to-38 c = sym (run is_code true 0x20 0x26 tt c.args.b (omega arith) (omega arith))
+returns-in-16-2 c = sym (run is_code true 0x20 0x26 tt c.args.b (omega arith) (omega arith))
 
-pub returns-in-48-to-53 : goal.returns-in-48-to-53
+pub returns-in-16-3 : goal.returns-in-16-3
 unfolding codes is_code
-returns-in-48-to-53 c = sym (run is_code true 0x30 0x35 tt c.args.b (omega arith) (omega arith))
+returns-in-16-3 c = sym (run is_code true 0x30 0x35 tt c.args.b (omega arith) (omega arith))
 
-pub returns-in-64-to-85 : goal.returns-in-64-to-85
+pub returns-in-16-4 : goal.returns-in-16-4
 unfolding codes is_code
-returns-in-64-to-85 c = sym (run is_code true 0x40 0x55 tt c.args.b (omega arith) (omega arith))
+returns-in-16-4 c = sym (run is_code true 0x40 0x55 tt c.args.b (omega arith) (omega arith))
 
-pub returns-in-96-to-97 : goal.returns-in-96-to-97
+pub returns-in-16-5 : goal.returns-in-16-5
 unfolding codes is_code
-returns-in-96-to-97 c = sym (run is_code true 0x60 0x61 tt c.args.b (omega arith) (omega arith))
+returns-in-16-5 c = sym (run is_code true 0x60 0x61 tt c.args.b (omega arith) (omega arith))
 
 pub returns-in_default : goal.returns-in_default
 returns-in_default c = sym (low c.args.b (omega arith) c.in_default.in_default-own.rest.1)

@@ -1,9 +1,0 @@
--- `replay::play` meets its contract: the turns are counted down. Assumes nothing.
-use borrow.Author.Rules.{rules}
-use Rattle.replay.proofs.play.Given as goal
-
-abbrev pub invariant-loop-left : goal.invariant-loop-left
-invariant-loop-left g l = Unit {0}
-
-abbrev pub decreases-loop-left : goal.decreases-loop-left
-decreases-loop-left g l = l.left

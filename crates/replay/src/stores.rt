@@ -1,0 +1,165 @@
+// The stores, and the calls on the engine that are lent them.
+use crate::command::{BODY, Call, Lent, STORE, TABLES};
+use engine::calls;
+use lines::store::{front_mut, place};
+use server::{Await, CallResult, Engine, default_settings};
+use std::alloc::{AllocError, Global};
+
+#[derive(Drop)]
+pub struct Stores {
+    pub tables: Vec<u64>,
+    pub packet: Vec<u8>,
+    pub headers: Vec<u8>,
+    pub body: Vec<u8>,
+    pub reply: Vec<u8>,
+}
+
+impl Stores {
+    pub(crate) fn new(alloc: Global) -> Result<Stores, AllocError> {
+        Ok(Stores {
+            tables: vec![in alloc; 0u64; TABLES]?,
+            packet: vec![in alloc; 0u8; STORE]?,
+            headers: vec![in alloc; 0u8; STORE]?,
+            body: vec![in alloc; 0u8; BODY]?,
+            reply: vec![in alloc; 0u8; STORE]?,
+        })
+    }
+
+    // Fills the stores with zeros.
+    pub(crate) fn clear(&mut self) {
+        self.tables.fill(0);
+        self.packet.fill(0);
+        self.headers.fill(0);
+        self.body.fill(0);
+        self.reply.fill(0);
+    }
+
+    // Starts an engine as the original does, for a transcript that begins with no start.
+    pub(crate) fn first_start(&mut self) -> Engine {
+        calls::start(
+            default_settings(BODY as u32),
+            b"",
+            self.tables.as_slice(),
+            self.packet.as_mut_slice(),
+            self.headers.as_mut_slice(),
+            self.body.as_mut_slice(),
+            self.reply.as_mut_slice(),
+        )
+        .engine
+    }
+
+    // Makes a call with the stores as far as they are lent. `input` is what is offered of the peer's bytes.
+    pub(crate) fn call(
+        &mut self,
+        e: Engine,
+        call: &Call,
+        input: &[u8],
+        realm: &[u8],
+        lent: Lent,
+    ) -> CallResult {
+        let tables = front_mut(self.tables.as_mut_slice(), lent.tables);
+        let packet = front_mut(self.packet.as_mut_slice(), lent.packet);
+        let headers = front_mut(self.headers.as_mut_slice(), lent.headers);
+        let body = front_mut(self.body.as_mut_slice(), lent.body);
+        let reply = front_mut(self.reply.as_mut_slice(), lent.reply);
+        match call {
+            Call::Start(o) => {
+                let mut took = calls::start(
+                    o.settings, realm, tables, packet, headers, body, reply,
+                );
+                // No host can set the counter; the wrap behind the last number is compared by it.
+                took.engine.peer.next_connection_id = o.counter;
+                took
+            }
+            Call::Bytes => offer(e, input, tables, packet, headers, body, reply),
+            Call::EndOfStream => calls::stream_ended(e, packet, headers, body, reply),
+            Call::Taken => calls::reply_taken(e, packet, headers, body, reply),
+            Call::Acknowledge => calls::abort_acknowledged(e, packet, headers, body, reply),
+            Call::Nonce(nonce) => {
+                calls::nonce_given(e, *nonce, realm, tables, packet, headers, body, reply)
+            }
+            Call::Reply {
+                code,
+                headers: given,
+            } => calls::reply_given(
+                e,
+                *code,
+                given.as_slice(),
+                tables,
+                packet,
+                headers,
+                body,
+                reply,
+            ),
+            Call::Object {
+                headers: given,
+                has_body,
+            } => calls::object_given(e, given.as_slice(), *has_body, packet, headers, body, reply),
+            Call::Body(bytes) => {
+                calls::body_given(e, bytes.as_slice(), packet, headers, body, reply)
+            }
+            Call::BodyFailed => calls::body_failed(e, packet, headers, body, reply),
+            Call::Password(password) => {
+                let bytes = text_of(password);
+                calls::password_given(e, password.is_some(), bytes, packet, headers, body, reply)
+            }
+            Call::Credentials(None) => calls::credentials_given(
+                e, false, false, b"", b"", packet, headers, body, reply,
+            ),
+            Call::Credentials(Some(c)) => calls::credentials_given(
+                e,
+                true,
+                c.user.is_some(),
+                text_of(&c.user),
+                c.password.as_slice(),
+                packet,
+                headers,
+                body,
+                reply,
+            ),
+            Call::Close(ids) => calls::connections_closed(e, ids.as_slice(), tables),
+        }
+    }
+}
+
+fn text_of(text: &Option<Vec<u8>>) -> &[u8] {
+    match text {
+        Some(text) => text.as_slice(),
+        None => b"",
+    }
+}
+
+// Whether a lent store is too short by its length, so that the engine refuses bytes and leaves all stores as they are.
+fn is_short(
+    e: Engine,
+    tables: &[u64],
+    packet: &[u8],
+    headers: &[u8],
+    body: &[u8],
+    reply: &[u8],
+) -> bool {
+    tables.len() < TABLES
+        || packet.len().min(headers.len()).min(reply.len()) < 65535
+        || body.len() < e.settings.max_object_size as usize
+}
+
+// Offers a piece of the client's bytes. Half of them, if their number is odd, are put into the packet store first, as by a host that reads
+// straight into it, so that sessions try both ways. If no bytes are awaited, the packet store holds the last packet, which an answer may
+// read again.
+fn offer(
+    e: Engine,
+    input: &[u8],
+    tables: &[u64],
+    packet: &mut [u8],
+    headers: &mut [u8],
+    body: &mut [u8],
+    reply: &mut [u8],
+) -> CallResult {
+    let is_half = matches!(e.awaits, Await::Bytes) && input.len() % 2 == 1;
+    let n = if is_half && !is_short(e, tables, packet, headers, body, reply) {
+        place(packet, e.begun, &input[..input.len() / 2])
+    } else {
+        0
+    };
+    calls::bytes_offered(e, n, &input[n..], tables, packet, headers, body, reply)
+}
