@@ -1,5 +1,5 @@
 // Questions on challenges, on the responses to them, and on their digests.
-use crate::show::{Sixteen, hex, put_done};
+use crate::show::{Byte, Hex, Sixteen, put_done};
 use base::Span;
 use digest::md5;
 use lines::word::{after, byte_at};
@@ -37,9 +37,9 @@ pub(crate) fn challenge(out: &mut impl Write, v: &[u8]) -> io::Result<()> {
     let Some(place) = realm else {
         return write!(out, "none");
     };
-    write!(out, "{:02x}:", byte_at(v, place.start))?;
+    write!(out, "{}:", Byte(byte_at(v, place.start)))?;
     match value_at(v, realm) {
-        Some([_, name @ ..]) => write!(out, "{}", hex(name)),
+        Some([_, name @ ..]) => write!(out, "{}", Hex(name)),
         _ => Ok(()),
     }
 }
@@ -58,12 +58,13 @@ pub(crate) fn response_list(out: &mut impl Write, v: &[u8]) -> io::Result<()> {
     };
     write!(out, "digest={} user=", Sixteen(digest))?;
     match value_at(v, user) {
-        Some(name) => write!(out, "{}", hex(name))?,
+        Some(name) => write!(out, "{}", Hex(name))?,
         None => write!(out, "none")?,
     }
+    write!(out, " nonce=")?;
     match nonce {
-        Some(named) => write!(out, " nonce={}", Sixteen(named)),
-        None => write!(out, " nonce=none"),
+        Some(named) => write!(out, "{}", Sixteen(named)),
+        None => write!(out, "none"),
     }
 }
 
@@ -104,7 +105,7 @@ pub(crate) fn respond(
     let mut store = [0u8; 4096];
     let name = user.unwrap_or(b"");
     let done = auth::respond(&mut store, 0, nonce, user.is_some(), name, password);
-    put_done(out, done, &store, "ValueTooLarge", name.len())
+    put_done(out, done, &store, "error ValueTooLarge ", name.len())
 }
 
 // Answers with the bytes of a challenge. The first byte of `realm` is its charset.
@@ -130,7 +131,7 @@ pub(crate) fn write_challenge(
         byte_at(name, 0),
         &name[after(name, 0)..],
     );
-    put_done(out, done, &store, "ValueTooLarge", name.len())
+    put_done(out, done, &store, "error ValueTooLarge ", name.len())
 }
 
 // Answers with the digest of a nonce and a password.

@@ -1,7 +1,7 @@
 // Questions on tag lists and headers: what is read, and what the writers make of it.
 ghost use Rattle.std.specs.Prelude.{◌<◌, ◌≤◌, length, IfSome};
 
-use crate::show::hex;
+use crate::show::{Byte, Hex};
 use lines::word::byte_at;
 use packet::action::permissions;
 use packet::header::{HeaderAt, HeaderEncoding};
@@ -56,7 +56,7 @@ fn put_tags(out: &mut impl Write, s: &[u8], separator: &str) -> io::Result<()> {
         if at != 0 {
             write!(out, "{separator}")?;
         }
-        write!(out, "{:02x}={}", tag.id, hex(tag.value))?;
+        write!(out, "{}={}", Byte(tag.id), Hex(tag.value))?;
         at = tag.next;
     }
     Ok(())
@@ -148,13 +148,22 @@ fn write_header(kind: Kind, id: u8, v: &[u8], text: &[u8], store: &mut [u8]) -> 
     }
 }
 
+// Writes a number as four bytes, the highest first.
+fn put_u32(out: &mut impl Write, n: u32) -> io::Result<()> {
+    let [a, b, c, d] = n.to_be_bytes();
+    write!(out, "{}{}{}{}", Byte(a), Byte(b), Byte(c), Byte(d))
+}
+
 // Writes a header's value by its kind.
 fn put_value(out: &mut impl Write, kind: Kind, id: u8, v: &[u8], text: &[u8]) -> io::Result<()> {
     match kind {
-        Kind::Unicode | Kind::Type | Kind::Time => write!(out, ":text:{}", hex(text)),
-        Kind::U8 => write!(out, ":u8:{}", hex(v)),
-        Kind::Bytes => write!(out, ":bytes:{}", hex(v)),
-        Kind::U32 => write!(out, ":u32:{:08x}", number_of(id, v)),
+        Kind::Unicode | Kind::Type | Kind::Time => write!(out, ":text:{}", Hex(text)),
+        Kind::U8 => write!(out, ":u8:{}", Hex(v)),
+        Kind::Bytes => write!(out, ":bytes:{}", Hex(v)),
+        Kind::U32 => {
+            write!(out, ":u32:")?;
+            put_u32(out, number_of(id, v))
+        }
         Kind::Tags => {
             write!(out, ":tags:")?;
             put_tags(out, v, ";")
@@ -166,9 +175,9 @@ fn put_value(out: &mut impl Write, kind: Kind, id: u8, v: &[u8], text: &[u8]) ->
 fn put_refused(out: &mut impl Write, id: u8, text: &[u8]) -> io::Result<()> {
     if id < 0x40 {
         let size = text::encoded_unicode_len(text).saturating_add(5);
-        write!(out, "<{id:02x}:error HeaderTooLarge {size}>")
+        write!(out, "<{}:error HeaderTooLarge {size}>", Byte(id))
     } else {
-        write!(out, "<{id:02x}:{}>", hex(text))
+        write!(out, "<{}:{}>", Byte(id), Hex(text))
     }
 }
 
@@ -181,7 +190,7 @@ fn put_written(
     text: &[u8],
 ) -> io::Result<()> {
     match done {
-        Wrote::Written(n) => write!(out, "{}", hex(store.get(..n).unwrap_or(b""))),
+        Wrote::Written(n) => write!(out, "{}", Hex(store.get(..n).unwrap_or(b""))),
         Wrote::TooLong => put_refused(out, id, text),
         Wrote::BadValue => write!(out, "bad"),
         Wrote::Short => write!(out, "short"),
@@ -206,7 +215,7 @@ fn show_within<const TEXT: usize, const STORE: usize>(
         let done = write_header(kind, id, v, text, &mut store);
         put_written(out, done, &store, id, text)
     } else {
-        write!(out, " {id:02x}")?;
+        write!(out, " {}", Byte(id))?;
         put_value(out, kind, id, v, text)
     }
 }

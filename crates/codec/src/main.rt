@@ -14,8 +14,9 @@ use headers::{put_headers, tags};
 use lines::input::lines_of;
 use lines::word::{byte_at, number, unhex, word_of};
 use packets::{answered, code, fields_of, first, packet_length, parsed, reply, request};
+use show::Pieces;
 use std::io;
-use std::io::{BufWriter, Write};
+use std::io::Write;
 use unsent::queue;
 
 // What a line asks about.
@@ -145,22 +146,21 @@ fn line_within<const N: usize>(out: &mut impl Write, s: &[u8]) -> io::Result<()>
 // Answers one line. A line of less than 2000 bytes without a group has short words.
 fn line(out: &mut impl Write, s: &[u8], is_cut: bool) -> io::Result<()> {
     if is_cut {
-        write!(out, "bad question")?;
-    } else if s.len() < 2000 && !s.contains(&b'*') {
+        return write!(out, "bad question\n");
+    }
+    if s.len() < 2000 && !s.contains(&b'*') {
         line_within::<1024>(out, s)?;
     } else {
         line_within::<140000>(out, s)?;
     }
-    writeln!(out)?;
-    out.flush()
+    write!(out, "\n")
 }
 
-// Answers the lines of standard input. A line that is longer than the store is no question. What the system does not take is left out.
-fn main(rt: HostRuntime) -> io::Result<()> {
+// Answers the lines of standard input. A line that is longer than the store is no question.
+fn main(rt: HostRuntime) {
     let mut input = [0u8; 300000];
-    let mut out = BufWriter::new(rt.alloc(), io::writer(&rt))?;
+    let mut out = Pieces { to: &rt };
     lines_of(&mut rt.stdin(), &mut input, |s, is_cut| {
         let _ = line(&mut out, s, is_cut);
     });
-    Ok(())
 }

@@ -1,6 +1,6 @@
 // Questions on first bytes, response codes and packets: what is read, and what the writers give.
 use crate::headers::put_headers;
-use crate::show::{final_word, put_done};
+use crate::show::{Byte, final_word, put_done};
 use base::wide;
 use lines::word::byte_at;
 use packet::flags::flag_bits;
@@ -39,11 +39,11 @@ pub(crate) fn first(out: &mut impl Write, byte: u8) -> io::Result<()> {
     };
     write!(
         out,
-        "{} {:02x} {} {:02x}",
+        "{} {} {} {}",
         opcode,
-        opcode::value(opcode),
+        Byte(opcode::value(opcode)),
         final_word(is_final),
-        opcode::to_byte(opcode, is_final),
+        Byte(opcode::to_byte(opcode, is_final)),
     )
 }
 
@@ -53,12 +53,12 @@ pub(crate) fn code(out: &mut impl Write, byte: u8) -> io::Result<()> {
         return write!(out, "unknown");
     };
     let class = if response::is_success(code) {
-        "success"
+        " success "
     } else {
-        "other"
+        " other "
     };
     let sent = response::to_byte(code);
-    write!(out, "{code:02x} {class} {sent:02x}")
+    write!(out, "{}{class}{}", Byte(code), Byte(sent))
 }
 
 // Answers with the length that the front of a packet states.
@@ -76,12 +76,14 @@ fn put_connect(out: &mut impl Write, is_connect: bool, p: &[u8]) -> io::Result<(
     if !is_connect {
         return write!(out, "none");
     }
+    let limit = packets::connect_limit(p);
     write!(
         out,
-        "{:02x}{:02x}{:04x}",
-        byte_at(p, 3),
-        byte_at(p, 4),
-        packets::connect_limit(p),
+        "{}{}{}{}",
+        Byte(byte_at(p, 3)),
+        Byte(byte_at(p, 4)),
+        Byte((limit / 256 % 256) as u8),
+        Byte((limit % 256) as u8),
     )
 }
 
@@ -91,7 +93,7 @@ fn put_set_path(out: &mut impl Write, op: Opcode, p: &[u8]) -> io::Result<()> {
         return write!(out, "none");
     }
     let flags = packets::set_path_flags(p);
-    write!(out, "{:02x}", flag_bits(flags.backup, flags.no_create))
+    write!(out, "{}", Byte(flag_bits(flags.backup, flags.no_create)))
 }
 
 // Answers with the request at the front of `s`: its opcode, the fields of its prefix, how many bytes are left behind it, and its headers.
@@ -102,9 +104,9 @@ pub(crate) fn parsed(out: &mut impl Write, s: &[u8]) -> io::Result<()> {
     let (p, rest) = split(s, request.length);
     write!(
         out,
-        "{} {:02x} {} connect=",
+        "{} {} {} connect=",
         request.opcode,
-        opcode::value(request.opcode),
+        Byte(opcode::value(request.opcode)),
         final_word(request.is_final),
     )?;
     put_connect(out, matches!(request.opcode, Opcode::Connect), p)?;
@@ -127,8 +129,8 @@ pub(crate) fn answered(out: &mut impl Write, s: &[u8], connect: bool) -> io::Res
     };
     write!(
         out,
-        "{:02x} {} connect=",
-        response.code,
+        "{} {} connect=",
+        Byte(response.code),
         final_word(response.is_final),
     )?;
     put_connect(out, connect, s)?;
@@ -180,7 +182,7 @@ pub(crate) fn request(
     let mut store = [0u8; 150000];
     let done = packets::write_request(&mut store, op, is_final, fields, headers);
     let size = packets::prefix_len(op).saturating_add(headers.len());
-    put_done(out, done, &store, "PacketTooLarge", size)
+    put_done(out, done, &store, "error PacketTooLarge ", size)
 }
 
 // Answers with the bytes of a response. `parameters` are the bytes of its Connect parameters, if it has any.
@@ -205,5 +207,5 @@ pub(crate) fn reply(
         PACKET_PREFIX_LENGTH
     };
     let size = headers.len().saturating_add(prefix);
-    put_done(out, done, &store, "PacketTooLarge", size)
+    put_done(out, done, &store, "error PacketTooLarge ", size)
 }

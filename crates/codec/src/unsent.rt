@@ -2,7 +2,7 @@
 ghost use Rattle.std.specs.Prelude.{◌≤◌};
 ghost use Rattle.packet.specs.Limits.{max_capacity};
 
-use crate::show::hex;
+use crate::show::Hex;
 use lines::word::unhex;
 use outgoing::object::{Next, NextPacket, Outgoing, body_given, next_after};
 use outgoing::queue as queues;
@@ -100,9 +100,9 @@ impl Unsent {
         self.made = length;
         write!(
             out,
-            "{}:{}",
-            if last { "last" } else { "more" },
-            hex(self.headers_made()),
+            "{}{}",
+            if last { "last:" } else { "more:" },
+            Hex(self.headers_made()),
         )
     }
 

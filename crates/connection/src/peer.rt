@@ -77,11 +77,15 @@ pub fn allocate_connection_id(ids: &[u64], count: usize, counter: u32) -> NewId
     ensures id_value { (result.id ≡ new_id (take count ids.now) counter) × (result.next ≡ (result.id + 1) % 2 ^ 32) }
     ensures unused { taken (take count ids.now) result.id ≡ false }
 {
-    let mut id = counter;
-    // Stays a loop: `find` would answer an Option, and this search always finds an id.
-    while is_taken(ids, count, id) {
-        id = id.wrapping_add(1);
-    }
+    let mut at = counter;
+    // Stays a loop that breaks with what it found, the form that the scope names for this search. `find` would answer an Option, and this search
+    // always finds an id.
+    let id = loop {
+        if !is_taken(ids, count, at) {
+            break at;
+        }
+        at = at.wrapping_add(1);
+    };
     NewId {
         id,
         next: id.wrapping_add(1),

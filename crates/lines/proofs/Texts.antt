@@ -35,7 +35,7 @@ part_digits out p s n at k e h g =
 
 -- ---- hexadecimal
 
-length_hex : (s : List ℕ) → length (hex_of s) ≡ 2 * length s
+pub length_hex : (s : List ℕ) → length (hex_of s) ≡ 2 * length s
 length_hex [] = refl
 length_hex (b ∷ bs) = let h = length_hex bs in omega arith
 

@@ -2,5 +2,6 @@
 -- log shows (`Text`), and the lines of an input (`Input`).
 pub mod Word
 pub mod Output
+pub mod Printed
 pub mod Text
 pub mod Input

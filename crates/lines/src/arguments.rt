@@ -1,5 +1,5 @@
 // The words that a program is started with. They are numbered from 0, and number 0 is the program's name.
-ghost use Rattle.std.specs.Prelude.{◌<◌, ◌≤◌, length};
+ghost use Rattle.std.specs.Prelude.{◌<◌, ◌≤◌, ◌≡◌, false, length};
 
 use crate::word::number;
 use check::same;
@@ -45,7 +45,9 @@ pub fn number_argument(rt: &impl Env, i: usize) -> usize
 }
 
 // Tells whether the word with the number `i` is `name`, which has at most sixteen bytes. No clause can say what words a program is given.
-pub fn is_argument(rt: &impl Env, i: usize, name: &[u8]) -> bool {
+pub fn is_argument(rt: &impl Env, i: usize, name: &[u8]) -> bool
+    ensures { 16 < length name.now → result ≡ false }
+{
     let mut word = [0u8; 16];
     let n = argument(rt, i, &mut word);
     same(&word[..n], name)

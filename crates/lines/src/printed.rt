@@ -1,10 +1,12 @@
 // What a program prints: collected, so that a word costs no call of the system, and with byte strings in hexadecimal.
-ghost use Rattle.std.specs.Prelude.{◌≡◌, ◌≤◌, ◌-◌, ◌/◌, ◌++◌, [], take, vec_len, nat_le, if◌then◌else◌, OnOk, OnErr};
+ghost use Rattle.std.specs.Prelude.{◌≡◌, ◌≤◌, ◌-◌, ◌/◌, ◌++◌, [], take, vec_len, nat_le, if◌then◌else◌, OnOk, OnErr, Some};
+ghost use Rattle.lines.specs.Output.{hex_of};
+ghost use Rattle.lines.specs.Printed.{sum_text, shown_text};
 
-use crate::output::print;
+use crate::output::{digits, print};
 use digest::md5;
 use std::alloc::{AllocError, Global};
-use std::{fmt, io};
+use std::{fmt, io, str};
 
 // What was printed and is not yet written out. There is room for `room` bytes, and what passes that is left out.
 #[derive(Drop)]
@@ -74,9 +76,16 @@ impl io::Write for Output {
 pub struct Hex<'a>(pub &'a [u8]);
 
 impl fmt::Display for Hex<'_> {
+    ghost output = { λ h. Some (hex_of h.0.now) };
+
     fn fmt<W: fmt::Write>(&self, f: &mut fmt::Formatter<W>) -> fmt::Result {
-        for b in self.0 {
-            write!(f, "{b:02x}")?;
+        let mut store = [0u8; 1024];
+        for part in self.0.chunks(512) {
+            let n = digits(part, &mut store);
+            let Ok(text) = str::from_utf8(&store[..n]) else {
+                unreachable!();
+            };
+            f.write_str(text)?;
         }
         Ok(())
     }
@@ -87,6 +96,8 @@ impl fmt::Display for Hex<'_> {
 pub struct Sum<'a>(pub &'a [u8]);
 
 impl fmt::Display for Sum<'_> {
+    ghost output = { λ s. Some (sum_text s.0.now) };
+
     fn fmt<W: fmt::Write>(&self, f: &mut fmt::Formatter<W>) -> fmt::Result {
         let sum = md5::digest(self.0);
         write!(f, "#{}:{}", self.0.len(), Hex(&sum))
@@ -101,6 +112,9 @@ pub struct Shown<'a> {
 }
 
 impl fmt::Display for Shown<'_> {
+    ghost output = { λ s. Some (shown_text s.bytes.now s.longest) };
+
+    #[tactic(auto, unfolding(crate::specs::Printed::shown_text))]
     fn fmt<W: fmt::Write>(&self, f: &mut fmt::Formatter<W>) -> fmt::Result {
         if self.bytes.is_empty() {
             f.write_str("-")

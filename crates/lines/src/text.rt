@@ -1,7 +1,7 @@
 // A text that is collected in a store of its own and written at once, as a line of a log. What does not fit is left out.
 ghost use Rattle.std.specs.Prelude.{◌≡◌, take, IsOk};
 ghost use Rattle.lines.specs.Word.{filled};
-ghost use Rattle.lines.specs.Output.{put_bytes};
+ghost use Rattle.lines.specs.Output.{put_bytes, decimal_of, flag_text, put_digits, put_digest, put_hex, left_after};
 ghost use Rattle.lines.specs.Text.{shown, put_shown};
 
 use crate::output;
@@ -63,6 +63,47 @@ impl<const N: usize> Text<N> {
         }
     }
 
+    // Puts the number `x` in decimal digits behind the text.
+    pub fn put_number(&mut self, x: usize)
+        ensures { filled self.new.bytes self.new.length
+            ≡ put_bytes self.old.bytes self.old.length (decimal_of x) }
+    {
+        self.length = output::put_number(&mut self.bytes, self.length, x);
+    }
+
+    // Puts 1 if `b` is true, and 0 otherwise, behind the text.
+    pub fn put_flag(&mut self, b: bool)
+        ensures { filled self.new.bytes self.new.length
+            ≡ put_bytes self.old.bytes self.old.length (flag_text b) }
+    {
+        self.length = output::put_flag(&mut self.bytes, self.length, b);
+    }
+
+    // Puts the bytes `s` in hexadecimal behind the text, both digits of a byte or neither.
+    pub fn put_digits(&mut self, s: &[u8])
+        ensures { filled self.new.bytes self.new.length
+            ≡ put_digits self.old.bytes self.old.length s.now }
+    {
+        self.length = output::put_digits(&mut self.bytes, self.length, s);
+    }
+
+    // Puts how many bytes `s` has, and their MD5, behind the text.
+    pub fn put_digest(&mut self, s: &[u8])
+        ensures { filled self.new.bytes self.new.length
+            ≡ put_digest self.old.bytes self.old.length s.now }
+    {
+        self.length = output::put_digest(&mut self.bytes, self.length, s);
+    }
+
+    // Puts the bytes `s` in hexadecimal behind the text, or a dash if there are none. If there are more than `longest`, puts how many there
+    // are, and their MD5.
+    pub fn put_hex(&mut self, s: &[u8], longest: usize)
+        ensures { filled self.new.bytes self.new.length
+            ≡ put_hex self.old.bytes self.old.length s.now longest }
+    {
+        self.length = output::put_hex(&mut self.bytes, self.length, s, longest);
+    }
+
     // Returns the text.
     pub fn as_slice(&self) -> &[u8]
         ensures { result.now ≡ take self.now.length self.now.bytes }
@@ -73,6 +114,14 @@ impl<const N: usize> Text<N> {
     // Writes the text to `to`.
     pub fn print(&self, to: &impl Print) {
         output::write(to, &self.bytes, self.length);
+    }
+
+    // Writes the text to `to` and empties it, if it takes up half of its store.
+    pub fn flush(&mut self, to: &impl Print)
+        ensures bytes { self.new.bytes ≡ self.old.bytes }
+        ensures left { self.new.length ≡ left_after self.old.bytes self.old.length }
+    {
+        self.length = output::flush(to, &self.bytes, self.length);
     }
 }
 

@@ -1,15 +1,19 @@
 // The host's answers: lines of the script, each used once, in order. The first line of a kind that was not used answers the next request of
 // that kind. If there is none, the host answers as one that keeps nothing: with success, and a Get with 0x51.
-use crate::script::{Content, WORDS, byte_of, bytes_of};
+ghost use Rattle.std.specs.Prelude.{◌≤◌, length, IfSome};
+
+use crate::script::{Content, OTHER_WORD, byte_of, unhex_both};
+use crate::stream::Way;
 use check::same;
-use lines::queue::Queue;
-use lines::word::word_of;
+use lines::output::put;
+use lines::store::between;
+use lines::word::{Place, byte_at, find, word_of};
 use packet::response::{NOT_IMPLEMENTED, SUCCESS};
 use server::HostRequest;
 use std::alloc::{AllocError, Global};
 
-// How many bytes the host's lines take up at most, each with its end. A line for which there is no room is dropped.
-const ROOM: usize = 1179648;
+// How long the store of the host's lines is, each with its end. A line for which there is no room is dropped.
+pub const ANSWERS: usize = 1179648;
 
 // The kinds of lines.
 #[derive(Clone, Copy, PartialEq, Eq)]
@@ -24,20 +28,20 @@ pub enum Kind {
     Bytes,
 }
 
-// The calls on the engine that answer a request, with what they hand over.
-#[derive(Drop)]
+// The calls on the engine that answer a request. Header bytes, a password and a nonce stand at the front of the word store.
+#[derive(Clone, Copy)]
 pub enum Answer {
     Reply {
         code: u8,
-        headers: Vec<u8>,
+        headers: usize,
     },
     Object {
-        headers: Vec<u8>,
+        headers: usize,
         has_body: bool,
         content: Content,
     },
-    Nonce(Vec<u8>),
-    Password(Option<Vec<u8>>),
+    Nonce(usize),
+    Password(Option<usize>),
     NoCredentials,
     Acknowledge,
     // The next body bytes of the object.
@@ -46,17 +50,11 @@ pub enum Answer {
     },
 }
 
-// The host's lines that were not used, with how many bytes all lines of the session took up.
+// The host's lines: the first `size` bytes of the store. The first byte of one that was used is another than before.
 #[derive(Drop)]
 pub struct Answers {
-    lines: Vec<Line>,
+    lines: Vec<u8>,
     size: usize,
-}
-
-#[derive(Drop)]
-struct Line {
-    kind: Kind,
-    text: Vec<u8>,
 }
 
 impl Kind {
@@ -88,116 +86,143 @@ impl Kind {
 }
 
 impl Answers {
-    pub(crate) fn new(alloc: Global) -> Answers {
-        Answers {
-            lines: Vec::new(alloc),
+    // Returns a host's lines before the first.
+    pub(crate) fn new(alloc: Global) -> Result<Answers, AllocError> {
+        Ok(Answers {
+            lines: vec![in alloc; 0u8; ANSWERS]?,
             size: 0,
-        }
+        })
+    }
+
+    // A session begins: the host has no lines.
+    pub(crate) fn clear(&mut self) {
+        self.size = 0;
     }
 
     // Keeps a line of the host, if there is room for it.
-    pub(crate) fn keep(&mut self, alloc: Global, line: &[u8]) -> Result<(), AllocError> {
-        if ROOM.saturating_sub(self.size) <= line.len() {
-            return Ok(());
+    pub(crate) fn keep(&mut self, line: &[u8]) {
+        if ANSWERS.saturating_sub(self.size) <= line.len() {
+            return;
         }
-        self.size = self.size.saturating_add(line.len()).saturating_add(1);
-        if let Some(kind) = Kind::parse(word_of(line, 1)) {
-            let text = line.to_vec(alloc)?;
-            self.lines.push(Line { kind, text })?;
-        }
-        Ok(())
+        let end = put(self.lines.as_mut_slice(), self.size, line);
+        self.size = put(self.lines.as_mut_slice(), end, b"\n");
     }
 
-    // Uses up the first line of a kind, and returns it.
-    fn take(&mut self, kind: Kind) -> Option<Vec<u8>> {
-        let at = self.lines.iter().position(|line| line.kind == kind)?;
-        Some(self.lines.remove(at).text)
-    }
-
-    // Returns the answer to a request, by the first line for it.
-    pub(crate) fn take_for(
-        &mut self,
-        alloc: Global,
-        request: HostRequest,
-    ) -> Result<Answer, AllocError> {
+    // Returns the answer to a request, by the first line for it, with its bytes in `words`, and uses up the line.
+    pub(crate) fn take_for(&mut self, request: HostRequest, words: &mut [u8]) -> Answer {
         let Some(kind) = Kind::of(request) else {
-            return Ok(default_answer(alloc, request));
+            return default_answer(request);
         };
-        match self.take(kind) {
-            Some(text) => answer_of(alloc, kind, text.as_slice()),
-            None => Ok(default_answer(alloc, request)),
-        }
+        let lines = between(self.lines.as_slice(), 0, self.size);
+        let Some(place) = find_line(lines, kind) else {
+            return default_answer(request);
+        };
+        let answer = answer_of(kind, &lines[place.start..place.end], words);
+        self.mark(place.start);
+        answer
     }
 
-    // Returns the bytes of the next line `host bytes HEX`, at most `room` of them, or none if there is no such line.
-    pub(crate) fn take_bytes(&mut self, alloc: Global, room: usize) -> Result<Vec<u8>, AllocError> {
-        match self.take(Kind::Bytes) {
-            Some(text) => bytes_of(alloc, word_of(text.as_slice(), 2), room),
-            None => Ok(Vec::new(alloc)),
+    // Lets the bytes of the next line `host bytes HEX` come on `way`, uses up the line, and tells whether there are any bytes.
+    pub(crate) fn take_bytes(&mut self, way: &mut Way) -> bool {
+        let lines = between(self.lines.as_slice(), 0, self.size);
+        let Some(place) = find_line(lines, Kind::Bytes) else {
+            return false;
+        };
+        let is_some = way.fill(word_of(&lines[place.start..place.end], 2));
+        self.mark(place.start);
+        is_some
+    }
+
+    // Notes that the line at `at` is used.
+    fn mark(&mut self, at: usize) {
+        if let Some(first) = self.lines.as_mut_slice().get_mut(at) {
+            *first = b'-';
         }
     }
 }
 
+// Whether a line of the host is of a kind, and not used.
+fn is_answer(line: &[u8], kind: Kind) -> bool {
+    byte_at(line, 0) == b'h' && Kind::parse(word_of(line, 1)) == Some(kind)
+}
+
+// Returns where the first of the host's lines stands that is of a kind and not used.
+fn find_line(lines: &[u8], kind: Kind) -> Option<Place>
+    ensures { IfSome result (λ place. (place.start ≤ place.end) × (place.end ≤ length lines.now)) }
+{
+    let mut start = 0;
+    // Stays a loop over a place: each line says itself where the next one starts.
+    while start < lines.len() {
+        let end = find(lines, start, b'\n');
+        if is_answer(&lines[start..end], kind) {
+            return Some(Place { start, end });
+        }
+        start = end + 1;
+    }
+    None
+}
+
 // Returns the answer of a host that keeps nothing.
-fn default_answer(alloc: Global, request: HostRequest) -> Answer {
+fn default_answer(request: HostRequest) -> Answer {
     match request {
         HostRequest::Connect { .. } | HostRequest::Put { .. } | HostRequest::Disconnect { .. } => {
             Answer::Reply {
                 code: SUCCESS,
-                headers: Vec::new(alloc),
+                headers: 0,
             }
         }
         HostRequest::Abort { .. } => Answer::Acknowledge,
         HostRequest::Read { room } => Answer::Body { room },
         HostRequest::Password { .. } => Answer::Password(None),
-        HostRequest::Nonce => Answer::Nonce(Vec::new(alloc)),
+        HostRequest::Nonce => Answer::Nonce(0),
         HostRequest::Credentials { .. } => Answer::NoCredentials,
         _ => Answer::Reply {
             code: NOT_IMPLEMENTED,
-            headers: Vec::new(alloc),
+            headers: 0,
         },
     }
 }
 
-// Returns the answer of a line of a kind.
-fn answer_of(alloc: Global, kind: Kind, line: &[u8]) -> Result<Answer, AllocError> {
+// Returns the answer of a line of a kind, with its bytes in `words`.
+fn answer_of(kind: Kind, line: &[u8], words: &mut [u8]) -> Answer {
     match kind {
-        Kind::Get => get_answer(alloc, line),
-        Kind::Nonce => Ok(Answer::Nonce(bytes_of(alloc, word_of(line, 2), WORDS)?)),
+        Kind::Get => get_answer(line, words),
+        Kind::Nonce => Answer::Nonce(unhex_both(line, 2, OTHER_WORD, words).headers),
         Kind::Password => {
-            let word = word_of(line, 2);
-            if same(word, b"none") {
-                return Ok(Answer::Password(None));
-            }
-            Ok(Answer::Password(Some(bytes_of(alloc, word, WORDS)?)))
+            let n = unhex_both(line, 2, OTHER_WORD, words).headers;
+            Answer::Password(if same(word_of(line, 2), b"none") {
+                None
+            } else {
+                Some(n)
+            })
         }
-        _ => reply_of(alloc, line, 2),
+        _ => reply_of(line, 2, words),
     }
 }
 
 // Returns the reply with the code and the headers of a line, from the word with the number `at` on.
-fn reply_of(alloc: Global, line: &[u8], at: usize) -> Result<Answer, AllocError> {
-    Ok(Answer::Reply {
+fn reply_of(line: &[u8], at: usize, words: &mut [u8]) -> Answer {
+    Answer::Reply {
         code: byte_of(word_of(line, at)),
-        headers: bytes_of(alloc, word_of(line, at.saturating_add(1)), WORDS)?,
-    })
+        headers: unhex_both(line, at.saturating_add(1), OTHER_WORD, words).headers,
+    }
 }
 
 // Returns the answer of a line to a Get: `host get object HEADERS nobody|body|failed [BYTES]` or `host get reply CODE HEADERS`.
-fn get_answer(alloc: Global, line: &[u8]) -> Result<Answer, AllocError> {
+fn get_answer(line: &[u8], words: &mut [u8]) -> Answer {
     if !same(word_of(line, 2), b"object") {
-        return reply_of(alloc, line, 3);
+        return reply_of(line, 3, words);
     }
-    let headers = bytes_of(alloc, word_of(line, 3), WORDS)?;
-    let body = bytes_of(alloc, word_of(line, 5), WORDS.saturating_sub(headers.len()))?;
+    let sizes = unhex_both(line, 3, 5, words);
     let word = word_of(line, 4);
-    Ok(Answer::Object {
-        headers,
+    Answer::Object {
+        headers: sizes.headers,
         has_body: !same(word, b"nobody"),
         content: Content {
-            left: Queue::of(body),
+            from: sizes.headers,
+            to: sizes.headers.saturating_add(sizes.body),
             piece: 0,
             fails: same(word, b"failed"),
         },
-    })
+    }
 }

@@ -2,21 +2,21 @@
 use crate::Pair;
 use crate::answers::{Answer, Answers};
 use crate::script::{BODY, Content, STORE, server_settings};
-use crate::show::{OrNone, shown};
-use crate::stream::WAY;
+use crate::show::LONGEST;
 use crate::user::first_half;
 use digest::md5::{Octets16, octets16_at};
 use engine::calls;
-use lines::printed::Output;
 use lines::store::{between, place};
+use lines::text::Text;
 use server::{CallResult, Engine, HostRequest, Outcome, Settings, refusal_number};
 use std::alloc::{AllocError, Global};
-use std::io;
-use std::io::Write;
 use std::num::wrapping_add_usize;
 
 // How many bytes the lines of records take up at most. What passes that is left out.
 const RECORDS: usize = 131072;
+
+// How many numbers the table store has.
+const TABLES: usize = 320;
 
 // The engine, what its last call returned, its stores, and what its host has.
 #[derive(Drop)]
@@ -25,7 +25,7 @@ pub struct Host {
     pub outcome: Outcome,
     pub answers: Answers,
     // The lines of the records that calls have handed over.
-    pub records: Output,
+    pub records: Text<RECORDS>,
     // The number of the host's next nonce.
     pub nonces: usize,
     tables: Vec<u64>,
@@ -38,7 +38,7 @@ pub struct Host {
 impl Host {
     // Returns a host whose engine has started.
     pub(crate) fn new(alloc: Global) -> Result<Host, AllocError> {
-        let tables = vec![in alloc; 0u64; 320]?;
+        let tables = vec![in alloc; 0u64; TABLES]?;
         let mut packet = vec![in alloc; 0u8; STORE]?;
         let mut headers = vec![in alloc; 0u8; STORE]?;
         let mut body = vec![in alloc; 0u8; BODY]?;
@@ -55,8 +55,8 @@ impl Host {
         Ok(Host {
             engine: took.engine,
             outcome: took.outcome,
-            answers: Answers::new(alloc),
-            records: Output::new(alloc, RECORDS),
+            answers: Answers::new(alloc)?,
+            records: Text::new(),
             nonces: 1,
             tables,
             packet,
@@ -105,16 +105,21 @@ impl Host {
     }
 
     // Puts the line of a record behind those before, if the last call has handed one over.
-    fn keep_record(&mut self) -> io::Result<()> {
+    fn keep_record(&mut self) {
         let Outcome::Request(HostRequest::Put { kept, body }) = self.outcome else {
-            return Ok(());
+            return;
         };
-        let headers = shown(self.headers.as_slice(), kept);
-        let body = OrNone {
-            store: self.body.as_slice(),
-            size: body,
-        };
-        writeln!(self.records, "record {headers} {body}")
+        self.records.put(b"record ");
+        self.records
+            .put_hex(between(self.headers.as_slice(), 0, kept), LONGEST);
+        self.records.put(b" ");
+        match body {
+            Some(n) => self
+                .records
+                .put_hex(between(self.body.as_slice(), 0, n), LONGEST),
+            None => self.records.put(b"none"),
+        }
+        self.records.put(b"\n");
     }
 
     // Tells the engine that a reply was taken.
@@ -130,8 +135,8 @@ impl Host {
         self.outcome = took.outcome;
     }
 
-    // Gives an answer. `content` is what is left of an object.
-    fn give(&mut self, answer: &Answer, content: &Content) -> CallResult {
+    // Gives an answer, whose bytes stand in `words`. `content` is what is left of an object.
+    fn give(&mut self, answer: Answer, content: Content, words: &[u8]) -> CallResult {
         let e = self.engine;
         let tables = self.tables.as_mut_slice();
         let packet = self.packet.as_mut_slice();
@@ -139,13 +144,10 @@ impl Host {
         let body = self.body.as_mut_slice();
         let reply = self.reply.as_mut_slice();
         match answer {
-            Answer::Reply {
-                code,
-                headers: given,
-            } => calls::reply_given(
+            Answer::Reply { code, headers: n } => calls::reply_given(
                 e,
-                *code,
-                given.as_slice(),
+                code,
+                between(words, 0, n),
                 tables,
                 packet,
                 headers,
@@ -153,13 +155,21 @@ impl Host {
                 reply,
             ),
             Answer::Object {
-                headers: given,
+                headers: n,
                 has_body,
                 ..
-            } => calls::object_given(e, given.as_slice(), *has_body, packet, headers, body, reply),
-            Answer::Nonce(bytes) => calls::nonce_given(
+            } => calls::object_given(
                 e,
-                nonce_of(bytes.as_slice(), self.nonces),
+                between(words, 0, n),
+                has_body,
+                packet,
+                headers,
+                body,
+                reply,
+            ),
+            Answer::Nonce(n) => calls::nonce_given(
+                e,
+                nonce_of(between(words, 0, n), self.nonces),
                 b"",
                 tables,
                 packet,
@@ -167,13 +177,10 @@ impl Host {
                 body,
                 reply,
             ),
-            Answer::Password(None) => calls::password_given(
-                e, false, b"", packet, headers, body, reply,
-            ),
-            Answer::Password(Some(password)) => calls::password_given(
+            Answer::Password(password) => calls::password_given(
                 e,
-                true,
-                password.as_slice(),
+                password.is_some(),
+                between(words, 0, password.unwrap_or(0)),
                 packet,
                 headers,
                 body,
@@ -187,7 +194,7 @@ impl Host {
                 calls::body_failed(e, packet, headers, body, reply)
             }
             Answer::Body { room } => {
-                calls::body_given(e, content.front(*room), packet, headers, body, reply)
+                calls::body_given(e, content.front(words, room), packet, headers, body, reply)
             }
         }
     }
@@ -206,45 +213,41 @@ fn nonce_of(bytes: &[u8], number: usize) -> Octets16 {
 
 impl Pair {
     // Offers `n` bytes on the way up.
-    pub(crate) fn hear(&mut self, n: usize) -> io::Result<()> {
+    pub(crate) fn hear(&mut self, n: usize) {
         let taken = self.host.hear(self.up.front(n));
         self.up.take(taken);
-        self.host.keep_record()
+        self.host.keep_record();
     }
 
     // Sends a reply of `n` bytes down, and tells the engine that it was taken.
-    pub(crate) fn reply(&mut self, n: usize) -> io::Result<()> {
-        self.down
-            .push(between(self.host.reply.as_slice(), 0, n), WAY)?;
+    pub(crate) fn reply(&mut self, n: usize) {
+        self.down.push(between(self.host.reply.as_slice(), 0, n));
         self.host.take_reply();
-        Ok(())
     }
 
     // Answers a request, and prints a line if the engine refuses the answer: the request then still waits.
-    pub(crate) fn answer(&mut self, request: HostRequest) -> io::Result<()> {
-        let answer = self.host.answers.take_for(self.alloc, request)?;
-        let took = self.host.give(&answer, &self.content);
+    pub(crate) fn answer(&mut self, request: HostRequest) {
+        let answer = self
+            .host
+            .answers
+            .take_for(request, self.words.as_mut_slice());
+        let took = self.host.give(answer, self.content, self.words.as_slice());
         self.host.engine = took.engine;
         if let Outcome::Refused(refusal) = took.outcome {
-            writeln!(self.out, "host refused {}", refusal_number(refusal))?;
+            self.print_number(b"host refused ", refusal_number(refusal));
         } else {
             self.host.outcome = took.outcome;
         }
         self.after_answer(answer);
-        Ok(())
     }
 
     // Keeps the object that an answer gives, or notes that body bytes or a nonce were given.
     fn after_answer(&mut self, answer: Answer) {
         match answer {
-            Answer::Object {
-                content,
-                headers: _headers,
-                has_body: _,
-            } => self.content = content,
+            Answer::Object { content, .. } => self.content = content,
             Answer::Body { room } => self.content.give(room),
-            Answer::Nonce(_bytes) => self.host.nonces = wrapping_add_usize(self.host.nonces, 1),
-            _other => {}
+            Answer::Nonce(_) => self.host.nonces = wrapping_add_usize(self.host.nonces, 1),
+            _ => {}
         }
     }
 }

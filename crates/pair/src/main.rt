@@ -10,25 +10,22 @@ mod show;
 mod stream;
 mod user;
 
-use answers::Answers;
 use check::same;
 use host::Host;
 use lines::arguments::{has_argument, is_argument, number_argument};
-use lines::input;
+use lines::input::{before_first, bytes_of, next_line};
 use lines::output::print;
-use lines::printed::Output;
-use lines::queue::Queue;
+use lines::text::Text;
 use lines::word::{number, word_of};
 use script::{
-    Abort, CLIENT, Call, Command, Content, Lent, Name, WORDS, bytes_of, client_of, server_of,
-    server_settings,
+    Abort, CLIENT, Call, Command, Content, Lent, WORDS, client_of, server_of, server_settings,
+    unhex_both,
 };
 use server::{Outcome, end_number};
-use std::alloc::Global;
 use std::env::Env;
 use std::io;
-use std::io::{Read, Write};
-use stream::{Ends, Move, Shuffle, WAY, Waits};
+use std::io::Read;
+use stream::{Ends, Move, Shuffle, WAY, Waits, Way};
 use user::User;
 
 // How long the input store is: a line whose bytes are 1 MiB in hexadecimal fits.
@@ -49,7 +46,7 @@ enum Due {
 }
 
 // What a turn does while an operation is open.
-#[derive(Drop)]
+#[derive(Clone, Copy)]
 enum Step {
     // Nothing, since the user has not looked at the client's outcome yet.
     Wait,
@@ -64,12 +61,16 @@ enum Step {
 // What the program keeps from turn to turn.
 #[derive(Drop)]
 struct Pair {
-    alloc: Global,
     user: User,
     host: Host,
     // The bytes on the way to the server, and those on the way to the client.
-    up: Queue,
-    down: Queue,
+    up: Way,
+    down: Way,
+    // The bytes that a line's call hands over, headers and behind them a body, and those of the host's answers: one store for all, so an answer
+    // with bytes takes the place of what the user has still to give.
+    words: Vec<u8>,
+    // How many bytes at the front of the word store are the headers that a line's call hands over.
+    headers: usize,
     content: Content,
     due: Due,
     abort: Abort,
@@ -80,77 +81,83 @@ struct Pair {
     is_open: bool,
     // Whether the client's last outcome was not looked at yet.
     is_fresh: bool,
-    out: Output,
+    out: Text<OUTPUT>,
 }
 
 impl Pair {
-    // Returns the state before the first line.
-    fn new(alloc: Global, shuffle: Shuffle) -> io::Result<Pair> {
-        Ok(Pair {
-            alloc,
-            user: User::new(alloc)?,
-            host: Host::new(alloc)?,
-            up: Queue::new(alloc),
-            down: Queue::new(alloc),
-            content: Content::empty(alloc),
-            due: Due::Line,
-            abort: Abort::NEVER,
-            shuffle,
-            is_alone: false,
-            is_open: false,
-            is_fresh: false,
-            out: Output::new(alloc, OUTPUT),
-        })
+    // Plays the sessions of the input. A line that is longer than the store is passed over.
+    fn play(&mut self, rt: &impl Print, from: &mut impl Read, store: &mut [u8]) {
+        let mut at = before_first();
+        for _ in 0..u64::MAX {
+            at = next_line(from, store, at);
+            if at.is_over {
+                break;
+            }
+            // Behind a line without an end of its own nothing more is read.
+            let is_last = at.is_there && at.end == at.next;
+            if at.is_there && !at.is_cut {
+                let line = bytes_of(store, at);
+                self.follow(rt, line);
+                // A session that begins with the input's last bytes has no end.
+                if is_last && matches!(Command::parse(word_of(line, 0)), Some(Command::Session)) {
+                    self.out.print(rt);
+                    return;
+                }
+            }
+            if is_last {
+                break;
+            }
+        }
+        self.end_session();
+        self.out.print(rt);
     }
 
     // ---- lines
 
     // Carries out a line.
-    fn follow(&mut self, rt: &impl Print, line: &[u8]) -> io::Result<()> {
+    fn follow(&mut self, rt: &impl Print, line: &[u8]) {
         match Command::parse(word_of(line, 0)) {
-            Some(Command::Session) => self.begin_session()?,
+            Some(Command::Session) => self.begin_session(),
             Some(Command::Client) => self.start_client(client_of(line)),
             Some(Command::Server) => self.start_server(line),
             Some(Command::Host) => {
-                self.host.answers.keep(self.alloc, line)?;
+                self.host.answers.keep(line);
                 self.is_open = true;
             }
             Some(Command::Stores) => self.user.lent = Lent::parse(line),
             Some(Command::Call(name)) => {
-                let call = self.call_of(name, line)?;
-                self.call(call, true)?;
-                return self.go_on(rt);
+                let call = self.call_of(name, line);
+                self.call(call, true);
+                self.go_on(rt);
+                return;
             }
             None => {}
         }
         self.out.flush(rt);
-        Ok(())
     }
 
     // Begins a session: the host has no answers, and nothing is on the way.
-    fn begin_session(&mut self) -> io::Result<()> {
-        self.end_session()?;
+    fn begin_session(&mut self) {
+        self.end_session();
         self.user.lent = Lent::WHOLE;
-        self.host.answers = Answers::new(self.alloc);
+        self.host.answers.clear();
         self.host.nonces = 1;
         self.is_alone = false;
         self.start_client(CLIENT);
         self.host.start(server_settings());
-        Ok(())
     }
 
     // Prints the end of a session, if one is open: its records, the server's end if it has ended, and an empty line.
-    fn end_session(&mut self) -> io::Result<()> {
+    fn end_session(&mut self) {
         if self.is_open {
-            self.out.put(self.host.records.text.as_slice())?;
+            self.out.put(self.host.records.as_slice());
             if let Outcome::End(end) = self.host.outcome {
-                writeln!(self.out, "server end {}", end_number(end))?;
+                self.print_number(b"server end ", end_number(end));
             }
-            writeln!(self.out)?;
+            self.out.put(b"\n");
         }
-        self.host.records.text.clear();
+        self.host.records.length = 0;
         self.is_open = false;
-        Ok(())
     }
 
     // Starts a client: nothing is on the way.
@@ -171,42 +178,41 @@ impl Pair {
     }
 
     fn clear_ways(&mut self) {
-        self.up = Queue::new(self.alloc);
-        self.down = Queue::new(self.alloc);
+        self.up.clear();
+        self.down.clear();
         self.is_open = true;
     }
 
     // Returns the call of a line, and keeps what it hands over.
-    fn call_of(&mut self, name: Name, line: &[u8]) -> io::Result<Call> {
-        let has_body = !same(word_of(line, 2), b"none");
-        let headers = bytes_of(self.alloc, word_of(line, 1), WORDS)?;
-        let mut content = Content::empty(self.alloc);
-        if has_body && matches!(name, Name::Put) {
-            let room = WORDS.saturating_sub(headers.len());
-            content.left = Queue::of(bytes_of(self.alloc, word_of(line, 2), room)?);
-        }
-        content.piece = number(word_of(line, 3));
-        self.content = content;
-        self.abort = Abort::parse(line, name.abort_word());
+    fn call_of(&mut self, name: Call, line: &[u8]) -> Call {
+        let call = name.with_body(!same(word_of(line, 2), b"none"));
+        let sizes = unhex_both(line, 1, call.body_word(), self.words.as_mut_slice());
+        self.headers = sizes.headers;
+        self.content = Content {
+            from: sizes.headers,
+            to: sizes.headers.saturating_add(sizes.body),
+            piece: number(word_of(line, 3)),
+            fails: false,
+        };
+        self.abort = Abort::parse(line, call.abort_word());
         self.is_open = true;
-        Ok(name.with(headers, has_body))
+        call
     }
 
     // ---- turns
 
     // Lets the two ends go on until the operation is over.
-    fn go_on(&mut self, rt: &impl Print) -> io::Result<()> {
+    fn go_on(&mut self, rt: &impl Print) {
         for _ in 0..u64::MAX {
-            self.server_turn()?;
+            self.server_turn();
             self.out.flush(rt);
             match self.due {
                 Due::Line => break,
                 Due::Link => self.look(),
                 Due::Close => {}
             }
-            self.client_turn()?;
+            self.client_turn();
         }
-        Ok(())
     }
 
     // The user looks at the client's outcome, and a random number is drawn.
@@ -219,28 +225,29 @@ impl Pair {
     }
 
     // Does what is due at the client's end.
-    fn client_turn(&mut self) -> io::Result<()> {
+    fn client_turn(&mut self) {
         match self.due {
-            Due::Line => Ok(()),
-            Due::Link => match self.step() {
-                Step::Call(call) => self.call(call, false),
-                _ => Ok(()),
-            },
+            Due::Line => {}
+            Due::Link => {
+                if let Step::Call(call) = self.step() {
+                    self.call(call, false);
+                }
+            }
             Due::Close => self.call(Call::Ended, true),
         }
     }
 
     // Does what is due at the server's end.
-    fn server_turn(&mut self) -> io::Result<()> {
+    fn server_turn(&mut self) {
         let Due::Link = self.due else {
-            return Ok(());
+            return;
         };
         match self.step() {
             Step::Hear(n) => self.hear(n),
             Step::Reply(n) => self.reply(n),
             Step::Answer(request) => self.answer(request),
             Step::Feed => self.feed(),
-            Step::Wait | Step::Call(_) => Ok(()),
+            Step::Wait | Step::Call(_) => {}
         }
     }
 
@@ -278,45 +285,14 @@ impl Pair {
     }
 
     // Lets the host's next line of bytes come to a client without a server, or tells the client that nothing more comes.
-    fn feed(&mut self) -> io::Result<()> {
-        let bytes = self.host.answers.take_bytes(self.alloc, WAY)?;
-        if bytes.is_empty() {
+    fn feed(&mut self) {
+        if !self.host.answers.take_bytes(&mut self.down) {
             self.due = Due::Close;
-        } else {
-            self.down = Queue::of(bytes);
         }
-        Ok(())
     }
 }
 
 // ---- the program
-
-// Plays the sessions of the input. A line that is longer than the store is passed over.
-fn play(rt: &impl Print, from: &mut impl Read, alloc: Global, shuffle: Shuffle) -> io::Result<()> {
-    let mut pair = Pair::new(alloc, shuffle)?;
-    let mut store = vec![in alloc; 0u8; INPUT]?;
-    let mut at = input::before_first();
-    for _ in 0..u64::MAX {
-        at = input::next_line(from, store.as_mut_slice(), at);
-        if at.is_over {
-            break;
-        }
-        if at.is_there && !at.is_cut {
-            let line = input::bytes_of(store.as_slice(), at);
-            pair.follow(rt, line)?;
-            // A session that begins with the input's last bytes has no end.
-            if at.end == at.next
-                && matches!(Command::parse(word_of(line, 0)), Some(Command::Session))
-            {
-                pair.out.write_out(rt);
-                return Ok(());
-            }
-        }
-    }
-    pair.end_session()?;
-    pair.out.write_out(rt);
-    Ok(())
-}
 
 // Returns the shuffle that the arguments name, which are `shuffle SEED` or none, or no shuffle if they are others.
 fn shuffle_of(rt: &impl Env) -> Option<Shuffle> {
@@ -336,11 +312,28 @@ fn shuffle_of(rt: &impl Env) -> Option<Shuffle> {
 }
 
 fn main(rt: HostRuntime) -> io::Result<()> {
-    match shuffle_of(&rt) {
-        Some(shuffle) => play(&rt, &mut rt.stdin(), rt.alloc(), shuffle),
-        None => {
-            print(&rt.stderr(), b"usage: pair [shuffle SEED]\n");
-            Ok(())
-        }
-    }
+    let Some(shuffle) = shuffle_of(&rt) else {
+        print(&rt.stderr(), b"usage: pair [shuffle SEED]\n");
+        return Ok(());
+    };
+    let alloc = rt.alloc();
+    let mut input = vec![in alloc; 0u8; INPUT]?;
+    let mut pair = Pair {
+        user: User::new(alloc)?,
+        host: Host::new(alloc)?,
+        up: Way::new(alloc)?,
+        down: Way::new(alloc)?,
+        words: vec![in alloc; 0u8; WORDS]?,
+        headers: 0,
+        content: Content::NOTHING,
+        due: Due::Line,
+        abort: Abort::NEVER,
+        shuffle,
+        is_alone: false,
+        is_open: false,
+        is_fresh: false,
+        out: Text::new(),
+    };
+    pair.play(&rt, &mut rt.stdin(), input.as_mut_slice());
+    Ok(())
 }

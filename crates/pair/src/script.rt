@@ -1,14 +1,15 @@
 // Lines of a script: which command each of them is, and what it names.
+ghost use Rattle.std.specs.Prelude.{◌+◌, ◌≤◌, length};
+
 use check::same;
 use client_model::Outcome;
-use lines::queue::Queue;
+use lines::store::between;
 use lines::word::{byte_at, number, unhex, value, word_of};
 use server::{Settings, default_settings};
-use std::alloc::{AllocError, Global};
 use std::fmt;
 use std::num::wrapping_add_usize;
 
-// How many bytes a line hands over at most: headers, and behind them a body of 1 MiB and more.
+// How long the word store is: headers, and behind them a body of 1 MiB and more.
 pub const WORDS: usize = 1245184;
 
 // How long the server's body store is, and so the largest Put limit.
@@ -24,32 +25,17 @@ pub enum Command {
     Server,
     Host,
     Stores,
-    Call(Name),
+    Call(Call),
 }
 
-// The calls on the client, as a line names them. The last six are calls that a user makes at a wrong moment, but for the end of the stream
-// between two operations.
+// A call on the client. The bytes that it hands over stand in the word store, or wait on the way down. The last six are calls that a line
+// names at a wrong moment, but for the end of the stream between two operations.
 #[derive(Clone, Copy)]
-pub enum Name {
+pub enum Call {
     Connect,
     Disconnect,
-    Put,
+    Put { has_body: bool },
     Get,
-    Sent,
-    Body,
-    Bytes,
-    Taken,
-    Abort,
-    Ended,
-}
-
-// A call on the client. The bytes of a body are the next ones of the content, and those of a response wait on the way down.
-#[derive(Drop)]
-pub enum Call {
-    Connect(Vec<u8>),
-    Disconnect(Vec<u8>),
-    Put { headers: Vec<u8>, has_body: bool },
-    Get(Vec<u8>),
     Sent,
     Body,
     Bytes(usize),
@@ -77,13 +63,21 @@ pub struct Abort {
     pub is_due: bool,
 }
 
-// The body bytes that are still to be given, by the user in a Put and by the host in a Get. `piece` is how many the user gives at a time, 0
-// for as many as are asked for. If `fails`, the host cannot read on behind them.
-#[derive(Drop)]
+// The body bytes in the word store that are still to be given, from `from` up to `to`, by the user in a Put and by the host in a Get. `piece`
+// is how many the user gives at a time, 0 for as many as are asked for. If `fails`, the host cannot read on behind them.
+#[derive(Clone, Copy)]
 pub struct Content {
-    pub left: Queue,
+    pub from: usize,
+    pub to: usize,
     pub piece: usize,
     pub fails: bool,
+}
+
+// How many bytes two words of a line stand for.
+#[derive(Clone, Copy)]
+pub struct Sizes {
+    pub headers: usize,
+    pub body: usize,
 }
 
 // How much of each store is lent to the client.
@@ -106,50 +100,50 @@ impl Command {
             b"server" => Some(Command::Server),
             b"host" => Some(Command::Host),
             b"stores" => Some(Command::Stores),
-            _ => Name::parse(word).map(Command::Call),
+            _ => Call::parse(word).map(Command::Call),
         }
     }
 }
 
-impl Name {
-    fn parse(word: &[u8]) -> Option<Name> {
+impl Call {
+    fn parse(word: &[u8]) -> Option<Call> {
         match word {
-            b"connect" => Some(Name::Connect),
-            b"disconnect" => Some(Name::Disconnect),
-            b"put" => Some(Name::Put),
-            b"get" => Some(Name::Get),
-            b"sent" => Some(Name::Sent),
-            b"body" => Some(Name::Body),
-            b"bytes" => Some(Name::Bytes),
-            b"taken" => Some(Name::Taken),
-            b"abort" => Some(Name::Abort),
-            b"end" => Some(Name::Ended),
+            b"connect" => Some(Call::Connect),
+            b"disconnect" => Some(Call::Disconnect),
+            b"put" => Some(Call::Put { has_body: true }),
+            b"get" => Some(Call::Get),
+            b"sent" => Some(Call::Sent),
+            b"body" => Some(Call::Body),
+            b"bytes" => Some(Call::Bytes(0)),
+            b"taken" => Some(Call::Taken),
+            b"abort" => Some(Call::Abort),
+            b"end" => Some(Call::Ended),
             _ => None,
+        }
+    }
+
+    // Returns the call, once it is known whether a Put has a body.
+    pub(crate) fn with_body(self, has_body: bool) -> Call {
+        match self {
+            Call::Put { .. } => Call::Put { has_body },
+            _ => self,
+        }
+    }
+
+    // Returns which word of a call's line is the body.
+    pub(crate) fn body_word(self) -> usize {
+        match self {
+            Call::Put { has_body: true } => 2,
+            _ => OTHER_WORD,
         }
     }
 
     // Returns which word of a call's line may say when the user aborts.
     pub(crate) fn abort_word(self) -> usize {
         match self {
-            Name::Put => 4,
-            Name::Get => 2,
-            _ => 9,
-        }
-    }
-
-    // Returns the call, with its headers. `has_body` is of a Put.
-    pub(crate) fn with(self, headers: Vec<u8>, has_body: bool) -> Call {
-        match self {
-            Name::Connect => Call::Connect(headers),
-            Name::Disconnect => Call::Disconnect(headers),
-            Name::Put => Call::Put { headers, has_body },
-            Name::Get => Call::Get(headers),
-            Name::Sent => Call::Sent,
-            Name::Body => Call::Body,
-            Name::Bytes => Call::Bytes(0),
-            Name::Taken => Call::Taken,
-            Name::Abort => Call::Abort,
-            Name::Ended => Call::Ended,
+            Call::Put { .. } => 4,
+            Call::Get => 2,
+            _ => OTHER_WORD,
         }
     }
 }
@@ -158,10 +152,10 @@ impl Name {
 impl fmt::Display for Call {
     fn fmt<W: fmt::Write>(&self, f: &mut fmt::Formatter<W>) -> fmt::Result {
         f.write_str(match self {
-            Call::Connect(_) => "call connect",
-            Call::Disconnect(_) => "call disconnect",
+            Call::Connect => "call connect",
+            Call::Disconnect => "call disconnect",
             Call::Put { .. } => "call put",
-            Call::Get(_) => "call get",
+            Call::Get => "call get",
             Call::Sent => "call sent",
             Call::Body => "call body",
             Call::Bytes(_) => "call bytes",
@@ -174,12 +168,19 @@ impl fmt::Display for Call {
 
 // ---- words
 
-// Returns the bytes that a word stands for in hexadecimal, at most `room` of them.
-pub(crate) fn bytes_of(alloc: Global, word: &[u8], room: usize) -> Result<Vec<u8>, AllocError> {
-    let mut bytes = vec![in alloc; 0u8; room]?;
-    let n = unhex(word, bytes.as_mut_slice());
-    bytes.truncate(n);
-    Ok(bytes)
+// The word of a line that stands for body bytes, or says when the user aborts, where none of the words before does.
+pub const OTHER_WORD: usize = 9;
+
+// Puts the bytes that two words of a line stand for into `words`, the second behind the first, and returns how many bytes each has.
+pub(crate) fn unhex_both(line: &[u8], headers: usize, body: usize, words: &mut [u8]) -> Sizes
+    ensures { result.headers + result.body ≤ length words.new }
+{
+    let n = unhex(word_of(line, headers), words);
+    let m = unhex(word_of(line, body), &mut words[n..]);
+    Sizes {
+        headers: n,
+        body: m,
+    }
 }
 
 // Returns the byte that two hexadecimal digits stand for.
@@ -280,13 +281,14 @@ impl Moment {
     }
 }
 
+// The line of an Abort at a moment.
 impl fmt::Display for Moment {
     fn fmt<W: fmt::Write>(&self, f: &mut fmt::Formatter<W>) -> fmt::Result {
         f.write_str(match self {
-            Moment::Sent => "sent",
-            Moment::Bytes => "bytes",
-            Moment::Body => "body",
-            Moment::Taken => "taken",
+            Moment::Sent => "abort at sent",
+            Moment::Bytes => "abort at bytes",
+            Moment::Body => "abort at body",
+            Moment::Taken => "abort at taken",
         })
     }
 }
@@ -323,36 +325,41 @@ impl Abort {
 // ---- content
 
 impl Content {
-    // Returns what a Get without an object and a Put without a body have to give: nothing.
-    pub(crate) fn empty(alloc: Global) -> Content {
-        Content {
-            left: Queue::new(alloc),
-            piece: 0,
-            fails: false,
-        }
+    // What is to be given before the first call.
+    pub(crate) const NOTHING: Content = Content {
+        from: 0,
+        to: 0,
+        piece: 0,
+        fails: false,
+    };
+
+    // Returns how many bytes are left.
+    fn len(self) -> usize {
+        self.to.saturating_sub(self.from)
     }
 
-    // Returns the bytes that are given if `room` are asked for.
-    pub(crate) fn front(&self, room: usize) -> &[u8] {
-        self.left.front(self.size(room))
+    // Returns the bytes of `words` that are given if `room` are asked for.
+    pub(crate) fn front(self, words: &[u8], room: usize) -> &[u8] {
+        between(words, self.from, self.from.saturating_add(self.size(room)))
     }
 
     // The bytes that are given if `room` are asked for are given.
     pub(crate) fn give(&mut self, room: usize) {
-        let n = self.size(room);
-        self.left.take(n);
+        self.from = self.from.saturating_add(self.size(room));
     }
 
-    fn size(&self, room: usize) -> usize {
+    // Returns how many bytes are given if `room` are asked for.
+    pub(crate) fn size(self, room: usize) -> usize {
+        let n = room.min(self.len());
         if self.piece == 0 {
-            room
+            n
         } else {
-            room.min(self.piece)
+            n.min(self.piece)
         }
     }
 
     // Whether no more can be read.
-    pub(crate) fn is_failing(&self) -> bool {
-        self.fails && self.left.is_empty()
+    pub(crate) fn is_failing(self) -> bool {
+        self.fails && self.len() == 0
     }
 }

@@ -1,12 +1,24 @@
-// The bytes on the way between the two ends, and which end goes on next.
+// The bytes on the way between the two ends, each way in a store of its own, and which end goes on next.
 ghost use Rattle.std.specs.Prelude.{◌<◌};
 
 use client_model::Outcome;
+use lines::input::keep;
+use lines::store::{between, place};
+use lines::word::unhex;
+use std::alloc::{AllocError, Global};
 
-// How many bytes may be on each way. No end puts a packet there if more than `ENOUGH` bytes wait, so that each packet finds room.
+// How long the store of each way is. No end puts a packet there if more than `ENOUGH` bytes wait, so that each packet finds room.
 pub const WAY: usize = 196608;
 
 const ENOUGH: usize = 65536;
+
+// The bytes on a way: those from `from` up to `to` wait.
+#[derive(Drop)]
+pub struct Way {
+    bytes: Vec<u8>,
+    from: usize,
+    to: usize,
+}
 
 // What may happen next while an operation is open.
 #[derive(Clone, Copy)]
@@ -42,6 +54,60 @@ pub enum Waits {
 pub struct Shuffle {
     pub is_on: bool,
     pub random: usize,
+}
+
+impl Way {
+    // Returns a way on which nothing waits.
+    pub(crate) fn new(alloc: Global) -> Result<Way, AllocError> {
+        Ok(Way {
+            bytes: vec![in alloc; 0u8; WAY]?,
+            from: 0,
+            to: 0,
+        })
+    }
+
+    // Nothing waits any more.
+    pub(crate) fn clear(&mut self) {
+        self.from = 0;
+        self.to = 0;
+    }
+
+    // Returns how many bytes wait.
+    pub(crate) fn len(&self) -> usize {
+        self.to.saturating_sub(self.from)
+    }
+
+    // Returns the first `n` bytes that wait, or all of them if there are fewer.
+    pub(crate) fn front(&self, n: usize) -> &[u8] {
+        let to = self.from.saturating_add(n).min(self.to);
+        between(self.bytes.as_slice(), self.from, to)
+    }
+
+    // Takes the first `n` bytes that wait, or all of them if there are fewer.
+    pub(crate) fn take(&mut self, n: usize) {
+        self.from = self.from.saturating_add(n).min(self.to);
+    }
+
+    // Puts bytes behind those that wait, as far as there is room.
+    pub(crate) fn push(&mut self, bytes: &[u8]) {
+        let end = self.to.min(self.bytes.len());
+        let from = self.from.min(end);
+        let at = keep(self.bytes.as_mut_slice(), from, end);
+        let n = place(self.bytes.as_mut_slice(), at, bytes);
+        self.from = 0;
+        self.to = at.saturating_add(n);
+    }
+
+    // The bytes that a word of a line stands for come in place of those that wait, if it stands for any. Tells whether it does.
+    pub(crate) fn fill(&mut self, word: &[u8]) -> bool {
+        let n = unhex(word, self.bytes.as_mut_slice());
+        if n == 0 {
+            return false;
+        }
+        self.from = 0;
+        self.to = n;
+        true
+    }
 }
 
 impl Waits {

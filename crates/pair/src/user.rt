@@ -2,15 +2,12 @@
 ghost use Rattle.std.specs.Prelude.{◌≤◌, length};
 
 use crate::script::{CLIENT, Call, Lent, Moment, STORE};
-use crate::show::{OutcomeLine, shown};
-use crate::stream::WAY;
+use crate::show::LONGEST;
 use crate::{Due, Pair};
 use client::calls;
 use client_model::{CallResult, Client, Outcome, Settings};
 use lines::store::{between, front_mut, place};
 use std::alloc::{AllocError, Global};
-use std::io;
-use std::io::Write;
 
 // The client, what its last call returned, and its stores, with how much is lent of each.
 #[derive(Drop)]
@@ -18,9 +15,9 @@ pub struct User {
     pub client: Client,
     pub outcome: Outcome,
     pub lent: Lent,
-    packet: Vec<u8>,
-    headers: Vec<u8>,
-    body: Vec<u8>,
+    pub packet: Vec<u8>,
+    pub headers: Vec<u8>,
+    pub body: Vec<u8>,
     request: Vec<u8>,
 }
 
@@ -62,23 +59,20 @@ impl User {
         self.outcome = took.outcome;
     }
 
-    // Makes a call with the stores as far as they are lent. `bytes` are those of a body or of a response.
-    fn call(&mut self, call: &Call, bytes: &[u8]) -> CallResult {
+    // Makes a call with the stores as far as they are lent. `bytes` are those that it hands over.
+    fn call(&mut self, call: Call, bytes: &[u8]) -> CallResult {
         let c = self.client;
         let packet = front_mut(self.packet.as_mut_slice(), self.lent.packet);
         let headers = front_mut(self.headers.as_mut_slice(), self.lent.headers);
         let body = front_mut(self.body.as_mut_slice(), self.lent.body);
         let request = front_mut(self.request.as_mut_slice(), self.lent.request);
         match call {
-            Call::Connect(a) => calls::connect(c, a.as_slice(), packet, headers, body, request),
-            Call::Disconnect(a) => {
-                calls::disconnect(c, a.as_slice(), packet, headers, body, request)
+            Call::Connect => calls::connect(c, bytes, packet, headers, body, request),
+            Call::Disconnect => calls::disconnect(c, bytes, packet, headers, body, request),
+            Call::Put { has_body } => {
+                calls::put(c, bytes, has_body, packet, headers, body, request)
             }
-            Call::Put {
-                headers: a,
-                has_body,
-            } => calls::put(c, a.as_slice(), *has_body, packet, headers, body, request),
-            Call::Get(a) => calls::get(c, a.as_slice(), packet, headers, body, request),
+            Call::Get => calls::get(c, bytes, packet, headers, body, request),
             Call::Sent => calls::request_sent(c, packet, headers, body, request),
             Call::Body => calls::body_given(c, bytes, packet, headers, body, request),
             Call::Bytes(_) => {
@@ -121,33 +115,38 @@ fn is_over(outcome: Outcome) -> bool {
 }
 
 // Whether an Abort was refused in the midst of an operation, which goes on.
-fn goes_on(call: &Call, is_named: bool, outcome: Outcome) -> bool {
+fn goes_on(call: Call, is_named: bool, outcome: Outcome) -> bool {
     !is_named && matches!(call, Call::Abort) && matches!(outcome, Outcome::Refused(_))
 }
 
 impl Pair {
     // Makes a call on the client: prints what comes before it, passes a packet on, makes the call and prints what it returned. `is_named`
     // says that a line of the script names the call.
-    pub(crate) fn call(&mut self, call: Call, is_named: bool) -> io::Result<()> {
+    pub(crate) fn call(&mut self, call: Call, is_named: bool) {
         let before = self.user.outcome;
         if is_named {
-            writeln!(self.out, "{call}")?;
+            self.print_words(call);
         } else {
-            self.print_before(&call)?;
+            self.print_before(call);
         }
         if let Call::Sent = call {
-            self.send()?;
+            self.send();
         }
         let took = match call {
-            Call::Bytes(n) => self.user.call(&call, self.down.front(n)),
-            Call::Body => self.user.call(&call, self.content.front(room_of(before))),
-            _ => self.user.call(&call, b""),
+            Call::Bytes(n) => self.user.call(call, self.down.front(n)),
+            Call::Body => self.user.call(
+                call,
+                self.content.front(self.words.as_slice(), room_of(before)),
+            ),
+            _ => self
+                .user
+                .call(call, between(self.words.as_slice(), 0, self.headers)),
         };
-        self.print_after(&call, took)?;
+        self.print_after(call, took);
         self.user.client = took.client;
         self.abort.is_due = false;
-        if goes_on(&call, is_named, took.outcome) {
-            return Ok(());
+        if goes_on(call, is_named, took.outcome) {
+            return;
         }
         self.user.outcome = took.outcome;
         self.due = if is_over(took.outcome) {
@@ -162,59 +161,58 @@ impl Pair {
             Call::Body => self.content.give(room_of(before)),
             _ => {}
         }
-        Ok(())
     }
 
     // Prints what comes before a call that no line of the script names.
-    fn print_before(&mut self, call: &Call) -> io::Result<()> {
+    fn print_before(&mut self, call: Call) {
         let outcome = self.user.outcome;
         match call {
             Call::Sent => {
-                let packet = shown(self.user.request.as_slice(), length_of(outcome));
-                writeln!(self.out, "up {packet}")
+                self.out.put(b"up ");
+                self.out.put_hex(
+                    between(self.user.request.as_slice(), 0, length_of(outcome)),
+                    LONGEST,
+                );
+                self.out.put(b"\n");
             }
             Call::Body => {
-                let room = room_of(outcome);
-                let given = self.content.front(room).len();
-                writeln!(self.out, "read {room} given {given}")
+                self.out.put(b"read ");
+                self.out.put_number(room_of(outcome));
+                self.out.put(b" given ");
+                self.out.put_number(self.content.size(room_of(outcome)));
+                self.out.put(b"\n");
             }
             Call::Abort => match Moment::of(outcome) {
-                Some(moment) => writeln!(self.out, "abort at {moment}"),
-                None => writeln!(self.out, "{call}"),
+                Some(moment) => self.print_words(moment),
+                None => self.print_words(call),
             },
-            Call::Ended => writeln!(self.out, "{call}"),
-            _ => Ok(()),
+            Call::Ended => self.print_words(call),
+            _ => {}
         }
     }
 
     // Sends the packet in the request store up. Without a server it goes nowhere.
-    fn send(&mut self) -> io::Result<()> {
+    fn send(&mut self) {
         if !self.is_alone {
-            let packet = between(
+            self.up.push(between(
                 self.user.request.as_slice(),
                 0,
                 length_of(self.user.outcome),
-            );
-            self.up.push(packet, WAY)?;
+            ));
         }
-        Ok(())
     }
 
     // Prints the response that a call took the rest of, and what the call returned.
-    fn print_after(&mut self, call: &Call, took: CallResult) -> io::Result<()> {
+    fn print_after(&mut self, call: Call, took: CallResult) {
         if matches!(call, Call::Bytes(_)) && took.taken != 0 && took.client.begun == 0 {
-            let packet = shown(self.user.packet.as_slice(), took.client.length);
-            writeln!(self.out, "down {packet}")?;
+            self.out.put(b"down ");
+            self.out.put_hex(
+                between(self.user.packet.as_slice(), 0, took.client.length),
+                LONGEST,
+            );
+            self.out.put(b"\n");
         }
-        write!(
-            self.out,
-            "{}",
-            OutcomeLine {
-                outcome: took.outcome,
-                headers: self.user.headers.as_slice(),
-                body: self.user.body.as_slice(),
-            },
-        )
+        self.print_outcome(took.outcome);
     }
 }
 

@@ -37,7 +37,8 @@ pub(crate) fn read(source: &[u8], target: &mut [u8]) -> Told {
 }
 
 // Has `call` turn the bytes of `digits`, at most `BYTES`, into the first `room` places of a store of `ROOM`, and shows what was told and
-// these places.
+// these places. It has a frame of its own, so that other questions need no room for these stores.
+#[inline(never)]
 fn show<F: Fn(&[u8], &mut [u8]) -> Told, const BYTES: usize, const ROOM: usize>(
     rt: &impl Print,
     call: F,

@@ -48,7 +48,9 @@ fn octets_of(words: &[u16], octets: &mut [u8]) -> usize
 }
 
 // Has `code` turn the words of `digits`, at most `WORDS`, into the first `room` places of a store of `ROOM`, and shows the answer's number
-// and these places. `BYTES` has room for the bytes of both.
+// and these places. `BYTES` has room for the bytes of both. It has a frame of its own,
+// so that other questions need no room for these stores.
+#[inline(never)]
 fn show<
     F: Fn(&[u16], &mut [u16]) -> Result<(), CodeError>,
     const BYTES: usize,

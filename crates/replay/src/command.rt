@@ -1,18 +1,15 @@
 // Lines of a transcript as commands, and the calls on the engine that they name, with what each call hands over.
 use check::same;
 use digest::md5::{Octets16, octets16_at};
+use lines::text::Text;
 use lines::word::{after, byte_at, find, number, piece_at, unhex, value, word_of};
 use server::{Settings, default_settings};
-use std::alloc::{AllocError, Global};
 
 // How many bytes an answer hands over at most.
-const WORDS: usize = 262144;
+pub const WORDS: usize = 262144;
 
 // How many bytes of a realm are kept: more than 254, so that a realm that is too long reaches the engine, which refuses it.
-const REALM: usize = 1024;
-
-// How many ids of connections are looked at, so that more than 64 reach the engine.
-const IDS: usize = 128;
+pub const REALM: usize = 1024;
 
 // How long each store is, and so the most that is lent of it.
 pub const TABLES: usize = 320;
@@ -75,11 +72,10 @@ impl Lent {
     }
 }
 
-// What a start names: the engine's settings, and what the program does.
-#[derive(Drop)]
+// What a start names, beside the bytes of the realm: the engine's settings, and what the program does.
+#[derive(Clone, Copy)]
 pub struct Options {
     pub settings: Settings,
-    pub realm: Vec<u8>,
     // Whether the Target of each request is printed.
     pub targets: bool,
     // Whether the stores are filled with zeros.
@@ -89,28 +85,29 @@ pub struct Options {
 }
 
 // The credentials that answer a client's challenge.
-#[derive(Drop)]
-pub struct Credentials {
-    pub user: Option<Vec<u8>>,
-    pub password: Vec<u8>,
+#[derive(Clone, Copy)]
+pub struct Credentials<'a> {
+    pub user: Option<&'a [u8]>,
+    pub password: &'a [u8],
 }
 
 // A call on the engine, with what it hands over.
-#[derive(Drop)]
-pub enum Call {
+#[derive(Clone, Copy)]
+pub enum Call<'a> {
     Start(Options),
     Bytes,
     EndOfStream,
     Taken,
     Acknowledge,
     Nonce(Octets16),
-    Reply { code: u8, headers: Vec<u8> },
-    Object { headers: Vec<u8>, has_body: bool },
-    Body(Vec<u8>),
+    Reply { code: u8, headers: &'a [u8] },
+    Object { headers: &'a [u8], has_body: bool },
+    Body(&'a [u8]),
     BodyFailed,
-    Password(Option<Vec<u8>>),
-    Credentials(Option<Credentials>),
-    Close(Vec<u32>),
+    Password(Option<&'a [u8]>),
+    Credentials(Option<Credentials<'a>>),
+    // The ids, four bytes each.
+    Close(&'a [u8]),
 }
 
 impl<'a> Command<'a> {
@@ -145,14 +142,6 @@ fn stores_of(words: &[u8]) -> Option<Lent> {
     }
 }
 
-// Returns the bytes that a word stands for in hexadecimal, at most `room` of them.
-pub(crate) fn bytes_of(alloc: Global, word: &[u8], room: usize) -> Result<Vec<u8>, AllocError> {
-    let mut bytes = vec![in alloc; 0u8; room]?;
-    let n = unhex(word, bytes.as_mut_slice());
-    bytes.truncate(n);
-    Ok(bytes)
-}
-
 // Returns the byte that two hexadecimal digits stand for.
 fn byte_of(word: &[u8]) -> u8 {
     value(byte_at(word, 0)) * 16 + value(byte_at(word, 1))
@@ -165,21 +154,21 @@ fn is_set(word: &[u8]) -> bool {
 }
 
 impl Options {
-    // Returns the options that the words of a start name.
-    pub(crate) fn parse(alloc: Global, words: &[u8]) -> Result<Options, AllocError> {
-        let mut options = Options::new(alloc);
+    // Returns the options that the words of a start name, and puts the bytes of the realm into `realm`.
+    pub(crate) fn parse(words: &[u8], realm: &mut Text<REALM>) -> Options {
+        let mut options = Options::new();
+        realm.length = 0;
         for word in words.split(|&b| b == b' ') {
             let end = find(word, 0, b'=');
-            options.set(alloc, &word[..end], &word[after(word, end)..])?;
+            options.set(&word[..end], &word[after(word, end)..], realm);
         }
-        Ok(options)
+        options
     }
 
     // Returns the options with which the original starts. The body store is the Put limit.
-    fn new(alloc: Global) -> Options {
+    fn new() -> Options {
         Options {
             settings: default_settings(BODY as u32),
-            realm: Vec::new(alloc),
             targets: false,
             clear: false,
             counter: 1,
@@ -187,18 +176,17 @@ impl Options {
     }
 
     // Changes one of the options.
-    fn set(&mut self, alloc: Global, key: &[u8], word: &[u8]) -> Result<(), AllocError> {
+    fn set(&mut self, key: &[u8], word: &[u8], realm: &mut Text<REALM>) {
         match key {
             b"realm" => {
                 self.settings.has_realm = true;
-                self.realm = bytes_of(alloc, word, REALM)?;
+                realm.length = unhex(word, &mut realm.bytes);
             }
             b"targets" => self.targets = is_set(word),
             b"clear" => self.clear = is_set(word),
             b"counter" => self.counter = (number(word) % 4294967296) as u32,
             _ => set(&mut self.settings, key, word),
         }
-        Ok(())
     }
 }
 
@@ -220,14 +208,17 @@ fn set(settings: &mut Settings, key: &[u8], word: &[u8]) {
 
 // ---- what the host answers
 
-impl Call {
-    // Returns the call of an answer: its name and two words, of which one or both are bytes.
-    pub(crate) fn answer(alloc: Global, words: &[u8]) -> Result<Option<Call>, AllocError> {
+impl<'a> Call<'a> {
+    // Returns the call of an answer: its name and two words, of which one or both are bytes. The bytes go into `store`, those of the second
+    // word behind those of the first.
+    pub(crate) fn answer(words: &[u8], store: &'a mut [u8]) -> Option<Call<'a>> {
         let one = word_of(words, 1);
         let two = word_of(words, 2);
-        let first = bytes_of(alloc, one, WORDS)?;
-        let second = bytes_of(alloc, two, WORDS.saturating_sub(first.len()))?;
-        Ok(match word_of(words, 0) {
+        let n = unhex(one, store);
+        let m = unhex(two, &mut store[n..]);
+        let first = &store[..n];
+        let second = &store[n..n + m];
+        match word_of(words, 0) {
             b"reply" => Some(Call::Reply {
                 code: byte_of(one),
                 headers: second,
@@ -247,28 +238,26 @@ impl Call {
                 },
             ))),
             _ => None,
-        })
+        }
     }
 
     // Returns the call with a nonce, or none if that is not sixteen bytes long.
-    pub(crate) fn nonce(alloc: Global, word: &[u8]) -> Result<Option<Call>, AllocError> {
-        let bytes = bytes_of(alloc, word, WORDS)?;
-        if bytes.len() != 16 {
-            return Ok(None);
+    pub(crate) fn nonce(word: &[u8], store: &mut [u8]) -> Option<Call<'a>> {
+        let n = unhex(word, store);
+        if n != 16 {
+            return None;
         }
-        Ok(Some(Call::Nonce(octets16_at(bytes.as_slice(), 0))))
+        Some(Call::Nonce(octets16_at(&store[..n], 0)))
     }
 
     // Returns the call that closes ids, of eight digits each; what stands between two of them is passed over.
-    pub(crate) fn close(alloc: Global, word: &[u8]) -> Result<Call, AllocError> {
-        let bytes = bytes_of(alloc, word, WORDS)?;
-        let (ids, _) = bytes.as_slice().as_chunks::<4>();
-        let ids = ids.iter().take(IDS).map(|id| u32::from_be_bytes(*id));
-        Ok(Call::Close(ids.collect(alloc)?))
+    pub(crate) fn close(word: &[u8], store: &'a mut [u8]) -> Call<'a> {
+        let n = unhex(word, store);
+        Call::Close(&store[..n])
     }
 
     // Returns the call of a read of `n` bytes: of none it is the end of the stream.
-    pub(crate) fn read(n: usize) -> Call {
+    pub(crate) fn read(n: usize) -> Call<'a> {
         if n == 0 {
             Call::EndOfStream
         } else {

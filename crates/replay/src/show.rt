@@ -1,14 +1,21 @@
-// What the engine did, in the words of the original's `oracle engine`.
-use crate::command::Lent;
+// What the engine did, in the words of the original's `oracle engine`. The two digits of a byte are put both or, where the output has no room
+// for them, neither.
+use crate::OUTPUT;
+use crate::command::{Lent, TABLES};
 use crate::stores::Stores;
 use base::Span;
 use connection::peer::Peer;
-use digest::md5::{Octets16, octets};
-use lines::printed::{Hex, Shown, Sum};
+use digest::md5::octets;
 use lines::store::between;
+use lines::text::Text;
 use server::HostRequest;
-use std::fmt;
 use table::targets::{Target, is_named};
+
+// Puts a flag with its name.
+fn put_flag(out: &mut Text<OUTPUT>, name: &[u8], b: bool) {
+    out.put(name);
+    out.put_flag(b);
+}
 
 // The line of a request, with the stores in which its parts stand. A longer part is printed by length and MD5. The original makes its nonces
 // itself, so it tells of no request for one.
@@ -20,209 +27,183 @@ pub struct RequestLine<'a> {
 }
 
 impl RequestLine<'_> {
-    fn packet(&self, from: usize, to: usize) -> Shown<'_> {
-        Shown {
-            bytes: between(self.stores.packet.as_slice(), from, to),
-            longest: self.longest,
-        }
-    }
-
-    fn headers(&self, kept: usize) -> Shown<'_> {
-        Shown {
-            bytes: between(self.stores.headers.as_slice(), 0, kept),
-            longest: self.longest,
-        }
-    }
-
-    fn body(&self, size: usize) -> Shown<'_> {
-        Shown {
-            bytes: between(self.stores.body.as_slice(), 0, size),
-            longest: self.longest,
-        }
-    }
-
-    // Returns 1 if the packet is final, as the top bit of its first byte says, and else 0.
-    fn last(&self) -> u8 {
-        u8::from(
-            self.stores
-                .packet
-                .first()
-                .is_some_and(|&opcode| opcode >= 128),
-        )
-    }
-}
-
-impl fmt::Display for RequestLine<'_> {
-    fn fmt<W: fmt::Write>(&self, f: &mut fmt::Formatter<W>) -> fmt::Result {
+    pub(crate) fn put(self, out: &mut Text<OUTPUT>) {
         match self.request {
             // A Connect's fields stand before its headers.
-            HostRequest::Connect { length } => writeln!(
-                f,
-                "connect final={} headers={} fields={}",
-                self.last(),
-                self.packet(7, length),
-                self.packet(3, 7),
-            ),
-            HostRequest::Disconnect { length } => writeln!(
-                f,
-                "disconnect final={} headers={}",
-                self.last(),
-                self.packet(3, length),
-            ),
+            HostRequest::Connect { length } => {
+                self.put_name(out, b"connect");
+                self.put_packet(out, b" headers=", 7, length);
+                self.put_packet(out, b" fields=", 3, 7);
+            }
+            HostRequest::Disconnect { length } => {
+                self.put_name(out, b"disconnect");
+                self.put_packet(out, b" headers=", 3, length);
+            }
             HostRequest::SetPath {
                 length,
                 backup,
                 no_create,
-            } => writeln!(
-                f,
-                "set_path final={} headers={} backup={} no_create={}",
-                self.last(),
-                self.packet(5, length),
-                u8::from(backup),
-                u8::from(no_create),
-            ),
-            HostRequest::Abort { length } => writeln!(
-                f,
-                "abort final={} headers={}",
-                self.last(),
-                self.packet(3, length),
-            ),
-            HostRequest::Put { kept, body } => match body {
-                Some(size) => writeln!(
-                    f,
-                    "put final=1 headers={} body={}",
-                    self.headers(kept),
-                    self.body(size),
-                ),
-                None => writeln!(f, "put final=1 headers={} body=none", self.headers(kept)),
-            },
-            HostRequest::Get { kept } => writeln!(f, "get final=1 headers={}", self.headers(kept)),
-            HostRequest::Action { kept } => {
-                writeln!(f, "action final=1 headers={}", self.headers(kept))
+            } => {
+                self.put_name(out, b"set_path");
+                self.put_packet(out, b" headers=", 5, length);
+                put_flag(out, b" backup=", backup);
+                put_flag(out, b" no_create=", no_create);
             }
-            HostRequest::Session { kept } => {
-                writeln!(f, "session final=1 headers={}", self.headers(kept))
+            HostRequest::Abort { length } => {
+                self.put_name(out, b"abort");
+                self.put_packet(out, b" headers=", 3, length);
             }
-            HostRequest::UserDefined { opcode, kept } => writeln!(
-                f,
-                "user_defined final=1 headers={} opcode={opcode:02x}",
-                self.headers(kept),
-            ),
-            HostRequest::Read { room } => writeln!(f, "body-read {room}"),
+            HostRequest::Put { kept, body } => {
+                self.put_headers(out, b"put", kept);
+                out.put(b" body=");
+                match body {
+                    Some(size) => out.put_hex(
+                        between(self.stores.body.as_slice(), 0, size),
+                        self.longest,
+                    ),
+                    None => out.put(b"none"),
+                }
+            }
+            HostRequest::Get { kept } => self.put_headers(out, b"get", kept),
+            HostRequest::Action { kept } => self.put_headers(out, b"action", kept),
+            HostRequest::Session { kept } => self.put_headers(out, b"session", kept),
+            HostRequest::UserDefined { opcode, kept } => {
+                self.put_headers(out, b"user_defined", kept);
+                out.put(b" opcode=");
+                out.put_digits(&[opcode]);
+            }
+            HostRequest::Read { room } => {
+                out.put(b"body-read ");
+                out.put_number(room);
+            }
             HostRequest::Password { user_id } => match user_id {
-                Some(Span { start, end }) => writeln!(f, "password {}", self.packet(start, end)),
-                None => writeln!(f, "password none"),
+                Some(Span { start, end }) => self.put_packet(out, b"password ", start, end),
+                None => out.put(b"password none"),
             },
             HostRequest::Credentials {
                 nonce,
                 user_id_required,
                 read_only,
                 realm,
-            } => writeln!(
-                f,
-                "credentials nonce={} user_id_required={} read_only={} realm={}",
-                Hex(&octets(nonce)),
-                u8::from(user_id_required),
-                u8::from(read_only),
-                Realm {
-                    found: realm,
-                    packet: self.stores.packet.as_slice(),
-                },
-            ),
-            HostRequest::Nonce => Ok(()),
+            } => {
+                out.put(b"credentials nonce=");
+                out.put_digits(&octets(nonce));
+                put_flag(out, b" user_id_required=", user_id_required);
+                put_flag(out, b" read_only=", read_only);
+                self.put_realm(out, realm);
+            }
+            HostRequest::Nonce => return,
+        }
+        out.put(b"\n");
+    }
+
+    // Puts the name of a request, and whether its packet is final, as the top bit of its first byte says.
+    fn put_name(self, out: &mut Text<OUTPUT>, name: &[u8]) {
+        out.put(name);
+        let opcode = self.stores.packet.first().copied().unwrap_or(0);
+        put_flag(out, b" final=", opcode >= 128);
+    }
+
+    // Puts the name of a request whose packets are all there, and the headers that are kept of them.
+    fn put_headers(self, out: &mut Text<OUTPUT>, name: &[u8], kept: usize) {
+        out.put(name);
+        out.put(b" final=1 headers=");
+        out.put_hex(
+            between(self.stores.headers.as_slice(), 0, kept),
+            self.longest,
+        );
+    }
+
+    // Puts a part of the packet with its name.
+    fn put_packet(self, out: &mut Text<OUTPUT>, name: &[u8], from: usize, to: usize) {
+        out.put(name);
+        out.put_hex(
+            between(self.stores.packet.as_slice(), from, to),
+            self.longest,
+        );
+    }
+
+    // Puts the realm of a challenge, in the packet: its charset, and the bytes behind that, which are printed whole.
+    fn put_realm(self, out: &mut Text<OUTPUT>, realm: Option<Span>) {
+        out.put(b" realm=");
+        match realm {
+            Some(Span { start, end }) => {
+                let packet = self.stores.packet.as_slice();
+                out.put_digits(&[packet.get(start).copied().unwrap_or(0)]);
+                out.put(b":");
+                out.put_hex(between(packet, start.saturating_add(1), end), packet.len());
+            }
+            None => out.put(b"none"),
         }
     }
 }
 
-// The realm of a challenge, in the packet: its charset, and the bytes behind that, which are printed whole.
-#[derive(Clone, Copy)]
-struct Realm<'a> {
-    found: Option<Span>,
-    packet: &'a [u8],
-}
-
-impl fmt::Display for Realm<'_> {
-    fn fmt<W: fmt::Write>(&self, f: &mut fmt::Formatter<W>) -> fmt::Result {
-        match self.found {
-            Some(Span { start, end }) => write!(
-                f,
-                "{:02x}:{}",
-                self.packet.get(start).copied().unwrap_or(0),
-                Shown {
-                    bytes: between(self.packet, start.saturating_add(1), end),
-                    longest: self.packet.len(),
-                },
-            ),
-            None => write!(f, "none"),
-        }
-    }
-}
-
-// The line of the state, with the open ids in ascending order.
+// The line of the state. The open ids are the first ones of the tables, and are printed in ascending order.
 #[derive(Clone, Copy)]
 pub struct StateLine<'a> {
     pub peer: Peer,
-    pub ids: &'a [u64],
+    pub tables: &'a [u64],
 }
 
-impl fmt::Display for StateLine<'_> {
-    fn fmt<W: fmt::Write>(&self, f: &mut fmt::Formatter<W>) -> fmt::Result {
+impl StateLine<'_> {
+    pub(crate) fn put(self, out: &mut Text<OUTPUT>) {
         let p = self.peer;
-        writeln!(
-            f,
-            "state remote_max={} srm={} authenticated={} ids={} next={:08x} challenge={}",
-            p.remote_max_packet_length,
-            u8::from(p.srm_enabled),
-            u8::from(p.authenticated),
-            Ids(self.ids),
-            p.next_connection_id,
-            Nonce(p.challenge),
-        )
+        out.put(b"state remote_max=");
+        out.put_number(p.remote_max_packet_length as usize);
+        put_flag(out, b" srm=", p.srm_enabled);
+        put_flag(out, b" authenticated=", p.authenticated);
+        out.put(b" ids=");
+        self.put_ids(out);
+        out.put(b" next=");
+        out.put_digits(&p.next_connection_id.to_be_bytes());
+        out.put(b" challenge=");
+        match p.challenge {
+            Some(nonce) => out.put_digits(&octets(nonce)),
+            None => out.put(b"none"),
+        }
+        out.put(b"\n");
+    }
+
+    // Puts the ids, or a dash if there are none.
+    fn put_ids(self, out: &mut Text<OUTPUT>) {
+        let mut store = [0u64; TABLES];
+        let n = self.peer.count.min(self.tables.len()).min(TABLES);
+        store[..n].copy_from_slice(&self.tables[..n]);
+        let ids = &mut store[..n];
+        ids.sort_unstable();
+        let mut mark = b"".as_slice();
+        for &id in ids.iter() {
+            out.put(mark);
+            put_id(out, id);
+            mark = b",";
+        }
+        if n == 0 {
+            out.put(b"-");
+        }
     }
 }
 
-// Ids in ascending order, or a dash if there are none.
-#[derive(Clone, Copy)]
-struct Ids<'a>(&'a [u64]);
-
-impl fmt::Display for Ids<'_> {
-    fn fmt<W: fmt::Write>(&self, f: &mut fmt::Formatter<W>) -> fmt::Result {
-        let [first, others @ ..] = self.0 else {
-            return write!(f, "-");
-        };
-        write!(f, "{first:08x}")?;
-        for id in others {
-            write!(f, ",{id:08x}")?;
-        }
-        Ok(())
-    }
-}
-
-// The nonce of the challenge that was sent and not yet answered.
-#[derive(Clone, Copy)]
-struct Nonce(Option<Octets16>);
-
-impl fmt::Display for Nonce {
-    fn fmt<W: fmt::Write>(&self, f: &mut fmt::Formatter<W>) -> fmt::Result {
-        match self.0 {
-            Some(nonce) => write!(f, "{}", Hex(&octets(nonce))),
-            None => write!(f, "none"),
-        }
-    }
+// Puts an id, which is below 2^32.
+fn put_id(out: &mut Text<OUTPUT>, id: u64) {
+    out.put_digits(&id.to_be_bytes()[4..]);
 }
 
 // The line of the Target that a request names: its length and its sixteen bytes, or the word none for the mark.
 #[derive(Clone, Copy)]
 pub struct TargetLine(pub Target);
 
-impl fmt::Display for TargetLine {
-    fn fmt<W: fmt::Write>(&self, f: &mut fmt::Formatter<W>) -> fmt::Result {
+impl TargetLine {
+    pub(crate) fn put(self, out: &mut Text<OUTPUT>) {
         let target = self.0;
+        out.put(b"target ");
         if is_named(target) {
-            writeln!(f, "target {} {}", target.length, Hex(&octets(target.bytes)))
+            out.put_number(target.length);
+            out.put(b" ");
+            out.put_digits(&octets(target.bytes));
         } else {
-            writeln!(f, "target none")
+            out.put(b"none");
         }
+        out.put(b"\n");
     }
 }
 
@@ -233,18 +214,19 @@ pub struct StoresLine<'a> {
     pub lent: Lent,
 }
 
-impl fmt::Display for StoresLine<'_> {
-    fn fmt<W: fmt::Write>(&self, f: &mut fmt::Formatter<W>) -> fmt::Result {
+impl StoresLine<'_> {
+    pub(crate) fn put(self, out: &mut Text<OUTPUT>) {
         let s = self.stores;
         let lent = self.lent;
-        writeln!(
-            f,
-            "stores {} {} {} {}",
-            Sum(between(s.packet.as_slice(), 0, lent.packet)),
-            Sum(between(s.headers.as_slice(), 0, lent.headers)),
-            Sum(between(s.body.as_slice(), 0, lent.body)),
-            Sum(between(s.reply.as_slice(), 0, lent.reply)),
-        )
+        out.put(b"stores ");
+        out.put_digest(between(s.packet.as_slice(), 0, lent.packet));
+        out.put(b" ");
+        out.put_digest(between(s.headers.as_slice(), 0, lent.headers));
+        out.put(b" ");
+        out.put_digest(between(s.body.as_slice(), 0, lent.body));
+        out.put(b" ");
+        out.put_digest(between(s.reply.as_slice(), 0, lent.reply));
+        out.put(b"\n");
     }
 }
 
@@ -252,9 +234,13 @@ impl fmt::Display for StoresLine<'_> {
 #[derive(Clone, Copy)]
 pub struct OwnLine(pub Peer);
 
-impl fmt::Display for OwnLine {
-    fn fmt<W: fmt::Write>(&self, f: &mut fmt::Formatter<W>) -> fmt::Result {
+impl OwnLine {
+    pub(crate) fn put(self, out: &mut Text<OUTPUT>) {
         let p = self.0;
-        writeln!(f, "own window={:016x} nonces={}", p.window, p.nonces)
+        out.put(b"own window=");
+        out.put_digits(&p.window.to_be_bytes());
+        out.put(b" nonces=");
+        out.put_number(p.nonces);
+        out.put(b"\n");
     }
 }

@@ -5,6 +5,9 @@ use lines::store::{front_mut, place};
 use server::{Await, CallResult, Engine, default_settings};
 use std::alloc::{AllocError, Global};
 
+// How many ids of connections are looked at, so that more than 64 reach the engine.
+const IDS: usize = 128;
+
 #[derive(Drop)]
 pub struct Stores {
     pub tables: Vec<u64>,
@@ -52,7 +55,7 @@ impl Stores {
     pub(crate) fn call(
         &mut self,
         e: Engine,
-        call: &Call,
+        call: Call<'_>,
         input: &[u8],
         realm: &[u8],
         lent: Lent,
@@ -76,33 +79,27 @@ impl Stores {
             Call::Taken => calls::reply_taken(e, packet, headers, body, reply),
             Call::Acknowledge => calls::abort_acknowledged(e, packet, headers, body, reply),
             Call::Nonce(nonce) => {
-                calls::nonce_given(e, *nonce, realm, tables, packet, headers, body, reply)
+                calls::nonce_given(e, nonce, realm, tables, packet, headers, body, reply)
             }
             Call::Reply {
                 code,
                 headers: given,
-            } => calls::reply_given(
+            } => calls::reply_given(e, code, given, tables, packet, headers, body, reply),
+            Call::Object {
+                headers: given,
+                has_body,
+            } => calls::object_given(e, given, has_body, packet, headers, body, reply),
+            Call::Body(bytes) => calls::body_given(e, bytes, packet, headers, body, reply),
+            Call::BodyFailed => calls::body_failed(e, packet, headers, body, reply),
+            Call::Password(password) => calls::password_given(
                 e,
-                *code,
-                given.as_slice(),
-                tables,
+                password.is_some(),
+                password.unwrap_or(b""),
                 packet,
                 headers,
                 body,
                 reply,
             ),
-            Call::Object {
-                headers: given,
-                has_body,
-            } => calls::object_given(e, given.as_slice(), *has_body, packet, headers, body, reply),
-            Call::Body(bytes) => {
-                calls::body_given(e, bytes.as_slice(), packet, headers, body, reply)
-            }
-            Call::BodyFailed => calls::body_failed(e, packet, headers, body, reply),
-            Call::Password(password) => {
-                let bytes = text_of(password);
-                calls::password_given(e, password.is_some(), bytes, packet, headers, body, reply)
-            }
             Call::Credentials(None) => calls::credentials_given(
                 e, false, false, b"", b"", packet, headers, body, reply,
             ),
@@ -110,23 +107,27 @@ impl Stores {
                 e,
                 true,
                 c.user.is_some(),
-                text_of(&c.user),
-                c.password.as_slice(),
+                c.user.unwrap_or(b""),
+                c.password,
                 packet,
                 headers,
                 body,
                 reply,
             ),
-            Call::Close(ids) => calls::connections_closed(e, ids.as_slice(), tables),
+            Call::Close(ids) => close(e, ids, tables),
         }
     }
 }
 
-fn text_of(text: &Option<Vec<u8>>) -> &[u8] {
-    match text {
-        Some(text) => text.as_slice(),
-        None => b"",
+// Closes the connections whose ids stand in `bytes`, four bytes each.
+fn close(e: Engine, bytes: &[u8], tables: &mut [u64]) -> CallResult {
+    let mut ids = [0u32; IDS];
+    let (words, _) = bytes.as_chunks::<4>();
+    let n = words.len().min(IDS);
+    for (id, word) in ids.iter_mut().zip(words) {
+        *id = u32::from_be_bytes(*word);
     }
+    calls::connections_closed(e, &ids[..n], tables)
 }
 
 // Whether a lent store is too short by its length, so that the engine refuses bytes and leaves all stores as they are.

@@ -1,47 +1,74 @@
 // The peer's bytes on their way to the engine.
-use crate::command::bytes_of;
+use lines::input::keep;
+use lines::store::between;
+use lines::word::unhex;
 use std::alloc::{AllocError, Global};
 
 // How many bytes of the peer stand here at most.
-const ROOM: usize = 131072;
+pub const ROOM: usize = 131072;
 
-// The bytes that the peer has sent and the engine has not taken. The engine's host has read the first `read` of them.
-#[derive(Drop)]
+// How far the peer's bytes were sent, read by its host, and taken by the engine.
+#[derive(Clone, Copy)]
 pub struct Stream {
-    bytes: Vec<u8>,
-    read: usize,
+    pub taken: usize,
+    pub read: usize,
+    pub sent: usize,
 }
 
-impl Stream {
-    // Returns the stream of a peer that has sent nothing.
-    pub(crate) fn new(alloc: Global) -> Stream {
-        Stream {
-            bytes: Vec::new(alloc),
+// The bytes that the peer has sent.
+#[derive(Drop)]
+pub struct Sent {
+    bytes: Vec<u8>,
+    stream: Stream,
+}
+
+impl Sent {
+    // Returns the bytes of a peer that has sent nothing.
+    pub(crate) fn new(alloc: Global) -> Result<Sent, AllocError> {
+        Ok(Sent {
+            bytes: vec![in alloc; 0u8; ROOM]?,
+            stream: Stream {
+                taken: 0,
+                read: 0,
+                sent: 0,
+            },
+        })
+    }
+
+    // A session starts: the peer has sent nothing.
+    pub(crate) fn clear(&mut self) {
+        self.stream = Stream {
+            taken: 0,
             read: 0,
-        }
+            sent: 0,
+        };
     }
 
     // Returns the bytes that the host offers to the engine.
     pub(crate) fn offered(&self) -> &[u8] {
-        let n = self.read.min(self.bytes.len());
-        &self.bytes[..n]
+        between(self.bytes.as_slice(), self.stream.taken, self.stream.read)
     }
 
-    // The peer sends the bytes that a word stands for, as far as there is room for them.
-    pub(crate) fn send(&mut self, alloc: Global, word: &[u8]) -> Result<(), AllocError> {
-        let piece = bytes_of(alloc, word, ROOM.saturating_sub(self.bytes.len()))?;
-        self.bytes.extend_from_slice(piece.as_slice())
+    // The peer sends the bytes that a word stands for, as far as there is room for them behind those that the engine has not taken.
+    pub(crate) fn send(&mut self, word: &[u8]) {
+        let end = self.stream.sent.min(self.bytes.len());
+        let from = self.stream.taken.min(end);
+        let waiting = keep(self.bytes.as_mut_slice(), from, end);
+        let n = unhex(word, &mut self.bytes.as_mut_slice()[waiting..]);
+        self.stream = Stream {
+            taken: 0,
+            read: self.stream.read.saturating_sub(from),
+            sent: waiting.saturating_add(n),
+        };
     }
 
     // The host reads `n` bytes more, if so many were sent.
     pub(crate) fn read(&mut self, n: usize) {
-        self.read = self.read.saturating_add(n).min(self.bytes.len());
+        self.stream.read = self.stream.read.saturating_add(n).min(self.stream.sent);
     }
 
     // The engine takes `n` of the bytes that the host has read.
     pub(crate) fn take(&mut self, n: usize) {
-        let n = n.min(self.read).min(self.bytes.len());
-        self.bytes.drain(..n);
-        self.read -= n;
+        self.stream.taken = self.stream.taken.saturating_add(n).min(self.stream.read);
     }
 }

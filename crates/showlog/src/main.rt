@@ -63,19 +63,30 @@ fn print_payload(rt: &impl Print, payload: &[u8]) {
     write(rt, &out, n);
 }
 
-// Prints a frame: its number, its clock, what it is, how long its payload is, and the payload.
+// Prints a frame: its number, its clock, what it is, how long its payload is, and the payload. Each piece is written by itself: where one cannot
+// be written, the next one is tried all the same.
 fn print_frame(rt: &impl Print, number: u32, letters: u32, clock: u32, payload: &[u8]) {
-    let _ = print!(rt; "{number} ");
+    let _ = rt.print(number);
+    print(rt, b" ");
     print_clock(rt, clock);
-    let _ = print!(rt; " {} {} ", word_of(letters), payload.len());
+    print(rt, b" ");
+    print(rt, word_of(letters).as_bytes());
+    print(rt, b" ");
+    let _ = rt.print(payload.len());
+    print(rt, b" ");
     print_payload(rt, payload);
     print(rt, b"\n");
 }
 
-// Prints how the log ends: how many frames are sound, where they end, and what is wrong there.
+// Prints how the log ends: how many frames are sound, where they end, and what is wrong there. Each piece is written by itself, too.
 fn print_end(rt: &impl Print, place: Place, how: &str) {
-    let bytes = wrapping_add_usize(place.passed, place.at);
-    let _ = println!(rt; "frames {} bytes {bytes} {how}", place.number);
+    print(rt, b"frames ");
+    let _ = rt.print(place.number);
+    print(rt, b" bytes ");
+    let _ = rt.print(wrapping_add_usize(place.passed, place.at));
+    print(rt, b" ");
+    print(rt, how.as_bytes());
+    print(rt, b"\n");
 }
 
 // Shows the frame at `place`, whose payload has `n` bytes, and returns the place behind it.

@@ -34,8 +34,9 @@ fn line(rt: &impl Print, s: &[u8], is_cut: bool) -> io::Result<()> {
             },
         ) => print!(rt; "{}", Answer::ranged(simulate_range(n0, n1, m0, m1, srm))),
         Some(Question::Table { n, srm }) => {
+            // A row that cannot be written is left out, and the next one is tried.
             for m in LIMITS {
-                print!(rt; "{}", Answer::row(m, simulate(n, m, srm)))?;
+                let _ = print!(rt; "{}", Answer::row(m, simulate(n, m, srm)));
             }
             Ok(())
         }
