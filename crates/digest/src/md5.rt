@@ -212,9 +212,8 @@ fn fill(prefix: &[u8], rest: &[u8], at: usize) -> [u8; 64]
     b
 }
 
-// Runs the blocks from `from` up to `to`, each laid out anew: such a block touches the prefix or the padding. It is written into both
-// its calls, since a short message is one such block.
-#[inline(always)]
+// Runs the blocks from `from` up to `to`, each laid out anew: such a block touches the prefix or the padding. It is not `inline(always)`: in
+// its callers the compiler would clear the rest of a block by memset, and the archives for C are to need memcpy alone.
 fn filled_blocks(
     constants: &Constants,
     prefix: &[u8],

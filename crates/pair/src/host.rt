@@ -9,7 +9,6 @@ use engine::calls;
 use lines::store::{between, place};
 use lines::text::Text;
 use server::{CallResult, Engine, HostRequest, Outcome, Settings, refusal_number};
-use std::alloc::{AllocError, Global};
 use std::num::wrapping_add_usize;
 
 // How many bytes the lines of records take up at most. What passes that is left out.
@@ -28,54 +27,49 @@ pub struct Host {
     pub records: Text<RECORDS>,
     // The number of the host's next nonce.
     pub nonces: usize,
-    tables: Vec<u64>,
-    packet: Vec<u8>,
-    headers: Vec<u8>,
-    body: Vec<u8>,
-    reply: Vec<u8>,
+    tables: [u64; TABLES],
+    packet: [u8; STORE],
+    headers: [u8; STORE],
+    body: [u8; BODY],
+    reply: [u8; STORE],
 }
 
 impl Host {
-    // Returns a host whose engine has started.
-    pub(crate) fn new(alloc: Global) -> Result<Host, AllocError> {
-        let tables = vec![in alloc; 0u64; TABLES]?;
-        let mut packet = vec![in alloc; 0u8; STORE]?;
-        let mut headers = vec![in alloc; 0u8; STORE]?;
-        let mut body = vec![in alloc; 0u8; BODY]?;
-        let mut reply = vec![in alloc; 0u8; STORE]?;
+    // Returns a host whose engine has not started: it has no stores yet.
+    pub(crate) fn new(answers: Answers) -> Host {
         let took = calls::start(
             server_settings(),
             b"",
-            tables.as_slice(),
-            packet.as_mut_slice(),
-            headers.as_mut_slice(),
-            body.as_mut_slice(),
-            reply.as_mut_slice(),
+            &[],
+            &mut [],
+            &mut [],
+            &mut [],
+            &mut [],
         );
-        Ok(Host {
+        Host {
             engine: took.engine,
             outcome: took.outcome,
-            answers: Answers::new(alloc)?,
+            answers,
             records: Text::new(),
             nonces: 1,
-            tables,
-            packet,
-            headers,
-            body,
-            reply,
-        })
+            tables: [0u64; TABLES],
+            packet: [0u8; STORE],
+            headers: [0u8; STORE],
+            body: [0u8; BODY],
+            reply: [0u8; STORE],
+        }
     }
 
-    // Starts an engine anew.
+    // Starts an engine.
     pub(crate) fn start(&mut self, settings: Settings) {
         let took = calls::start(
             settings,
             b"",
-            self.tables.as_slice(),
-            self.packet.as_mut_slice(),
-            self.headers.as_mut_slice(),
-            self.body.as_mut_slice(),
-            self.reply.as_mut_slice(),
+            &self.tables,
+            &mut self.packet,
+            &mut self.headers,
+            &mut self.body,
+            &mut self.reply,
         );
         self.engine = took.engine;
         self.outcome = took.outcome;
@@ -84,20 +78,16 @@ impl Host {
     // Offers bytes on the way up, and returns how many the engine took. Some of them are put into the packet store first, as by a host that
     // reads straight into it.
     fn hear(&mut self, bytes: &[u8]) -> usize {
-        let n = place(
-            self.packet.as_mut_slice(),
-            self.engine.begun,
-            first_half(bytes),
-        );
+        let n = place(&mut self.packet, self.engine.begun, first_half(bytes));
         let took = calls::bytes_offered(
             self.engine,
             n,
             &bytes[n..],
-            self.tables.as_slice(),
-            self.packet.as_mut_slice(),
-            self.headers.as_mut_slice(),
-            self.body.as_mut_slice(),
-            self.reply.as_mut_slice(),
+            &self.tables,
+            &mut self.packet,
+            &mut self.headers,
+            &mut self.body,
+            &mut self.reply,
         );
         self.engine = took.engine;
         self.outcome = took.outcome;
@@ -111,12 +101,10 @@ impl Host {
         };
         self.records.put(b"record ");
         self.records
-            .put_hex(between(self.headers.as_slice(), 0, kept), LONGEST);
+            .put_hex(between(&self.headers, 0, kept), LONGEST);
         self.records.put(b" ");
         match body {
-            Some(n) => self
-                .records
-                .put_hex(between(self.body.as_slice(), 0, n), LONGEST),
+            Some(n) => self.records.put_hex(between(&self.body, 0, n), LONGEST),
             None => self.records.put(b"none"),
         }
         self.records.put(b"\n");
@@ -126,10 +114,10 @@ impl Host {
     fn take_reply(&mut self) {
         let took = calls::reply_taken(
             self.engine,
-            self.packet.as_mut_slice(),
-            self.headers.as_mut_slice(),
-            self.body.as_mut_slice(),
-            self.reply.as_mut_slice(),
+            &mut self.packet,
+            &mut self.headers,
+            &mut self.body,
+            &mut self.reply,
         );
         self.engine = took.engine;
         self.outcome = took.outcome;
@@ -138,11 +126,11 @@ impl Host {
     // Gives an answer, whose bytes stand in `words`. `content` is what is left of an object.
     fn give(&mut self, answer: Answer, content: Content, words: &[u8]) -> CallResult {
         let e = self.engine;
-        let tables = self.tables.as_mut_slice();
-        let packet = self.packet.as_mut_slice();
-        let headers = self.headers.as_mut_slice();
-        let body = self.body.as_mut_slice();
-        let reply = self.reply.as_mut_slice();
+        let tables = &mut self.tables;
+        let packet = &mut self.packet;
+        let headers = &mut self.headers;
+        let body = &mut self.body;
+        let reply = &mut self.reply;
         match answer {
             Answer::Reply { code, headers: n } => calls::reply_given(
                 e,
@@ -221,7 +209,7 @@ impl Pair {
 
     // Sends a reply of `n` bytes down, and tells the engine that it was taken.
     pub(crate) fn reply(&mut self, n: usize) {
-        self.down.push(between(self.host.reply.as_slice(), 0, n));
+        self.down.push(between(&self.host.reply, 0, n));
         self.host.take_reply();
     }
 

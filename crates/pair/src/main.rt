@@ -10,6 +10,7 @@ mod show;
 mod stream;
 mod user;
 
+use answers::Answers;
 use check::same;
 use host::Host;
 use lines::arguments::{has_argument, is_argument, number_argument};
@@ -87,6 +88,8 @@ struct Pair {
 impl Pair {
     // Plays the sessions of the input. A line that is longer than the store is passed over.
     fn play(&mut self, rt: &impl Print, from: &mut impl Read, store: &mut [u8]) {
+        self.user.start(CLIENT);
+        self.host.start(server_settings());
         let mut at = before_first();
         for _ in 0..u64::MAX {
             at = next_line(from, store, at);
@@ -318,12 +321,14 @@ fn main(rt: HostRuntime) -> io::Result<()> {
     };
     let alloc = rt.alloc();
     let mut input = vec![in alloc; 0u8; INPUT]?;
+    let words = vec![in alloc; 0u8; WORDS]?;
+    let answers = Answers::new(alloc)?;
     let mut pair = Pair {
-        user: User::new(alloc)?,
-        host: Host::new(alloc)?,
-        up: Way::new(alloc)?,
-        down: Way::new(alloc)?,
-        words: vec![in alloc; 0u8; WORDS]?,
+        user: User::new(),
+        host: Host::new(answers),
+        up: Way::new(),
+        down: Way::new(),
+        words,
         headers: 0,
         content: Content::NOTHING,
         due: Due::Line,

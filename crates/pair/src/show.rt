@@ -36,12 +36,10 @@ impl Pair {
             Outcome::Part { kept, body } => {
                 self.out.put(b"part headers ");
                 self.out
-                    .put_hex(between(self.user.headers.as_slice(), 0, kept), LONGEST);
+                    .put_hex(between(&self.user.headers, 0, kept), LONGEST);
                 self.out.put(b" body ");
                 match body {
-                    Some(n) => self
-                        .out
-                        .put_hex(between(self.user.body.as_slice(), 0, n), LONGEST),
+                    Some(n) => self.out.put_hex(between(&self.user.body, 0, n), LONGEST),
                     None => self.out.put(b"none"),
                 }
                 self.out.put(b"\n");

@@ -5,7 +5,6 @@ use client_model::Outcome;
 use lines::input::keep;
 use lines::store::{between, place};
 use lines::word::unhex;
-use std::alloc::{AllocError, Global};
 
 // How long the store of each way is. No end puts a packet there if more than `ENOUGH` bytes wait, so that each packet finds room.
 pub const WAY: usize = 196608;
@@ -15,7 +14,7 @@ const ENOUGH: usize = 65536;
 // The bytes on a way: those from `from` up to `to` wait.
 #[derive(Drop)]
 pub struct Way {
-    bytes: Vec<u8>,
+    bytes: [u8; WAY],
     from: usize,
     to: usize,
 }
@@ -58,12 +57,12 @@ pub struct Shuffle {
 
 impl Way {
     // Returns a way on which nothing waits.
-    pub(crate) fn new(alloc: Global) -> Result<Way, AllocError> {
-        Ok(Way {
-            bytes: vec![in alloc; 0u8; WAY]?,
+    pub(crate) fn new() -> Way {
+        Way {
+            bytes: [0u8; WAY],
             from: 0,
             to: 0,
-        })
+        }
     }
 
     // Nothing waits any more.
@@ -80,7 +79,7 @@ impl Way {
     // Returns the first `n` bytes that wait, or all of them if there are fewer.
     pub(crate) fn front(&self, n: usize) -> &[u8] {
         let to = self.from.saturating_add(n).min(self.to);
-        between(self.bytes.as_slice(), self.from, to)
+        between(&self.bytes, self.from, to)
     }
 
     // Takes the first `n` bytes that wait, or all of them if there are fewer.
@@ -92,15 +91,15 @@ impl Way {
     pub(crate) fn push(&mut self, bytes: &[u8]) {
         let end = self.to.min(self.bytes.len());
         let from = self.from.min(end);
-        let at = keep(self.bytes.as_mut_slice(), from, end);
-        let n = place(self.bytes.as_mut_slice(), at, bytes);
+        let at = keep(&mut self.bytes, from, end);
+        let n = place(&mut self.bytes, at, bytes);
         self.from = 0;
         self.to = at.saturating_add(n);
     }
 
     // The bytes that a word of a line stands for come in place of those that wait, if it stands for any. Tells whether it does.
     pub(crate) fn fill(&mut self, word: &[u8]) -> bool {
-        let n = unhex(word, self.bytes.as_mut_slice());
+        let n = unhex(word, &mut self.bytes);
         if n == 0 {
             return false;
         }

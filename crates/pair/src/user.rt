@@ -7,7 +7,6 @@ use crate::{Due, Pair};
 use client::calls;
 use client_model::{CallResult, Client, Outcome, Settings};
 use lines::store::{between, front_mut, place};
-use std::alloc::{AllocError, Global};
 
 // The client, what its last call returned, and its stores, with how much is lent of each.
 #[derive(Drop)]
@@ -15,45 +14,35 @@ pub struct User {
     pub client: Client,
     pub outcome: Outcome,
     pub lent: Lent,
-    pub packet: Vec<u8>,
-    pub headers: Vec<u8>,
-    pub body: Vec<u8>,
-    request: Vec<u8>,
+    pub packet: [u8; STORE],
+    pub headers: [u8; STORE],
+    pub body: [u8; STORE],
+    request: [u8; STORE],
 }
 
 impl User {
-    // Returns a user whose client has started.
-    pub(crate) fn new(alloc: Global) -> Result<User, AllocError> {
-        let mut packet = vec![in alloc; 0u8; STORE]?;
-        let mut headers = vec![in alloc; 0u8; STORE]?;
-        let mut body = vec![in alloc; 0u8; STORE]?;
-        let mut request = vec![in alloc; 0u8; STORE]?;
-        let took = calls::start(
-            CLIENT,
-            packet.as_mut_slice(),
-            headers.as_mut_slice(),
-            body.as_mut_slice(),
-            request.as_mut_slice(),
-        );
-        Ok(User {
+    // Returns a user whose client has not started: it has no stores yet.
+    pub(crate) fn new() -> User {
+        let took = calls::start(CLIENT, &mut [], &mut [], &mut [], &mut []);
+        User {
             client: took.client,
             outcome: took.outcome,
             lent: Lent::WHOLE,
-            packet,
-            headers,
-            body,
-            request,
-        })
+            packet: [0u8; STORE],
+            headers: [0u8; STORE],
+            body: [0u8; STORE],
+            request: [0u8; STORE],
+        }
     }
 
-    // Starts a client anew.
+    // Starts a client.
     pub(crate) fn start(&mut self, settings: Settings) {
         let took = calls::start(
             settings,
-            self.packet.as_mut_slice(),
-            self.headers.as_mut_slice(),
-            self.body.as_mut_slice(),
-            self.request.as_mut_slice(),
+            &mut self.packet,
+            &mut self.headers,
+            &mut self.body,
+            &mut self.request,
         );
         self.client = took.client;
         self.outcome = took.outcome;
@@ -62,10 +51,10 @@ impl User {
     // Makes a call with the stores as far as they are lent. `bytes` are those that it hands over.
     fn call(&mut self, call: Call, bytes: &[u8]) -> CallResult {
         let c = self.client;
-        let packet = front_mut(self.packet.as_mut_slice(), self.lent.packet);
-        let headers = front_mut(self.headers.as_mut_slice(), self.lent.headers);
-        let body = front_mut(self.body.as_mut_slice(), self.lent.body);
-        let request = front_mut(self.request.as_mut_slice(), self.lent.request);
+        let packet = front_mut(&mut self.packet, self.lent.packet);
+        let headers = front_mut(&mut self.headers, self.lent.headers);
+        let body = front_mut(&mut self.body, self.lent.body);
+        let request = front_mut(&mut self.request, self.lent.request);
         match call {
             Call::Connect => calls::connect(c, bytes, packet, headers, body, request),
             Call::Disconnect => calls::disconnect(c, bytes, packet, headers, body, request),
@@ -169,10 +158,7 @@ impl Pair {
         match call {
             Call::Sent => {
                 self.out.put(b"up ");
-                self.out.put_hex(
-                    between(self.user.request.as_slice(), 0, length_of(outcome)),
-                    LONGEST,
-                );
+                self.out.put_hex(between(&self.user.request, 0, length_of(outcome)), LONGEST);
                 self.out.put(b"\n");
             }
             Call::Body => {
@@ -194,11 +180,7 @@ impl Pair {
     // Sends the packet in the request store up. Without a server it goes nowhere.
     fn send(&mut self) {
         if !self.is_alone {
-            self.up.push(between(
-                self.user.request.as_slice(),
-                0,
-                length_of(self.user.outcome),
-            ));
+            self.up.push(between(&self.user.request, 0, length_of(self.user.outcome)));
         }
     }
 
@@ -206,10 +188,8 @@ impl Pair {
     fn print_after(&mut self, call: Call, took: CallResult) {
         if matches!(call, Call::Bytes(_)) && took.taken != 0 && took.client.begun == 0 {
             self.out.put(b"down ");
-            self.out.put_hex(
-                between(self.user.packet.as_slice(), 0, took.client.length),
-                LONGEST,
-            );
+            self.out
+                .put_hex(between(&self.user.packet, 0, took.client.length), LONGEST);
             self.out.put(b"\n");
         }
         self.print_outcome(took.outcome);

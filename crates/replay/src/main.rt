@@ -14,9 +14,8 @@ use lines::text::Text;
 use lines::word::find;
 use server::{CallResult, Engine, HostRequest, Operation, Outcome, end_number, refusal_number};
 use show::{OwnLine, RequestLine, StateLine, StoresLine, TargetLine};
-use std::io;
 use std::io::Read;
-use stores::Stores;
+use stores::{Stores, before_start};
 use stream::Sent;
 
 // How long a line may be, with its end. A longer one ends the program.
@@ -51,7 +50,15 @@ struct Replay {
 impl Replay {
     // Plays the sessions of the input. A line that has no end of its own is not played, nor is one that fills `store`, behind which nothing is
     // read. `words` is for the bytes that an answer hands over.
-    fn play(&mut self, rt: &impl Print, input: &mut impl Read, store: &mut [u8], words: &mut [u8]) {
+    fn play(
+        &mut self,
+        rt: &impl Print,
+        input: &mut impl Read,
+        store: &mut [u8; INPUT],
+        words: &mut [u8; WORDS],
+    ) {
+        // An engine as the original starts it, for a transcript that begins with no start.
+        self.engine = self.stores.first_start();
         let mut at = before_first();
         for _ in 0..u64::MAX {
             if is_full(store, at) {
@@ -180,10 +187,8 @@ impl Replay {
             Outcome::WantsBytes => {}
             Outcome::Reply { length } => {
                 self.out.put(b"out ");
-                self.out.put_hex(
-                    between(self.stores.reply.as_slice(), 0, length),
-                    self.longest,
-                );
+                self.out
+                    .put_hex(between(&self.stores.reply, 0, length), self.longest);
                 self.out.put(b"\n");
             }
             Outcome::Request(request) => {
@@ -212,7 +217,7 @@ impl Replay {
     fn print_state(&mut self) {
         StateLine {
             peer: self.engine.peer,
-            tables: self.stores.tables.as_slice(),
+            tables: &self.stores.tables,
         }
         .put(&mut self.out);
     }
@@ -239,35 +244,19 @@ fn shows_state(call: Call<'_>, took: CallResult) -> bool {
     }
 }
 
-fn main(rt: HostRuntime) -> io::Result<()> {
-    let alloc = rt.alloc();
-    let mut input = vec![in alloc; 0u8; INPUT]?;
-    let mut words = vec![in alloc; 0u8; WORDS]?;
-    let mut stores = Stores::new(alloc)?;
-    // An engine as the original starts it.
-    let engine = stores.first_start();
+fn main(rt: HostRuntime) {
+    let mut input = [0u8; INPUT];
+    let mut words = [0u8; WORDS];
     let mut replay = Replay {
-        engine,
-        stores,
+        engine: before_start(),
+        stores: Stores::new(),
         lent: Lent::WHOLE,
-        stream: Sent::new(alloc)?,
-        realm: Text {
-            bytes: [0u8; REALM],
-            length: 0,
-        },
+        stream: Sent::new(),
+        realm: Text::new(),
         targets: false,
         longest: 512,
         hold: false,
-        out: Text {
-            bytes: [0u8; OUTPUT],
-            length: 0,
-        },
+        out: Text::new(),
     };
-    replay.play(
-        &rt,
-        &mut rt.stdin(),
-        input.as_mut_slice(),
-        words.as_mut_slice(),
-    );
-    Ok(())
+    replay.play(&rt, &mut rt.stdin(), &mut input, &mut words);
 }

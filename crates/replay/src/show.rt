@@ -1,5 +1,8 @@
 // What the engine did, in the words of the original's `oracle engine`. The two digits of a byte are put both or, where the output has no room
 // for them, neither.
+ghost use Rattle.std.specs.Ordering.{nat_cmp};
+ghost use Rattle.std.specs.Prelude.{IsPermutation, IsSorted};
+
 use crate::OUTPUT;
 use crate::command::{Lent, TABLES};
 use crate::stores::Stores;
@@ -57,10 +60,7 @@ impl RequestLine<'_> {
                 self.put_headers(out, b"put", kept);
                 out.put(b" body=");
                 match body {
-                    Some(size) => out.put_hex(
-                        between(self.stores.body.as_slice(), 0, size),
-                        self.longest,
-                    ),
+                    Some(size) => out.put_hex(between(&self.stores.body, 0, size), self.longest),
                     None => out.put(b"none"),
                 }
             }
@@ -108,19 +108,13 @@ impl RequestLine<'_> {
     fn put_headers(self, out: &mut Text<OUTPUT>, name: &[u8], kept: usize) {
         out.put(name);
         out.put(b" final=1 headers=");
-        out.put_hex(
-            between(self.stores.headers.as_slice(), 0, kept),
-            self.longest,
-        );
+        out.put_hex(between(&self.stores.headers, 0, kept), self.longest);
     }
 
     // Puts a part of the packet with its name.
     fn put_packet(self, out: &mut Text<OUTPUT>, name: &[u8], from: usize, to: usize) {
         out.put(name);
-        out.put_hex(
-            between(self.stores.packet.as_slice(), from, to),
-            self.longest,
-        );
+        out.put_hex(between(&self.stores.packet, from, to), self.longest);
     }
 
     // Puts the realm of a challenge, in the packet: its charset, and the bytes behind that, which are printed whole.
@@ -128,7 +122,7 @@ impl RequestLine<'_> {
         out.put(b" realm=");
         match realm {
             Some(Span { start, end }) => {
-                let packet = self.stores.packet.as_slice();
+                let packet = &self.stores.packet;
                 out.put_digits(&[packet.get(start).copied().unwrap_or(0)]);
                 out.put(b":");
                 out.put_hex(between(packet, start.saturating_add(1), end), packet.len());
@@ -170,7 +164,7 @@ impl StateLine<'_> {
         let n = self.peer.count.min(self.tables.len()).min(TABLES);
         store[..n].copy_from_slice(&self.tables[..n]);
         let ids = &mut store[..n];
-        ids.sort_unstable();
+        ascend(ids);
         let mut mark = b"".as_slice();
         for &id in ids.iter() {
             out.put(mark);
@@ -181,6 +175,14 @@ impl StateLine<'_> {
             out.put(b"-");
         }
     }
+}
+
+// Brings the ids into ascending order.
+fn ascend(ids: &mut [u64])
+    ensures ascending { IsSorted nat_cmp ids.new }
+    ensures same { IsPermutation ids.old ids.new }
+{
+    ids.sort_unstable();
 }
 
 // Puts an id, which is below 2^32.
@@ -219,13 +221,13 @@ impl StoresLine<'_> {
         let s = self.stores;
         let lent = self.lent;
         out.put(b"stores ");
-        out.put_digest(between(s.packet.as_slice(), 0, lent.packet));
+        out.put_digest(between(&s.packet, 0, lent.packet));
         out.put(b" ");
-        out.put_digest(between(s.headers.as_slice(), 0, lent.headers));
+        out.put_digest(between(&s.headers, 0, lent.headers));
         out.put(b" ");
-        out.put_digest(between(s.body.as_slice(), 0, lent.body));
+        out.put_digest(between(&s.body, 0, lent.body));
         out.put(b" ");
-        out.put_digest(between(s.reply.as_slice(), 0, lent.reply));
+        out.put_digest(between(&s.reply, 0, lent.reply));
         out.put(b"\n");
     }
 }

@@ -3,29 +3,28 @@ use crate::command::{BODY, Call, Lent, STORE, TABLES};
 use engine::calls;
 use lines::store::{front_mut, place};
 use server::{Await, CallResult, Engine, default_settings};
-use std::alloc::{AllocError, Global};
 
 // How many ids of connections are looked at, so that more than 64 reach the engine.
 const IDS: usize = 128;
 
 #[derive(Drop)]
 pub struct Stores {
-    pub tables: Vec<u64>,
-    pub packet: Vec<u8>,
-    pub headers: Vec<u8>,
-    pub body: Vec<u8>,
-    pub reply: Vec<u8>,
+    pub tables: [u64; TABLES],
+    pub packet: [u8; STORE],
+    pub headers: [u8; STORE],
+    pub body: [u8; BODY],
+    pub reply: [u8; STORE],
 }
 
 impl Stores {
-    pub(crate) fn new(alloc: Global) -> Result<Stores, AllocError> {
-        Ok(Stores {
-            tables: vec![in alloc; 0u64; TABLES]?,
-            packet: vec![in alloc; 0u8; STORE]?,
-            headers: vec![in alloc; 0u8; STORE]?,
-            body: vec![in alloc; 0u8; BODY]?,
-            reply: vec![in alloc; 0u8; STORE]?,
-        })
+    pub(crate) fn new() -> Stores {
+        Stores {
+            tables: [0u64; TABLES],
+            packet: [0u8; STORE],
+            headers: [0u8; STORE],
+            body: [0u8; BODY],
+            reply: [0u8; STORE],
+        }
     }
 
     // Fills the stores with zeros.
@@ -42,11 +41,11 @@ impl Stores {
         calls::start(
             default_settings(BODY as u32),
             b"",
-            self.tables.as_slice(),
-            self.packet.as_mut_slice(),
-            self.headers.as_mut_slice(),
-            self.body.as_mut_slice(),
-            self.reply.as_mut_slice(),
+            &self.tables,
+            &mut self.packet,
+            &mut self.headers,
+            &mut self.body,
+            &mut self.reply,
         )
         .engine
     }
@@ -60,11 +59,11 @@ impl Stores {
         realm: &[u8],
         lent: Lent,
     ) -> CallResult {
-        let tables = front_mut(self.tables.as_mut_slice(), lent.tables);
-        let packet = front_mut(self.packet.as_mut_slice(), lent.packet);
-        let headers = front_mut(self.headers.as_mut_slice(), lent.headers);
-        let body = front_mut(self.body.as_mut_slice(), lent.body);
-        let reply = front_mut(self.reply.as_mut_slice(), lent.reply);
+        let tables = front_mut(&mut self.tables, lent.tables);
+        let packet = front_mut(&mut self.packet, lent.packet);
+        let headers = front_mut(&mut self.headers, lent.headers);
+        let body = front_mut(&mut self.body, lent.body);
+        let reply = front_mut(&mut self.reply, lent.reply);
         match call {
             Call::Start(o) => {
                 let mut took = calls::start(
@@ -117,6 +116,20 @@ impl Stores {
             Call::Close(ids) => close(e, ids, tables),
         }
     }
+}
+
+// Returns an engine that has not started: it has no stores yet.
+pub(crate) fn before_start() -> Engine {
+    calls::start(
+        default_settings(BODY as u32),
+        b"",
+        &[],
+        &mut [],
+        &mut [],
+        &mut [],
+        &mut [],
+    )
+    .engine
 }
 
 // Closes the connections whose ids stand in `bytes`, four bytes each.

@@ -2,7 +2,6 @@
 use lines::input::keep;
 use lines::store::between;
 use lines::word::unhex;
-use std::alloc::{AllocError, Global};
 
 // How many bytes of the peer stand here at most.
 pub const ROOM: usize = 131072;
@@ -18,21 +17,21 @@ pub struct Stream {
 // The bytes that the peer has sent.
 #[derive(Drop)]
 pub struct Sent {
-    bytes: Vec<u8>,
+    bytes: [u8; ROOM],
     stream: Stream,
 }
 
 impl Sent {
     // Returns the bytes of a peer that has sent nothing.
-    pub(crate) fn new(alloc: Global) -> Result<Sent, AllocError> {
-        Ok(Sent {
-            bytes: vec![in alloc; 0u8; ROOM]?,
+    pub(crate) fn new() -> Sent {
+        Sent {
+            bytes: [0u8; ROOM],
             stream: Stream {
                 taken: 0,
                 read: 0,
                 sent: 0,
             },
-        })
+        }
     }
 
     // A session starts: the peer has sent nothing.
@@ -46,15 +45,15 @@ impl Sent {
 
     // Returns the bytes that the host offers to the engine.
     pub(crate) fn offered(&self) -> &[u8] {
-        between(self.bytes.as_slice(), self.stream.taken, self.stream.read)
+        between(&self.bytes, self.stream.taken, self.stream.read)
     }
 
     // The peer sends the bytes that a word stands for, as far as there is room for them behind those that the engine has not taken.
     pub(crate) fn send(&mut self, word: &[u8]) {
         let end = self.stream.sent.min(self.bytes.len());
         let from = self.stream.taken.min(end);
-        let waiting = keep(self.bytes.as_mut_slice(), from, end);
-        let n = unhex(word, &mut self.bytes.as_mut_slice()[waiting..]);
+        let waiting = keep(&mut self.bytes, from, end);
+        let n = unhex(word, &mut self.bytes[waiting..]);
         self.stream = Stream {
             taken: 0,
             read: self.stream.read.saturating_sub(from),

@@ -21,9 +21,12 @@ const END_OF_NONCES: usize = 128;
 fn push_front(s: &mut [u64], x: u64)
     ensures { s.new ≡ pushed x s.old }
 {
-    if !s.is_empty() {
-        s.rotate_right(1);
-        s[0] = x;
+    // Stays a loop over an index: `rotate_right` calls memmove, and the archives for C promise to need no more than memcpy.
+    let mut carry = x;
+    for i in 0..s.len() {
+        let y = s[i];
+        s[i] = carry;
+        carry = y;
     }
 }
 

@@ -1,23 +1,24 @@
--- `table::nonces::push_front` meets its contract: the list is turned by one, and the number stands in front. Assumes nothing.
-use Rattle.std.proofs.Common.{length, sym, ◌∙◌, arith, eqb-true}
-use Rattle.table.proofs.Pushing.{not_empty, pushed-none, pushed-turned}
+-- `table::nonces::push_front` meets its contract: each turn moves one number on (`Moved`). Assumes nothing.
+use mathlib.Core.Path.{refl}
+use Prim.Native.Nat.{◌<◌, ◌+◌}
+use native.Mathlib.Omega.{arith}
+use lib.ListN.{length}
+use Rattle.table.proofs.Pushing.{moved_none, moved-one, moved_length, moved_all}
 use Rattle.table.proofs.nonces.push_front.Goals as goal
 
-pub rotate_right-requires : goal.rotate_right-requires
-rotate_right-requires c = not_empty (length c.args.s.now) (sym c.is_empty.ensures ∙ c.if-not-is_empty.true)
+pub loop-i-init : goal.loop-i-init
+loop-i-init c = (refl, moved_none c.args.s.now c.args.x)
 
-pub bounds-s-0 : goal.bounds-s-0
-bounds-s-0 c =
-    let h = not_empty (length c.args.s.now) (sym c.is_empty.ensures ∙ c.if-not-is_empty.true) in
-    omega (arith, c.rotate_right.ensures.len, h)
+pub loop-i-preserved : goal.loop-i-preserved
+loop-i-preserved c =
+    let l = c.loop-i in
+    let a = c.args in
+    let h : l.i < length a.s.now = omega arith in
+    let m = moved-one a.s.now a.x l.i l.s l.carry h l.invariant.1 in
+    (moved_length a.s.now a.x (l.i + 1) _ _ (omega arith) m, m)
 
-pub returns-then-not-is_empty : goal.returns-then-not-is_empty
-returns-then-not-is_empty c =
-    let x = c.args in
-    rw c.rotate_right.ensures.after
-    (pushed-turned x.x x.s.now (not_empty (length x.s.now) (sym c.is_empty.ensures ∙ c.if-not-is_empty.true)))
-
-pub returns-else-not-is_empty : goal.returns-else-not-is_empty
-returns-else-not-is_empty c =
-    let x = c.args in
-    pushed-none x.x x.s.now (eqb-true (length x.s.now) 0 (sym c.is_empty.ensures ∙ c.if-not-is_empty.false))
+pub returns : goal.returns
+returns c =
+    let l = c.loop-i in
+    let a = c.args in
+    moved_all a.s.now a.x l.i l.s l.carry (omega (arith, c.loop-i-test.false, l.auto.i-end)) l.invariant.1
